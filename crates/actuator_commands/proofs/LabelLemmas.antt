@@ -8,9 +8,10 @@ use Rattle.std.specs.Borrow.{Bor}
 use Rattle.std.specs.List.{AllZip, join_with_byte}
 use Rattle.std.specs.Result.{result_ok}
 use Rattle.std.specs.Str.{IsUtf8}
-use Rattle.learned_devices.specs.Labels.{max_label, is_label, is_name}
+use Rattle.learned_devices.specs.Labels.{max_label, is_label, has_label_form}
 use Rattle.learned_devices.proofs.LabelLemmas.{name-utf8}
-use Rattle.actuator_commands.specs.Words.{Says, Id, Text, SpellsWord, id_in, is_text, label_in, of_two, text_in}
+use Rattle.actuator_commands.specs.Words.{Literal, Id, Text, SpellsWord, id_in, is_label_word, label_in, map_two}
+use Rattle.actuator_commands.specs.Words.{label_text_in}
 use Rattle.actuator_commands.specs.declared.orders.Order.TheVariants.{Label}
 use Rattle.actuator_commands.specs.declared.orders.OrderFault.TheVariants.{Range}
 use Rattle.actuator_commands.specs.Orders.{HasShape, is_in_range, label_order, label_words, result_of}
@@ -19,26 +20,27 @@ use Rattle.actuator_commands.proofs.SpellingLemmas.{id_spelled, text_spelled}
 -- ---- its text
 
 -- a text that may be a label consists of bytes that may be in one
-text-named : (text : List ℕ) → is_text text ≡ true → is_name text ≡ true
+text-named : (text : List ℕ) → is_label_word text ≡ true → has_label_form text ≡ true
 text-named [] may = absurd cc
 text-named (first ∷ more) may = may
 
-named-text : (text : List ℕ) → (length text == 0) ≡ false → is_name text ≡ true → is_text text ≡ true
+named-text : (text : List ℕ) → (length text == 0) ≡ false → has_label_form text ≡ true → is_label_word text ≡ true
 named-text [] some is = absurd cc
 named-text (first ∷ more) some is = is
 
 -- as UTF-8 it is read whole
 module _ {E : Type 0} (Bad : E → Type 0) where
-  pub text-given : (text : List ℕ) (r : Result (Bor (List ℕ)) E) → (length text == 0) ≡ false → is_name text ≡ true
+  pub text-given : (text : List ℕ) (r : Result (Bor (List ℕ)) E) → (length text == 0) ≡ false
+      → has_label_form text ≡ true
       → MatchResult r (λ s. (s.now ≡ text) × IsUtf8 text) Bad → ((e : E) → Bad e → ¬ (IsUtf8 text))
-      → option_map (λ name. name.now) (result_ok r) ≡ text_in text
+      → option_map (λ name. name.now) (result_ok r) ≡ label_text_in text
   text-given text (Ok s) some is cases bad =
       ap (λ t. Some t) cases.0 ∙ ap (λ b. cond b (Some text) None) (sym (named-text text some is))
   text-given text (Err e) some is cases bad = absurd (bad e cases (name-utf8 text is))
 
 -- and the text after the ID is a label of any length
-pub label_named : (more : List (List ℕ)) (text : List ℕ) → label_in more ≡ Some text → is_name text ≡ true
-label_named [] text e = let none : [] ≡ text = cc in subst (λ t. is_name t ≡ true) none refl
+pub label_named : (more : List (List ℕ)) (text : List ℕ) → label_in more ≡ Some text → has_label_form text ≡ true
+label_named [] text e = let none : [] ≡ text = cc in subst (λ t. has_label_form t ≡ true) none refl
 label_named (first ∷ more) text e =
     text-named text (text_spelled (join_with_byte 32 (first ∷ more)) text e).1
 
@@ -66,13 +68,13 @@ pub label-not_taken : (left : List (List ℕ)) (digits : List ℕ) (more : List 
     → result_of (label_order left) ≡ Err Range
 label-not_taken left digits more id text whole i t none =
     ap (λ ws. result_of (label_order ws)) whole
-    ∙ ap (λ o. result_of (of_two (λ id label. Label id label) o (label_in more))) i
-    ∙ ap (λ o. result_of (of_two (λ id label. Label id label) (Some id) o)) t ∙ not_taken id more text t none
+    ∙ ap (λ o. result_of (map_two (λ id label. Label id label) o (label_in more))) i
+    ∙ ap (λ o. result_of (map_two (λ id label. Label id label) (Some id) o)) t ∙ not_taken id more text t none
 
 -- ---- its line
 
 -- a text that has bytes is a word
-one_word : (text : List ℕ) → is_text text ≡ true → label_words text ≡ Text text ∷ []
+one_word : (text : List ℕ) → is_label_word text ≡ true → label_words text ≡ Text text ∷ []
 one_word [] may = absurd cc
 one_word (first ∷ more) may = refl
 
@@ -89,6 +91,6 @@ label_shaped digits (first ∷ more) id label i t =
     let texts : List (List ℕ) = codes "label" ∷ digits ∷ text ∷ [] in (
       texts,
       refl,
-      subst (λ ws. AllZip SpellsWord texts (Says (codes "label") ∷ Id id ∷ ws)) (sym (one_word label spelled.1))
+      subst (λ ws. AllZip SpellsWord texts (Literal (codes "label") ∷ Id id ∷ ws)) (sym (one_word label spelled.1))
           (refl, (id_spelled digits id i, (spelled, tt))),
     )

@@ -14,7 +14,7 @@ use Rattle.std.proofs.lemmas.Fmt.{first_decimal, length-decimal-le}
 use Rattle.std.proofs.lemmas.Str.{IsUtf8-from_ascii}
 use Rattle.std.proofs.lemmas.Str.Parse.{IsNumeralModel, digits_value_short, numerals_by_value, parse_gives}
 use Rattle.std.proofs.lemmas.Str.Parse.{tells_all_ascii_digits}
-use Rattle.actuator_commands.specs.Words.{SpellsNumber, begins_well, is_number, number_in}
+use Rattle.actuator_commands.specs.Words.{SpellsNumber, has_no_leading_zero, is_number, number_in}
 
 abbrev AreDigits : List ℕ → Type 0
 AreDigits ds = all_ascii_digits ds ≡ true
@@ -33,7 +33,8 @@ record Numeral (text : List ℕ) : Type 0 where
   some : 0 < length text
   lead : get_or text 0 0 ≡ 48 → length text ≡ 1
 
-begins : (text : List ℕ) → begins_well text ≡ true → (0 < length text) × (get_or text 0 0 ≡ 48 → length text ≡ 1)
+begins : (text : List ℕ) → has_no_leading_zero text ≡ true
+    → (0 < length text) × (get_or text 0 0 ≡ 48 → length text ≡ 1)
 begins [] is = absurd cc
 begins (b ∷ []) is = (omega arith, λ zero. refl)
 begins (b ∷ c ∷ more) is = (omega arith, λ zero. absurd (no (subst (λ n. not (n == 48) ≡ true) zero is)))
@@ -43,8 +44,8 @@ begins (b ∷ c ∷ more) is = (omega arith, λ zero. absurd (no (subst (λ n. n
 
 numeral : (text : List ℕ) → is_number text ≡ true → Numeral text
 numeral text is =
-    let parts = and_parts (begins_well text && nat_le (length text) 5) (list_all is_ascii_digit text) is in
-    let more = and_parts (begins_well text) (nat_le (length text) 5) parts.0 in
+    let parts = and_parts (has_no_leading_zero text && nat_le (length text) 5) (list_all is_ascii_digit text) is in
+    let more = and_parts (has_no_leading_zero text) (nat_le (length text) 5) parts.0 in
     let start = begins text more.0 in
     let le = more.1 in
     record {
@@ -84,7 +85,8 @@ number_spelled text n e = by_test (is_number text) refl e
     by_test false is e = absurd cc
 
 -- and the number that is spelled is computed
-begins_decimal : (text : List ℕ) → 0 < length text → (1 < length text → get_or text 0 0 ≢ 48) → begins_well text ≡ true
+begins_decimal : (text : List ℕ) → 0 < length text → (1 < length text → get_or text 0 0 ≢ 48)
+    → has_no_leading_zero text ≡ true
 begins_decimal [] some lead = absurd (omega arith)
 begins_decimal (b ∷ []) some lead = refl
 begins_decimal (b ∷ c ∷ more) some lead = rw (ne_eqb b 48 (lead (omega arith))) refl
@@ -101,6 +103,6 @@ number_read text n (is, below) =
     let digits = same (decimal n) ∙ model.from (decimal n) numeral.0.1 in
     ap number_in is ∙ tested (decimal n) n well short digits numeral.1
   where
-    tested : (ds : List ℕ) (n : ℕ) → begins_well ds ≡ true → length ds ≤ 5 → list_all is_ascii_digit ds ≡ true
+    tested : (ds : List ℕ) (n : ℕ) → has_no_leading_zero ds ≡ true → length ds ≤ 5 → list_all is_ascii_digit ds ≡ true
         → digits_value 10 ds ≡ n → number_in ds ≡ Some n
     tested ds n well short digits value = rw (well, le-leb (length ds) 5 short, digits) (ap (λ m. Some m) value)

@@ -6,9 +6,9 @@ use Rattle.std.specs.List.{AllByRecursion, AllZip, join_with_byte, list_all}
 use Rattle.std.proofs.lemmas.Bool.{and_parts, le-leb, leb-true, ne_eqb}
 use Rattle.std.proofs.lemmas.List.Splits.{join_with_byte-slice_split}
 use Rattle.std.proofs.lemmas.Slice.Zip.{AllZip-long}
-use Rattle.actuator_commands.specs.Words.{words, Word, Says, Id, Profile, Number, Text, SpellsWord, IsWordInRange}
+use Rattle.actuator_commands.specs.Words.{words, Word, Literal, Id, Profile, Number, Text, SpellsWord, IsWordInRange}
 use Rattle.actuator_commands.specs.Words.{is_word_in_range, id_in}
-use Rattle.actuator_commands.specs.Words.{of_two, of_three, label_in}
+use Rattle.actuator_commands.specs.Words.{map_two, map_three, label_in}
 use Rattle.learned_devices.specs.Labels.{max_label}
 use Rattle.actuator_commands.specs.declared.orders.Order.{Order}
 use Rattle.actuator_commands.specs.declared.orders.Order.TheVariants.{LearnOn, LearnOnAnswer, LearnAs, LearnOff}
@@ -58,7 +58,7 @@ module _ {A : Type 0} where
 module _ {A B : Type 0} where
   fits_of_two : (ws : List (List ℕ)) (make : A → B → Order) (a : Option A) (b : Option B)
       → ((x : A) (y : B) → a ≡ Some x → b ≡ Some y → AllZip SpellsWord ws (words_of (make x y)))
-      → Fits ws (of_two make a b)
+      → Fits ws (map_two make a b)
   unfolding Fits
   fits_of_two ws make None b h = tt
   fits_of_two ws make (Some x) b h = fits_map ws (make x) b (λ y e. h x y refl e)
@@ -67,7 +67,7 @@ module _ {A B C : Type 0} where
   fits_of_three : (ws : List (List ℕ)) (make : A → B → C → Order) (a : Option A) (b : Option B) (c : Option C)
       → ((x : A) (y : B) (z : C) → a ≡ Some x → b ≡ Some y → c ≡ Some z
       → AllZip SpellsWord ws (words_of (make x y z)))
-      → Fits ws (of_three make a b c)
+      → Fits ws (map_three make a b c)
   unfolding Fits
   fits_of_three ws make None b c h = tt
   fits_of_three ws make (Some x) b c h = fits_of_two ws (make x) b c (λ y z e k. h x y z refl e k)
@@ -161,11 +161,11 @@ shaped_words ws (Some order) fit = (ws, refl, fit)
 
 shaped_by : (digits : List ℕ) (more : List (List ℕ)) (i : Option ℕ) (t : Option (List ℕ)) → id_in digits ≡ i
     → label_in more ≡ t
-    → Shaped (codes "label" ∷ digits ∷ more) (of_two (λ id label. Label id label) i t)
+    → Shaped (codes "label" ∷ digits ∷ more) (map_two (λ id label. Label id label) i t)
 unfolding Shaped
-shaped_by digits more None t is is_text = tt
-shaped_by digits more (Some id) None is is_text = tt
-shaped_by digits more (Some id) (Some label) is is_text = label_shaped digits more id label is is_text
+shaped_by digits more None t is is_label_word = tt
+shaped_by digits more (Some id) None is is_label_word = tt
+shaped_by digits more (Some id) (Some label) is is_label_word = label_shaped digits more id label is is_label_word
 
 shaped_label : (more : List (List ℕ)) → Shaped (codes "label" ∷ more) (label_order more)
 unfolding Shaped
@@ -219,7 +219,7 @@ read order ws h = absurd (omega (arith, AllZip-long SpellsWord ws (words_of orde
 
 in_range : (some : List Word) → list_all is_word_in_range some ≡ true → AllByRecursion IsWordInRange some
 in_range [] is = tt
-in_range (Says name ∷ some) is = (tt, in_range some is)
+in_range (Literal name ∷ some) is = (tt, in_range some is)
 in_range (Id id ∷ some) is =
     let parts = and_parts (not (id == 0xFFFF_FFFF)) (list_all is_word_in_range some) is in
     (λ e. no (subst (λ n. not (n == 0xFFFF_FFFF) ≡ true) e parts.0), in_range some parts.1)
@@ -236,7 +236,7 @@ in_range (Text name ∷ some) is =
 
 all_tested : (some : List Word) → AllByRecursion IsWordInRange some → list_all is_word_in_range some ≡ true
 all_tested [] is = refl
-all_tested (Says name ∷ some) is = all_tested some is.1
+all_tested (Literal name ∷ some) is = all_tested some is.1
 all_tested (Id id ∷ some) is = rw (ne_eqb id 0xFFFF_FFFF is.0) (all_tested some is.1)
 all_tested (Profile eep ∷ some) is = all_tested some is.1
 all_tested (Number most n ∷ some) is = rw (le-leb n most is.0) (all_tested some is.1)
@@ -276,7 +276,7 @@ label_joined id [] (a ∷ b ∷ []) (is_a, (is_b, _)) =
 label_joined id (first ∷ more) (a ∷ b ∷ c ∷ []) (is_a, (is_b, (is_c, _))) =
     rw is_a
     (ap order_in (label-apart b c (id-lacks b id is_b))
-    ∙ ap (λ o. of_two (λ id label. Label id label) (id_in b) o) (label_whole c))
+    ∙ ap (λ o. map_two (λ id label. Label id label) (id_in b) o) (label_whole c))
 label_joined id label texts h = absurd (omega (arith, AllZip-long SpellsWord texts (words_of (Label id label)) h))
 
 -- and those of any order

@@ -13,7 +13,8 @@ use Rattle.erp1_telegrams.specs.declared.eep.Eep.{Eep}
 use Rattle.actuator_commands.specs.declared.orders.Quantity.{Quantity}
 use Rattle.actuator_commands.specs.declared.orders.Quantity.TheVariants.{Energy, Power}
 use Rattle.actuator_commands.specs.Words.{SpellsId, SpellsEep, byte_from, byte_in, id_from, id_in, eep_from, eep_in}
-use Rattle.actuator_commands.specs.Words.{state_name, state_in, quantity_name, quantity_in, is_text, text_in}
+use Rattle.actuator_commands.specs.Words.{state_name, state_in, quantity_name, quantity_in, is_label_word}
+use Rattle.actuator_commands.specs.Words.{label_text_in}
 
 -- ---- an ID
 
@@ -137,10 +138,10 @@ quantity_read Power = refl
 
 -- ---- the text of a label
 
-pub text_spelled : (text name : List ℕ) → text_in text ≡ Some name → (text ≡ name) × (is_text name ≡ true)
+pub text_spelled : (text name : List ℕ) → label_text_in text ≡ Some name → (text ≡ name) × (is_label_word name ≡ true)
 text_spelled text name e =
-    let test = chosen (is_text text) (Some text) name e in
-    let same : text ≡ name = cc (test.1) in (same, subst (λ n. is_text n ≡ true) same test.0)
+    let test = chosen (is_label_word text) (Some text) name e in
+    let same : text ≡ name = cc (test.1) in (same, subst (λ n. is_label_word n ≡ true) same test.0)
 
-pub text_read : (text name : List ℕ) → (text ≡ name) × (is_text name ≡ true) → text_in text ≡ Some name
-text_read text name (same, may) = ap text_in same ∙ ap (λ b. cond b (Some name) None) may
+pub text_read : (text name : List ℕ) → (text ≡ name) × (is_label_word name ≡ true) → label_text_in text ≡ Some name
+text_read text name (same, may) = ap label_text_in same ∙ ap (λ b. cond b (Some name) None) may

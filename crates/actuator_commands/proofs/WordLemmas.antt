@@ -6,7 +6,7 @@ use Rattle.std.specs.List.{join_with_byte, onto_first, position_or_len, position
 use Rattle.std.proofs.lemmas.List.Splits.{slice_split_first, slice_split-cons_no, join_with_byte-slice_split}
 use Rattle.std.proofs.lemmas.List.Splits.{length-slice_split}
 use Rattle.std.proofs.lemmas.Bool.Decides.{nat_tests}
-use Rattle.actuator_commands.specs.Words.{text_in, label_in, words}
+use Rattle.actuator_commands.specs.Words.{label_text_in, label_in, words}
 
 abbrev is_space : ℕ → Bool
 is_space b = eqb b 32
@@ -46,11 +46,11 @@ words-none xs e =
     let s : None ≡ Some (position_or_len is_space xs) = rw t at e in cc)
 
 -- the text of a label is read from its words as from the whole text
-pub label_whole : (text : List ℕ) → label_in (words text) ≡ text_in text
+pub label_whole : (text : List ℕ) → label_in (words text) ≡ label_text_in text
 label_whole text = by_words (words text) refl
   where
-    by_words : (ws : List (List ℕ)) → words text ≡ ws → label_in ws ≡ text_in text
+    by_words : (ws : List (List ℕ)) → words text ≡ ws → label_in ws ≡ label_text_in text
     by_words [] e =
         let none : 0 ≡ length (words text) = ap length (sym e) in
         absurd (omega (arith, none, length-slice_split (λ b. b == 32) text))
-    by_words (first ∷ more) e = ap text_in (ap (join_with_byte 32) (sym e) ∙ join_with_byte-slice_split 32 text)
+    by_words (first ∷ more) e = ap label_text_in (ap (join_with_byte 32) (sym e) ∙ join_with_byte-slice_split 32 text)

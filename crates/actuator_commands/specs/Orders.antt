@@ -3,9 +3,9 @@ use Rattle.std.specs.Prelude.{◌≡◌, ℕ, Bool, ◌&&◌, List, [], ◌∷�
 use Rattle.std.specs.Prelude.{option_map, if◌then◌else◌}
 use Rattle.std.specs.List.{AllByRecursion, AllZip, join_with_byte, list_all}
 use Rattle.actuator_commands.specs.Limits.{max_channel, max_offset, max_value, max_ramp}
-use Rattle.actuator_commands.specs.Words.{words, Word, Says, Id, Profile, Number, Text, SpellsWord, IsWordInRange}
+use Rattle.actuator_commands.specs.Words.{words, Word, Literal, Id, Profile, Number, Text, SpellsWord, IsWordInRange}
 use Rattle.actuator_commands.specs.Words.{state_name, quantity_name, is_word_in_range, id_in, eep_in, number_in}
-use Rattle.actuator_commands.specs.Words.{state_in, quantity_in, label_in, of_two, of_three}
+use Rattle.actuator_commands.specs.Words.{state_in, quantity_in, label_in, map_two, map_three}
 use Rattle.actuator_commands.specs.declared.orders.Order.{Order}
 use Rattle.actuator_commands.specs.declared.orders.Order.TheVariants.{LearnOn, LearnOnAnswer, LearnAs, LearnOff}
 use Rattle.actuator_commands.specs.declared.orders.Order.TheVariants.{Add, Remove, Label, List as ListAll, Status, Base}
@@ -21,27 +21,29 @@ label_words (first ∷ more) = Text (first ∷ more) ∷ []
 
 -- The table of the orders: the words of each, as written in its lines. Own choice.
 abbrev pub words_of : Order → List Word
-words_of LearnOn = Says (codes "learn") ∷ Says (codes "on") ∷ []
-words_of LearnOnAnswer = Says (codes "learn") ∷ Says (codes "on") ∷ Says (codes "answer") ∷ []
-words_of (LearnAs eep) = Says (codes "learn") ∷ Says (codes "as") ∷ Profile eep ∷ []
-words_of LearnOff = Says (codes "learn") ∷ Says (codes "off") ∷ []
-words_of (Add id eep) = Says (codes "add") ∷ Id id ∷ Profile eep ∷ []
-words_of (Remove id) = Says (codes "remove") ∷ Id id ∷ []
-words_of (Label id label) = Says (codes "label") ∷ Id id ∷ label_words label
-words_of ListAll = Says (codes "list") ∷ []
-words_of Status = Says (codes "status") ∷ []
-words_of Base = Says (codes "base") ∷ []
-words_of (Switch id channel on) = Says (codes "switch") ∷ Id id ∷ Number max_channel channel ∷ Says (state_name on) ∷ []
-words_of (Dim id channel value) = Says (codes "dim") ∷ Id id ∷ Number max_channel channel ∷ Number max_value value ∷ []
-words_of (Query id channel) = Says (codes "query") ∷ Id id ∷ Number max_channel channel ∷ []
+words_of LearnOn = Literal (codes "learn") ∷ Literal (codes "on") ∷ []
+words_of LearnOnAnswer = Literal (codes "learn") ∷ Literal (codes "on") ∷ Literal (codes "answer") ∷ []
+words_of (LearnAs eep) = Literal (codes "learn") ∷ Literal (codes "as") ∷ Profile eep ∷ []
+words_of LearnOff = Literal (codes "learn") ∷ Literal (codes "off") ∷ []
+words_of (Add id eep) = Literal (codes "add") ∷ Id id ∷ Profile eep ∷ []
+words_of (Remove id) = Literal (codes "remove") ∷ Id id ∷ []
+words_of (Label id label) = Literal (codes "label") ∷ Id id ∷ label_words label
+words_of ListAll = Literal (codes "list") ∷ []
+words_of Status = Literal (codes "status") ∷ []
+words_of Base = Literal (codes "base") ∷ []
+words_of (Switch id channel on) =
+    Literal (codes "switch") ∷ Id id ∷ Number max_channel channel ∷ Literal (state_name on) ∷ []
+words_of (Dim id channel value) =
+    Literal (codes "dim") ∷ Id id ∷ Number max_channel channel ∷ Number max_value value ∷ []
+words_of (Query id channel) = Literal (codes "query") ∷ Id id ∷ Number max_channel channel ∷ []
 words_of (Meter id channel quantity) =
-    Says (codes "meter") ∷ Id id ∷ Number max_channel channel ∷ Says (quantity_name quantity) ∷ []
-words_of (Blind id value) = Says (codes "blind") ∷ Id id ∷ Number max_value value ∷ []
-words_of (Stop id) = Says (codes "stop") ∷ Id id ∷ []
-words_of (Central offset on) = Says (codes "central") ∷ Number max_offset offset ∷ Says (state_name on) ∷ []
+    Literal (codes "meter") ∷ Id id ∷ Number max_channel channel ∷ Literal (quantity_name quantity) ∷ []
+words_of (Blind id value) = Literal (codes "blind") ∷ Id id ∷ Number max_value value ∷ []
+words_of (Stop id) = Literal (codes "stop") ∷ Id id ∷ []
+words_of (Central offset on) = Literal (codes "central") ∷ Number max_offset offset ∷ Literal (state_name on) ∷ []
 words_of (Level offset value ramp) =
-    Says (codes "level") ∷ Number max_offset offset ∷ Number max_value value ∷ Number max_ramp ramp ∷ []
-words_of (Teach offset) = Says (codes "teach") ∷ Number max_offset offset ∷ []
+    Literal (codes "level") ∷ Number max_offset offset ∷ Number max_value value ∷ Number max_ramp ramp ∷ []
+words_of (Teach offset) = Literal (codes "teach") ∷ Number max_offset offset ∷ []
 
 -- The line has the shape of the order, whatever its numbers: texts that spell the order's words, one by one, with one
 -- space between each two and none before or after. Own choice.
@@ -86,24 +88,24 @@ three_words name second third =
     then Some LearnOnAnswer
     else if bytes_eq name (codes "learn") && bytes_eq second (codes "as")
     then option_map (λ eep. LearnAs eep) (eep_in third)
-    else if bytes_eq name (codes "add") then of_two (λ id eep. Add id eep) (id_in second) (eep_in third)
-    else if bytes_eq name (codes "query") then of_two (λ id channel. Query id channel) (id_in second) (number_in third)
-    else if bytes_eq name (codes "blind") then of_two (λ id value. Blind id value) (id_in second) (number_in third)
+    else if bytes_eq name (codes "add") then map_two (λ id eep. Add id eep) (id_in second) (eep_in third)
+    else if bytes_eq name (codes "query") then map_two (λ id channel. Query id channel) (id_in second) (number_in third)
+    else if bytes_eq name (codes "blind") then map_two (λ id value. Blind id value) (id_in second) (number_in third)
     else if bytes_eq name (codes "central")
-    then of_two (λ offset on. Central offset on) (number_in second) (state_in third)
+    then map_two (λ offset on. Central offset on) (number_in second) (state_in third)
     else None
 
 abbrev pub four_words : List ℕ → List ℕ → List ℕ → List ℕ → Option Order
 four_words name second third fourth =
     if bytes_eq name (codes "switch")
-    then of_three (λ id channel on. Switch id channel on) (id_in second) (number_in third) (state_in fourth)
+    then map_three (λ id channel on. Switch id channel on) (id_in second) (number_in third) (state_in fourth)
     else if bytes_eq name (codes "dim")
-    then of_three (λ id channel value. Dim id channel value) (id_in second) (number_in third) (number_in fourth)
+    then map_three (λ id channel value. Dim id channel value) (id_in second) (number_in third) (number_in fourth)
     else if bytes_eq name (codes "meter")
-    then of_three (λ id channel quantity. Meter id channel quantity) (id_in second) (number_in third)
+    then map_three (λ id channel quantity. Meter id channel quantity) (id_in second) (number_in third)
     (quantity_in fourth)
     else if bytes_eq name (codes "level")
-    then of_three (λ offset value ramp. Level offset value ramp) (number_in second) (number_in third)
+    then map_three (λ offset value ramp. Level offset value ramp) (number_in second) (number_in third)
     (number_in fourth)
     else None
 
@@ -117,7 +119,7 @@ plain_order texts = None
 -- the order that begins with `label`, by the words after it: those of its text are joined again
 abbrev pub label_order : List (List ℕ) → Option Order
 label_order [] = None
-label_order (digits ∷ more) = of_two (λ id label. Label id label) (id_in digits) (label_in more)
+label_order (digits ∷ more) = map_two (λ id label. Label id label) (id_in digits) (label_in more)
 
 abbrev pub order_in : List (List ℕ) → Option Order
 order_in [] = None

@@ -12,14 +12,14 @@ use Rattle.std.specs.Str.Parse.{digits_value}
 use Rattle.hex.specs.Hex.{decode_of, decode_sized}
 use Rattle.hex.specs.declared.error.FromHexError.{FromHexError}
 use Rattle.erp1_telegrams.specs.declared.eep.Eep.{Eep}
-use Rattle.learned_devices.specs.Labels.{max_label, is_name}
+use Rattle.learned_devices.specs.Labels.{max_label, has_label_form}
 use Rattle.actuator_commands.specs.declared.orders.Quantity.{Quantity}
 use Rattle.actuator_commands.specs.declared.orders.Quantity.TheVariants.{Energy, Power}
 
 -- A word of an order: a fixed text, an ID, a profile, a number, which is in range up to `most`, or the text of a label,
 -- which may contain spaces. Own choice.
 pub data Word : Type 0 where
-  Says : (text : List ℕ) → Word
+  Literal : (text : List ℕ) → Word
   Id : (id : ℕ) → Word
   Profile : (eep : Eep) → Word
   Number : (most n : ℕ) → Word
@@ -56,22 +56,22 @@ abbrev pub SpellsNumber : List ℕ → ℕ → Type 0
 SpellsNumber text n = (text ≡ decimal n) × (n < 100000)
 
 -- whether a text is a non-empty label, ignoring its length. Own choice.
-abbrev pub is_text : List ℕ → Bool
-is_text [] = false
-is_text (first ∷ more) = is_name (first ∷ more)
+abbrev pub is_label_word : List ℕ → Bool
+is_label_word [] = false
+is_label_word (first ∷ more) = has_label_form (first ∷ more)
 
 -- the text spells the word
 abbrev pub SpellsWord : List ℕ → Word → Type 0
-SpellsWord text (Says name) = text ≡ name
+SpellsWord text (Literal name) = text ≡ name
 SpellsWord text (Id id) = SpellsId text id
 SpellsWord text (Profile eep) = SpellsEep text eep
 SpellsWord text (Number most n) = SpellsNumber text n
-SpellsWord text (Text name) = (text ≡ name) × (is_text name ≡ true)
+SpellsWord text (Text name) = (text ≡ name) × (is_label_word name ≡ true)
 
 -- the word's number is in range, or its length; no device has the broadcast ID (EnOcean Serial Protocol 3, "Packet type
 -- 1: RADIO_ERP1")
 abbrev pub IsWordInRange : Word → Type 0
-IsWordInRange (Says name) = Unit {0}
+IsWordInRange (Literal name) = Unit {0}
 IsWordInRange (Id id) = id ≢ 0xFFFF_FFFF
 IsWordInRange (Profile eep) = Unit {0}
 IsWordInRange (Number most n) = n ≤ most
@@ -90,7 +90,7 @@ words_left left = option_map_or (λ rest. words rest.now) left []
 
 -- whether the word's number, or its length, is in range
 abbrev pub is_word_in_range : Word → Bool
-is_word_in_range (Says name) = true
+is_word_in_range (Literal name) = true
 is_word_in_range (Id id) = not (id == 0xFFFF_FFFF)
 is_word_in_range (Profile eep) = true
 is_word_in_range (Number most n) = nat_le n most
@@ -134,31 +134,31 @@ quantity_in text =
     else None
 
 -- whether there is no zero before another digit
-abbrev pub begins_well : List ℕ → Bool
-begins_well [] = false
-begins_well (first ∷ []) = true
-begins_well (first ∷ second ∷ more) = not (first == 48)
+abbrev pub has_no_leading_zero : List ℕ → Bool
+has_no_leading_zero [] = false
+has_no_leading_zero (first ∷ []) = true
+has_no_leading_zero (first ∷ second ∷ more) = not (first == 48)
 
 -- whether a text is `0`, or up to five digits that do not begin with 0
 abbrev pub is_number : List ℕ → Bool
-is_number text = begins_well text && nat_le (length text) 5 && list_all is_ascii_digit text
+is_number text = has_no_leading_zero text && nat_le (length text) 5 && list_all is_ascii_digit text
 
 -- the number that a text spells
 abbrev pub number_in : List ℕ → Option ℕ
 number_in text = if is_number text then Some (digits_value 10 text) else None
 
 -- the text of a label that a text spells
-abbrev pub text_in : List ℕ → Option (List ℕ)
-text_in text = if is_text text then Some text else None
+abbrev pub label_text_in : List ℕ → Option (List ℕ)
+label_text_in text = if is_label_word text then Some text else None
 
 -- the label in the remaining words of a line, with the spaces between them: the empty one if there are none
 abbrev pub label_in : List (List ℕ) → Option (List ℕ)
 label_in [] = Some []
-label_in (first ∷ more) = text_in (join_with_byte 32 (first ∷ more))
+label_in (first ∷ more) = label_text_in (join_with_byte 32 (first ∷ more))
 
 -- a value made of two words or of three, if each can be read
-abbrev pub of_two : {A B C : Type 0} → (A → B → C) → Option A → Option B → Option C
-of_two make a b = option_and_then (λ x. option_map (make x) b) a
+abbrev pub map_two : {A B C : Type 0} → (A → B → C) → Option A → Option B → Option C
+map_two make a b = option_and_then (λ x. option_map (make x) b) a
 
-abbrev pub of_three : {A B C D : Type 0} → (A → B → C → D) → Option A → Option B → Option C → Option D
-of_three make a b c = option_and_then (λ x. of_two (make x) b c) a
+abbrev pub map_three : {A B C D : Type 0} → (A → B → C → D) → Option A → Option B → Option C → Option D
+map_three make a b c = option_and_then (λ x. map_two (make x) b c) a

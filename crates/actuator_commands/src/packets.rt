@@ -2,7 +2,7 @@
 ghost use Rattle.std.specs.Prelude.{◌≡◌, ◌+◌, ◌^◌, ◌<◌, ◌≤◌, IsTrue, Ok, Some, length, true};
 ghost use Rattle.std.specs.Option.{option_copied};
 ghost use Rattle.erp1_telegrams.specs.Address.{is_base};
-ghost use Rattle.erp1_telegrams.specs.Telegram.{fits};
+ghost use Rattle.erp1_telegrams.specs.Telegram.{payload_fits};
 ghost use Rattle.actuator_commands.specs.Limits.{max_channel};
 ghost use Rattle.actuator_commands.specs.Orders.{IsInRange};
 ghost use Rattle.actuator_commands.specs.Packets.{ToOne, has_profile, meter_byte, order_telegram, payload_for};
@@ -40,7 +40,7 @@ impl Actuator {
         device: Option<&Device>,
         base: u32,
     ) -> Result<Telegram, OrderFault>
-        requires { IsTrue (fits 0xD2 (length payload.now)) }
+        requires { IsTrue (payload_fits 0xD2 (length payload.now)) }
         ensures { result ≡ telegram_for (ToOne id (payload_for self payload.now)) (option_copied device.entry) base }
     {
         let known = device.ok_or(OrderFault::UnknownDevice)?;
@@ -53,7 +53,7 @@ impl Actuator {
 
 // A VLD telegram from the base ID to a device.
 fn to_one(id: u32, payload: &[u8], base: u32) -> Telegram
-    requires { IsTrue (fits 0xD2 (length payload.now)) }
+    requires { IsTrue (payload_fits 0xD2 (length payload.now)) }
     ensures { Ok result ≡ telegram_to_one base id (Some payload.now) }
 {
     match Telegram::new(rorg::VLD, payload, base, 0, id, None) {

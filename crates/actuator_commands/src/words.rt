@@ -2,13 +2,13 @@
 ghost use Rattle.std.specs.Prelude.{◌≡◌, ◌==◌, [], ◌∷◌, MatchOption, option_map, position};
 ghost use Rattle.std.specs.Char.{is_ascii_digit};
 ghost use Rattle.std.specs.List.{list_all};
-ghost use Rattle.actuator_commands.specs.Words.{begins_well, byte_in, eep_in, id_in, is_number, number_in};
-ghost use Rattle.actuator_commands.specs.Words.{text_in, quantity_in, state_in, label_in, words_left};
+ghost use Rattle.actuator_commands.specs.Words.{has_no_leading_zero, byte_in, eep_in, id_in, is_number, number_in};
+ghost use Rattle.actuator_commands.specs.Words.{label_text_in, quantity_in, state_in, label_in, words_left};
 
 use crate::orders::Quantity;
 use erp1_telegrams::Eep;
 use hex::FromHex;
-use learned_devices::is_name;
+use learned_devices::has_label_form;
 
 // The index of the first space.
 fn space(line: &[u8]) -> Option<usize>
@@ -66,8 +66,8 @@ pub(crate) fn eep_of(text: &[u8]) -> Option<Eep>
 }
 
 // Whether a text has no zero before another digit, like a number.
-fn begins_well(text: &[u8]) -> bool
-    ensures { result ≡ begins_well text.now }
+fn has_no_leading_zero(text: &[u8]) -> bool
+    ensures { result ≡ has_no_leading_zero text.now }
 {
     match text {
         [] => false,
@@ -86,7 +86,7 @@ fn are_digits(text: &[u8]) -> bool
 fn is_number(text: &[u8]) -> bool
     ensures { result ≡ is_number text.now }
 {
-    begins_well(text) && text.len() <= 5 && are_digits(text)
+    has_no_leading_zero(text) && text.len() <= 5 && are_digits(text)
 }
 
 /// Reads a number: `0`, or up to five decimal digits that do not begin with 0.
@@ -126,9 +126,9 @@ pub(crate) fn quantity_of(text: &[u8]) -> Option<Quantity>
 
 // Reads the text of a label, of any length but 0.
 fn text_of(text: &[u8]) -> Option<&str>
-    ensures { option_map (λ text. text.now) result ≡ text_in text.now }
+    ensures { option_map (λ text. text.now) result ≡ label_text_in text.now }
 {
-    if text.is_empty() || !is_name(text) {
+    if text.is_empty() || !has_label_form(text) {
         return None;
     }
     str::from_utf8(text).ok()

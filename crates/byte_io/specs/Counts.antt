@@ -4,11 +4,11 @@ use Rattle.std.specs.Prelude.{◌==◌, ◌<◌, ◌⊎◌, if◌then◌else◌,
 use Rattle.std.specs.Prelude.{MatchResult}
 
 -- a 64-bit counter incremented by n; it stays at its maximum
-abbrev pub count_with : ℕ → ℕ → ℕ
-count_with count n = min (count + n) (2 ^ 64 - 1)
+abbrev pub saturated_sum : ℕ → ℕ → ℕ
+saturated_sum count n = min (count + n) (2 ^ 64 - 1)
 
-abbrev pub one_more : ℕ → ℕ
-one_more count = count_with count 1
+abbrev pub saturated_next : ℕ → ℕ
+saturated_next count = saturated_sum count 1
 
 -- the number of calls, of those that failed, and of those that returned 0 bytes; each counter stays at its maximum
 pub record Counts : Type 0 where
@@ -16,25 +16,25 @@ pub record Counts : Type 0 where
   pub failed : ℕ
   pub empty : ℕ
 
-abbrev pub none_yet : Counts
-none_yet = record { calls = 0; failed = 0; empty = 0 }
+abbrev pub no_calls : Counts
+no_calls = record { calls = 0; failed = 0; empty = 0 }
 
 -- the counters after a call with this result
-abbrev pub counted : {E : Type 0} → Counts → Result ℕ E → Counts
-counted counts (Ok n) = record {
-  calls = one_more counts.calls;
+abbrev pub count_call : {E : Type 0} → Counts → Result ℕ E → Counts
+count_call counts (Ok n) = record {
+  calls = saturated_next counts.calls;
   failed = counts.failed;
-  empty = if n == 0 then one_more counts.empty else counts.empty;
+  empty = if n == 0 then saturated_next counts.empty else counts.empty;
 }
-counted counts (Err e) = record {
-  calls = one_more counts.calls;
-  failed = one_more counts.failed;
+count_call counts (Err e) = record {
+  calls = saturated_next counts.calls;
+  failed = saturated_next counts.failed;
   empty = counts.empty;
 }
 
 -- no call failed, and none returned 0 bytes
-abbrev pub WentWell : Counts → Counts → Type 0
-WentWell old new = (new.failed ≡ old.failed) × (new.empty ≡ old.empty)
+abbrev pub NoneFailedOrEmpty : Counts → Counts → Type 0
+NoneFailedOrEmpty old new = (new.failed ≡ old.failed) × (new.empty ≡ old.empty)
 
 -- no call failed
 abbrev pub NoneFailed : Counts → Counts → Type 0
@@ -42,26 +42,27 @@ NoneFailed old new = new.failed ≡ old.failed
 
 -- one call failed
 abbrev pub OneMoreFailed : Counts → Counts → Type 0
-OneMoreFailed old new = new.failed ≡ one_more old.failed
+OneMoreFailed old new = new.failed ≡ saturated_next old.failed
 
 -- one call failed, and none returned 0 bytes
 abbrev pub OneFailed : Counts → Counts → Type 0
-OneFailed old new = (new.failed ≡ one_more old.failed) × (new.empty ≡ old.empty)
+OneFailed old new = (new.failed ≡ saturated_next old.failed) × (new.empty ≡ old.empty)
 
 -- one call returned 0 bytes, and none failed
 abbrev pub OneEmpty : Counts → Counts → Type 0
-OneEmpty old new = (new.failed ≡ old.failed) × (new.empty ≡ one_more old.empty)
+OneEmpty old new = (new.failed ≡ old.failed) × (new.empty ≡ saturated_next old.empty)
 
 -- all calls succeeded for `Ok`, and all but one for `Err`
-abbrev pub Went : {A E : Type 0} → Result A E → Counts → Counts → Type 0
-Went result old new = MatchResult result (λ _. WentWell old new) (λ _. OneFailed old new ⊎ OneEmpty old new)
+abbrev pub CallsMatchResult : {A E : Type 0} → Result A E → Counts → Counts → Type 0
+CallsMatchResult result old new =
+    MatchResult result (λ _. NoneFailedOrEmpty old new) (λ _. OneFailed old new ⊎ OneEmpty old new)
 
 -- n calls were made
-abbrev pub Made : Counts → Counts → ℕ → Type 0
-Made old new n = old.calls < 2 ^ 64 → new.calls ≡ count_with old.calls n
+abbrev pub CallsMade : Counts → Counts → ℕ → Type 0
+CallsMade old new n = old.calls < 2 ^ 64 → new.calls ≡ saturated_sum old.calls n
 
 -- n more calls can be counted, and one more of each other kind
-pub record HasRoom (counts : Counts) (n : ℕ) : Type 0 where
+pub record HasCountRoom (counts : Counts) (n : ℕ) : Type 0 where
   pub calls : counts.calls + n < 2 ^ 64
   pub failed : counts.failed + 1 < 2 ^ 64
   pub empty : counts.empty + 1 < 2 ^ 64

@@ -1,7 +1,7 @@
 //! Sinks: outputs for bytes.
 ghost use Rattle.std.specs.Prelude.{◌≡◌, ◌≤◌, ◌<◌, ℕ, List, Option, IfOk, length};
 ghost use Rattle.std.specs.Io.KnownBytes.{WriteAppends};
-ghost use Rattle.byte_io.specs.Counts.{Counts, counted, none_yet};
+ghost use Rattle.byte_io.specs.Counts.{Counts, count_call, no_calls};
 
 use crate::tally::{Failed, Tally};
 use std::io::Write;
@@ -20,7 +20,7 @@ pub trait Sink {
         requires { 0 < length text.now }
         ensures within { IfOk result (λ n. n ≤ length text.now) }
         ensures bytes { WriteAppends (held self.old) (held self.new) result text.now }
-        ensures told { counts self.new ≡ counted (counts self.old) result };
+        ensures told { counts self.new ≡ count_call (counts self.old) result };
 }
 
 /// A sink over a writer of `std`. It counts its writes, those that failed, and those that accepted 0 bytes; each
@@ -35,7 +35,7 @@ impl<W: Write> OverWrite<W> {
     /// A sink that has made no write to this writer yet.
     pub fn new(writer: W) -> OverWrite<W>
         ensures bytes { ⟦<OverWrite<W> as Sink>⟧.held result ≡ W.contents writer }
-        ensures told { ⟦<OverWrite<W> as Sink>⟧.counts result ≡ none_yet }
+        ensures told { ⟦<OverWrite<W> as Sink>⟧.counts result ≡ no_calls }
     {
         OverWrite {
             writer,

@@ -1,6 +1,6 @@
 //! The counters of a reader or writer.
 ghost use Rattle.std.specs.Prelude.{◌≡◌};
-ghost use Rattle.byte_io.specs.Counts.{counted, none_yet};
+ghost use Rattle.byte_io.specs.Counts.{count_call, no_calls};
 
 use std::marker::Model;
 use thiserror::Error;
@@ -28,7 +28,7 @@ impl Model for Tally {
 
 impl Tally {
     pub(crate) fn new() -> Tally
-        ensures { result ≡ none_yet }
+        ensures { result ≡ no_calls }
     {
         Tally {
             calls: 0,
@@ -39,7 +39,7 @@ impl Tally {
 
     /// Counts a call with this result.
     pub(crate) fn count(&mut self, answer: Result<usize, Failed>)
-        ensures { self.new ≡ counted self.old answer }
+        ensures { self.new ≡ count_call self.old answer }
     {
         self.calls = self.calls.saturating_add(1);
         match answer {

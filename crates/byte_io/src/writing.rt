@@ -1,5 +1,5 @@
 //! Writing texts to a sink.
-ghost use Rattle.byte_io.specs.Counts.{Went};
+ghost use Rattle.byte_io.specs.Counts.{CallsMatchResult};
 ghost use Rattle.byte_io.specs.Writes.{Writes};
 
 use crate::sink::Sink;
@@ -8,7 +8,7 @@ use crate::tally::Failed;
 /// Writes the whole text. After `Failed` a proper prefix of it is written.
 pub fn write_text<W: Sink>(writer: &mut W, text: &[u8]) -> Result<(), Failed>
     ensures written { Writes (W.held writer.old) (W.held writer.new) result text.now }
-    ensures told { Went result (W.counts writer.old) (W.counts writer.new) }
+    ensures told { CallsMatchResult result (W.counts writer.old) (W.counts writer.new) }
 {
     let mut rest = text;
     while !rest.is_empty() {

@@ -10,9 +10,10 @@ use Rattle.lru.specs.LruCache.{LruCache, lru_cache}
 use Rattle.lru.proofs.Splits.{Contains-nil}
 use Rattle.sqlite.specs.State.{State, HasCleanDisk}
 use Rattle.learned_devices.specs.declared.Device.{Device}
-use Rattle.learned_devices.specs.Devices.{Devices, Learned, Change, changed, after, entered, device, device_of}
-use Rattle.learned_devices.specs.Kept.{Keeps, Commits}
-use Rattle.device_registry.specs.Holding.{HasDevices, kept}
+use Rattle.learned_devices.specs.Devices.{Devices, DeviceData, DeviceUpdate, apply_update, data_after, with_entry}
+use Rattle.learned_devices.specs.Devices.{device, device_of}
+use Rattle.learned_devices.specs.StoreState.{Keeps, Commits}
+use Rattle.device_registry.specs.Holding.{HasDevices, registry_state}
 use Rattle.device_registry.specs.Ready.{IsReady}
 use Rattle.device_registry.specs.private.Cached.{EntryAgrees, CacheAgrees}
 use Rattle.device_registry.proofs.DevicesHeld.{registers_once}
@@ -30,7 +31,7 @@ cleared_recalled s cap cache is = none_recalled s cache.entries (ap (λ (c : Lru
 
 pub fewer_recalled : (s : State) (old new : List Entry) → CacheAgrees s old
     → ((e : Entry) → Contains new e → Contains old e) → CacheAgrees s new
-fewer_recalled s old new recalls kept entry has clean = recalls entry (kept entry has) clean
+fewer_recalled s old new recalls registry_state entry has clean = recalls entry (registry_state entry has) clean
 
 -- a cached entry agrees with every list of devices that the registry may hold
 pub recalled : (s : State) (id : ℕ) (known : Option Device) → HasCleanDisk s → EntryAgrees s (id, known)
@@ -38,8 +39,9 @@ pub recalled : (s : State) (id : ℕ) (known : Option Device) → HasCleanDisk s
 recalled s id known clean right devices has = right.is ∙ ap (λ (m : Devices). device_of m id)
     (registers_once s.now right.devices devices right.shows.registers (has clean right.shows.is_open))
 
-pub unmoved : (s : State) (devices : Devices) → HasDevices s devices → Keeps (kept s) (kept s) devices
-unmoved s devices has = record { now = has; stop = λ left may. may }
+pub unmoved : (s : State) (devices : Devices) → HasDevices s devices
+    → Keeps (registry_state s) (registry_state s) devices
+unmoved s devices has = record { now = has; crash = λ left may. may }
 
 held : {s : State} (ready : IsReady s) → HasDevices s ready.devices
 held ready = λ _ _. ready.shows.registers
@@ -63,14 +65,14 @@ still old new clean ready keeps entry right = record {
 pub found_recalled : (old new : State) (id : ℕ) (known : Option Device) (before later : List Entry)
     → (HasCleanDisk new → HasCleanDisk old) → (HasCleanDisk new → IsReady old × IsReady new)
     → (HasCleanDisk new → (devices : Devices) → HasDevices old devices
-    → (known ≡ device_of devices id) × Keeps (kept old) (kept new) devices)
+    → (known ≡ device_of devices id) × Keeps (registry_state old) (registry_state new) devices)
     → CacheAgrees old before → ((e : Entry) → Contains later e → Contains before e ⊎ (e ≡ (id, known)))
     → CacheAgrees new later
-found_recalled old new id known before later early sure found recalls kept entry has clean =
+found_recalled old new id known before later early sure found recalls registry_state entry has clean =
     let it = sure clean in
     let was_devices = it.0.devices in
     let had = held it.0 in
-    elim (kept entry has) [
+    elim (registry_state entry has) [
       | inl was ↦ still old new clean it.1 (λ devices had. (found clean devices had).1.now) entry
           (recalls entry was (early clean))
       | inr same ↦
@@ -85,7 +87,8 @@ found_recalled old new id known before later early sure found recalls kept entry
 
 pub listed_recalled : (old new : State) (entries : List Entry) → (HasCleanDisk new → HasCleanDisk old)
     → (HasCleanDisk new → IsReady old × IsReady new)
-    → (HasCleanDisk new → (devices : Devices) → HasDevices old devices → Keeps (kept old) (kept new) devices)
+    → (HasCleanDisk new → (devices : Devices) → HasDevices old devices
+    → Keeps (registry_state old) (registry_state new) devices)
     → CacheAgrees old entries → CacheAgrees new entries
 listed_recalled old new entries early sure keeps recalls entry has clean =
     still old new clean (sure clean).1 (λ devices had. (keeps clean devices had).now) entry
@@ -98,56 +101,59 @@ apart a b h = grind (arith, nat_tests)
 tied : (a : ℕ) → eq_by_cmp nat_cmp a a ≡ true
 tied a = grind (arith, nat_tests)
 
-elsewhere : (devices : Devices) (id : ℕ) (entry : Option Learned) (other : ℕ) → other ≢ id
-    → get (entered devices id entry) other ≡ get devices other
+elsewhere : (devices : Devices) (id : ℕ) (entry : Option DeviceData) (other : ℕ) → other ≢ id
+    → get (with_entry devices id entry) other ≡ get devices other
 elsewhere devices id (Some it) other far =
     get-insert nat_cmp_total devices id it other ∙ rw (apart other id far) refl
 elsewhere devices id None other far = get-remove nat_cmp_total devices id other ∙ rw (apart other id far) refl
 
-there : (devices : Devices) (id : ℕ) (entry : Option Learned) → get (entered devices id entry) id ≡ entry
+there : (devices : Devices) (id : ℕ) (entry : Option DeviceData) → get (with_entry devices id entry) id ≡ entry
 there devices id (Some it) = get-insert nat_cmp_total devices id it id ∙ rw (tied id) refl
 there devices id None = get-remove nat_cmp_total devices id id ∙ rw (tied id) refl
 
 -- the data of a sender after the change
-abbrev known_after : Devices → Change → Option Learned
-known_after devices change = after (get devices change.sender) change.deed
+abbrev known_after : Devices → DeviceUpdate → Option DeviceData
+known_after devices update = data_after (get devices update.sender) update.operation
 
 -- a change is committed, and its sender is cached
-pub changed_recalled : (old new : State) (change : Change) (known : Option Device) (before between later : List Entry)
+pub changed_recalled : (old new : State) (update : DeviceUpdate) (known : Option Device)
+    (before between later : List Entry)
     → (HasCleanDisk new → HasCleanDisk old) → (HasCleanDisk new → IsReady old × IsReady new)
-    → (HasCleanDisk new → (devices : Devices) → HasDevices old devices → Commits (kept new) change devices)
+    → (HasCleanDisk new → (devices : Devices) → HasDevices old devices → Commits (registry_state new) update devices)
     → (HasCleanDisk old → (devices : Devices) → HasDevices old devices
-    → known ≡ option_map (device change.sender) (known_after devices change))
-    → CacheAgrees old before → ((e : Entry) → Contains between e → Contains before e × (e.0 ≢ change.sender))
-    → ((e : Entry) → Contains later e → Contains between e ⊎ (e ≡ (change.sender, known))) → CacheAgrees new later
-changed_recalled old new change known before between later early sure commits is recalls taken kept entry has clean =
+    → known ≡ option_map (device update.sender) (known_after devices update))
+    → CacheAgrees old before → ((e : Entry) → Contains between e → Contains before e × (e.0 ≢ update.sender))
+    → ((e : Entry) → Contains later e → Contains between e ⊎ (e ≡ (update.sender, known))) → CacheAgrees new later
+changed_recalled old new update known before between later early sure commits is recalls taken registry_state entry has
+    clean =
     let it = sure clean in
-    let id = change.sender in
-    elim (kept entry has) [
+    let id = update.sender in
+    elim (registry_state entry has) [
       | inl was ↦
           let left = taken entry was in
           let right = recalls entry left.0 (early clean) in
           record {
-            devices = changed right.devices change;
-            shows = shows_them new (changed right.devices change) clean it.1
+            devices = apply_update right.devices update;
+            shows = shows_them new (apply_update right.devices update) clean it.1
                 (commits clean right.devices (λ _ _. right.shows.registers)).now;
             is = right.is ∙ ap (option_map (device entry.0))
-                (sym (elsewhere right.devices id (known_after right.devices change) entry.0 left.1));
+                (sym (elsewhere right.devices id (known_after right.devices update) entry.0 left.1));
           }
       | inr same ↦
           subst (EntryAgrees new) (sym same) (record {
-            devices = changed it.0.devices change;
-            shows = shows_them new (changed it.0.devices change) clean it.1
+            devices = apply_update it.0.devices update;
+            shows = shows_them new (apply_update it.0.devices update) clean it.1
                 (commits clean it.0.devices (held it.0)).now;
             is = is (early clean) it.0.devices (held it.0) ∙ ap (option_map (device id))
-                (sym (there it.0.devices id (known_after it.0.devices change)));
+                (sym (there it.0.devices id (known_after it.0.devices update)));
           })
     ]
 
 -- nothing is learned, and the other entries stay
 pub full_recalled : (old new : State) (before later : List Entry) → (HasCleanDisk new → HasCleanDisk old)
     → (HasCleanDisk new → IsReady old × IsReady new)
-    → (HasCleanDisk new → (devices : Devices) → HasDevices old devices → Keeps (kept old) (kept new) devices)
+    → (HasCleanDisk new → (devices : Devices) → HasDevices old devices
+    → Keeps (registry_state old) (registry_state new) devices)
     → CacheAgrees old before
     → ((e : Entry) → Contains later e → Contains before e) → CacheAgrees new later
 full_recalled old new before later early sure keeps recalls fewer =

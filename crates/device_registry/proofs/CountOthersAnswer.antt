@@ -28,9 +28,9 @@ use Rattle.sqlite_sql.specs.declared.aggregate.AggregateOp.TheVariants.{CountRow
 use Rattle.sqlite.proofs.Callers.{IsPlain, reads_as, one_permutation}
 use Rattle.device_registry.specs.Table.{count_others_text}
 use Rattle.sqlite.specs.Listing.{understood}
-use Rattle.device_registry.specs.Ready.{IsReady, Shows, Stays}
+use Rattle.device_registry.specs.Ready.{IsReady, IsReadyWith, WritesNothing}
 use Rattle.learned_devices.specs.Devices.{Devices, is_full, max_devices}
-use Rattle.device_registry.specs.Stored.{Registers}
+use Rattle.device_registry.specs.Stored.{IsRegistryOf}
 use Rattle.device_registry.specs.Table.Rows.{IsDevice}
 use Rattle.device_registry.proofs.StatementTexts.{is_other, others_query, program_of}
 use Rattle.device_registry.proofs.CountOthersMeaning.{count_means}
@@ -116,7 +116,7 @@ others_length id (row ∷ rows) all =
     rw (is_of_other id row all.0) (either_length (not (has_rowid (pos id) row)) (asked id ∷ row ∷ [])
     (others id rows) row (without_rowid (pos id) rows) (others_length id rows all.1))
 
-pub counts : (old new : State) (id : ℕ) (rows : List Row) (devices : Devices) → Registers old.now devices
+pub counts : (old new : State) (id : ℕ) (rows : List Row) (devices : Devices) → IsRegistryOf old.now devices
     → Shown count_others_text (asked id) old new rows → rows ≡ (count (len (remove devices id)) ∷ []) ∷ []
 counts old new id rows devices had h =
     let r = had.registry in
@@ -140,10 +140,10 @@ others_plain s ready =
 -- the query writes nothing
 pub others_stay : {V : Type 0} (id : ℕ) (text : List ℕ) (old mid new : State) (items : V → List Row)
     (r : Result V Error)
-    → Stays old mid → (HasCleanDisk mid → text ≡ count_others_text) → (HasCleanDisk mid → IsReady mid)
+    → WritesNothing old mid → (HasCleanDisk mid → text ≡ count_others_text) → (HasCleanDisk mid → IsReady mid)
     → Survives mid new (CommitsShowing text (asked id) mid)
     → (HasCleanDisk new → IfOk r (λ v. Shown text (asked id) mid new (items v)))
-    → (HasCleanDisk new → IfErr r (FailsToQuery text (asked id) mid new)) → Stays old new
+    → (HasCleanDisk new → IfErr r (FailsToQuery text (asked id) mid new)) → WritesNothing old new
 others_stay id text old mid new items r first is ready survives shown failed =
     compiled_query_stays count_others_text text (asked id) old mid new items r first is
     (λ clean. others_plain mid (ready clean))
@@ -164,7 +164,7 @@ full_told others n is few =
     ap (nat_le max_devices) (omega (arith, same, few))
 
 pub told_full : (old new : State) (id : ℕ) (rows : List Row) (n : ℕ) (row : Row) (more : List Row) (devices : Devices)
-    → Shows old devices → Shown count_others_text (asked id) old new rows → rows ≡ row ∷ more
+    → IsReadyWith old devices → Shown count_others_text (asked id) old new rows → rows ≡ row ∷ more
     → column row 0 ≡ Int (pos n) → nat_le max_devices n ≡ is_full devices id
 told_full old new id rows n row more devices shows h are number =
     full_told (len (remove devices id)) n (shown_number (count (len (remove devices id))) n row more

@@ -18,7 +18,7 @@ use Rattle.device_registry.proofs.TextMeaning.{Means, draft_of}
 use Rattle.device_registry.proofs.SelectMeaning.{IsPlainSelect, plain_select, select_means}
 use Rattle.device_registry.specs.declared.table.Version.TheVariants.{Second}
 use Rattle.device_registry.specs.Table.{count_others_text, device_name, device_table}
-use Rattle.device_registry.specs.Stored.{Stands}
+use Rattle.device_registry.specs.Stored.{IsTableAt}
 
 count_is : IsPlainSelect count_others_text
     (plain_select (device_name Second) (One (CallStar (codes "count")) None (codes "count(*)") ∷ []) (id_test Ne) [])
@@ -32,7 +32,7 @@ count_draft d =
     let groups : Grouping = record { keys = []; collations = []; aggregates = count ∷ []; having = [] } in
     record (draft_of (device_table Second d) (others_query d)) { group = Some groups }
 
-pub count_means : (schema : Schema) (at d : ℕ) → Stands schema (device_name Second) (device_table Second d) at
+pub count_means : (schema : Schema) (at d : ℕ) → IsTableAt schema (device_name Second) (device_table Second d) at
     → Means schema count_others_text (Select (program_of (others_query d)) (codes "count(*)" ∷ []))
 unfolding everything
 count_means schema at d it =

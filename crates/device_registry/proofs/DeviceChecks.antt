@@ -14,8 +14,8 @@ use Rattle.sqlite_sql.specs.declared.ops.CompareOp.TheVariants.{Le, Ge}
 use Rattle.learned_devices.specs.Labels.{is_label}
 use Rattle.device_registry.specs.declared.table.Version.TheVariants.{Second}
 use Rattle.device_registry.specs.Table.{device_table, max_sender, max_profile, max_maker}
-use Rattle.learned_devices.specs.Devices.{Learned}
-use Rattle.device_registry.specs.Table.Rows.{IsDevice, stored, eep_number, maker_number}
+use Rattle.learned_devices.specs.Devices.{DeviceData}
+use Rattle.device_registry.specs.Table.Rows.{IsDevice, device_row, eep_number, maker_number}
 use Rattle.device_registry.proofs.TestSteps.{both}
 
 -- the test of a CHECK that a number is between two others
@@ -45,8 +45,8 @@ lies_between low high n h =
     (at_least n low two.0, at_most n high two.1)
 
 -- an inserted row passes them, so it is that of a device, if its label is valid
-pub checked : (d id : ℕ) (it : Learned) → is_label it.label ≡ true
-    → passes_checks (device_table Second d) (stored id it) ≡ true → IsDevice (stored id it)
+pub checked : (d id : ℕ) (it : DeviceData) → is_label it.label ≡ true
+    → passes_checks (device_table Second d) (device_row id it) ≡ true → IsDevice (device_row id it)
 unfolding between
 checked d id it label h =
     let sender = both (between (pos 0) (pos max_sender) (pos id)) _ h in

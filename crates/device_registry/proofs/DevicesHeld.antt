@@ -23,11 +23,11 @@ use Rattle.sqlite_catalog.proofs.ReadLemmas.{lists_once}
 use Rattle.device_registry.specs.declared.table.Version.{Version}
 use Rattle.device_registry.specs.declared.table.Version.TheVariants.{Second}
 use Rattle.device_registry.specs.Table.{device_name, device_text, device_table, meta_name, meta_text, meta_table}
-use Rattle.learned_devices.specs.Devices.{Devices, Learned, is_full, max_devices}
-use Rattle.device_registry.specs.Stored.{IsRegistry, RegistersAs, HoldsAs, Registers, Holds, Stands}
+use Rattle.learned_devices.specs.Devices.{Devices, DeviceData, is_full, max_devices}
+use Rattle.device_registry.specs.Stored.{IsRegistry, IsRegistryOfVersion, HoldsAs, IsRegistryOf, Holds, IsTableAt}
 use Rattle.device_registry.specs.Stored.{AreListed, IsListedAs}
-use Rattle.device_registry.specs.Table.Rows.{RowidsDiffer, IsDevice, IsVersion, devices_in, rows_of, stored}
-use Rattle.device_registry.specs.Opening.{FewAreHeld}
+use Rattle.device_registry.specs.Table.Rows.{RowidsDiffer, IsDevice, IsVersion, devices_in, rows_of, device_row}
+use Rattle.device_registry.specs.Opening.{DevicesAreLimited}
 use Rattle.device_registry.proofs.RowsAsMap.{IsShort, devices_replaced, put_are_devices, all_without_are_devices}
 use Rattle.device_registry.proofs.DistinctRows.{len_is, apart_put}
 use Rattle.device_registry.proofs.PutEffect.{IsPut}
@@ -44,14 +44,14 @@ same_table : {a b : Table} → ◌≡◌ {A = Option Table} (Some a) (Some b) �
 same_table e = cc
 
 tree_once : (version : Version) (schema : Schema) (d e at to : ℕ)
-    → Stands schema (device_name version) (device_table version d) at
-    → Stands schema (device_name version) (device_table version e) to → d ≡ e
+    → IsTableAt schema (device_name version) (device_table version d) at
+    → IsTableAt schema (device_name version) (device_table version e) to → d ≡ e
 tree_once version schema d e at to one other =
     let place : at ≡ to = same_place (sym one.named ∙ other.named) in
     ap (λ (t : Table). t.tree) (same_table (sym one.there ∙ ap (slice_get schema.tables) place ∙ other.there))
 
-pub registers_by : (version : Version) (db : Database) (a b : Devices) → RegistersAs version db a
-    → RegistersAs version db b → a ≡ b
+pub registers_by : (version : Version) (db : Database) (a b : Devices) → IsRegistryOfVersion version db a
+    → IsRegistryOfVersion version db b → a ≡ b
 registers_by version db a b one other =
     let x = one.registry.tables in
     let y = other.registry.tables in
@@ -59,7 +59,7 @@ registers_by version db a b one other =
     tree_once version db.schema x.devices y.devices x.devices_at y.devices_at x.devices_stand y.devices_stand in
     sym one.is ∙ ap (λ t. devices_in (rows_of version (db.trees t))) tree ∙ other.is
 
-pub registers_once : (db : Database) (a b : Devices) → Registers db a → Registers db b → a ≡ b
+pub registers_once : (db : Database) (a b : Devices) → IsRegistryOf db a → IsRegistryOf db b → a ≡ b
 registers_once = registers_by Second
 
 -- the trees of a sound database determine its schema, and so its devices
@@ -72,7 +72,7 @@ held_by version trees a b one other =
     (subst (λ (t : Trees). Rattle.sqlite_catalog.specs.Listing.Lists (t catalog_tree) one.db.schema) trees_are
     one.sound.lists) other.sound.lists in
     let db : one.db ≡ other.db = λ i. record { schema = schema i; trees = trees_are i } in
-    registers_by version other.db a b (subst (λ db. RegistersAs version db a) db one.registers) other.registers
+    registers_by version other.db a b (subst (λ db. IsRegistryOfVersion version db a) db one.registers) other.registers
 
 pub held_once : (trees : Trees) (a b : Devices) → Holds trees a → Holds trees b → a ≡ b
 held_once = held_by Second
@@ -115,11 +115,11 @@ module _ (before : Database) (registry : IsRegistry Second before) where
       → AllByRecursion IsDevice (after.trees registry.tables.devices)
       → RowidsDiffer (after.trees registry.tables.devices) → length (after.trees registry.tables.devices) ≤ max_devices
       → devices_in (after.trees registry.tables.devices) ≡ devices
-      → Registers after devices
+      → IsRegistryOf after devices
   registers_after after devices schema objects row one version rows once few is =
       let then : Database = record { schema = before.schema; trees = after.trees } in
       let same : then ≡ after = λ i. record { schema = sym schema i; trees = after.trees } in
-      subst (λ db. Registers db devices) same (record {
+      subst (λ db. IsRegistryOf db devices) same (record {
         registry = record {
           tables = registry.tables;
           whole = record { row = row; one = one; numbered = version; rows = rows; once = once; few = few };
@@ -141,13 +141,13 @@ all_without_once : (rows : List Row) (ids : List ℤ) → RowidsDiffer rows → 
 all_without_once rows [] h = h
 all_without_once rows (id ∷ ids) h = all_without_once (without_rowid id rows) ids (without_once id rows h)
 
-pub few_devices : (db : Database) (devices : Devices) → Registers db devices → len devices ≤ max_devices
+pub few_devices : (db : Database) (devices : Devices) → IsRegistryOf db devices → len devices ≤ max_devices
 few_devices db devices had =
     let r = had.registry in subst (λ m. len m ≤ max_devices) had.is
     (subst (λ n. n ≤ max_devices) (sym (len_is (db.trees r.tables.devices) r.whole.rows r.whole.once)) r.whole.few)
 
-pub few_are_held : FewAreHeld
-few_are_held trees devices holds = few_devices holds.db devices holds.registers
+pub devices_are_limited : DevicesAreLimited
+devices_are_limited trees devices holds = few_devices holds.db devices holds.registers
 
 pub fewer : (devices : Devices) (id : ℕ) → len (remove devices id) ≤ len devices
 fewer devices id = not_more (contains_key devices id) (len devices) _ (len-remove nat_cmp_total devices id)
@@ -156,13 +156,14 @@ one_less : (n without : ℕ) → without ≡ n - 1 → n ≤ max_devices → nat
 one_less n without less few = let low : without < max_devices = omega (arith, less, few) in grind (arith, nat_tests)
 
 -- the registry is not full for a known sender
-pub room_for_known : (db : Database) (devices : Devices) (id : ℕ) (it : Learned) → Registers db devices
+pub room_for_known : (db : Database) (devices : Devices) (id : ℕ) (it : DeviceData) → IsRegistryOf db devices
     → get devices id ≡ Some it → is_full devices id ≡ false
 room_for_known db devices id it had known =
     one_less (len devices) (len (remove devices id)) (len-remove nat_cmp_total devices id
-    ∙ ap (λ (o : Option Learned). cond (is_some o) (len devices - 1) (len devices)) known) (few_devices db devices had)
+    ∙ ap (λ (o : Option DeviceData). cond (is_some o) (len devices - 1) (len devices)) known)
+    (few_devices db devices had)
 
-module _ (before after : Database) (devices : Devices) (had : Registers before devices) (sound : IsDatabase before)
+module _ (before after : Database) (devices : Devices) (had : IsRegistryOf before devices) (sound : IsDatabase before)
   where
     meta_beside : had.registry.tables.meta ≢ catalog_tree
     meta_beside = table_beside before.schema before.trees (meta_table had.registry.tables.meta) sound (has_got
@@ -174,16 +175,16 @@ module _ (before after : Database) (devices : Devices) (had : Registers before d
         (has_got before.schema.tables had.registry.tables.devices_at (device_table Second had.registry.tables.devices)
         had.registry.tables.devices_stand.there)
 
-    pub put_registers : (id : ℕ) (it : Learned) → IsShort it.eep → is_full devices id ≡ false
+    pub put_registers : (id : ℕ) (it : DeviceData) → IsShort it.eep → is_full devices id ≡ false
         → after.schema ≡ before.schema → IsPut before.schema had.registry.tables.devices id it before.trees after.trees
-        → Registers after (insert devices id it)
+        → IsRegistryOf after (insert devices id it)
     put_registers id it short room schema put =
         let r = had.registry in
         let all =
-        subst (AllByRecursion IsDevice) (sym put.rows) (put_are_devices _ (stored id it) put.device
+        subst (AllByRecursion IsDevice) (sym put.rows) (put_are_devices _ (device_row id it) put.device
         (all_without_are_devices (before.trees r.tables.devices) put.gone r.whole.rows)) in
         let once =
-        subst RowidsDiffer (sym put.rows) (apart_put (stored id it) _ put.fresh
+        subst RowidsDiffer (sym put.rows) (apart_put (device_row id it) _ put.fresh
         (all_without_once (before.trees r.tables.devices) put.gone r.whole.once)) in
         let is : devices_in (after.trees r.tables.devices) ≡ insert devices id it =
         ap devices_in put.rows ∙ devices_replaced (before.trees r.tables.devices) put.gone id it short r.whole.rows
@@ -202,7 +203,7 @@ module _ (before after : Database) (devices : Devices) (had : Registers before d
     pub forgotten_registers : (id : ℕ) → after.schema ≡ before.schema
         → IsForgotten id (before.trees had.registry.tables.devices) (after.trees had.registry.tables.devices)
         → SparesOthers before.schema had.registry.tables.devices before.trees after.trees
-        → Registers after (remove devices id)
+        → IsRegistryOf after (remove devices id)
     forgotten_registers id schema gone others =
         let r = had.registry in
         let is : devices_in (after.trees r.tables.devices) ≡ remove devices id =
@@ -218,7 +219,7 @@ module _ (before after : Database) (devices : Devices) (had : Registers before d
         r.whole.numbered gone.rows gone.once (subst (λ n. n ≤ max_devices) (sym size) few) is
 
     pub renewed_registers : after.schema ≡ before.schema → after.trees had.registry.tables.meta ≡ version_row ∷ []
-        → SparesOthers before.schema had.registry.tables.meta before.trees after.trees → Registers after devices
+        → SparesOthers before.schema had.registry.tables.meta before.trees after.trees → IsRegistryOf after devices
     renewed_registers schema version others =
         let r = had.registry in
         let same : after.trees r.tables.devices ≡ before.trees r.tables.devices = others.tables r.tables.devices_at

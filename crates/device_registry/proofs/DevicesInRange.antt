@@ -13,10 +13,10 @@ use Rattle.sqlite.specs.Order.{Row}
 use Rattle.sqlite_trees.specs.Tree.{Trees}
 use Rattle.device_registry.specs.Holding.{Finds}
 use Rattle.learned_devices.specs.Devices.{Devices, device}
-use Rattle.device_registry.specs.Stored.{RegistersAs}
+use Rattle.device_registry.specs.Stored.{IsRegistryOfVersion}
 use Rattle.device_registry.specs.declared.table.Version.{Version}
 use Rattle.device_registry.specs.Table.{max_maker}
-use Rattle.device_registry.specs.Table.Rows.{IsDevice, natural, maker_in, entry_of, devices_in}
+use Rattle.device_registry.specs.Table.Rows.{IsDevice, natural_in, maker_in, entry_of, devices_in}
 use Rattle.learned_devices.specs.Ranges.{IsMakerInRange, IsDeviceInRange, AreInRange}
 use Rattle.learned_devices.proofs.ForCallers.{empty-in, entered-in}
 use Rattle.device_registry.specs.Ranges.{RegistriesAreInRange}
@@ -28,7 +28,7 @@ maker-in (negsuc n) below = tt
 row-in : (row : Row) → IsDevice row → IsDeviceInRange (device (entry_of row).0 (entry_of row).1)
 row-in row is = (
   (omega arith, omega arith, omega arith),
-  subst (λ (v : Value). natural v < 2 ^ 32) (sym is.id_is) (omega (arith, is.is_sender)),
+  subst (λ (v : Value). natural_in v < 2 ^ 32) (sym is.id_is) (omega (arith, is.is_sender)),
   subst (λ (v : Value). IsMakerInRange (maker_in v)) (sym is.maker_is) (maker-in is.maker is.is_maker.1),
 )
 
@@ -37,7 +37,7 @@ rows-in [] all = empty-in
 rows-in (row ∷ rows) all =
     entered-in (devices_in rows) (entry_of row).0 (Some (entry_of row).1) (row-in row all.0) (rows-in rows all.1)
 
-registers-in : {version : Version} {db : Database} {devices : Devices} → RegistersAs version db devices
+registers-in : {version : Version} {db : Database} {devices : Devices} → IsRegistryOfVersion version db devices
     → AreInRange devices
 registers-in registers = subst AreInRange registers.is (rows-in _ registers.registry.whole.rows)
 

@@ -40,7 +40,8 @@ untaken new rows h = all_weaker (λ r. is_eq (value_cmp (rowid r) (rowid new)) �
     ap (λ v. is_eq (value_cmp v (rowid new))) same ∙ ap is_eq (tied_itself value_cmp_total (rowid new)) in cc)) rows
     (none_any (λ r. is_eq (value_cmp (rowid r) (rowid new))) rows h)
 
-pub apart_put : (new : Row) (rows : List Row) → HasNewRowid new rows → RowidsDiffer rows → RowidsDiffer (put_row new rows)
+pub apart_put : (new : Row) (rows : List Row) → HasNewRowid new rows → RowidsDiffer rows
+    → RowidsDiffer (put_row new rows)
 apart_put new [] free apart = (tt, tt)
 apart_put new (r ∷ rows) free apart =
     elim (value_cmp (rowid r) (rowid new)) as
@@ -54,7 +55,8 @@ int_tied : (a b : ℕ) → value_cmp (Int (pos a)) (Int (pos b)) ≡ Equal → a
 int_tied a b h = let e = sym (value_cmp-Int (pos a) (pos b)) ∙ h in grind (arith, ints, nat_tests)
 
 -- a row that is inserted beside the others is one more
-pub put_permutes : (new : Row) (it : IsDevice new) (rows : List Row) → AllByRecursion IsDevice rows → HasNewRowid new rows
+pub put_permutes : (new : Row) (it : IsDevice new) (rows : List Row) → AllByRecursion IsDevice rows
+    → HasNewRowid new rows
     → IsPermutation (new ∷ rows) (put_row new rows)
 put_permutes new it [] all free = IsPermutation-refl (new ∷ [])
 put_permutes new it (r ∷ rows) all free =

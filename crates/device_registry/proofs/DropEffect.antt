@@ -23,7 +23,7 @@ use Rattle.sqlite.specs.Does.{Tally, Does, AtPlace, Drops, is_acted_on}
 use Rattle.sqlite.specs.Rows.{Task, Edited, Gives}
 use Rattle.device_registry.specs.declared.table.Version.TheVariants.{First}
 use Rattle.device_registry.specs.Table.{device_name, device_table}
-use Rattle.device_registry.specs.Stored.{SparesName}
+use Rattle.device_registry.specs.Stored.{HasNoReferenceTo}
 use Rattle.device_registry.proofs.RowWrites.{went, same_value}
 use Rattle.device_registry.proofs.SchemaTests.{any_none}
 
@@ -38,11 +38,11 @@ left_false true b h = absurd cc
 left_false false b h = refl
 
 -- no foreign key acts when rows of a table are deleted that no key refers to
-unacted : (schema : Schema) (keys : Keys) (table : Table) → AllByRecursion (SparesName table.name) schema.tables
+unacted : (schema : Schema) (keys : Keys) (table : Table) → AllByRecursion (HasNoReferenceTo table.name) schema.tables
     → is_acted_on schema keys table ≡ false
 unacted schema keys table spares =
     any_none (λ t. list_any (λ ref. same_name table.name ref.parent && is_some (deed_for keys true ref)) t.references)
-    schema.tables (all_weaker (SparesName table.name) (λ t. list_any
+    schema.tables (all_weaker (HasNoReferenceTo table.name) (λ t. list_any
     (λ ref. same_name table.name ref.parent && is_some (deed_for keys true ref)) t.references ≡ false)
     (λ t none. any_none (λ (ref : Reference). same_name table.name ref.parent && is_some (deed_for keys true ref))
     t.references (all_weaker (λ (ref : Reference). same_name ref.parent table.name ≡ false)
@@ -52,7 +52,7 @@ unacted schema keys table spares =
 -- the table is dropped, and no other changes
 pub drops : (schema : Schema) (at d : ℕ) (limit : Option ℕ) (mode : Mode) (db : Trees) (text : List ℕ) (tally : Tally)
     (after : Database) → slice_get schema.tables at ≡ Some (device_table First d)
-    → AllByRecursion (SparesName (device_name First)) schema.tables
+    → AllByRecursion (HasNoReferenceTo (device_name First)) schema.tables
     → Does limit mode [] (record { schema = schema; trees = db }) text None (DropTable at) (Ok (tally, after))
     → (after.schema ≡ without_table schema d) × KeepsRows (without_table schema d).tables db after.trees
 drops schema at d limit mode db text tally after there spares does =

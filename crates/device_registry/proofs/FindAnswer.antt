@@ -15,11 +15,11 @@ use Rattle.sqlite.specs.State.{State, Shown}
 use Rattle.sqlite.specs.Command.TheVariants.{Select}
 use Rattle.sqlite.proofs.Callers.{IsPlain, reads_as, one_permutation}
 use Rattle.device_registry.specs.Table.{find_text}
-use Rattle.learned_devices.specs.Devices.{Devices, Learned, device, device_of}
-use Rattle.device_registry.specs.Stored.{Registers}
-use Rattle.device_registry.specs.Table.Rows.{devices_in, entry_of, natural, AreFound}
+use Rattle.learned_devices.specs.Devices.{Devices, DeviceData, device, device_of}
+use Rattle.device_registry.specs.Stored.{IsRegistryOf}
+use Rattle.device_registry.specs.Table.Rows.{devices_in, entry_of, natural_in, IsDeviceOrNone}
 use Rattle.sqlite.specs.Listing.{understood}
-use Rattle.device_registry.specs.Ready.{IsReady, Shows}
+use Rattle.device_registry.specs.Ready.{IsReady, IsReadyWith}
 use Rattle.device_registry.proofs.StatementTexts.{find_query, program_of}
 use Rattle.device_registry.proofs.FindMeaning.{find_means, shown_columns}
 use Rattle.device_registry.proofs.ListDevicesAnswer.{shown}
@@ -27,14 +27,14 @@ use Rattle.device_registry.proofs.RowsAsMap.{seen}
 use Rattle.device_registry.proofs.SenderTests.{asked, hits, found, no_rows, overlay_is}
 use Rattle.device_registry.proofs.StatementSteps.{query_ready}
 
-answered : (id : ℕ) (devices : Devices) (table rows : List Row) (o : Option Learned) → devices_in table ≡ devices
-    → seen id table ≡ o → AreFound (option_map (device id) o) rows → AreFound (device_of devices id) rows
-answered id devices table rows o is seen_is h = subst (λ m. AreFound (device_of m id) rows) is
-    (subst (λ o. AreFound (option_map (device id) o) rows)
+answered : (id : ℕ) (devices : Devices) (table rows : List Row) (o : Option DeviceData) → devices_in table ≡ devices
+    → seen id table ≡ o → IsDeviceOrNone (option_map (device id) o) rows → IsDeviceOrNone (device_of devices id) rows
+answered id devices table rows o is seen_is h = subst (λ m. IsDeviceOrNone (device_of m id) rows) is
+    (subst (λ o. IsDeviceOrNone (option_map (device id) o) rows)
     (sym (get-from_entries nat_cmp_total (map entry_of table) id ∙ seen_is)) h)
 
-pub finds : (old new : State) (id : ℕ) (rows : List Row) (devices : Devices) → Registers old.now devices
-    → Shown find_text (asked id) old new rows → AreFound (device_of devices id) rows
+pub finds : (old new : State) (id : ℕ) (rows : List Row) (devices : Devices) → IsRegistryOf old.now devices
+    → Shown find_text (asked id) old new rows → IsDeviceOrNone (device_of devices id) rows
 finds old new id rows devices had h =
     let r = had.registry in
     let q = find_query r.tables.devices in
@@ -59,7 +59,7 @@ finds old new id rows devices had h =
           let are : rows ≡ shown some.0 ∷ [] =
           a.shown ∙ ap (λ xs. page q (asked id) (map (λ (p : Output). p.1) xs)) ordered in
           answered id devices table rows (Some (entry_of some.0).1) had.is some.1
-          (shown some.0, are, ap (λ v. device (natural v) (entry_of some.0).1) some.3)
+          (shown some.0, are, ap (λ v. device (natural_in v) (entry_of some.0).1) some.3)
     ]
 
 pub find_plain : (s : State) → IsReady s → IsPlain (understood s.now.schema find_text)
@@ -68,7 +68,7 @@ find_plain s ready =
     (find_means s.now.schema r.tables.devices_at r.tables.devices r.tables.devices_stand).plain
 
 pub looked_up : (old new : State) (id : ℕ) (rows : List Row) → IsReady old → Shown find_text (asked id) old new rows
-    → IsReady new × ((devices : Devices) → Shows old devices → AreFound (device_of devices id) rows)
+    → IsReady new × ((devices : Devices) → IsReadyWith old devices → IsDeviceOrNone (device_of devices id) rows)
 looked_up old new id rows ready h = (
   query_ready find_text (asked id) old new rows (find_plain old ready) ready h,
   λ devices shows. finds old new id rows devices shows.registers h,
@@ -76,13 +76,13 @@ looked_up old new id rows ready h = (
 
 -- ---- an unknown sender
 
-none_known : (id : ℕ) (known : Option Learned) (rows : List Row) → AreFound (option_map (device id) known) rows
+none_known : (id : ℕ) (known : Option DeviceData) (rows : List Row) → IsDeviceOrNone (option_map (device id) known) rows
     → rows ≡ [] → known ≡ None
 none_known id None rows h none = refl
 none_known id (Some it) rows h none = absurd (let e = sym h.1 ∙ none in cc)
 
 -- removing an unknown sender changes nothing
-pub unknown_is_removed : (devices : Devices) (id : ℕ) (rows : List Row) → AreFound (device_of devices id) rows
+pub unknown_is_removed : (devices : Devices) (id : ℕ) (rows : List Row) → IsDeviceOrNone (device_of devices id) rows
     → rows ≡ [] → remove devices id ≡ devices
 unknown_is_removed devices id rows h none = same_map nat_cmp_total nat_cmp-IsAntisymmetric _ _
     (λ q. get-remove nat_cmp_total devices id q ∙ unseen devices id q (none_known id _ rows h none))

@@ -10,7 +10,7 @@ use Rattle.device_registry.proofs.TextMeaning.{Means, draft_of}
 use Rattle.device_registry.proofs.SelectMeaning.{IsPlainSelect, plain_select, select_means}
 use Rattle.device_registry.specs.declared.table.Version.TheVariants.{Second}
 use Rattle.device_registry.specs.Table.{find_text, device_name, device_table}
-use Rattle.device_registry.specs.Stored.{Stands}
+use Rattle.device_registry.specs.Stored.{IsTableAt}
 
 abbrev pub shown_columns : List (List ℕ)
 shown_columns = codes "id" ∷ codes "eep" ∷ codes "maker" ∷ codes "label" ∷ []
@@ -22,7 +22,7 @@ unfolding everything
 find_is = record { read = record { parsed = _; read = refl; is = refl; timeless = refl } }
 
 -- The rowid has no collation.
-pub find_means : (schema : Schema) (at d : ℕ) → Stands schema (device_name Second) (device_table Second d) at
+pub find_means : (schema : Schema) (at d : ℕ) → IsTableAt schema (device_name Second) (device_table Second d) at
     → Means schema find_text (Select (program_of (find_query d)) shown_columns)
 unfolding everything
 find_means schema at d it =

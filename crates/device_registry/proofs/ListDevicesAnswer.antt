@@ -19,8 +19,8 @@ use Rattle.device_registry.specs.declared.table.Version.{Version}
 use Rattle.device_registry.specs.declared.table.Version.TheVariants.{First, Second}
 use Rattle.device_registry.specs.Table.{find_all_text}
 use Rattle.learned_devices.specs.Devices.{Devices, device, all_of}
-use Rattle.device_registry.specs.Stored.{Registers}
-use Rattle.device_registry.specs.Table.Rows.{RowidsDiffer, IsDevice, entry_of, listed, with_label, rows_of}
+use Rattle.device_registry.specs.Stored.{IsRegistryOf}
+use Rattle.device_registry.specs.Table.Rows.{RowidsDiffer, IsDevice, entry_of, device_in_row, with_label, rows_of}
 use Rattle.sqlite.specs.Listing.{understood}
 use Rattle.device_registry.specs.Ready.{IsReady}
 use Rattle.device_registry.proofs.StatementTexts.{all_query, program_of}
@@ -60,9 +60,10 @@ pub shown_are : (rows : List Row) → map (λ (o : Output). o.1) (map out rows) 
 shown_are [] = refl
 shown_are (row ∷ rows) = ap (λ rs. shown row ∷ rs) (shown_are rows)
 
-listed_are : (rows : List Row) → map listed (map shown rows) ≡ map (λ entry. device entry.0 entry.1) (map entry_of rows)
+listed_are : (rows : List Row) → map device_in_row (map shown rows)
+    ≡ map (λ entry. device entry.0 entry.1) (map entry_of rows)
 listed_are [] = refl
-listed_are (row ∷ rows) = ap (λ ds. listed (shown row) ∷ ds) (listed_are rows)
+listed_are (row ∷ rows) = ap (λ ds. device_in_row (shown row) ∷ ds) (listed_are rows)
 
 -- the query shows the rows by ascending sender
 pub shows_ranked : (version : Version) (d : ℕ) (db : Trees) (rows : List Row)
@@ -82,8 +83,8 @@ shows_ranked version d db rows all apart a =
     (rises version d up (ranked_rises table)) same a.sorted in
     a.shown ∙ ap (map (λ (o : Output). o.1)) ordered ∙ shown_are up
 
-pub lists : (old new : State) (rows : List Row) (devices : Devices) → Registers old.now devices
-    → Shown (find_all_text Second) [] old new rows → map listed rows ≡ all_of devices
+pub lists : (old new : State) (rows : List Row) (devices : Devices) → IsRegistryOf old.now devices
+    → Shown (find_all_text Second) [] old new rows → map device_in_row rows ≡ all_of devices
 lists old new rows devices had h =
     let r = had.registry in
     let table = old.now.trees r.tables.devices in
@@ -92,7 +93,7 @@ lists old new rows devices had h =
     reads_as (find_all_text Second) [] old new old.now.schema refl
     (Select (program_of (all_query Second r.tables.devices)) (shown_columns Second)) it.is it.plain it.unlisted
     rows h in
-    ap (map listed)
+    ap (map device_in_row)
     (shows_ranked Second r.tables.devices old.now.trees rows r.whole.rows r.whole.once (read.answer Null))
     ∙ listed_are (ranked table) ∙ ap (map (λ entry. device entry.0 entry.1))
     (sym (entries_ranked table r.whole.rows) ∙ ap entries had.is)

@@ -13,7 +13,7 @@ use Rattle.device_registry.proofs.StatementTexts.{by_column, column_read, progra
 use Rattle.device_registry.proofs.TextMeaning.{Means, draft_of}
 use Rattle.device_registry.proofs.SelectMeaning.{IsPlainSelect, plain_select, select_means}
 use Rattle.device_registry.specs.Table.{find_all_text, device_name, device_table}
-use Rattle.device_registry.specs.Stored.{Stands}
+use Rattle.device_registry.specs.Stored.{IsTableAt}
 
 -- the label that is shown, and the name of its column
 abbrev label_read : Version → Column
@@ -36,7 +36,7 @@ all_is Second = record { read = record { parsed = _; read = refl; is = refl; tim
 
 -- The rowid has no collation, and neither has a literal text.
 pub all_means : (version : Version) (schema : Schema) (at d : ℕ)
-    → Stands schema (device_name version) (device_table version d) at
+    → IsTableAt schema (device_name version) (device_table version d) at
     → Means schema (find_all_text version) (Select (program_of (all_query version d)) (shown_columns version))
 unfolding everything
 all_means First schema at d it =

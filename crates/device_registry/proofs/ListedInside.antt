@@ -9,7 +9,7 @@ use Rattle.sqlite.specs.Held.{Held, state}
 use Rattle.sqlite_trees.specs.declared.store.Store.{Ghosts}
 use Rattle.device_registry.specs.declared.table.Version.{Version}
 use Rattle.device_registry.specs.Table.{list_objects_text}
-use Rattle.device_registry.specs.private.Listing.{are_ours}
+use Rattle.device_registry.specs.private.CatalogRows.{are_ours}
 use Rattle.device_registry.specs.Stored.{AreListed}
 use Rattle.device_registry.specs.private.Transaction.{IsUncommitted, IsInside, IsListedInside}
 use Rattle.device_registry.proofs.ListObjectsAnswer.{listing_plain}
@@ -31,9 +31,9 @@ seen_commit items old new (Err e) sound ok (inr late) = spared_commit old new (i
 
 module _ {S : Type 0} (g : Ghosts S) (texts : List (List ℕ)) (a b c : Held S) (made : IsInside g texts a b)
     (sound : HasCleanDisk (state g b) → IsDatabase (state g b).now)
-    (stop : Survives (state g b) (state g c) (λ _. ⊥)) where
+    (crash : Survives (state g b) (state g c) (λ _. ⊥)) where
   early : HasCleanDisk (state g c) → HasCleanDisk (state g b)
-  early clean = omega (arith, clean, stop.clean)
+  early clean = omega (arith, clean, crash.clean)
 
   pub seen_uncommitted : {V : Type 0} (items : V → List Row) (r : Result V Error)
       → (HasCleanDisk (state g c) → IfOk r (λ v. Shown list_objects_text [] (state g b) (state g c) (items v)))
@@ -41,7 +41,7 @@ module _ {S : Type 0} (g : Ghosts S) (texts : List (List ℕ)) (a b c : Held S) 
       ⊎ IsTooLate list_objects_text [] (state g b) (state g c) e))
       → IsUncommitted (state g a) (state g c)
   seen_uncommitted items r ok err = uncommitted_then (state g a) (state g b) (state g c) made.uncommitted (record {
-    stop = stop;
+    crash = crash;
     kept = λ clean. seen_commit items (state g b) (state g c) r (sound (early clean)) (ok clean) (err clean);
   })
 

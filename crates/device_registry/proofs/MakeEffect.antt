@@ -23,11 +23,11 @@ use Rattle.sqlite.proofs.Callers.{runs_as, statement_of}
 use Rattle.device_registry.specs.declared.table.Version.TheVariants.{Second}
 use Rattle.device_registry.specs.Table.{meta_text, device_text, write_version_text}
 use Rattle.device_registry.specs.Table.{device_name, meta_table, device_table}
-use Rattle.device_registry.specs.Stored.{HasTables, AreListed, Registers}
+use Rattle.device_registry.specs.Stored.{HasTables, AreListed, IsRegistryOf}
 use Rattle.device_registry.specs.Table.Rows.{RowidsDiffer, IsDevice, devices_in}
 use Rattle.learned_devices.specs.Devices.{max_devices}
-use Rattle.device_registry.specs.Stored.{IsClear}
-use Rattle.device_registry.specs.Places.{is_clear}
+use Rattle.device_registry.specs.Stored.{AdmitsTables}
+use Rattle.device_registry.specs.SchemaChecks.{admits_tables}
 use Rattle.device_registry.specs.private.Transaction.{IsInside, IsListedInside}
 use Rattle.device_registry.proofs.TableTexts.{meta_is, device_is}
 use Rattle.device_registry.proofs.RowWrites.{went, same_value}
@@ -75,7 +75,7 @@ record StandIn (schema : Schema) (meta devices : ℕ) : Type 0 where
 -- the two tables hold the version row and nothing else
 registers : (db : Database) (t : HasTables Second db.schema) → db.trees t.meta ≡ version_row ∷ []
     → db.trees t.devices ≡ [] → AreListed Second db.trees
-    → Registers db empty
+    → IsRegistryOf db empty
 registers db t one none listed = record {
   registry = record {
     tables = t;
@@ -93,7 +93,7 @@ registers db t one none listed = record {
 }
 
 -- the tables are created
-module _ (a b c : State) (i j : ℕ) (clear : IsClear a.now.schema) (sound : IsDatabase a.now)
+module _ (a b c : State) (i j : ℕ) (clear : AdmitsTables a.now.schema) (sound : IsDatabase a.now)
     (first : ExecutesInside 0 meta_text [] a b (Ok i))
     (second : ExecutesInside 0 (device_text Second) [] b c (Ok j)) where
   half_counted : lacks_sequence (with_meta a.now.schema) ≡ false
@@ -173,10 +173,10 @@ apart_from : (a b : ℕ) → a < b → a ≡ b → ⊥
 apart_from a b low same = omega (arith, low, same)
 
 -- and the version row is written
-makes : (a b c d : State) (i j k : ℕ) → IsClear a.now.schema → IsDatabase a.now
+makes : (a b c d : State) (i j k : ℕ) → AdmitsTables a.now.schema → IsDatabase a.now
     → ExecutesInside 0 meta_text [] a b (Ok i) → ExecutesInside 0 (device_text Second) [] b c (Ok j)
     → ExecutesInside 0 write_version_text [] c d (Ok k)
-    → (AreListed Second d.now.trees → Registers d.now empty) × IsDatabase d.now × KeepsAll a.now d.now
+    → (AreListed Second d.now.trees → IsRegistryOf d.now empty) × IsDatabase d.now × KeepsAll a.now d.now
 makes a b c d i j k clear sound first second third =
     let after = whole a b c i j clear sound first second in
     let it = stand a b c i j clear sound first second in
@@ -213,17 +213,17 @@ making = meta_text ∷ device_text Second ∷ write_version_text ∷ []
 
 -- if the two tables are listed with our texts, it is a registry without devices
 abbrev IsMade : Database → Database → Type 0
-IsMade old db = (AreListed Second db.trees → Registers db empty) × IsDatabase db × KeepsAll old db
+IsMade old db = (AreListed Second db.trees → IsRegistryOf db empty) × IsDatabase db × KeepsAll old db
 
 module _ {S : Type 0} (g : Ghosts S) (old start : Held S) (is : start ≡ record old { in_transaction = true })
-    (free : HasCleanDisk (state g old) → IsTrue (is_clear (state g old).now.schema)
+    (free : HasCleanDisk (state g old) → IsTrue (admits_tables (state g old).now.schema)
     × IsDatabase (state g old).now) where
   -- what it shows after the three texts
   ran : (mid : Held S) → IsInside g making start mid → HasCleanDisk (state g mid)
       → IsMade (state g old).now (state g mid).now
   ran mid it clean =
       let at = subst (λ h. IsInside g making h mid) is it in
-      let was = free (omega (arith, clean, (since g old start (state g mid) is it.uncommitted).stop.clean)) in
+      let was = free (omega (arith, clean, (since g old start (state g mid) is it.uncommitted).crash.clean)) in
       let first = at.ran clean in
       let second = first.3 in
       let third = second.3 in
@@ -237,14 +237,14 @@ module _ {S : Type 0} (g : Ghosts S) (old start : Held S) (is : start ≡ record
 
 module _ {S : Type 0} (g : Ghosts S) (old start last : Held S) (is : start ≡ record old { in_transaction = true })
     (it : IsListedInside g Second making start last)
-    (free : HasCleanDisk (state g old) → IsTrue (is_clear (state g old).now.schema)
+    (free : HasCleanDisk (state g old) → IsTrue (admits_tables (state g old).now.schema)
     × IsDatabase (state g old).now) where
   -- what it shows before the commit
   shows : HasCleanDisk (state g last) → Shown (λ devices. devices ≡ empty) (state g old).now (state g last).now
   shows clean =
       let done = ran g old start is free it.mid it.made (it.clean clean) in
       let here = subst (IsMade (state g old).now) (sym (it.same clean)) done in (
-        λ devices are. subst (Registers (state g last).now) (sym are) (here.0 (it.listed clean here.1)),
+        λ devices are. subst (IsRegistryOf (state g last).now) (sym are) (here.0 (it.listed clean here.1)),
         here.1,
         λ table has _ _. here.2 table has,
       )

@@ -9,9 +9,9 @@ use Rattle.sqlite.specs.Steps.{FailsToCommit}
 use Rattle.sqlite.specs.Held.{Held, state}
 use Rattle.sqlite_trees.specs.declared.store.Store.{Ghosts}
 use Rattle.device_registry.specs.declared.table.Version.TheVariants.{First, Second}
-use Rattle.device_registry.specs.Table.{meta_name, device_name, device_text, copy_text, drop_text, renew_text}
+use Rattle.device_registry.specs.Table.{meta_name, device_name, device_text, copy_text, drop_text, rewrite_version_text}
 use Rattle.device_registry.specs.Table.Rows.{devices_in, rows_of}
-use Rattle.device_registry.specs.Stored.{KeepsTree, IsRegistry, AreListed, RegistersAs, Registers}
+use Rattle.device_registry.specs.Stored.{TreeHasName, IsRegistry, AreListed, IsRegistryOfVersion, IsRegistryOf}
 use Rattle.sqlite.specs.Table.{Table}
 use Rattle.sqlite_schema.specs.Names.{same_name}
 use Rattle.sqlite_rules.proofs.ListLemmas.{all_has}
@@ -23,16 +23,16 @@ use Rattle.device_registry.proofs.TransactionEnd.{Commits, Ends, Shown, ends}
 use Rattle.device_registry.proofs.TransactionSteps.{since}
 
 abbrev pub migration : List (List ℕ)
-migration = device_text Second ∷ copy_text ∷ drop_text ∷ renew_text ∷ []
+migration = device_text Second ∷ copy_text ∷ drop_text ∷ rewrite_version_text ∷ []
 
 -- if the tables are listed with our texts, the database is a registry of those devices
 abbrev IsMade : (old : Database) → IsRegistry First old → Database → Type 0
 IsMade old was db =
-    (AreListed Second db.trees → Registers db (devices_in (rows_of First (old.trees was.tables.devices))))
+    (AreListed Second db.trees → IsRegistryOf db (devices_in (rows_of First (old.trees was.tables.devices))))
     × IsDatabase db × KeepsOthers old db
 
 -- a table with none of our names is stored in none of our trees
-apart_by_name : (name : List ℕ) (tree : ℕ) (table : Table) → KeepsTree name tree table
+apart_by_name : (name : List ℕ) (tree : ℕ) (table : Table) → TreeHasName name tree table
     → same_name table.name name ≡ false → table.tree ≢ tree
 apart_by_name name tree table keeps other same = absurd (let e = sym (keeps same) ∙ other in cc)
 
@@ -65,7 +65,7 @@ module _ {S : Type 0} (g : Ghosts S) (old start : Held S) (is : start ≡ record
     (first : HasCleanDisk (state g old) → IsRegistry First (state g old).now × IsDatabase (state g old).now) where
   before : (new : State) → IsUncommitted (state g start) new → HasCleanDisk new
       → IsRegistry First (state g old).now × IsDatabase (state g old).now
-  before new it clean = first (omega (arith, clean, (since g old start new is it).stop.clean))
+  before new it clean = first (omega (arith, clean, (since g old start new is it).crash.clean))
 
   pub sound_inside : (mid : Held S) → HasCleanDisk (state g mid) → IsInside g migration start mid
       → IsDatabase (state g mid).now
@@ -77,12 +77,12 @@ module _ {S : Type 0} (g : Ghosts S) (old start last : Held S) (is : start ≡ r
     (first : HasCleanDisk (state g old) → IsRegistry First (state g old).now × IsDatabase (state g old).now) where
   -- what it shows before the commit
   shows : HasCleanDisk (state g last)
-      → Shown (RegistersAs First (state g old).now) (state g old).now (state g last).now
+      → Shown (IsRegistryOfVersion First (state g old).now) (state g old).now (state g last).now
   shows clean =
       let was = before g old start is first (state g last) it.uncommitted clean in
       let done = ran g old start it.mid is it.made was.0 was.1 (it.clean clean) in
       let here = subst (IsMade (state g old).now was.0) (sym (it.same clean)) done in (
-        λ devices were. subst (Registers (state g last).now)
+        λ devices were. subst (IsRegistryOf (state g last).now)
             (registers_by First (state g old).now _ devices (record { registry = was.0; is = refl }) were)
             (here.0 (it.listed clean here.1)),
         here.1,
@@ -93,5 +93,5 @@ module _ {S : Type 0} (g : Ghosts S) (old start last : Held S) (is : start ≡ r
       → Survives (state g last) (state g gone) (λ trees. trees ≡ (state g last).now.trees)
       → (HasCleanDisk (state g gone) → OnOk r (Commits (state g last) (state g gone)))
       → (HasCleanDisk (state g gone) → IfErr r (FailsToCommit (state g last) (state g gone)))
-      → Ends (RegistersAs First (state g old).now) (state g old) (state g new) r
-  migrate_ends r = ends g migration old start last is it (RegistersAs First (state g old).now) shows r
+      → Ends (IsRegistryOfVersion First (state g old).now) (state g old) (state g new) r
+  migrate_ends r = ends g migration old start last is it (IsRegistryOfVersion First (state g old).now) shows r

@@ -22,10 +22,10 @@ use Rattle.sqlite.specs.State.{State, ExecutesInside, mode_of}
 use Rattle.sqlite.proofs.Callers.{runs_as, statement_of}
 use Rattle.device_registry.specs.declared.table.Version.TheVariants.{First, Second}
 use Rattle.learned_devices.specs.Devices.{max_devices}
-use Rattle.device_registry.specs.Table.{device_text, copy_text, drop_text, renew_text, device_name, meta_name}
+use Rattle.device_registry.specs.Table.{device_text, copy_text, drop_text, rewrite_version_text, device_name, meta_name}
 use Rattle.device_registry.specs.Table.{device_table, meta_table}
 use Rattle.device_registry.specs.Table.Rows.{IsDevice, RowidsDiffer, devices_in, rows_of}
-use Rattle.device_registry.specs.Stored.{HasTables, IsRegistry, AreListed, Registers}
+use Rattle.device_registry.specs.Stored.{HasTables, IsRegistry, AreListed, IsRegistryOf}
 use Rattle.device_registry.proofs.StatementTexts.{program_of, copy_query, renew_query}
 use Rattle.device_registry.proofs.TableTexts.{device_is}
 use Rattle.device_registry.proofs.CreateTablesMeaning.{device_makes}
@@ -50,7 +50,7 @@ use Rattle.device_registry.proofs.RowWrites.{SparesOthers}
 registers : (db : Database) (t : HasTables Second db.schema) (devices rows : List Row)
     → db.trees t.meta ≡ version_row ∷ [] → db.trees t.devices ≡ put_all [] rows → IsPermutation devices rows
     → AllByRecursion IsDevice devices → RowidsDiffer devices → length devices ≤ max_devices
-    → AreListed Second db.trees → Registers db (devices_in devices)
+    → AreListed Second db.trees → IsRegistryOf db (devices_in devices)
 registers db t devices rows version put turned all once few listed =
     let same : IsPermutation devices (put_all [] rows) =
     IsPermutation-trans _ _ _ turned
@@ -77,161 +77,166 @@ below_is x y low same = omega (arith, low, same)
 
 module _ (a b c d e : State) (i j k l : ℕ) (registry : IsRegistry First a.now) (sound : IsDatabase a.now)
     (one : ExecutesInside 0 (device_text Second) [] a b (Ok i)) (two : ExecutesInside 0 copy_text [] b c (Ok j))
-    (three : ExecutesInside 0 drop_text [] c d (Ok k)) (four : ExecutesInside 0 renew_text [] d e (Ok l)) where
-  abbrev t : HasTables First a.now.schema
-  t = registry.tables
+    (three : ExecutesInside 0 drop_text [] c d (Ok k)) (four : ExecutesInside 0 rewrite_version_text [] d e (Ok l))
+  where
+    abbrev t : HasTables First a.now.schema
+    t = registry.tables
 
-  abbrev schema_b : Schema
-  schema_b = added a.now sound t
+    abbrev schema_b : Schema
+    schema_b = added a.now sound t
 
-  abbrev schema_d : Schema
-  schema_d = dropped a.now sound t
+    abbrev schema_d : Schema
+    schema_d = dropped a.now sound t
 
-  abbrev tree : ℕ
-  tree = fresh a.now sound t
+    abbrev tree : ℕ
+    tree = fresh a.now sound t
 
-  -- ---- the table is created
+    -- ---- the table is created
 
-  made : (b.now.schema ≡ schema_b) × (b.now.trees tree ≡ []) × KeepsRows a.now.schema.tables a.now.trees b.now.trees
-      × IsDatabase b.now
-  made =
-      let makes = device_makes a.now.schema t.free in
-      let ran =
-      runs_as (device_text Second) [] a b a.now.schema refl CreateTable makes.means.is makes.means.plain i one.0 in
-      let it = creates a.step_limit (mode_of a) a.now b.now (device_text Second) ran.tally (device_table Second 0)
-      (device_is Second) (still_counted a.now.schema (device_table Second 0) refl t.counted)
-      (subst (λ text. Does a.step_limit (mode_of a) [] a.now text None CreateTable (Ok (ran.tally, b.now))) makes.alone
-      ran.changed) in
-      (it.0, it.1, it.2, ran.sound)
+    made : (b.now.schema ≡ schema_b) × (b.now.trees tree ≡ []) × KeepsRows a.now.schema.tables a.now.trees b.now.trees
+        × IsDatabase b.now
+    made =
+        let makes = device_makes a.now.schema t.free in
+        let ran =
+        runs_as (device_text Second) [] a b a.now.schema refl CreateTable makes.means.is makes.means.plain i one.0 in
+        let it = creates a.step_limit (mode_of a) a.now b.now (device_text Second) ran.tally (device_table Second 0)
+        (device_is Second) (still_counted a.now.schema (device_table Second 0) refl t.counted)
+        (subst (λ text. Does a.step_limit (mode_of a) [] a.now text None CreateTable (Ok (ran.tally, b.now)))
+        makes.alone
+        ran.changed) in
+        (it.0, it.1, it.2, ran.sound)
 
-  kept_in_b : (table : Table) → Has a.now.schema.tables table → b.now.trees table.tree ≡ a.now.trees table.tree
-  kept_in_b table has =
-      all_has (λ (x : Table). b.now.trees x.tree ≡ a.now.trees x.tree) a.now.schema.tables table made.2 has
+    kept_in_b : (table : Table) → Has a.now.schema.tables table → b.now.trees table.tree ≡ a.now.trees table.tree
+    kept_in_b table has =
+        all_has (λ (x : Table). b.now.trees x.tree ≡ a.now.trees x.tree) a.now.schema.tables table made.2 has
 
-  first_in_b : IsLone b.now.schema (device_name First) (device_table First t.devices)
-  first_in_b = subst (λ s. IsLone s (device_name First) (device_table First t.devices)) (sym made.0)
-      (first_lone a.now sound t)
+    first_in_b : IsLone b.now.schema (device_name First) (device_table First t.devices)
+    first_in_b = subst (λ s. IsLone s (device_name First) (device_table First t.devices)) (sym made.0)
+        (first_lone a.now sound t)
 
-  new_in_b : IsLone b.now.schema (device_name Second) (device_table Second tree)
-  new_in_b = subst (λ s. IsLone s (device_name Second) (device_table Second tree)) (sym made.0)
-      (new_lone a.now sound t)
+    new_in_b : IsLone b.now.schema (device_name Second) (device_table Second tree)
+    new_in_b = subst (λ s. IsLone s (device_name Second) (device_table Second tree)) (sym made.0)
+        (new_lone a.now sound t)
 
-  -- ---- the devices are copied
+    -- ---- the devices are copied
 
-  devices_in_b : rows_of First (b.now.trees t.devices) ≡ rows_of First (a.now.trees t.devices)
-  devices_in_b = ap (rows_of First) (kept_in_b (device_table First t.devices)
-      (has_got a.now.schema.tables t.devices_at (device_table First t.devices) t.devices_stand.there))
+    devices_in_b : rows_of First (b.now.trees t.devices) ≡ rows_of First (a.now.trees t.devices)
+    devices_in_b = ap (rows_of First) (kept_in_b (device_table First t.devices)
+        (has_got a.now.schema.tables t.devices_at (device_table First t.devices) t.devices_stand.there))
 
-  filled : (c.now.schema ≡ b.now.schema) × SparesOthers b.now.schema tree b.now.trees c.now.trees
-      × ((rows : List Row) × IsPermutation (rows_of First (a.now.trees t.devices)) rows
-      × (c.now.trees tree ≡ put_all [] rows)) × IsDatabase c.now
-  filled =
-      let from = lone_stands b.now made.3 (device_name First) (device_table First t.devices) first_in_b in
-      let to = lone_stands b.now made.3 (device_name Second) (device_table Second tree) new_in_b in
-      let means = copy_means b.now.schema from.0 t.devices from.1 to.0 tree to.1 in
-      let ran = runs_as copy_text [] b c b.now.schema refl (Insert to.0 (Query (program_of (copy_query t.devices))))
-      means.is means.plain j two.0 in
-      let it = copies b.now.schema to.0 tree t.devices b.step_limit (mode_of b) b.now.trees
-      (statement_of copy_text (understood b.now.schema copy_text)) ran.tally c.now to.1.there
-      (lone_alone b.now.schema (device_name Second) (device_table Second tree) new_in_b) made.1
-      (subst (AllByRecursion IsDevice) (sym devices_in_b) registry.whole.rows) ran.changed in (
-        it.0,
-        it.1,
-        (it.2.0, subst (λ rows. IsPermutation rows it.2.0) devices_in_b it.2.1, it.2.2),
-        ran.sound,
-      )
+    filled : (c.now.schema ≡ b.now.schema) × SparesOthers b.now.schema tree b.now.trees c.now.trees
+        × ((rows : List Row) × IsPermutation (rows_of First (a.now.trees t.devices)) rows
+        × (c.now.trees tree ≡ put_all [] rows)) × IsDatabase c.now
+    filled =
+        let from = lone_stands b.now made.3 (device_name First) (device_table First t.devices) first_in_b in
+        let to = lone_stands b.now made.3 (device_name Second) (device_table Second tree) new_in_b in
+        let means = copy_means b.now.schema from.0 t.devices from.1 to.0 tree to.1 in
+        let ran = runs_as copy_text [] b c b.now.schema refl (Insert to.0 (Query (program_of (copy_query t.devices))))
+        means.is means.plain j two.0 in
+        let it = copies b.now.schema to.0 tree t.devices b.step_limit (mode_of b) b.now.trees
+        (statement_of copy_text (understood b.now.schema copy_text)) ran.tally c.now to.1.there
+        (lone_alone b.now.schema (device_name Second) (device_table Second tree) new_in_b) made.1
+        (subst (AllByRecursion IsDevice) (sym devices_in_b) registry.whole.rows) ran.changed in (
+          it.0,
+          it.1,
+          (it.2.0, subst (λ rows. IsPermutation rows it.2.0) devices_in_b it.2.1, it.2.2),
+          ran.sound,
+        )
 
-  -- ---- the old table is dropped
+    -- ---- the old table is dropped
 
-  schema_c : c.now.schema ≡ schema_b
-  schema_c = filled.0 ∙ made.0
+    schema_c : c.now.schema ≡ schema_b
+    schema_c = filled.0 ∙ made.0
 
-  first_in_c : IsLone c.now.schema (device_name First) (device_table First t.devices)
-  first_in_c = subst (λ s. IsLone s (device_name First) (device_table First t.devices)) (sym schema_c)
-      (first_lone a.now sound t)
+    first_in_c : IsLone c.now.schema (device_name First) (device_table First t.devices)
+    first_in_c = subst (λ s. IsLone s (device_name First) (device_table First t.devices)) (sym schema_c)
+        (first_lone a.now sound t)
 
-  no_view_in_c : view_named c.now.schema (device_name First) ≡ None
-  no_view_in_c = none_at (λ w. same_name w.name (device_name First)) 0 c.now.schema.views
-      (no_view c.now filled.3 (device_table First t.devices) first_in_c.listed (device_name First) first_in_c.named)
+    no_view_in_c : view_named c.now.schema (device_name First) ≡ None
+    no_view_in_c = none_at (λ w. same_name w.name (device_name First)) 0 c.now.schema.views
+        (no_view c.now filled.3 (device_table First t.devices) first_in_c.listed (device_name First) first_in_c.named)
 
-  left : (d.now.schema ≡ schema_d) × KeepsRows d.now.schema.tables c.now.trees d.now.trees × IsDatabase d.now
-  left =
-      let at = lone_stands c.now filled.3 (device_name First) (device_table First t.devices) first_in_c in
-      let means = drop_means c.now.schema at.0 t.devices at.1 no_view_in_c in
-      let ran = runs_as drop_text [] c d c.now.schema refl (DropTable at.0) means.is means.plain k three.0 in
-      let it = drops c.now.schema at.0 t.devices c.step_limit (mode_of c) c.now.trees
-      (statement_of drop_text (understood c.now.schema drop_text)) ran.tally d.now at.1.there first_in_c.spares
-      ran.changed in (
-        it.0 ∙ ap (λ s. without_table s t.devices) schema_c,
-        subst (λ (s : Schema). KeepsRows s.tables c.now.trees d.now.trees) (sym it.0) it.1,
-        ran.sound,
-      )
+    left : (d.now.schema ≡ schema_d) × KeepsRows d.now.schema.tables c.now.trees d.now.trees × IsDatabase d.now
+    left =
+        let at = lone_stands c.now filled.3 (device_name First) (device_table First t.devices) first_in_c in
+        let means = drop_means c.now.schema at.0 t.devices at.1 no_view_in_c in
+        let ran = runs_as drop_text [] c d c.now.schema refl (DropTable at.0) means.is means.plain k three.0 in
+        let it = drops c.now.schema at.0 t.devices c.step_limit (mode_of c) c.now.trees
+        (statement_of drop_text (understood c.now.schema drop_text)) ran.tally d.now at.1.there first_in_c.spares
+        ran.changed in (
+          it.0 ∙ ap (λ s. without_table s t.devices) schema_c,
+          subst (λ (s : Schema). KeepsRows s.tables c.now.trees d.now.trees) (sym it.0) it.1,
+          ran.sound,
+        )
 
-  meta_in_d : IsLone d.now.schema meta_name (meta_table t.meta)
-  meta_in_d = subst (λ s. IsLone s meta_name (meta_table t.meta)) (sym left.0) (meta_lone a.now sound t)
+    meta_in_d : IsLone d.now.schema meta_name (meta_table t.meta)
+    meta_in_d = subst (λ s. IsLone s meta_name (meta_table t.meta)) (sym left.0) (meta_lone a.now sound t)
 
-  new_in_d : IsLone d.now.schema (device_name Second) (device_table Second tree)
-  new_in_d = subst (λ s. IsLone s (device_name Second) (device_table Second tree)) (sym left.0)
-      (left_lone a.now sound t)
+    new_in_d : IsLone d.now.schema (device_name Second) (device_table Second tree)
+    new_in_d = subst (λ s. IsLone s (device_name Second) (device_table Second tree)) (sym left.0)
+        (left_lone a.now sound t)
 
-  kept_in_d : (table : Table) → Has d.now.schema.tables table → d.now.trees table.tree ≡ c.now.trees table.tree
-  kept_in_d table has =
-      all_has (λ (x : Table). d.now.trees x.tree ≡ c.now.trees x.tree) d.now.schema.tables table left.1 has
+    kept_in_d : (table : Table) → Has d.now.schema.tables table → d.now.trees table.tree ≡ c.now.trees table.tree
+    kept_in_d table has =
+        all_has (λ (x : Table). d.now.trees x.tree ≡ c.now.trees x.tree) d.now.schema.tables table left.1 has
 
-  -- the tree of the version never changed
-  version_in_d : d.now.trees t.meta ≡ registry.whole.row ∷ []
-  version_in_d =
-      let was = has_got a.now.schema.tables t.meta_at (meta_table t.meta) t.meta_stands.there in
-      let in_b = subst (λ (s : Schema). Has s.tables (meta_table t.meta)) (sym made.0)
-      (has_added a.now sound t (meta_table t.meta) was) in
-      let at = has_at b.now.schema.tables (meta_table t.meta) in_b in
-      kept_in_d (meta_table t.meta) meta_in_d.listed
-      ∙ filled.1.tables at.0 (meta_table t.meta) at.1 (meta_apart a.now sound t)
-      ∙ kept_in_b (meta_table t.meta) was ∙ registry.whole.one
+    -- the tree of the version never changed
+    version_in_d : d.now.trees t.meta ≡ registry.whole.row ∷ []
+    version_in_d =
+        let was = has_got a.now.schema.tables t.meta_at (meta_table t.meta) t.meta_stands.there in
+        let in_b = subst (λ (s : Schema). Has s.tables (meta_table t.meta)) (sym made.0)
+        (has_added a.now sound t (meta_table t.meta) was) in
+        let at = has_at b.now.schema.tables (meta_table t.meta) in_b in
+        kept_in_d (meta_table t.meta) meta_in_d.listed
+        ∙ filled.1.tables at.0 (meta_table t.meta) at.1 (meta_apart a.now sound t)
+        ∙ kept_in_b (meta_table t.meta) was ∙ registry.whole.one
 
-  -- ---- the version is written
+    -- ---- the version is written
 
-  written : (e.now.schema ≡ d.now.schema) × (e.now.trees t.meta ≡ version_row ∷ [])
-      × SparesOthers d.now.schema t.meta d.now.trees e.now.trees × IsDatabase e.now
-  written =
-      let at = lone_stands d.now left.2 meta_name (meta_table t.meta) meta_in_d in
-      let means = renew_means d.now.schema at.0 t.meta at.1 in
-      let ran = runs_as renew_text [] d e d.now.schema refl (Update at.0 (program_of (renew_query t.meta))) means.is
-      means.plain l four.0 in
-      let it = renews d.now.schema at.0 t.meta d.step_limit (mode_of d) d.now.trees
-      (statement_of renew_text (understood d.now.schema renew_text)) ran.tally e.now registry.whole.row at.1.there
-      (lone_alone d.now.schema meta_name (meta_table t.meta) meta_in_d) version_in_d registry.whole.numbered.key
-      ran.changed in
-      (it.0, it.1, it.2, ran.sound)
+    written : (e.now.schema ≡ d.now.schema) × (e.now.trees t.meta ≡ version_row ∷ [])
+        × SparesOthers d.now.schema t.meta d.now.trees e.now.trees × IsDatabase e.now
+    written =
+        let at = lone_stands d.now left.2 meta_name (meta_table t.meta) meta_in_d in
+        let means = renew_means d.now.schema at.0 t.meta at.1 in
+        let ran = runs_as rewrite_version_text [] d e d.now.schema refl (Update at.0 (program_of (renew_query t.meta)))
+        means.is
+        means.plain l four.0 in
+        let it = renews d.now.schema at.0 t.meta d.step_limit (mode_of d) d.now.trees
+        (statement_of rewrite_version_text (understood d.now.schema rewrite_version_text)) ran.tally e.now
+        registry.whole.row at.1.there
+        (lone_alone d.now.schema meta_name (meta_table t.meta) meta_in_d) version_in_d registry.whole.numbered.key
+        ran.changed in
+        (it.0, it.1, it.2, ran.sound)
 
-  -- therefore it is a registry of version 2 with the devices of version 1, if it is listed
-  pub migrates : (AreListed Second e.now.trees → Registers e.now (devices_in (rows_of First (a.now.trees t.devices))))
-      × IsDatabase e.now
-  migrates =
-      let to = migrated a.now sound t c.now e.now filled.3 schema_c written.3 (written.0 ∙ left.0) in
-      let at = has_at d.now.schema.tables (device_table Second tree) new_in_d.listed in
-      let put : e.now.trees tree ≡ put_all [] filled.2.0 =
-      written.2.tables at.0 (device_table Second tree) at.1 (λ same. meta_apart a.now sound t (sym same))
-      ∙ kept_in_d (device_table Second tree) new_in_d.listed ∙ filled.2.2 in (
-        registers e.now to.0 (rows_of First (a.now.trees t.devices)) filled.2.0
-            (ap e.now.trees to.1 ∙ written.1) (ap e.now.trees to.2 ∙ put) filled.2.1 registry.whole.rows
-            registry.whole.once registry.whole.few,
-        written.3,
-      )
+    -- therefore it is a registry of version 2 with the devices of version 1, if it is listed
+    pub migrates : (AreListed Second e.now.trees
+        → IsRegistryOf e.now (devices_in (rows_of First (a.now.trees t.devices))))
+        × IsDatabase e.now
+    migrates =
+        let to = migrated a.now sound t c.now e.now filled.3 schema_c written.3 (written.0 ∙ left.0) in
+        let at = has_at d.now.schema.tables (device_table Second tree) new_in_d.listed in
+        let put : e.now.trees tree ≡ put_all [] filled.2.0 =
+        written.2.tables at.0 (device_table Second tree) at.1 (λ same. meta_apart a.now sound t (sym same))
+        ∙ kept_in_d (device_table Second tree) new_in_d.listed ∙ filled.2.2 in (
+          registers e.now to.0 (rows_of First (a.now.trees t.devices)) filled.2.0
+              (ap e.now.trees to.1 ∙ written.1) (ap e.now.trees to.2 ∙ put) filled.2.1 registry.whole.rows
+              registry.whole.once registry.whole.few,
+          written.3,
+        )
 
-  -- and each other table has the same rows
-  pub others_kept : (table : Table) → Has a.now.schema.tables table → table.tree ≢ t.meta → table.tree ≢ t.devices
-      → Has e.now.schema.tables table × (e.now.trees table.tree ≡ a.now.trees table.tree)
-  others_kept table has not_meta not_first =
-      let low = table_below a.now.schema table has in
-      let in_added = has_added a.now sound t table has in
-      let in_b : Has b.now.schema.tables table = subst (λ (s : Schema). Has s.tables table) (sym made.0) in_added in
-      let in_d : Has d.now.schema.tables table = subst (λ (s : Schema). Has s.tables table) (sym left.0)
-      (is_kept (λ (x : Table). not (x.tree == t.devices)) schema_b.tables table in_added
-      (apart_trees table.tree t.devices not_first)) in
-      let at_b = has_at b.now.schema.tables table in_b in
-      let at_d = has_at d.now.schema.tables table in_d in (
-        subst (λ (s : Schema). Has s.tables table) (sym written.0) in_d,
-        written.2.tables at_d.0 table at_d.1 not_meta ∙ kept_in_d table in_d
-            ∙ filled.1.tables at_b.0 table at_b.1 (λ same. below_is table.tree tree low same) ∙ kept_in_b table has,
-      )
+    -- and each other table has the same rows
+    pub others_kept : (table : Table) → Has a.now.schema.tables table → table.tree ≢ t.meta → table.tree ≢ t.devices
+        → Has e.now.schema.tables table × (e.now.trees table.tree ≡ a.now.trees table.tree)
+    others_kept table has not_meta not_first =
+        let low = table_below a.now.schema table has in
+        let in_added = has_added a.now sound t table has in
+        let in_b : Has b.now.schema.tables table = subst (λ (s : Schema). Has s.tables table) (sym made.0) in_added in
+        let in_d : Has d.now.schema.tables table = subst (λ (s : Schema). Has s.tables table) (sym left.0)
+        (is_kept (λ (x : Table). not (x.tree == t.devices)) schema_b.tables table in_added
+        (apart_trees table.tree t.devices not_first)) in
+        let at_b = has_at b.now.schema.tables table in_b in
+        let at_d = has_at d.now.schema.tables table in_d in (
+          subst (λ (s : Schema). Has s.tables table) (sym written.0) in_d,
+          written.2.tables at_d.0 table at_d.1 not_meta ∙ kept_in_d table in_d
+              ∙ filled.1.tables at_b.0 table at_b.1 (λ same. below_is table.tree tree low same) ∙ kept_in_b table has,
+        )

@@ -23,7 +23,7 @@ use Rattle.device_registry.proofs.TextMeaning.{IsRead, Means, means, draft_of, p
 use Rattle.device_registry.proofs.SelectMeaning.{PlainSelect, plain_select, select_of, asked, query_is}
 use Rattle.device_registry.proofs.WriteMeaning.{insert_means}
 use Rattle.device_registry.specs.Table.{copy_text, drop_text, device_name, device_table}
-use Rattle.device_registry.specs.Stored.{Stands}
+use Rattle.device_registry.specs.Stored.{IsTableAt}
 
 -- the columns that are filled, and their indexes in a row
 abbrev filled : List (List ℕ)
@@ -59,7 +59,7 @@ row_is : (base d e : ℕ) → as_row (device_table Second e) base filled_places 
 unfolding everything
 row_is base d e = refl
 
-module _ (schema : Schema) (at d : ℕ) (it : Stands schema (device_name First) (device_table First d) at) where
+module _ (schema : Schema) (at d : ℕ) (it : IsTableAt schema (device_name First) (device_table First d) at) where
   asks : asked schema at (device_table First d) copied
       ≡ Ok (
         copy_draft d,
@@ -69,7 +69,7 @@ module _ (schema : Schema) (at d : ℕ) (it : Stands schema (device_name First) 
   unfolding everything
   asks = rw (it.there, it.there)
 
-  pub copy_means : (to e : ℕ) → Stands schema (device_name Second) (device_table Second e) to
+  pub copy_means : (to e : ℕ) → IsTableAt schema (device_name Second) (device_table Second e) to
       → Means schema copy_text (Insert to (source.Query (program_of (copy_query d))))
   unfolding command insert_or_abort insert new_rows inserted selected source_of queried
   copy_means to e target =

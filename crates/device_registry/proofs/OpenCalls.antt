@@ -19,16 +19,19 @@ use Rattle.device_registry.specs.declared.table.Version.{Version}
 use Rattle.device_registry.specs.declared.table.Version.TheVariants.{First, Second}
 use Rattle.learned_devices.specs.Devices.{Devices}
 use Rattle.device_registry.specs.Table.{meta_name, device_name}
-use Rattle.device_registry.specs.Stored.{HasTables, IsWhole, IsRegistry, AreListed, RegistersAs, HoldsAs, Holds}
-use Rattle.device_registry.specs.Stored.{IsHeld, IsFree}
+use Rattle.device_registry.specs.Stored.{HasTables, HasValidRows, IsRegistry, AreListed, IsRegistryOfVersion, HoldsAs}
+use Rattle.device_registry.specs.Stored.{Holds}
+use Rattle.device_registry.specs.Stored.{AreRegistryTrees, AdmitsRegistry}
 use Rattle.device_registry.specs.Table.Rows.{devices_in, rows_of}
 use Rattle.sqlite_rules.specs.Lists.{Has}
-use Rattle.device_registry.specs.Holding.{AreRegistries, Finds, IsRenewed, Opens}
-use Rattle.device_registry.specs.Ready.{Shows, IsReady, KeepsOthers, KeepsRows}
-use Rattle.device_registry.specs.Opening.{IsAtRest, IsPrepared, IsOwn, KeepsFound, IsOther, RegistriesAreRecognized}
-use Rattle.device_registry.specs.Opening.{IsOpened, OnlyOthersAreRefused, CrashedFilesAreFound}
-use Rattle.device_registry.specs.Opening.{RefusesToOpen, FoundAgain, HandedOn, RefusedOpensKeep, ClosedFilesAreFound}
-use Rattle.device_registry.specs.Places.{is_clear}
+use Rattle.device_registry.specs.Holding.{AreRegistries, Finds, RewritesVersion, Opens}
+use Rattle.device_registry.specs.Ready.{IsReadyWith, IsReady, KeepsOthers, KeepsRows}
+use Rattle.device_registry.specs.Opening.{IsAtRest, IsPrepared, IsOwnRegistry, KeepsFound, IsNoRegistry}
+use Rattle.device_registry.specs.Opening.{RegistriesAreRecognized}
+use Rattle.device_registry.specs.Opening.{IsOpened, OnlyNonRegistriesAreRefused, CrashedFilesAreFound}
+use Rattle.device_registry.specs.Opening.{RefusesToOpen, OpensAgree, ReturnedIsFound, FailedOpensKeep}
+use Rattle.device_registry.specs.Opening.{ClosedFilesAreFound}
+use Rattle.device_registry.specs.SchemaChecks.{admits_tables}
 use Rattle.sqlite_catalog.specs.Listing.{IsSound}
 use Rattle.sqlite.specs.Schema.{Schema}
 use Rattle.sqlite_schema.specs.Names.{table_named}
@@ -46,7 +49,7 @@ before survives clean = omega (arith, clean, survives.clean)
 pub taken_if : (version : Version) (r : Result Bool Error) (old mid new : State) → IsUnchanged old mid
     → HasTables version old.now.schema → AreListed version old.now.trees
     → IfOk r (λ yes. IsUnchanged mid new × (IsTrue yes → (t : HasTables version mid.now.schema)
-    → IsWhole version mid.now.trees t.meta t.devices))
+    → HasValidRows version mid.now.trees t.meta t.devices))
     → IfOk r (λ yes. IsUnchanged old new × (IsTrue yes → IsRegistry version old.now))
 taken_if version (Ok is_so) old mid new same tables listed h = (
   unchanged_then old mid new same h.0,
@@ -61,10 +64,10 @@ taken_if version (Ok is_so) old mid new same tables listed h = (
 taken_if version (Err e) old mid new same tables listed h = tt
 
 pub not_whole : (version : Version) (old mid : State) → IsUnchanged old mid
-    → ((t : HasTables version mid.now.schema) → ¬ IsWhole version mid.now.trees t.meta t.devices)
-    → (t : HasTables version old.now.schema) → ¬ IsWhole version old.now.trees t.meta t.devices
+    → ((t : HasTables version mid.now.schema) → ¬ HasValidRows version mid.now.trees t.meta t.devices)
+    → (t : HasTables version old.now.schema) → ¬ HasValidRows version old.now.trees t.meta t.devices
 not_whole version old mid same none = subst
-    (λ (db : Database). (t : HasTables version db.schema) → ¬ IsWhole version db.trees t.meta t.devices)
+    (λ (db : Database). (t : HasTables version db.schema) → ¬ HasValidRows version db.trees t.meta t.devices)
     same.0.now_is none
 
 -- ---- one database, one version
@@ -93,28 +96,29 @@ one_schema trees a b p q one two = same_schema trees a.schema b.schema (subst (I
 
 -- a database that is a registry has tables
 not_bare : (version : Version) (trees : Trees) (db : Database) → db.trees ≡ trees → IsDatabase db
-    → IsRegistry version db → IsFree trees → ⊥
+    → IsRegistry version db → AdmitsRegistry trees → ⊥
 not_bare version trees db same sound registry free =
     no_place (table_named db.schema meta_name) registry.tables.meta_at registry.tables.meta_stands.named
     (ap (λ s. table_named s meta_name) (one_schema trees db free.db same free.same sound free.sound)
     ∙ (unused free.db.schema meta_name free.clear.free_meta).0)
 
-bare : (s : State) → IsAtRest s → IsTrue (is_clear s.now.schema) → IsFree s.now.trees
+bare : (s : State) → IsAtRest s → IsTrue (admits_tables s.now.schema) → AdmitsRegistry s.now.trees
 bare s rest clear = record { db = s.now; same = refl; sound = rest.sound; clear = cleared s.now.schema clear }
 
 module _ {old new : State} {P : Trees → Type 0} (rest : HasCleanDisk old → IsAtRest old)
-    (clear : IsTrue (is_clear old.now.schema)) (survives : Survives old new P) where
-  it_was_bare : HasCleanDisk new → IsFree old.now.trees
+    (clear : IsTrue (admits_tables old.now.schema)) (survives : Survives old new P) where
+  it_was_bare : HasCleanDisk new → AdmitsRegistry old.now.trees
   it_was_bare clean = bare old (rest (before survives clean)) clear
 
-  pub begun : (HasCleanDisk new → Shows new empty) → HasCleanDisk new → (devices : Devices) × IsPrepared old new devices
+  pub begun : (HasCleanDisk new → IsReadyWith new empty) → HasCleanDisk new
+      → (devices : Devices) × IsPrepared old new devices
   begun shows clean = (empty, record { found = inr (it_was_bare clean, refl); shows = shows clean })
 
-  pub begun_bare : {A : Type 0} → HasCleanDisk new → IsHeld old.now.trees → A
+  pub begun_bare : {A : Type 0} → HasCleanDisk new → AreRegistryTrees old.now.trees → A
   begun_bare clean is_held = let it = is_held.holds in absurd (
       not_bare Second old.now.trees it.db it.same it.sound it.registers.registry (it_was_bare clean))
 
-pub begun_stop : {old new : State} → (HasCleanDisk old → IsAtRest old) → IsTrue (is_clear old.now.schema)
+pub begun_stop : {old new : State} → (HasCleanDisk old → IsAtRest old) → IsTrue (admits_tables old.now.schema)
     → Survives old new (λ trees. Holds trees empty) → Survives old new (KeepsFound old.now.trees)
 begun_stop {old} {new} rest clear h = survives_weaker old new (λ trees. Holds trees empty) (KeepsFound old.now.trees)
     (λ clean trees holds.
@@ -134,20 +138,21 @@ Took version old mid = HasCleanDisk mid → IsAtRest old × IsUnchanged old mid 
 -- the version that was found
 pub took : (version : Version) {old mid : State} {o : Option Version} {found : Version} → o ≡ Some found
     → found ≡ version → (HasCleanDisk old → IsAtRest old) → Survives old mid (λ _. ⊥)
-    → (HasCleanDisk mid → IsUnchanged old mid × MatchOption o ((version : Version) → ¬ IsOwn version old.now.trees)
+    → (HasCleanDisk mid → IsUnchanged old mid
+    × MatchOption o ((version : Version) → ¬ IsOwnRegistry version old.now.trees)
     (λ version. IsRegistry version old.now)) → Took version old mid
 took version {old} {mid} {o} some is rest survives asked clean =
     let it = asked clean in (
       rest (before survives clean),
       it.0,
-      subst (λ o. MatchOption o ((version : Version) → ¬ IsOwn version old.now.trees)
+      subst (λ o. MatchOption o ((version : Version) → ¬ IsOwnRegistry version old.now.trees)
           (λ version. IsRegistry version old.now)) (some ∙ ap (λ v. Some v) is) it.1,
     )
 
 -- ---- a registry of version 2
 
 -- a database that can be accepted is a registry
-shown : (s : State) → IsAtRest s → IsRegistry Second s.now → (devices : Devices) × Shows s devices
+shown : (s : State) → IsAtRest s → IsRegistry Second s.now → (devices : Devices) × IsReadyWith s devices
 shown s rest it = (
   devices_in (s.now.trees it.tables.devices),
   record {
@@ -159,7 +164,7 @@ shown s rest it = (
   },
 )
 
-held : (s : State) (devices : Devices) → Shows s devices → Holds s.now.trees devices
+held : (s : State) (devices : Devices) → IsReadyWith s devices → Holds s.now.trees devices
 held s devices shows = record { db = s.now; same = refl; sound = shows.sound; registers = shows.registers }
 
 pub ready : (old mid : State) → IsAtRest old → IsUnchanged old mid → IsRegistry Second old.now → IsReady mid
@@ -181,7 +186,8 @@ pub taken_ready : {old mid : State} → Took Second old mid → HasCleanDisk mid
 taken_ready {old} {mid} asked clean = let it = asked clean in ready old mid it.0 it.1 it.2
 
 module _ {old mid new : State} {P : Trees → Type 0} (asked : Took Second old mid) (survives : Survives mid new P) where
-  pub taken : (HasCleanDisk new → (devices : Devices) → Shows mid devices → Shows new devices) → HasCleanDisk new
+  pub taken : (HasCleanDisk new → (devices : Devices) → IsReadyWith mid devices → IsReadyWith new devices)
+      → HasCleanDisk new
       → (devices : Devices) × IsPrepared old new devices
   taken renewed clean =
       let it = asked (before survives clean) in
@@ -193,17 +199,18 @@ module _ {old mid new : State} {P : Trees → Type 0} (asked : Took Second old m
         },
       )
 
-  pub taken_rows : (HasCleanDisk new → IsReady mid → KeepsRows mid new) → HasCleanDisk new → IsHeld old.now.trees
+  pub taken_rows : (HasCleanDisk new → IsReady mid → KeepsRows mid new) → HasCleanDisk new
+      → AreRegistryTrees old.now.trees
       → KeepsRows old new
   taken_rows kept clean is_held =
       let early = before survives clean in
       same_rows old mid new (asked early).1 (kept clean (taken_ready asked early))
 
 pub taken_stop : {old mid new : State} → Took Second old mid → Survives old mid (λ _. ⊥)
-    → Survives mid new (λ trees. (devices : Devices) → Shows mid devices → Holds trees devices)
+    → Survives mid new (λ trees. (devices : Devices) → IsReadyWith mid devices → Holds trees devices)
     → Survives old new (KeepsFound old.now.trees)
 taken_stop {old} {mid} {new} asked first second =
-    survives_then old mid new (λ _. ⊥) (λ trees. (devices : Devices) → Shows mid devices → Holds trees devices)
+    survives_then old mid new (λ _. ⊥) (λ trees. (devices : Devices) → IsReadyWith mid devices → Holds trees devices)
     (KeepsFound old.now.trees) (λ clean trees no. absurd no)
     (λ clean trees leaves.
     let it = asked (before second clean) in
@@ -219,19 +226,20 @@ taken_stop {old} {mid} {new} asked first second =
 
 -- the devices of a registry of version 1
 first_shown : (s : State) → IsAtRest s → IsRegistry First s.now
-    → (devices : Devices) × RegistersAs First s.now devices × HoldsAs First s.now.trees devices
+    → (devices : Devices) × IsRegistryOfVersion First s.now devices × HoldsAs First s.now.trees devices
 first_shown s rest it =
     let devices = devices_in (rows_of First (s.now.trees it.tables.devices)) in
-    let registers : RegistersAs First s.now devices = record { registry = it; is = refl } in (
+    let registers : IsRegistryOfVersion First s.now devices = record { registry = it; is = refl } in (
       devices,
       registers,
       record { db = s.now; same = refl; sound = rest.sound; registers = registers },
     )
 
 -- the state between is unchanged
-first_between : (old mid : State) → IsUnchanged old mid → (devices : Devices) → RegistersAs First old.now devices
-    → RegistersAs First mid.now devices
-first_between old mid same devices = subst (λ db. RegistersAs First db devices) (sym same.0.now_is)
+first_between : (old mid : State) → IsUnchanged old mid → (devices : Devices)
+    → IsRegistryOfVersion First old.now devices
+    → IsRegistryOfVersion First mid.now devices
+first_between old mid same devices = subst (λ db. IsRegistryOfVersion First db devices) (sym same.0.now_is)
 
 pub first_asked : {old mid : State} → Took First old mid → HasCleanDisk mid
     → IsRegistry First mid.now × IsDatabase mid.now
@@ -240,7 +248,8 @@ first_asked {old} {mid} asked clean =
     (subst (IsRegistry First) (sym it.1.0.now_is) it.2, subst IsDatabase (sym it.1.0.now_is) it.0.sound)
 
 module _ {old mid new : State} {P : Trees → Type 0} (asked : Took First old mid) (survives : Survives mid new P) where
-  pub migrated : (HasCleanDisk new → (devices : Devices) → RegistersAs First mid.now devices → Shows new devices)
+  pub migrated : (HasCleanDisk new → (devices : Devices) → IsRegistryOfVersion First mid.now devices
+      → IsReadyWith new devices)
       → HasCleanDisk new
       → (devices : Devices) × IsPrepared old new devices
   migrated made clean =
@@ -254,7 +263,7 @@ module _ {old mid new : State} {P : Trees → Type 0} (asked : Took First old mi
       )
 
   -- it was not a registry of version 2
-  pub migrated_other : {A : Type 0} → HasCleanDisk new → IsHeld old.now.trees → A
+  pub migrated_other : {A : Type 0} → HasCleanDisk new → AreRegistryTrees old.now.trees → A
   migrated_other clean is_held =
       let it = asked (before survives clean) in
       let holds = is_held.holds in
@@ -263,11 +272,11 @@ module _ {old mid new : State} {P : Trees → Type 0} (asked : Took First old mi
       holds.registers.registry.tables))
 
 pub migrated_stop : {old mid new : State} → Took First old mid → Survives old mid (λ _. ⊥)
-    → Survives mid new (λ trees. (devices : Devices) → RegistersAs First mid.now devices → Holds trees devices)
+    → Survives mid new (λ trees. (devices : Devices) → IsRegistryOfVersion First mid.now devices → Holds trees devices)
     → Survives old new (KeepsFound old.now.trees)
 migrated_stop {old} {mid} {new} asked first second =
     survives_then old mid new (λ _. ⊥)
-    (λ trees. (devices : Devices) → RegistersAs First mid.now devices → Holds trees devices)
+    (λ trees. (devices : Devices) → IsRegistryOfVersion First mid.now devices → Holds trees devices)
     (KeepsFound old.now.trees) (λ clean trees no. absurd no)
     (λ clean trees left.
     let it = asked (before second clean) in
@@ -280,8 +289,8 @@ migrated_stop {old} {mid} {new} asked first second =
     first second
 
 -- it is a registry of neither version as this program leaves it, and the tables cannot be created
-pub is_other : (s : State) → IsAtRest s → ((version : Version) → ¬ IsOwn version s.now.trees)
-    → (IsTrue (is_clear s.now.schema) → ⊥) → IsOther s.now.trees
+pub is_other : (s : State) → IsAtRest s → ((version : Version) → ¬ IsOwnRegistry version s.now.trees)
+    → (IsTrue (admits_tables s.now.schema) → ⊥) → IsNoRegistry s.now.trees
 is_other s rest none unclear devices (inl (version, holds)) = none version (record {
   db = holds.db;
   same = holds.same;
@@ -296,12 +305,12 @@ is_other s rest none unclear devices (inr (free, is)) = unclear (free_found s re
 abbrev pub LeavesLast : State → Type 0
 LeavesLast s = (trees : Trees) → s.may_leave trees → trees ≡ s.committed.trees
 
-left : (s : State) (devices : Devices) → Shows s devices → LeavesLast s → (trees : Trees) → s.may_leave trees
+left : (s : State) (devices : Devices) → IsReadyWith s devices → LeavesLast s → (trees : Trees) → s.may_leave trees
     → Holds trees devices
 left s devices shows leaves trees may = subst (λ t. Holds t devices)
     (ap (λ (db : Database). db.trees) shows.settled ∙ sym (leaves trees may)) (held s devices shows)
 
-pub registries : (s : State) (devices : Devices) → Shows s devices → LeavesLast s → AreRegistries s.may_leave
+pub registries : (s : State) (devices : Devices) → IsReadyWith s devices → LeavesLast s → AreRegistries s.may_leave
 registries s devices shows leaves trees may =
     record { devices = devices; holds = left s devices shows leaves trees may }
 
@@ -323,12 +332,12 @@ opened old mid new devices same rest it leaves = record {
   was_open = same.0.was_open;
   found = subst (λ trees. Finds trees devices) (last old mid same rest) it.found;
   now = λ clean is_open. it.shows.registers;
-  stop = λ other may. held_once may.0 other devices may.2 (left new devices it.shows leaves may.0 may.1);
+  crash = λ other may. held_once may.0 other devices may.2 (left new devices it.shows leaves may.0 may.1);
 }
 
-pub another : (old mid : State) → IsUnchanged old mid → IsAtRest old → IsOther mid.now.trees
-    → IsOther old.committed.trees
-another old mid same rest other = subst IsOther (last old mid same rest) other
+pub another : (old mid : State) → IsUnchanged old mid → IsAtRest old → IsNoRegistry mid.now.trees
+    → IsNoRegistry old.committed.trees
+another old mid same rest other = subst IsNoRegistry (last old mid same rest) other
 
 -- while it is open, a crash leaves the last commit
 abbrev pub Settles : State → Type 0
@@ -336,7 +345,7 @@ Settles s = (trees : Trees) → IsTrue s.is_open → s.may_leave trees → trees
 
 pub opened_if : {T : Type 0} (old mid new : State) → Settles new → (r : Result T OpenFault)
     → IsUnchanged old mid × IsAtRest old → OnOk r ((devices : Devices) × IsPrepared mid new devices)
-    → OnOk r (IsHeld old.committed.trees → IsRenewed old new) → OnOk r (IsOpened old new)
+    → OnOk r (AreRegistryTrees old.committed.trees → RewritesVersion old new) → OnOk r (IsOpened old new)
 opened_if old mid new law (Ok v) was it written =
     let leaves : LeavesLast new = λ trees. law trees it.1.shows.is_open in
     record {
@@ -380,7 +389,7 @@ not_asked s fault = record {
   survives = survives_itself s (KeepsFound s.committed.trees);
   clean = λ clean. clean;
   other = λ clean is. absurd (let e = is in cc);
-  stop = λ clean trees may. inl may;
+  crash = λ clean trees may. inl may;
 }
 
 -- the connection is closed, or the call fails
@@ -390,14 +399,14 @@ refused_first old new fault other survives = record {
   survives = survives_weaker old new (λ _. ⊥) (KeepsFound old.committed.trees) (λ clean trees no. absurd no) survives;
   clean = λ clean. let early : HasCleanDisk old = omega (arith, clean, survives.clean) in early;
   other = λ clean is. absurd (other is);
-  stop = λ clean. nothing old new survives clean;
+  crash = λ clean. nothing old new survives clean;
 }
 
 -- and what the registry reports about a database holds of the connection before the query
 pub refused_then : {T : Type 0} (r : Result T OpenFault) (old mid new : State)
     → (HasCleanDisk mid → IsUnchanged old mid × IsAtRest old) → Survives old mid (λ _. ⊥)
     → Survives mid new (KeepsFound mid.now.trees)
-    → (HasCleanDisk new → r ≡ Err NotARegistry → IsOther mid.now.trees)
+    → (HasCleanDisk new → r ≡ Err NotARegistry → IsNoRegistry mid.now.trees)
     → (HasCleanDisk new → r
     ≡ Err NotARegistry → IsUnchanged mid new × ((trees : Trees) → new.may_leave trees → mid.may_leave trees))
     → IfErr r (RefusesToOpen old new)
@@ -419,15 +428,16 @@ refused_then (Err fault) old mid new was first second other same = record {
         λ trees may. elim (first.crash between trees (left.1 trees may))
             [ inl before ↦ before | inr none ↦ absurd none ],
       );
-  stop = λ clean. leaves old mid new was first second clean;
+  crash = λ clean. leaves old mid new was first second clean;
 }
 
 -- ---- what a crash left, found again
 
 pub rows_on : {T : Type 0} (r : Result T OpenFault) (old mid new : State) → IsUnchanged old mid → IsAtRest old
-    → OnOk r (IsHeld mid.now.trees → KeepsRows mid new) → OnOk r (IsHeld old.committed.trees → KeepsRows old new)
+    → OnOk r (AreRegistryTrees mid.now.trees → KeepsRows mid new)
+    → OnOk r (AreRegistryTrees old.committed.trees → KeepsRows old new)
 rows_on (Ok v) old mid new same rest kept =
-    λ held. same_rows old mid new same (kept (subst IsHeld (sym (last old mid same rest)) held))
+    λ held. same_rows old mid new same (kept (subst AreRegistryTrees (sym (last old mid same rest)) held))
 rows_on (Err e) old mid new same rest kept = tt
 
 holds_same : (trees : Trees) (v w : Version) (left found : Devices) → HoldsAs v trees left → HoldsAs w trees found
@@ -438,26 +448,27 @@ holds_same trees v w left found one two =
     two.registers.registry.tables in
     held_by w trees left found (subst (λ u. HoldsAs u trees left) same one) two
 
-holds_none : (trees : Trees) (version : Version) (devices : Devices) → HoldsAs version trees devices → IsFree trees → ⊥
+holds_none : (trees : Trees) (version : Version) (devices : Devices) → HoldsAs version trees devices
+    → AdmitsRegistry trees → ⊥
 holds_none trees version devices holds =
     not_bare version trees holds.db holds.same holds.sound holds.registers.registry
 
-pub found_again : FoundAgain
-found_again trees left found (inl one) (inl two) = holds_same trees one.0 two.0 left found one.1 two.1
-found_again trees left found (inl one) (inr none) = absurd (holds_none trees one.0 left one.1 none.0)
-found_again trees left found (inr none) (inl two) = absurd (holds_none trees two.0 found two.1 none.0)
-found_again trees left found (inr none) (inr again) = none.1 ∙ sym again.1
+pub opens_agree : OpensAgree
+opens_agree trees left found (inl one) (inl two) = holds_same trees one.0 two.0 left found one.1 two.1
+opens_agree trees left found (inl one) (inr none) = absurd (holds_none trees one.0 left one.1 none.0)
+opens_agree trees left found (inr none) (inl two) = absurd (holds_none trees two.0 found two.1 none.0)
+opens_agree trees left found (inr none) (inr again) = none.1 ∙ sym again.1
 
-pub refused_opens_keep : {C : Type 0} (state : C → State) → RefusedOpensKeep state
-refused_opens_keep state old new fault clean refused = (
-  λ before trees may. elim (refused.stop clean trees may) [
+pub failed_opens_keep : {C : Type 0} (state : C → State) → FailedOpensKeep state
+failed_opens_keep state old new fault clean refused = (
+  λ before trees may. elim (refused.crash clean trees may) [
     | inl early ↦ before trees early
     | inr kept ↦ (kept.1.devices, inl (Second, kept.1.holds))
   ],
-  λ devices next. elim (refused.stop clean next.0 next.1) [
+  λ devices next. elim (refused.crash clean next.0 next.1) [
     | inl early ↦ inl (next.0, early, next.2)
     | inr kept ↦
-        let same = found_again next.0 kept.1.devices devices (inl (Second, kept.1.holds)) next.2 in
+        let same = opens_agree next.0 kept.1.devices devices (inl (Second, kept.1.holds)) next.2 in
         inr (kept.0, subst (Finds (state old).committed.trees) same kept.1.finds)
   ],
 )
@@ -468,14 +479,14 @@ registries_are_recognized state = (
   λ old new fault devices clean refused finds is. (refused.other clean is).0 devices finds,
 )
 
-pub only_others_are_refused : {C : Type 0} (state : C → State) → OnlyOthersAreRefused state
-only_others_are_refused state conn last clean refused = (refused.other clean refl).0
+pub only_non_registries_are_refused : {C : Type 0} (state : C → State) → OnlyNonRegistriesAreRefused state
+only_non_registries_are_refused state conn last clean refused = (refused.other clean refl).0
 
-pub handed_on : {C : Type 0} (state : C → State) → HandedOn state
-handed_on state closed opened devices found clean committed has opens =
+pub returned_is_found : {C : Type 0} (state : C → State) → ReturnedIsFound state
+returned_is_found state closed opened devices found clean committed has opens =
     let last = state closed in
     let holds = committed clean opens.was_open devices has in
-    sym (found_again last.committed.trees devices found (inl (Second, holds)) opens.found)
+    sym (opens_agree last.committed.trees devices found (inl (Second, holds)) opens.found)
 
 pub closed_files_are_found : {D : Type 0} (g : Ghosts D) → ClosedFilesAreFound g
 closed_files_are_found g closed opened files devices copied finds committed has =
@@ -484,7 +495,7 @@ closed_files_are_found g closed opened files devices copied finds committed has 
     let last = committed copied.was_clean copied.was_open devices has in
     let holds : Holds trees devices = subst (λ t. Holds t devices) (sym same) last in (
       inl (Second, holds),
-      λ found other. sym (found_again trees devices found (inl (Second, holds)) other),
+      λ found other. sym (opens_agree trees devices found (inl (Second, holds)) other),
     )
 
 pub crashed_files_are_found : {D : Type 0} (g : Ghosts D) → CrashedFilesAreFound g

@@ -18,11 +18,11 @@ use Rattle.sqlite_trees.specs.Tree.{Trees}
 use Rattle.sqlite_catalog.specs.Listing.{IsSound}
 use Rattle.device_registry.specs.declared.fault.OpenFault.{OpenFault}
 use Rattle.device_registry.specs.declared.table.Version.TheVariants.{Second}
-use Rattle.device_registry.specs.Table.{renew_text}
-use Rattle.device_registry.specs.Stored.{HasTables, IsHeld}
+use Rattle.device_registry.specs.Table.{rewrite_version_text}
+use Rattle.device_registry.specs.Stored.{HasTables, AreRegistryTrees}
 use Rattle.learned_devices.specs.Devices.{Devices}
-use Rattle.device_registry.specs.Holding.{IsRenewed}
-use Rattle.device_registry.specs.Ready.{Shows, IsReady}
+use Rattle.device_registry.specs.Holding.{RewritesVersion}
+use Rattle.device_registry.specs.Ready.{IsReadyWith, IsReady}
 use Rattle.device_registry.specs.Opening.{IsAtRest}
 use Rattle.device_registry.proofs.OpenCalls.{Took, last, taken_ready}
 use Rattle.device_registry.proofs.StatementTexts.{program_of, renew_query}
@@ -89,33 +89,35 @@ module _ (old mid new : State) (same : IsUnchanged old mid) (limit : mid.step_li
 -- the queries before the text changed nothing
 renewed_between : (old mid new : State) → HasTables Second old.now.schema → IsUnchanged old mid
     → Survives old mid (λ _. ⊥)
-    → IsRenewed mid new → IsRenewed old new
+    → RewritesVersion mid new → RewritesVersion old new
 renewed_between old mid new tables same survives renewed =
     let it = renew_means old.now.schema tables.meta_at tables.meta tables.meta_stands in
-    updates_from old mid new same survives.limit renew_text [] tables.meta_at
+    updates_from old mid new same survives.limit rewrite_version_text [] tables.meta_at
     (program_of (renew_query tables.meta)) 1 it.is renewed
 
 pub renewed_by : {old mid new : State} {P : Trees → Type 0} (count : ℕ) → Took Second old mid
     → Survives old mid (λ _. ⊥) → Survives mid new P
-    → (HasCleanDisk new → Executes renew_text [] mid new (Ok count)) → HasCleanDisk new → IsHeld old.now.trees
-    → IsRenewed old new
+    → (HasCleanDisk new → Executes rewrite_version_text [] mid new (Ok count)) → HasCleanDisk new
+    → AreRegistryTrees old.now.trees
+    → RewritesVersion old new
 renewed_by {old} {mid} {new} count asked first second runs clean is_held =
     let early : HasCleanDisk mid = omega (arith, clean, second.clean) in
     let it = asked early in
     let one = changes_one mid new count (taken_ready asked early) (runs clean) in
     renewed_between old mid new it.2.tables it.1 first
-    (subst (λ n. Executes renew_text [] mid new (Ok n)) one (runs clean))
+    (subst (λ n. Executes rewrite_version_text [] mid new (Ok n)) one (runs clean))
 
 -- the same for a registry
-pub written_by : (old mid new : State) (count : ℕ) (devices : Devices) → Shows old devices → IsUnchanged old mid
-    → Survives old mid (λ _. ⊥) → IsReady mid → Executes renew_text [] mid new (Ok count) → IsRenewed old new
+pub written_by : (old mid new : State) (count : ℕ) (devices : Devices) → IsReadyWith old devices → IsUnchanged old mid
+    → Survives old mid (λ _. ⊥) → IsReady mid → Executes rewrite_version_text [] mid new (Ok count)
+    → RewritesVersion old new
 written_by old mid new count devices shows same survives ready runs =
     let one = changes_one mid new count ready runs in
     renewed_between old mid new shows.registers.registry.tables same survives
-    (subst (λ n. Executes renew_text [] mid new (Ok n)) one runs)
+    (subst (λ n. Executes rewrite_version_text [] mid new (Ok n)) one runs)
 
 -- a sound database with the trees of a registry has its tables
-has_tables : (db : Database) → IsDatabase db → IsHeld db.trees → HasTables Second db.schema
+has_tables : (db : Database) → IsDatabase db → AreRegistryTrees db.trees → HasTables Second db.schema
 has_tables db sound held =
     let its = held.holds.db in
     let same : its.schema ≡ db.schema = same_schema db.trees its.schema db.schema
@@ -123,10 +125,11 @@ has_tables db sound held =
     subst (HasTables Second) same held.holds.registers.registry.tables
 
 pub renewed_if : {T : Type 0} (r : Result T OpenFault) (old mid new : State) → IsUnchanged old mid → IsAtRest old
-    → Survives old mid (λ _. ⊥) → OnOk r (IsHeld mid.now.trees → IsRenewed mid new)
-    → OnOk r (IsHeld old.committed.trees → IsRenewed old new)
+    → Survives old mid (λ _. ⊥) → OnOk r (AreRegistryTrees mid.now.trees → RewritesVersion mid new)
+    → OnOk r (AreRegistryTrees old.committed.trees → RewritesVersion old new)
 renewed_if (Ok v) old mid new same rest survives renewed = λ held.
-    let seen : IsHeld mid.now.trees = subst IsHeld (sym (last old mid same rest)) held in
-    let here : IsHeld old.now.trees = subst IsHeld (ap (λ (db : Database). db.trees) same.0.now_is) seen in
+    let seen : AreRegistryTrees mid.now.trees = subst AreRegistryTrees (sym (last old mid same rest)) held in
+    let here : AreRegistryTrees old.now.trees = subst AreRegistryTrees (ap (λ (db : Database). db.trees) same.0.now_is)
+    seen in
     renewed_between old mid new (has_tables old.now rest.sound here) same survives (renewed seen)
 renewed_if (Err e) old mid new same rest survives renewed = tt

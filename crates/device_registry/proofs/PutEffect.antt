@@ -29,8 +29,8 @@ use Rattle.sqlite.proofs.Callers.{one_step}
 use Rattle.learned_devices.specs.Labels.{is_label}
 use Rattle.device_registry.specs.declared.table.Version.TheVariants.{Second}
 use Rattle.device_registry.specs.Table.{device_table}
-use Rattle.learned_devices.specs.Devices.{Learned}
-use Rattle.device_registry.specs.Table.Rows.{IsDevice, put_params, stored}
+use Rattle.learned_devices.specs.Devices.{DeviceData}
+use Rattle.device_registry.specs.Table.Rows.{IsDevice, upsert_params, device_row}
 use Rattle.device_registry.proofs.StatementTexts.{put_terms}
 use Rattle.device_registry.proofs.SenderTests.{equal_ids}
 use Rattle.device_registry.proofs.DeviceChecks.{checked}
@@ -40,15 +40,15 @@ use Rattle.device_registry.proofs.RowWrites.{cast_int, cast_none, cast_label, we
 use Rattle.device_registry.proofs.RowWrites.{spares_as, spares_then}
 
 -- the row is upserted, and nothing else changes
-pub record IsPut (schema : Schema) (devices id : ℕ) (it : Learned) (before after : Trees) : Type 0 where
-  pub device : IsDevice (stored id it)
+pub record IsPut (schema : Schema) (devices id : ℕ) (it : DeviceData) (before after : Trees) : Type 0 where
+  pub device : IsDevice (device_row id it)
   pub gone : List ℤ
   pub same : AllByRecursion (λ i. i ≡ pos id) gone
-  pub fresh : HasNewRowid (stored id it) (without_all (before devices) gone)
-  pub rows : after devices ≡ put_row (stored id it) (without_all (before devices) gone)
+  pub fresh : HasNewRowid (device_row id it) (without_all (before devices) gone)
+  pub rows : after devices ≡ put_row (device_row id it) (without_all (before devices) gone)
   pub others : SparesOthers schema devices before after
 
-cast_stored : (d id : ℕ) (it : Learned) → cast_row (device_table Second d) (stored id it) ≡ stored id it
+cast_stored : (d id : ℕ) (it : DeviceData) → cast_row (device_table Second d) (device_row id it) ≡ device_row id it
 cast_stored d id it = simp (cast_int, cast_none, cast_label)
 
 held : (rows : List Row) (r : Row) → AllByRecursion IsDevice rows → Has rows r → IsDevice r
@@ -69,57 +69,59 @@ alone : (b : Bool) → ((b && true) || false) ≡ b
 alone true = refl
 alone false = refl
 
-same_id : (indexes : List Index) (table : Table) (id : ℕ) (it : Learned) (r : Row) → IsDevice r
+same_id : (indexes : List Index) (table : Table) (id : ℕ) (it : DeviceData) (r : Row) → IsDevice r
     → AllByRecursion (λ index. index.table ≢ table.tree) indexes
-    → conflicts None indexes table (stored id it) r ≡ true → id_in (column r 0) ≡ pos id
+    → conflicts None indexes table (device_row id it) r ≡ true → id_in (column r 0) ≡ pos id
 unfolding first_key
 same_id indexes table id it r is none h =
     let e : equal Binary (column r 0) (Int (pos id)) ≡ true =
     sym (ap (λ b. (equal Binary (column r 0) (Int (pos id)) && true) || b)
-    (no_shares indexes table (stored id it) r none) ∙ alone (equal Binary (column r 0) (Int (pos id)))) ∙ h in
+    (no_shares indexes table (device_row id it) r none) ∙ alone (equal Binary (column r 0) (Int (pos id)))) ∙ h in
     ap id_in is.id_is ∙ ap pos (equal_ids is.id id (subst (λ v. equal Binary v (Int (pos id)) ≡ true) is.id_is e))
 
-module _ (schema : Schema) (limit : Option ℕ) (keys : Keys) (params : Row) (d id : ℕ) (it : Learned)
+module _ (schema : Schema) (limit : Option ℕ) (keys : Keys) (params : Row) (d id : ℕ) (it : DeviceData)
     (is_one : is_label it.label ≡ true) (stands : StandsAlone schema d) where
   abbrev task : Task
   task = record { limit = limit; keys = keys; schema = schema; table = device_table Second d; params = params }
 
-  puts : (db : Trees) (w : Written) → Puts task (stored id it) db (Ok w)
-      → (w.trees d ≡ put_row (stored id it) (db d)) × SparesOthers schema d db w.trees × HasNewRowid (stored id it) (db d)
+  puts : (db : Trees) (w : Written) → Puts task (device_row id it) db (Ok w)
+      → (w.trees d ≡ put_row (device_row id it) (db d)) × SparesOthers schema d db w.trees
+      × HasNewRowid (device_row id it) (db d)
   puts db w h =
       let done = went h in
       let trees : w.trees ≡ done.0 = ap (λ (it : Written). it.trees) (same_value done.2) in
-      let edit = edit_of db (device_table Second d) [] Given 0 (stored id it ∷ []) in
+      let edit = edit_of db (device_table Second d) [] Given 0 (device_row id it ∷ []) in
       let step = one_step schema keys db done.0 edit (stands.free keys [] edit.news) done.1 in (
         ap (λ (t : Trees). t d) trees ∙ step.rows ∙ ap (λ r. put_row r (db d)) (cast_stored d id it),
         spares_as schema d db done.0 w.trees trees (spares schema keys db done.0 edit step),
-        untaken (stored id it) (db d) (none_taken (is_taken (db d) (stored id it))
+        untaken (device_row id it) (db d) (none_taken (is_taken (db d) (device_row id it))
             (ap (λ r. not (is_taken (db d) r) && true) (sym (cast_stored d id it)) ∙ step.fresh)),
       )
 
-  clears : (db : Trees) (found : List Row) (w : Written) → Clears task Replace (stored id it) db found (Ok w)
-      → (w.trees d ≡ put_row (stored id it) (without_all (db d) (ids_of found))) × SparesOthers schema d db w.trees
-      × HasNewRowid (stored id it) (without_all (db d) (ids_of found))
+  clears : (db : Trees) (found : List Row) (w : Written) → Clears task Replace (device_row id it) db found (Ok w)
+      → (w.trees d ≡ put_row (device_row id it) (without_all (db d) (ids_of found))) × SparesOthers schema d db w.trees
+      × HasNewRowid (device_row id it) (without_all (db d) (ids_of found))
   clears db [] w h = puts db w h
   clears db (x ∷ more) w h =
       let done = went h in
       let edit = edit_of db (device_table Second d) (ids_of (x ∷ more)) Given 0 [] in
       let step = one_step schema keys db done.0 edit (stands.free keys (taken_by db edit) []) done.1 in
       let put = puts done.0 w done.2 in (
-        put.0 ∙ ap (put_row (stored id it)) step.rows,
+        put.0 ∙ ap (put_row (device_row id it)) step.rows,
         spares_then schema d db done.0 w.trees (spares schema keys db done.0 edit step) put.1,
-        subst (HasNewRowid (stored id it)) step.rows put.2,
+        subst (HasNewRowid (device_row id it)) step.rows put.2,
       )
 
   conflicting : (db : Trees) (found : List Row) → AllByRecursion IsDevice (db d)
-      → AreConflicts None schema.indexes (device_table Second d) (db d) (stored id it) found
+      → AreConflicts None schema.indexes (device_table Second d) (db d) (device_row id it) found
       → AllByRecursion (λ i. i ≡ pos id) (ids_of found)
   conflicting db found all h = gone_ids id found (λ x in_found.
       let one = h.sound x in_found in
       rw one.3 (same_id schema.indexes (device_table Second d) id it one.0
       (held (db d) one.0 all one.1) stands.unindexed one.2))
 
-  tries : (db : Trees) (w : Written) → AllByRecursion IsDevice (db d) → Tries task Replace [] (stored id it) db (Ok w)
+  tries : (db : Trees) (w : Written) → AllByRecursion IsDevice (db d)
+      → Tries task Replace [] (device_row id it) db (Ok w)
       → IsPut schema d id it db w.trees
   tries db w all (inl h) = absurd (let e = h.1 in cc)
   tries db w all (inr (Some why, judged, h)) = absurd (let e = h in cc)
@@ -135,17 +137,17 @@ module _ (schema : Schema) (limit : Option ℕ) (keys : Keys) (params : Row) (d 
         others = step.1;
       }
 
-pub puts_in : (schema : Schema) (at d : ℕ) (limit : Option ℕ) (mode : Mode) (id : ℕ) (it : Learned)
+pub puts_in : (schema : Schema) (at d : ℕ) (limit : Option ℕ) (mode : Mode) (id : ℕ) (it : DeviceData)
     (is_one : is_label it.label ≡ true) (db : Trees) (text : List ℕ) (tally : Tally) (after : Database)
     → slice_get schema.tables at ≡ Some (device_table Second d) → StandsAlone schema d → AllByRecursion IsDevice (db d)
-    → Does limit mode (put_params id it) (record { schema = schema; trees = db }) text None
+    → Does limit mode (upsert_params id it) (record { schema = schema; trees = db }) text None
     (InsertOr at Replace (Values put_terms 5) []) (Ok (tally, after))
     → (after.schema ≡ schema) × IsPut schema d id it db after.trees
 puts_in schema at d limit mode id it is_one db text tally after there stands all does =
     let command = InsertOr at Replace (Values put_terms 5) [] in
     let here = λ (table : Table).
     let t : Task =
-    record { limit = limit; keys = mode.keys; schema = schema; table = table; params = put_params id it } in t in
+    record { limit = limit; keys = mode.keys; schema = schema; table = table; params = upsert_params id it } in t in
     let h : OnRows (here (device_table Second d)) mode None command db (Ok (tally, after)) =
     subst (λ o. AtPlace (λ table. OnRows (here table) mode None command db) o (Ok (tally, after))) there does in
     let done = went h in
@@ -163,9 +165,9 @@ puts_in schema at d limit mode id it is_one db text tally after there stands all
     (subst (λ rows. TriesEach (here (device_table Second d)) Replace [] rows top (nothing db) (Ok tried.0)) given.1.1
     tried.1) in
     let new_is :
-    with_rowid (rowids_for (device_table Second d) top) (db d) (cast_row (device_table Second d) (stored id it))
-    ≡ stored id it = ap (with_rowid Chosen (db d)) (cast_stored d id it) in
-    let put = tries schema limit mode.keys (put_params id it) d id it is_one stands db each.0 all
+    with_rowid (rowids_for (device_table Second d) top) (db d) (cast_row (device_table Second d) (device_row id it))
+    ≡ device_row id it = ap (with_rowid Chosen (db d)) (cast_stored d id it) in
+    let put = tries schema limit mode.keys (upsert_params id it) d id it is_one stands db each.0 all
     (subst (λ new. Tries (here (device_table Second d)) Replace [] new db (Ok each.0)) new_is each.1) in
     let trees : after.trees ≡ each.0.trees =
     ap (λ (d : Database). d.trees) now ∙ ap (λ (w : Written). w.trees) (same_value ended.2) ∙ same_value ended.1

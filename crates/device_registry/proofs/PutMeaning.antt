@@ -13,17 +13,17 @@ use Rattle.device_registry.proofs.StatementTexts.{put_terms}
 use Rattle.device_registry.proofs.TextMeaning.{IsRead, Means}
 use Rattle.device_registry.proofs.WriteMeaning.{insert_means}
 use Rattle.device_registry.specs.declared.table.Version.TheVariants.{Second}
-use Rattle.device_registry.specs.Table.{put_text, device_name, device_table}
-use Rattle.device_registry.specs.Stored.{Stands}
+use Rattle.device_registry.specs.Table.{upsert_text, device_name, device_table}
+use Rattle.device_registry.specs.Stored.{IsTableAt}
 
-put_read : IsRead put_text
+put_read : IsRead upsert_text
     (written.Insert conflict.Replace (device_name Second)
     (codes "id" ∷ codes "eep" ∷ codes "maker" ∷ codes "label" ∷ [])
     (Values ((Parameter 1 ∷ Parameter 2 ∷ Parameter 3 ∷ Parameter 4 ∷ []) ∷ [])) [] [])
 unfolding everything
 put_read = record { parsed = _; read = refl; is = refl; timeless = refl }
 
-pub put_means : (schema : Schema) (at d : ℕ) → Stands schema (device_name Second) (device_table Second d) at
-    → Means schema put_text (InsertOr at Replace (source.Values put_terms 5) [])
+pub put_means : (schema : Schema) (at d : ℕ) → IsTableAt schema (device_name Second) (device_table Second d) at
+    → Means schema upsert_text (InsertOr at Replace (source.Values put_terms 5) [])
 unfolding everything
 put_means schema at d it = insert_means it _ put_read refl (λ base. rw (it.named, it.there))

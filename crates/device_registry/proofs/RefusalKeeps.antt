@@ -7,11 +7,11 @@ use Rattle.sqlite.specs.Effect.{IsDatabase}
 use Rattle.sqlite.specs.State.{State, Executes, ExecutesInside, IsNotRun, IsUnchanged}
 use Rattle.sqlite.specs.State.{IsRolledBack, KeepsCommit, FailsToQuery}
 use Rattle.sqlite.proofs.Callers.{IsPlain}
-use Rattle.device_registry.specs.Opening.{IsAtRest, Remains}
+use Rattle.device_registry.specs.Opening.{IsAtRest, KeepsDatabase}
 use Rattle.device_registry.proofs.OpenCalls.{rests}
 use Rattle.device_registry.proofs.StatementSteps.{IsSpared, not_run, not_executed, not_shown}
 
-pub unchanged_remains : (old new : State) → IsUnchanged old new → Remains old new
+pub unchanged_remains : (old new : State) → IsUnchanged old new → KeepsDatabase old new
 unchanged_remains old new same is_open rest = (rests old new same rest, same.0.now_is)
 
 -- it returns to what was committed, which is what it showed
@@ -27,12 +27,12 @@ back_at old new is_open idle same last rest = (
   same,
 )
 
-pub undone_remains : (old new : State) → IsRolledBack old new → Remains old new
+pub undone_remains : (old new : State) → IsRolledBack old new → KeepsDatabase old new
 undone_remains old new back is_open rest =
     let both = back.undone is_open in
     back_at old new is_open back.autocommit (both.0 ∙ sym rest.settled) both.1 rest
 
-spared_remains : (old new : State) → IsSpared old new → Remains old new
+spared_remains : (old new : State) → IsSpared old new → KeepsDatabase old new
 spared_remains old new (inl same) = unchanged_remains old new same
 spared_remains old new (inr back) = undone_remains old new back
 
@@ -41,7 +41,7 @@ spared_open old new (inl same) is_open = same.0.was_open
 spared_open old new (inr back) is_open = back.was_open is_open
 
 -- earlier queries changed nothing
-pub remains_after : (old mid new : State) → IsUnchanged old mid → Remains mid new → Remains old new
+pub remains_after : (old mid new : State) → IsUnchanged old mid → KeepsDatabase mid new → KeepsDatabase old new
 remains_after old mid new same remains is_open rest =
     let it = remains is_open (rests old mid same rest) in (it.0, it.1 ∙ same.0.now_is)
 
@@ -59,17 +59,18 @@ not_run_kept sql params old new e rest h is_open =
     spared_remains old new is_spared is_open (rest (spared_open old new is_spared is_open))
 
 pub kept_if : {T E : Type 0} (r : Result T E) (old mid new : State) → IsUnchanged old mid → IsAtRest old
-    → OnErr r (Remains mid new) → OnErr r (IsTrue new.is_open → IsAtRest new × (new.now ≡ old.now))
+    → OnErr r (KeepsDatabase mid new) → OnErr r (IsTrue new.is_open → IsAtRest new × (new.now ≡ old.now))
 kept_if (Ok v) old mid new same rest h = tt
 kept_if (Err e) old mid new same rest h = λ is_open. remains_after old mid new same h is_open rest
 
 pub executed_if : (sql : List ℕ) (params : Row) (old new : State) (r : Result ℕ Error) → Executes sql params old new r
-    → OnErr r (Remains old new)
+    → OnErr r (KeepsDatabase old new)
 executed_if sql params old new (Ok n) h = tt
 executed_if sql params old new (Err e) h = spared_remains old new (not_executed sql params old new e h)
 
 pub queried_if : {V : Type 0} (sql : List ℕ) (params : Row) (old new : State) (r : Result V Error)
-    → IsPlain (understood old.now.schema sql) → IfErr r (FailsToQuery sql params old new) → OnErr r (Remains old new)
+    → IsPlain (understood old.now.schema sql) → IfErr r (FailsToQuery sql params old new)
+    → OnErr r (KeepsDatabase old new)
 queried_if sql params old new (Ok v) plain h = tt
 queried_if sql params old new (Err e) plain h = spared_remains old new (not_shown sql params old new plain e h)
 

@@ -15,15 +15,15 @@ use Rattle.learned_devices.specs.declared.Device.{Device}
 use Rattle.learned_devices.specs.declared.fault.LearnFault.TheVariants.{Full, Refused}
 use Rattle.learned_devices.specs.declared.fault.StoreFault.{StoreFault}
 use Rattle.learned_devices.specs.declared.fault.LearnFault.{LearnFault}
-use Rattle.learned_devices.specs.Devices.{Devices, Learned, Learn, Relabel, Change}
-use Rattle.learned_devices.specs.Devices.{entered, changed, after, learned}
-use Rattle.learned_devices.specs.Devices.{relabelled, kept_label, known_of, device, device_of, all_of, is_full}
-use Rattle.learned_devices.specs.Kept.{Keeps, Commits, Pends}
+use Rattle.learned_devices.specs.Devices.{Devices, DeviceData, Learn, Relabel, DeviceUpdate}
+use Rattle.learned_devices.specs.Devices.{with_entry, apply_update, data_after, learn_update}
+use Rattle.learned_devices.specs.Devices.{relabel_update, kept_label, device_data, device, device_of, all_of, is_full}
+use Rattle.learned_devices.specs.StoreState.{Keeps, Commits, LeavesPending}
 use Rattle.learned_devices.specs.StoreCalls.{RefusesToLearn, LooksUp, Updates, Learns, Relabels, ListsAll}
-use Rattle.device_registry.specs.Holding.{HasDevices, HoldsSome, AreRegistries, HandsOn, WritesRow, kept}
+use Rattle.device_registry.specs.Holding.{HasDevices, HoldsSome, AreRegistries, IsReturned, WritesRow, registry_state}
 use Rattle.device_registry.specs.private.TableCalls.{Adds}
-use Rattle.device_registry.specs.Ready.{Shows, IsReady, StaysReady, GoesOn, Stays, Turns}
-use Rattle.device_registry.specs.Table.Rows.{listed}
+use Rattle.device_registry.specs.Ready.{IsReadyWith, IsReady, StaysReady, KeepsDevices, WritesNothing, CommitsOrFails}
+use Rattle.device_registry.specs.Table.Rows.{device_in_row}
 use Rattle.device_registry.proofs.DevicesHeld.{held_once, registers_once, room_for_known}
 use Rattle.device_registry.proofs.StatementSteps.{ready_on}
 
@@ -31,7 +31,8 @@ use Rattle.device_registry.proofs.StatementSteps.{ready_on}
 abbrev pub IsWell : State → Type 0
 IsWell s = (HasCleanDisk s → AreRegistries s.may_leave) × StaysReady s
 
-pub shows_them : (s : State) (devices : Devices) → HasCleanDisk s → IsReady s → HasDevices s devices → Shows s devices
+pub shows_them : (s : State) (devices : Devices) → HasCleanDisk s → IsReady s → HasDevices s devices
+    → IsReadyWith s devices
 shows_them s devices clean ready has =
     let it = ready.shows in
     record {
@@ -44,65 +45,68 @@ shows_them s devices clean ready has =
 
 -- ---- nothing was written
 
-module _ (old new : State) (stays : Stays old new) (well : IsWell old) where
-  pub keeps : HasCleanDisk new → (devices : Devices) → HasDevices old devices → Keeps (kept old) (kept new) devices
+module _ (old new : State) (stays : WritesNothing old new) (well : IsWell old) where
+  pub keeps : HasCleanDisk new → (devices : Devices) → HasDevices old devices
+      → Keeps (registry_state old) (registry_state new) devices
   keeps clean devices has = record {
     now = λ _ is_open. let on = stays.goes_on clean is_open in let early = stays.clean clean in
         (on.1 devices (shows_them old devices early (well.1 early on.0) has)).registers;
-    stop = λ left (trees, may, holds). (trees, stays.stop clean trees may, holds);
+    crash = λ left (trees, may, holds). (trees, stays.crash clean trees may, holds);
   }
 
   -- the devices that the registry had before the call
-  pub had : HasCleanDisk new → IsReady new → (devices : Devices) → HasDevices old devices → Shows old devices
+  pub had : HasCleanDisk new → IsReady new → (devices : Devices) → HasDevices old devices → IsReadyWith old devices
   had clean now devices has =
       let early = stays.clean clean in
       shows_them old devices early (well.1 early (stays.goes_on clean now.shows.is_open).0) has
 
   -- what it shows afterwards it showed before
-  pub shown_before : HasCleanDisk new → (devices : Devices) → Shows new devices → Shows old devices
+  pub shown_before : HasCleanDisk new → (devices : Devices) → IsReadyWith new devices → IsReadyWith old devices
   shown_before clean devices shows =
       let on = stays.goes_on clean shows.is_open in
       let was = well.1 (stays.clean clean) on.0 in
       let same : was.devices ≡ devices =
       registers_once new.now was.devices devices (on.1 was.devices was.shows).registers shows.registers in
-      subst (Shows old) same was.shows
+      subst (IsReadyWith old) same was.shows
 
   pub keeps_well : IsWell new
   keeps_well = (
-    λ clean trees may. well.0 (stays.clean clean) trees (stays.stop clean trees may),
+    λ clean trees may. well.0 (stays.clean clean) trees (stays.crash clean trees may),
     λ clean is_open. let on = stays.goes_on clean in
         ready_on old new on is_open (well.1 (stays.clean clean) (on is_open).0),
   )
 
-pub kept_pends : (old new : State) (change : Change) (devices : Devices) → Keeps (kept old) (kept new) devices
-    → Pends (kept old) (kept new) change devices
-kept_pends old new change devices keeps = record { now = keeps.now; stop = λ left may. inl (keeps.stop left may) }
+pub kept_pends : (old new : State) (update : DeviceUpdate) (devices : Devices)
+    → Keeps (registry_state old) (registry_state new) devices
+    → LeavesPending (registry_state old) (registry_state new) update devices
+kept_pends old new update devices keeps = record { now = keeps.now; crash = λ left may. inl (keeps.crash left may) }
 
 -- the registry was ready before the call, and is ready after it
-pub ready_both : (old new : State) → Stays old new → IsWell old → HasCleanDisk new → IsReady new
+pub ready_both : (old new : State) → WritesNothing old new → IsWell old → HasCleanDisk new → IsReady new
     → IsReady old × IsReady new
 ready_both old new stays well clean ready =
     (record { devices = ready.devices; shows = shown_before old new stays well clean ready.devices ready.shows }, ready)
 
-pub ready_if : {T E : Type 0} (r : Result T E) (old new : State) → Stays old new → IsWell old → HasCleanDisk new
+pub ready_if : {T E : Type 0} (r : Result T E) (old new : State) → WritesNothing old new → IsWell old → HasCleanDisk new
     → IsReady new → OnOk r (IsReady old × IsReady new)
 ready_if (Ok v) old new stays well clean ready = ready_both old new stays well clean ready
 ready_if (Err e) old new stays well clean ready = tt
 
 -- ---- a change was attempted
 
-module _ {T E : Type 0} (old mid new : State) (change : Change) (result : Result T E) (stays : Stays old mid)
-    (well : IsWell old) (turns : Turns mid new change result) where
+module _ {T E : Type 0} (old mid new : State) (update : DeviceUpdate) (result : Result T E)
+    (stays : WritesNothing old mid)
+    (well : IsWell old) (turns : CommitsOrFails mid new update result) where
   tried_registries : HasCleanDisk new → AreRegistries new.may_leave
-  tried_registries clean trees may = elim (turns.stop clean trees may) [
+  tried_registries clean trees may = elim (turns.crash clean trees may) [
     | inl before ↦ (keeps_well old mid stays well).0 (turns.clean clean) trees before
     | inr written ↦
         let it = (keeps_well old mid stays well).1 (turns.clean clean) written.0 in
-        record { devices = changed it.devices change; holds = written.1 it.devices it.shows }
+        record { devices = apply_update it.devices update; holds = written.1 it.devices it.shows }
   ]
 
   -- and failed
-  pub refused_well : (HasCleanDisk new → GoesOn mid new) → IsWell new
+  pub refused_well : (HasCleanDisk new → KeepsDevices mid new) → IsWell new
   refused_well goes_on = (
     tried_registries,
     λ clean is_open.
@@ -110,8 +114,8 @@ module _ {T E : Type 0} (old mid new : State) (change : Change) (result : Result
         ready_on mid new on is_open ((keeps_well old mid stays well).1 (turns.clean clean) (on is_open).0),
   )
 
-  pub pends : GoesOn mid new → HasCleanDisk new → (devices : Devices) → HasDevices old devices
-      → Pends (kept old) (kept new) change devices
+  pub pends : KeepsDevices mid new → HasCleanDisk new → (devices : Devices) → HasDevices old devices
+      → LeavesPending (registry_state old) (registry_state new) update devices
   pends goes_on clean devices has =
       let middle = turns.clean clean in
       let same = keeps old mid stays well middle devices has in
@@ -119,47 +123,51 @@ module _ {T E : Type 0} (old mid new : State) (change : Change) (result : Result
       ((keeps_well old mid stays well).1 middle is_open) same.now in
       record {
         now = λ _ is_open. let on = goes_on is_open in (on.1 devices (shows on.0)).registers;
-        stop = λ left (trees, may, holds). elim (turns.stop clean trees may) [
-          | inl before ↦ inl (trees, stays.stop middle trees before, holds)
+        crash = λ left (trees, may, holds). elim (turns.crash clean trees may) [
+          | inl before ↦ inl (trees, stays.crash middle trees before, holds)
           | inr written ↦
-              inr (held_once trees left (changed devices change) holds (written.1 devices (shows written.0)))
+              inr (held_once trees left (apply_update devices update) holds (written.1 devices (shows written.0)))
         ];
       }
 
-  pub ready_made : ((devices : Devices) → Shows mid devices → Shows new (changed devices change)) → HasCleanDisk new
+  pub ready_made : ((devices : Devices) → IsReadyWith mid devices → IsReadyWith new (apply_update devices update))
+      → HasCleanDisk new
       → IsReady mid → IsReady old × IsReady new
   ready_made made clean was = (
     (ready_both old mid stays well (turns.clean clean) was).0,
-    record { devices = changed was.devices change; shows = made was.devices was.shows },
+    record { devices = apply_update was.devices update; shows = made was.devices was.shows },
   )
 
   -- or was made
-  made_shows : ((devices : Devices) → Shows mid devices → Shows new (changed devices change)) → HasCleanDisk new
-      → IsReady mid → (devices : Devices) → HasDevices old devices → Shows new (changed devices change)
+  made_shows : ((devices : Devices) → IsReadyWith mid devices → IsReadyWith new (apply_update devices update))
+      → HasCleanDisk new
+      → IsReady mid → (devices : Devices) → HasDevices old devices → IsReadyWith new (apply_update devices update)
   made_shows made clean was devices has =
       let middle = turns.clean clean in
       made devices (shows_them mid devices middle was (keeps old mid stays well middle devices has).now)
 
-  pub made_well : (HasCleanDisk new → (devices : Devices) → Shows mid devices → Shows new (changed devices change))
+  pub made_well : (HasCleanDisk new → (devices : Devices) → IsReadyWith mid devices
+      → IsReadyWith new (apply_update devices update))
       → (HasCleanDisk mid → IsReady mid) → IsWell new
   made_well made was = (
     tried_registries,
     λ clean _. let it = was (turns.clean clean) in
-        record { devices = changed it.devices change; shows = made clean it.devices it.shows },
+        record { devices = apply_update it.devices update; shows = made clean it.devices it.shows },
   )
 
-  pub commits : ((devices : Devices) → Shows mid devices → Shows new (changed devices change)) → HasCleanDisk new
+  pub commits : ((devices : Devices) → IsReadyWith mid devices → IsReadyWith new (apply_update devices update))
+      → HasCleanDisk new
       → IsReady mid
       → ((trees : Trees) → IsTrue new.is_open → new.may_leave trees → trees ≡ new.committed.trees) → (devices : Devices)
-      → HasDevices old devices → Commits (kept new) change devices
+      → HasDevices old devices → Commits (registry_state new) update devices
   commits made clean was last devices has =
       let shows = made_shows made clean was devices has in
       record {
         now = λ _ _. shows.registers;
-        stop = λ left (trees, may, holds).
+        crash = λ left (trees, may, holds).
             let same : new.now.trees ≡ trees =
             sym (last trees shows.is_open may ∙ ap (λ (db : Database). db.trees) (sym shows.settled)) in
-            held_once trees left (changed devices change) holds
+            held_once trees left (apply_update devices update) holds
             (record { db = new.now; same = same; sound = shows.sound; registers = shows.registers });
       }
 
@@ -175,9 +183,9 @@ if_err P (Ok x) is = absurd (cc)
 if_err P (Err e) is = tt
 
 pub told_all : {E : Type 0} (r : Result (Vec Device Global) E) (rows shown : List Row) (devices : Devices)
-    → IfOk r (λ all. all.items ≡ map listed rows) → rows ≡ shown → map listed shown ≡ all_of devices
+    → IfOk r (λ all. all.items ≡ map device_in_row rows) → rows ≡ shown → map device_in_row shown ≡ all_of devices
     → IfOk r (λ all. all.items ≡ all_of devices)
-told_all (Ok all) rows shown devices read same told = read ∙ ap (map listed) same ∙ told
+told_all (Ok all) rows shown devices read same told = read ∙ ap (map device_in_row) same ∙ told
 told_all (Err e) rows shown devices read same told = tt
 
 -- ---- the postconditions of the calls
@@ -186,148 +194,159 @@ by_case : {A B : Type 0} (is : Bool) → A → B → MatchBool is A B
 by_case true a b = a
 by_case false a b = b
 
-module _ (old new : State) (stays : Stays old new) (well : IsWell old) where
+module _ (old new : State) (stays : WritesNothing old new) (well : IsWell old) where
   pub looks_up : {E : Type 0} (id : ℕ) (r : Result (Option Device) E)
       → (HasCleanDisk new → (devices : Devices) → HasDevices old devices
-      → IfOk r (λ found. found ≡ device_of devices id)) → LooksUp (kept old) (kept new) id r
+      → IfOk r (λ found. found ≡ device_of devices id)) → LooksUp (registry_state old) (registry_state new) id r
   looks_up id r told = record {
     clean = stays.clean;
     registries = (keeps_well old new stays well).0;
     devices = λ clean devices has. on_both (λ found. found ≡ device_of devices id)
-        (Keeps (kept old) (kept new) devices) r (told clean devices has) (keeps old new stays well clean devices has);
+        (Keeps (registry_state old) (registry_state new) devices) r (told clean devices has)
+        (keeps old new stays well clean devices has);
   }
 
   pub lists_all : {E : Type 0} (r : Result (Vec Device Global) E)
       → (HasCleanDisk new → (devices : Devices) → HasDevices old devices → IfOk r (λ all. all.items ≡ all_of devices))
-      → ListsAll (kept old) (kept new) r
+      → ListsAll (registry_state old) (registry_state new) r
   lists_all r told = record {
     clean = stays.clean;
     registries = (keeps_well old new stays well).0;
-    devices = λ clean devices has. on_both (λ all. all.items ≡ all_of devices) (Keeps (kept old) (kept new) devices) r
+    devices = λ clean devices has. on_both (λ all. all.items ≡ all_of devices)
+        (Keeps (registry_state old) (registry_state new) devices) r
         (told clean devices has) (keeps old new stays well clean devices has);
   }
 
   -- the database failed before the write
-  pub adds_not : {E : Type 0} (it : Device) (r : Result Bool E) → IsErr r → Adds (kept old) (kept new) it r
+  pub adds_not : {E : Type 0} (it : Device) (r : Result Bool E) → IsErr r
+      → Adds (registry_state old) (registry_state new) it r
   adds_not it (Ok room) is = absurd (cc)
   adds_not it (Err error) is = record {
     clean = stays.clean;
     registries = (keeps_well old new stays well).0;
     devices = λ clean devices has.
         let same = keeps old new stays well clean devices has in
-        by_case (is_full devices it.id) same (kept_pends old new (learned it) devices same);
+        by_case (is_full devices it.id) same (kept_pends old new (learn_update it) devices same);
   }
 
-  pub updates_not : {A E : Type 0} (change : Change) (r : Result A E) → IsErr r
-      → Updates (kept old) (kept new) change r
-  updates_not change (Ok done) is = absurd (cc)
-  updates_not change (Err error) is = record {
+  pub updates_not : {A E : Type 0} (update : DeviceUpdate) (r : Result A E) → IsErr r
+      → Updates (registry_state old) (registry_state new) update r
+  updates_not update (Ok done) is = absurd (cc)
+  updates_not update (Err error) is = record {
     clean = stays.clean;
     registries = (keeps_well old new stays well).0;
-    devices = λ clean devices has. kept_pends old new change devices (keeps old new stays well clean devices has);
+    devices = λ clean devices has. kept_pends old new update devices (keeps old new stays well clean devices has);
   }
 
   pub is_full_then : {E : Type 0} (it : Device) → (HasCleanDisk new → (devices : Devices) → HasDevices old devices
-      → IsTrue (is_full devices it.id)) → Adds {E = E} (kept old) (kept new) it (Ok false)
+      → IsTrue (is_full devices it.id)) → Adds {E = E} (registry_state old) (registry_state new) it (Ok false)
   is_full_then it full = record {
     clean = stays.clean;
     registries = (keeps_well old new stays well).0;
     devices = λ clean devices has. (full clean devices has, keeps old new stays well clean devices has);
   }
 
-module _ {T F : Type 0} (old mid new : State) (result : Result T F) (stays : Stays old mid) (well : IsWell old) where
-  -- or at the write
-  pub add_refused : {E : Type 0} (it : Device) (r : Result Bool E) → IsErr r → Turns mid new (learned it) result
-      → (HasCleanDisk new → GoesOn mid new)
-      → (HasCleanDisk mid → (devices : Devices) → HasDevices old devices → is_full devices it.id ≡ false)
-      → Adds (kept old) (kept new) it r
-  add_refused it (Ok room) is turns goes_on unless = absurd (cc)
-  add_refused it (Err error) is turns goes_on unless = record {
-    clean = λ clean. stays.clean (turns.clean clean);
-    registries = (refused_well old mid new (learned it) result stays well turns goes_on).0;
-    devices = λ clean devices has.
-        rw (unless (turns.clean clean) devices has) (pends old mid new (learned it) result stays well turns
-        (goes_on clean) clean devices has);
-  }
+module _ {T F : Type 0} (old mid new : State) (result : Result T F) (stays : WritesNothing old mid) (well : IsWell old)
+  where
+    -- or at the write
+    pub add_refused : {E : Type 0} (it : Device) (r : Result Bool E) → IsErr r
+        → CommitsOrFails mid new (learn_update it) result
+        → (HasCleanDisk new → KeepsDevices mid new)
+        → (HasCleanDisk mid → (devices : Devices) → HasDevices old devices → is_full devices it.id ≡ false)
+        → Adds (registry_state old) (registry_state new) it r
+    add_refused it (Ok room) is turns goes_on unless = absurd (cc)
+    add_refused it (Err error) is turns goes_on unless = record {
+      clean = λ clean. stays.clean (turns.clean clean);
+      registries = (refused_well old mid new (learn_update it) result stays well turns goes_on).0;
+      devices = λ clean devices has.
+          rw (unless (turns.clean clean) devices has) (pends old mid new (learn_update it) result stays well turns
+          (goes_on clean) clean devices has);
+    }
 
-  pub update_refused : {A E : Type 0} (change : Change) (r : Result A E) → IsErr r → Turns mid new change result
-      → (HasCleanDisk new → GoesOn mid new) → Updates (kept old) (kept new) change r
-  update_refused change (Ok done) is turns goes_on = absurd (cc)
-  update_refused change (Err error) is turns goes_on = record {
-    clean = λ clean. stays.clean (turns.clean clean);
-    registries = (refused_well old mid new change result stays well turns goes_on).0;
-    devices = λ clean. pends old mid new change result stays well turns (goes_on clean) clean;
-  }
+    pub update_refused : {A E : Type 0} (update : DeviceUpdate) (r : Result A E) → IsErr r
+        → CommitsOrFails mid new update result
+        → (HasCleanDisk new → KeepsDevices mid new) → Updates (registry_state old) (registry_state new) update r
+    update_refused update (Ok done) is turns goes_on = absurd (cc)
+    update_refused update (Err error) is turns goes_on = record {
+      clean = λ clean. stays.clean (turns.clean clean);
+      registries = (refused_well old mid new update result stays well turns goes_on).0;
+      devices = λ clean. pends old mid new update result stays well turns (goes_on clean) clean;
+    }
 
-  -- or the change is made
-  pub add_made : {E : Type 0} (it : Device) → Turns mid new (learned it) result
-      → (HasCleanDisk new → (devices : Devices) → Shows mid devices → Shows new (changed devices (learned it)))
-      → (HasCleanDisk mid → IsReady mid)
-      → ((trees : Trees) → IsTrue new.is_open → new.may_leave trees → trees ≡ new.committed.trees)
-      → (HasCleanDisk mid → (devices : Devices) → HasDevices old devices → is_full devices it.id ≡ false)
-      → Adds {E = E} (kept old) (kept new) it (Ok true)
-  add_made it turns made was last room = record {
-    clean = λ clean. stays.clean (turns.clean clean);
-    registries = (made_well old mid new (learned it) result stays well turns made was).0;
-    devices =
-        λ clean devices has. (
-          room (turns.clean clean) devices has,
-          commits old mid new (learned it) result stays well turns (made clean) clean
-              (was (turns.clean clean)) last devices has,
-        );
-  }
+    -- or the change is made
+    pub add_made : {E : Type 0} (it : Device) → CommitsOrFails mid new (learn_update it) result
+        → (HasCleanDisk new → (devices : Devices) → IsReadyWith mid devices
+        → IsReadyWith new (apply_update devices (learn_update it)))
+        → (HasCleanDisk mid → IsReady mid)
+        → ((trees : Trees) → IsTrue new.is_open → new.may_leave trees → trees ≡ new.committed.trees)
+        → (HasCleanDisk mid → (devices : Devices) → HasDevices old devices → is_full devices it.id ≡ false)
+        → Adds {E = E} (registry_state old) (registry_state new) it (Ok true)
+    add_made it turns made was last room = record {
+      clean = λ clean. stays.clean (turns.clean clean);
+      registries = (made_well old mid new (learn_update it) result stays well turns made was).0;
+      devices =
+          λ clean devices has. (
+            room (turns.clean clean) devices has,
+            commits old mid new (learn_update it) result stays well turns (made clean) clean
+                (was (turns.clean clean)) last devices has,
+          );
+    }
 
-  pub update_made : {A E : Type 0} (done : A) (change : Change) → Turns mid new change result
-      → (HasCleanDisk new → (devices : Devices) → Shows mid devices → Shows new (changed devices change))
-      → (HasCleanDisk mid → IsReady mid)
-      → ((trees : Trees) → IsTrue new.is_open → new.may_leave trees → trees ≡ new.committed.trees)
-      → Updates {A = A} {E = E} (kept old) (kept new) change (Ok done)
-  update_made done change turns made was last = record {
-    clean = λ clean. stays.clean (turns.clean clean);
-    registries = (made_well old mid new change result stays well turns made was).0;
-    devices = λ clean devices has. commits old mid new change result stays well turns (made clean) clean
-        (was (turns.clean clean)) last devices has;
-  }
+    pub update_made : {A E : Type 0} (done : A) (update : DeviceUpdate) → CommitsOrFails mid new update result
+        → (HasCleanDisk new → (devices : Devices) → IsReadyWith mid devices
+        → IsReadyWith new (apply_update devices update))
+        → (HasCleanDisk mid → IsReady mid)
+        → ((trees : Trees) → IsTrue new.is_open → new.may_leave trees → trees ≡ new.committed.trees)
+        → Updates {A = A} {E = E} (registry_state old) (registry_state new) update (Ok done)
+    update_made done update turns made was last = record {
+      clean = λ clean. stays.clean (turns.clean clean);
+      registries = (made_well old mid new update result stays well turns made was).0;
+      devices = λ clean devices has. commits old mid new update result stays well turns (made clean) clean
+          (was (turns.clean clean)) last devices has;
+    }
 
 -- ---- what is upserted
 
 -- a change whose result is this device of its sender upserts it
-pub becomes : (devices : Devices) (change : Change) (it : Learned)
-    → after (get devices change.sender) change.deed ≡ Some it → changed devices change ≡ insert devices change.sender it
-becomes devices change it makes = ap (entered devices change.sender) makes
+pub becomes : (devices : Devices) (update : DeviceUpdate) (it : DeviceData)
+    → data_after (get devices update.sender) update.operation ≡ Some it
+    → apply_update devices update ≡ insert devices update.sender it
+becomes devices update it makes = ap (with_entry devices update.sender) makes
 
 -- the same if the registry shows the devices that it had before the call
-pub puts_it : (old mid : State) → Stays old mid → IsWell old → (change : Change) (it : Learned)
+pub puts_it : (old mid : State) → WritesNothing old mid → IsWell old → (update : DeviceUpdate) (it : DeviceData)
     → (HasCleanDisk old → (devices : Devices) → HasDevices old devices
-    → after (get devices change.sender) change.deed ≡ Some it)
-    → HasCleanDisk mid → (devices : Devices) → Shows mid devices
-    → changed devices change ≡ insert devices change.sender it
-puts_it old mid stays well change it makes clean devices shows =
+    → data_after (get devices update.sender) update.operation ≡ Some it)
+    → HasCleanDisk mid → (devices : Devices) → IsReadyWith mid devices
+    → apply_update devices update ≡ insert devices update.sender it
+puts_it old mid stays well update it makes clean devices shows =
     let was = shown_before old mid stays well clean devices shows in
-    becomes devices change it (makes (stays.clean clean) devices (λ _ _. was.registers))
+    becomes devices update it (makes (stays.clean clean) devices (λ _ _. was.registers))
 
 -- ---- a label
 
 -- the registry is not full for a known sender
-pub room_if_known : (s : State) (id : ℕ) (label : List ℕ) (it : Learned)
-    → (HasCleanDisk s → (devices : Devices) → HasDevices s devices → after (get devices id) (Relabel label) ≡ Some it)
-    → HasCleanDisk s → (devices : Devices) → Shows s devices → is_full devices id ≡ false
+pub room_if_known : (s : State) (id : ℕ) (label : List ℕ) (it : DeviceData)
+    → (HasCleanDisk s → (devices : Devices) → HasDevices s devices
+    → data_after (get devices id) (Relabel label) ≡ Some it)
+    → HasCleanDisk s → (devices : Devices) → IsReadyWith s devices → is_full devices id ≡ false
 room_if_known s id label it known clean devices shows =
     go (get devices id) refl (known clean devices (λ _ _. shows.registers))
   where
-    go : (o : Option Learned) → get devices id ≡ o → after o (Relabel label) ≡ Some it → is_full devices id ≡ false
+    go : (o : Option DeviceData) → get devices id ≡ o → data_after o (Relabel label) ≡ Some it
+        → is_full devices id ≡ false
     go None is none = absurd (let e = none in cc)
     go (Some was) is some = room_for_known s.now devices id was shows.registers is
 
-is_known : (known : Option Learned) (label : List ℕ) (it : Learned) → after known (Relabel label) ≡ Some it
+is_known : (known : Option DeviceData) (label : List ℕ) (it : DeviceData) → data_after known (Relabel label) ≡ Some it
     → true ≡ is_some known
 is_known None label it e = absurd (let none = e in cc)
-is_known (Some learned) label it e = refl
+is_known (Some learn_update) label it e = refl
 
-pub stays_itself : (s : State) → Stays s s
+pub stays_itself : (s : State) → WritesNothing s s
 stays_itself s = record {
   clean = λ clean. clean;
-  stop = λ clean trees may. may;
+  crash = λ clean trees may. may;
   goes_on = λ clean is_open. (is_open, λ devices shows. shows);
 }
 
@@ -335,60 +354,64 @@ stays_itself s = record {
 
 -- the profile and the maker are unchanged
 labels_apart : (was it : Device) (label : List ℕ)
-    → known_of it ≡ record { eep = was.eep; maker = was.maker; label = label }
-    → known_of was ≡ record { eep = it.eep; maker = it.maker; label = was.label }
+    → device_data it ≡ record { eep = was.eep; maker = was.maker; label = label }
+    → device_data was ≡ record { eep = it.eep; maker = it.maker; label = was.label }
 labels_apart was it label is =
     λ i. record { eep = (sym is i).eep; maker = (sym is i).maker; label = was.label }
 
 -- a sender that is known as this device
-pub known_as : (id : ℕ) (known : Option Learned) (was : Device) → Some was ≡ option_map (device id) known
-    → known ≡ Some (known_of was)
+pub known_as : (id : ℕ) (known : Option DeviceData) (was : Device) → Some was ≡ option_map (device id) known
+    → known ≡ Some (device_data was)
 known_as id None was e = absurd (let none = e in cc)
-known_as id (Some it) was e = let same : was ≡ device id it = cc in ap (λ d. Some (known_of d)) (sym same)
+known_as id (Some it) was e = let same : was ≡ device id it = cc in ap (λ d. Some (device_data d)) (sym same)
 
-keeps_then : (a b c : State) (devices : Devices) → Keeps (kept a) (kept b) devices
-    → Keeps (kept b) (kept c) devices → Keeps (kept a) (kept c) devices
+keeps_then : (a b c : State) (devices : Devices) → Keeps (registry_state a) (registry_state b) devices
+    → Keeps (registry_state b) (registry_state c) devices → Keeps (registry_state a) (registry_state c) devices
 keeps_then a b c devices first second =
-    record { now = second.now; stop = λ left may. first.stop left (second.stop left may) }
+    record { now = second.now; crash = λ left may. first.crash left (second.crash left may) }
 
-pends_then : (a b c : State) (change : Change) (devices : Devices) → Keeps (kept a) (kept b) devices
-    → Pends (kept b) (kept c) change devices
-    → Pends (kept a) (kept c) change devices
-pends_then a b c change devices first second = record {
+pends_then : (a b c : State) (update : DeviceUpdate) (devices : Devices)
+    → Keeps (registry_state a) (registry_state b) devices
+    → LeavesPending (registry_state b) (registry_state c) update devices
+    → LeavesPending (registry_state a) (registry_state c) update devices
+pends_then a b c update devices first second = record {
   now = second.now;
-  stop =
-      λ left may. elim (second.stop left may) [ inl before ↦ inl (first.stop left before) | inr made ↦ inr made ];
+  crash =
+      λ left may. elim (second.crash left may) [ inl before ↦ inl (first.crash left before) | inr made ↦ inr made ];
 }
 
 module _ (old mid : State) (id : ℕ) where
   -- the look-up failed
-  pub learns_unlooked : {A : Type 0} (it : Device) (fault : StoreFault) → LooksUp (kept old) (kept mid) id (Err fault)
-      → Learns {A = A} (kept old) (kept mid) it (Err (Refused fault))
+  pub learns_unlooked : {A : Type 0} (it : Device) (fault : StoreFault)
+      → LooksUp (registry_state old) (registry_state mid) id (Err fault)
+      → Learns {A = A} (registry_state old) (registry_state mid) it (Err (Refused fault))
   learns_unlooked it fault looks = record {
     clean = looks.clean;
     registries = looks.registries;
     devices = λ clean devices has.
         let same = looks.devices clean devices has in
-        by_case (is_full devices it.id) same (kept_pends old mid (learned it) devices same);
+        by_case (is_full devices it.id) same (kept_pends old mid (learn_update it) devices same);
   }
 
-  pub relabels_unlooked : (label : List ℕ) (fault : StoreFault) → LooksUp (kept old) (kept mid) id (Err fault)
-      → Relabels (kept old) (kept mid) id label (Err fault)
+  pub relabels_unlooked : (label : List ℕ) (fault : StoreFault)
+      → LooksUp (registry_state old) (registry_state mid) id (Err fault)
+      → Relabels (registry_state old) (registry_state mid) id label (Err fault)
   relabels_unlooked label fault looks = record {
     clean = looks.clean;
     registries = looks.registries;
     devices = λ clean devices has.
         let same = looks.devices clean devices has in
-        by_case (is_some (get devices id)) (kept_pends old mid (relabelled id label) devices same) same;
+        by_case (is_some (get devices id)) (kept_pends old mid (relabel_update id label) devices same) same;
   }
 
-  unknown : (known : Option Learned) → None ≡ option_map (device id) known → false ≡ is_some known
+  unknown : (known : Option DeviceData) → None ≡ option_map (device id) known → false ≡ is_some known
   unknown None e = refl
   unknown (Some it) e = absurd (let none = e in cc)
 
   -- the sender is unknown
-  pub relabels_unknown : (label : List ℕ) → LooksUp {E = StoreFault} (kept old) (kept mid) id (Ok None)
-      → Relabels {E = StoreFault} (kept old) (kept mid) id label (Ok false)
+  pub relabels_unknown : (label : List ℕ) → LooksUp {E = StoreFault} (registry_state old) (registry_state mid) id
+      (Ok None)
+      → Relabels {E = StoreFault} (registry_state old) (registry_state mid) id label (Ok false)
   relabels_unknown label looks = record {
     clean = looks.clean;
     registries = looks.registries;
@@ -397,31 +420,34 @@ module _ (old mid : State) (id : ℕ) where
   }
 
   -- the label of a device is that of the stored data
-  label_in_device : (id : ℕ) (known : Option Learned)
-      → kept_label (option_map known_of (option_map (device id) known)) ≡ kept_label known
+  label_in_device : (id : ℕ) (known : Option DeviceData)
+      → kept_label (option_map device_data (option_map (device id) known)) ≡ kept_label known
   label_in_device id None = refl
   label_in_device id (Some it) = refl
 
-  module _ (known : Option Device) (looks : LooksUp {E = StoreFault} (kept old) (kept mid) id (Ok known))
+  module _ (known : Option Device) (looks : LooksUp {E = StoreFault} (registry_state old) (registry_state mid) id
+      (Ok known))
       (new : State) where
-    kept_here : HasCleanDisk mid → (devices : Devices) → HasDevices old devices → Keeps (kept old) (kept mid) devices
+    kept_here : HasCleanDisk mid → (devices : Devices) → HasDevices old devices
+        → Keeps (registry_state old) (registry_state mid) devices
     kept_here clean devices has = (looks.devices clean devices has).1
 
     learned_after : {A : Type 0} (it : Device) (r : Result A LearnFault) (devices : Devices)
-        → Keeps (kept old) (kept mid) devices
-        → MatchResult r (λ _. (is_full devices it.id ≡ false) × Commits (kept new) (learned it) devices)
-        (RefusesToLearn (kept mid) (kept new) it devices)
-        → MatchResult r (λ _. (is_full devices it.id ≡ false) × Commits (kept new) (learned it) devices)
-        (RefusesToLearn (kept old) (kept new) it devices)
+        → Keeps (registry_state old) (registry_state mid) devices
+        → MatchResult r (λ _. (is_full devices it.id ≡ false) × Commits (registry_state new) (learn_update it) devices)
+        (RefusesToLearn (registry_state mid) (registry_state new) it devices)
+        → MatchResult r (λ _. (is_full devices it.id ≡ false) × Commits (registry_state new) (learn_update it) devices)
+        (RefusesToLearn (registry_state old) (registry_state new) it devices)
     learned_after it (Ok done) devices keeps then = then
     learned_after it (Err Full) devices keeps (full, then) = (full, keeps_then old mid new devices keeps then)
     learned_after it (Err (Refused fault)) devices keeps then = by_full (is_full devices it.id) then
       where
-        by_full : (full : Bool) → MatchBool full (Keeps (kept mid) (kept new) devices)
-            (Pends (kept mid) (kept new) (learned it) devices) → MatchBool full (Keeps (kept old) (kept new) devices)
-            (Pends (kept old) (kept new) (learned it) devices)
+        by_full : (full : Bool) → MatchBool full (Keeps (registry_state mid) (registry_state new) devices)
+            (LeavesPending (registry_state mid) (registry_state new) (learn_update it) devices)
+            → MatchBool full (Keeps (registry_state old) (registry_state new) devices)
+            (LeavesPending (registry_state old) (registry_state new) (learn_update it) devices)
         by_full true then = keeps_then old mid new devices keeps then
-        by_full false then = pends_then old mid new (learned it) devices keeps then
+        by_full false then = pends_then old mid new (learn_update it) devices keeps then
 
     -- the answer about the sender holds of whatever the registry holds now
     module _ (ready : HasCleanDisk mid → IsReady old × IsReady mid) where
@@ -435,38 +461,40 @@ module _ (old mid : State) (id : ℕ) where
 
       -- a device with the label that its sender keeps
       pub keeps_label : (it : Device) (eep : Eep) (maker : Option ℕ) → it.id ≡ id
-          → known_of it ≡ record { eep = eep; maker = maker; label = kept_label (option_map known_of known) }
+          → device_data it ≡ record { eep = eep; maker = maker; label = kept_label (option_map device_data known) }
           → HasCleanDisk mid → (devices : Devices) → HasDevices mid devices
-          → after (get devices it.id) (Learn it.eep it.maker) ≡ Some (known_of it)
+          → data_after (get devices it.id) (Learn it.eep it.maker) ≡ Some (device_data it)
       keeps_label it eep maker at is clean devices has =
           let label : it.label ≡ kept_label (get devices it.id) =
-          ap (λ (l : Learned). l.label) is
-          ∙ ap (λ o. kept_label (option_map known_of o)) (told_now clean devices has)
+          ap (λ (l : DeviceData). l.label) is
+          ∙ ap (λ o. kept_label (option_map device_data o)) (told_now clean devices has)
           ∙ label_in_device id (get devices id) ∙ ap (λ n. kept_label (get devices n)) (sym at) in
           ap (λ l. Some (record { eep = it.eep; maker = it.maker; label = l })) (sym label)
 
       -- a known device with another label
       pub gets_label : (was it : Device) (label : List ℕ) → known ≡ Some was → it.id ≡ id
-          → known_of it ≡ record { eep = was.eep; maker = was.maker; label = label }
+          → device_data it ≡ record { eep = was.eep; maker = was.maker; label = label }
           → HasCleanDisk mid → (devices : Devices) → HasDevices mid devices
-          → after (get devices it.id) (Relabel it.label) ≡ Some (known_of it)
+          → data_after (get devices it.id) (Relabel it.label) ≡ Some (device_data it)
       gets_label was it label some at is clean devices has =
-          ap (λ n. after (get devices n) (Relabel it.label)) at
-          ∙ ap (λ o. after o (Relabel it.label))
+          ap (λ n. data_after (get devices n) (Relabel it.label)) at
+          ∙ ap (λ o. data_after o (Relabel it.label))
           (known_as id (get devices id) was (sym some ∙ told_now clean devices has))
-          ∙ ap (λ (l : Learned). Some (record { eep = l.eep; maker = l.maker; label = it.label }))
+          ∙ ap (λ (l : DeviceData). Some (record { eep = l.eep; maker = l.maker; label = it.label }))
           (labels_apart was it label is)
 
     -- the row of a device is written over the same devices
-    pub written_after : {C : Type 0} (state : C → State) (last : C) (change : Change) {T E : Type 0} (r : Result T E)
+    pub written_after : {C : Type 0} (state : C → State) (last : C) (update : DeviceUpdate) {T E : Type 0}
+        (r : Result T E)
         → (HasCleanDisk mid → (devices : Devices) → HasDevices mid devices → OnOk r
-        (WritesRow state last change devices))
-        → HasCleanDisk mid → (devices : Devices) → HasDevices old devices → OnOk r (WritesRow state last change devices)
-    written_after state last change r written clean devices has =
+        (WritesRow state last update devices))
+        → HasCleanDisk mid → (devices : Devices) → HasDevices old devices → OnOk r (WritesRow state last update devices)
+    written_after state last update r written clean devices has =
         written clean devices (kept_here clean devices has).now
 
-    pub learns_after : {A : Type 0} (it : Device) (r : Result A LearnFault) → Learns (kept mid) (kept new) it r
-        → Learns (kept old) (kept new) it r
+    pub learns_after : {A : Type 0} (it : Device) (r : Result A LearnFault)
+        → Learns (registry_state mid) (registry_state new) it r
+        → Learns (registry_state old) (registry_state new) it r
     learns_after it r learns = record {
       clean = λ clean. looks.clean (learns.clean clean);
       registries = learns.registries;
@@ -476,25 +504,25 @@ module _ (old mid : State) (id : ℕ) where
     }
 
     -- the write of a label failed, or it is committed
-    pub relabels_failed : {A E F : Type 0} (label : List ℕ) (error : E) (fault : F) (it : Learned)
+    pub relabels_failed : {A E F : Type 0} (label : List ℕ) (error : E) (fault : F) (it : DeviceData)
         → (HasCleanDisk mid → (devices : Devices) → HasDevices mid devices
-        → after (get devices id) (Relabel label) ≡ Some it)
-        → Updates {A = A} (kept mid) (kept new) (relabelled id label) (Err error)
-        → Relabels (kept old) (kept new) id label (Err fault)
+        → data_after (get devices id) (Relabel label) ≡ Some it)
+        → Updates {A = A} (registry_state mid) (registry_state new) (relabel_update id label) (Err error)
+        → Relabels (registry_state old) (registry_state new) id label (Err fault)
     relabels_failed label error fault it known updates = record {
       clean = λ clean. looks.clean (updates.clean clean);
       registries = updates.registries;
       devices = λ clean devices has.
           let keeps = kept_here (updates.clean clean) devices has in
           rw (← is_known (get devices id) label it (known (updates.clean clean) devices keeps.now))
-          (pends_then old mid new (relabelled id label) devices keeps (updates.devices clean devices keeps.now));
+          (pends_then old mid new (relabel_update id label) devices keeps (updates.devices clean devices keeps.now));
     }
 
-    pub relabels_known : {A E F : Type 0} (label : List ℕ) (done : A) (it : Learned)
+    pub relabels_known : {A E F : Type 0} (label : List ℕ) (done : A) (it : DeviceData)
         → (HasCleanDisk mid → (devices : Devices) → HasDevices mid devices
-        → after (get devices id) (Relabel label) ≡ Some it)
-        → Updates {A = A} {E = E} (kept mid) (kept new) (relabelled id label) (Ok done)
-        → Relabels {E = F} (kept old) (kept new) id label (Ok true)
+        → data_after (get devices id) (Relabel label) ≡ Some it)
+        → Updates {A = A} {E = E} (registry_state mid) (registry_state new) (relabel_update id label) (Ok done)
+        → Relabels {E = F} (registry_state old) (registry_state new) id label (Ok true)
     relabels_known label done it known updates = record {
       clean = λ clean. looks.clean (updates.clean clean);
       registries = updates.registries;
@@ -507,12 +535,12 @@ module _ (old mid : State) (id : ℕ) where
 
 -- the label of a device makes no difference when it is learned
 pub learns_alike : {A : Type 0} (old new : State) (it other : Device) (r : Result A LearnFault) → other.id ≡ it.id
-    → other.eep ≡ it.eep → other.maker ≡ it.maker → Learns (kept old) (kept new) other r
-    → Learns (kept old) (kept new) it r
+    → other.eep ≡ it.eep → other.maker ≡ it.maker → Learns (registry_state old) (registry_state new) other r
+    → Learns (registry_state old) (registry_state new) it r
 learns_alike old new it other r id eep maker learns =
     let same : other ≡ record { id = it.id; eep = it.eep; maker = it.maker; label = other.label } =
     λ i. record { id = id i; eep = eep i; maker = maker i; label = other.label } in
-    let as_it = subst (λ d. Learns (kept old) (kept new) d r) same learns in
+    let as_it = subst (λ d. Learns (registry_state old) (registry_state new) d r) same learns in
     record {
       clean = as_it.clean;
       registries = as_it.registries;
@@ -520,17 +548,17 @@ learns_alike old new it other r id eep maker learns =
     }
   where
     unlabelled : {A : Type 0} (r : Result A LearnFault) (devices : Devices)
-        → MatchResult r (λ _. (is_full devices it.id ≡ false) × Commits (kept new) (learned it) devices)
-        (RefusesToLearn (kept old) (kept new)
+        → MatchResult r (λ _. (is_full devices it.id ≡ false) × Commits (registry_state new) (learn_update it) devices)
+        (RefusesToLearn (registry_state old) (registry_state new)
         (record { id = it.id; eep = it.eep; maker = it.maker; label = other.label }) devices)
-        → MatchResult r (λ _. (is_full devices it.id ≡ false) × Commits (kept new) (learned it) devices)
-        (RefusesToLearn (kept old) (kept new) it devices)
+        → MatchResult r (λ _. (is_full devices it.id ≡ false) × Commits (registry_state new) (learn_update it) devices)
+        (RefusesToLearn (registry_state old) (registry_state new) it devices)
     unlabelled (Ok receipt) devices then = then
     unlabelled (Err Full) devices done = done
     unlabelled (Err (Refused fault)) devices done = done
 
 -- the connection is returned
-pub hands_on : (s : State) → IsWell s → HandsOn s
+pub hands_on : (s : State) → IsWell s → IsReturned s
 hands_on s well = record {
   idle = λ clean is_open. (well.1 clean is_open).shows.idle;
   committed = λ clean is_open devices has.

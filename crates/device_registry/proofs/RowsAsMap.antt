@@ -16,8 +16,8 @@ use Rattle.sqlite_value.proofs.OrderLemmas.{value_cmp-Int}
 use Rattle.sqlite_trees.specs.Tree.{put_row, without_rowid, has_rowid, rowid}
 use Rattle.sqlite_rules.specs.Edit.{without_all}
 use Rattle.erp1_telegrams.specs.declared.eep.Eep.{Eep}
-use Rattle.learned_devices.specs.Devices.{Learned}
-use Rattle.device_registry.specs.Table.Rows.{IsDevice, natural, entry_of, devices_in, stored}
+use Rattle.learned_devices.specs.Devices.{DeviceData}
+use Rattle.device_registry.specs.Table.Rows.{IsDevice, natural_in, entry_of, devices_in, device_row}
 use Rattle.device_registry.specs.Table.Rows.{maker_number, maker_in, eep_number, eep_of}
 
 maker_back : (maker : Option ℕ) → maker_in (Int (maker_number maker)) ≡ maker
@@ -40,10 +40,10 @@ eep_back eep short =
     let typ : (eep.rorg * 65536 + eep.func * 256 + eep.typ) % 256 ≡ eep.typ = omega arith in
     λ i. record { rorg = rorg i; func = func i; typ = typ i }
 
-entry_stored : (id : ℕ) (it : Learned) → IsShort it.eep → entry_of (stored id it) ≡ (id, it)
+entry_stored : (id : ℕ) (it : DeviceData) → IsShort it.eep → entry_of (device_row id it) ≡ (id, it)
 entry_stored id it short =
     ap₂ (λ (e : Eep) (o : Option ℕ).
-    let entry : ℕ × Learned = (id, record { eep = e; maker = o; label = it.label }) in entry)
+    let entry : ℕ × DeviceData = (id, record { eep = e; maker = o; label = it.label }) in entry)
     (eep_back it.eep short) (maker_back it.maker)
 
 ids_below : (a b : ℕ) → a < b → value_cmp (Int (pos a)) (Int (pos b)) ≡ Less
@@ -59,7 +59,7 @@ apart : (a b : ℕ) → a ≢ b → eq_by_cmp nat_cmp a b ≡ false
 apart a b h = grind (arith, nat_tests)
 
 -- the map's look-up, over the rows
-abbrev pub seen : ℕ → List Row → Option Learned
+abbrev pub seen : ℕ → List Row → Option DeviceData
 seen q rows = find nat_cmp q (map entry_of rows)
 
 -- a look-up with two tests that are never both true
@@ -79,23 +79,23 @@ both_tied q a b h s t = grind (arith, nat_tests)
 ties_apart : (q a b : ℕ) → a ≢ b → eq_by_cmp nat_cmp q a ≡ true → eq_by_cmp nat_cmp q b ≡ true → ⊥
 ties_apart q a b h s t = grind (arith, nat_tests)
 
-seen_stored : (id : ℕ) (it : Learned) (short : IsShort it.eep) (rows : List Row) (q : ℕ)
-    → seen q (stored id it ∷ rows) ≡ cond (eq_by_cmp nat_cmp q id) (Some it) (seen q rows)
+seen_stored : (id : ℕ) (it : DeviceData) (short : IsShort it.eep) (rows : List Row) (q : ℕ)
+    → seen q (device_row id it ∷ rows) ≡ cond (eq_by_cmp nat_cmp q id) (Some it) (seen q rows)
 seen_stored id it short rows q =
-    ap (λ (e : ℕ × Learned). cond (eq_by_cmp nat_cmp q e.0) (Some e.1) (seen q rows)) (entry_stored id it short)
+    ap (λ (e : ℕ × DeviceData). cond (eq_by_cmp nat_cmp q e.0) (Some e.1) (seen q rows)) (entry_stored id it short)
 
 pub key_is : (row : Row) (it : IsDevice row) → (entry_of row).0 ≡ it.id
-key_is row it = ap natural it.id_is
+key_is row it = ap natural_in it.id_is
 
-seen_put : (rows : List Row) (id : ℕ) (it : Learned) (short : IsShort it.eep) (q : ℕ) → AllByRecursion IsDevice rows
-    → seen q (put_row (stored id it) rows) ≡ cond (eq_by_cmp nat_cmp q id) (Some it) (seen q rows)
+seen_put : (rows : List Row) (id : ℕ) (it : DeviceData) (short : IsShort it.eep) (q : ℕ) → AllByRecursion IsDevice rows
+    → seen q (put_row (device_row id it) rows) ≡ cond (eq_by_cmp nat_cmp q id) (Some it) (seen q rows)
 seen_put [] id it short q all = seen_stored id it short [] q
 seen_put (row ∷ rows) id it short q all =
     let key = key_is row all.0 in
     let rest = seen_put rows id it short q all.1 in
     let placed = λ (o : Ordering) (is : value_cmp (rowid row) (Int (pos id)) ≡ o).
-    ap (λ r. seen q (match_ordering r (row ∷ put_row (stored id it) rows) (stored id it ∷ rows)
-    (stored id it ∷ row ∷ rows))) is in
+    ap (λ r. seen q (match_ordering r (row ∷ put_row (device_row id it) rows) (device_row id it ∷ rows)
+    (device_row id it ∷ row ∷ rows))) is in
     elim (cases_order all.0.id id) [
       | inl same ↦ placed Equal (rw all.0.id_is (ids_same all.0.id id same)) ∙ seen_stored id it short rows q
           ∙ shadowed (eq_by_cmp nat_cmp q id) (Some it) (Some (entry_of row).1) (seen q rows)
@@ -149,7 +149,7 @@ put_are_devices (row ∷ rows) new it all =
 -- the deleted rows have this rowid
 pub seen_without : (rows : List Row) (id : ℕ) (q : ℕ) → AllByRecursion IsDevice rows
     → seen q (without_rowid (pos id) rows) ≡ cond (eq_by_cmp nat_cmp q id) None (seen q rows)
-seen_without [] id q all = elim (eq_by_cmp nat_cmp q id) as (λ b. ◌≡◌ {A = Option Learned} None (cond b None None))
+seen_without [] id q all = elim (eq_by_cmp nat_cmp q id) as (λ b. ◌≡◌ {A = Option DeviceData} None (cond b None None))
     [ true ↦ refl | false ↦ refl ]
 seen_without (row ∷ rows) id q all =
     let key = key_is row all.0 in
@@ -193,11 +193,11 @@ all_without_are_devices rows [] all = all
 all_without_are_devices rows (id ∷ ids) all =
     all_without_are_devices (without_rowid id rows) ids (without_are_devices rows id all)
 
-hidden : (b : Bool) (x y : Option Learned) → cond b x (cond b None y) ≡ cond b x y
+hidden : (b : Bool) (x y : Option DeviceData) → cond b x (cond b None y) ≡ cond b x y
 hidden true x y = refl
 hidden false x y = refl
 
-seen_without_all : (rows : List Row) (ids : List ℤ) (id : ℕ) (it : Learned) (q : ℕ) → AllByRecursion IsDevice rows
+seen_without_all : (rows : List Row) (ids : List ℤ) (id : ℕ) (it : DeviceData) (q : ℕ) → AllByRecursion IsDevice rows
     → AllByRecursion (λ i. i ≡ pos id) ids
     → cond (eq_by_cmp nat_cmp q id) (Some it) (seen q (without_all rows ids))
     ≡ cond (eq_by_cmp nat_cmp q id) (Some it) (seen q rows)
@@ -209,9 +209,9 @@ seen_without_all rows (i ∷ ids) id it q all same =
     ∙ hidden (eq_by_cmp nat_cmp q id) (Some it) (seen q rows)
 
 -- the replaced row is deleted first
-pub devices_replaced : (rows : List Row) (ids : List ℤ) (id : ℕ) (it : Learned) → IsShort it.eep
+pub devices_replaced : (rows : List Row) (ids : List ℤ) (id : ℕ) (it : DeviceData) → IsShort it.eep
     → AllByRecursion IsDevice rows → AllByRecursion (λ i. i ≡ pos id) ids
-    → devices_in (put_row (stored id it) (without_all rows ids)) ≡ insert (devices_in rows) id it
+    → devices_in (put_row (device_row id it) (without_all rows ids)) ≡ insert (devices_in rows) id it
 devices_replaced rows ids id it short all same =
     same_map nat_cmp_total nat_cmp-IsAntisymmetric _ _ (λ q. get-from_entries nat_cmp_total _ q
     ∙ seen_put (without_all rows ids) id it short q (all_without_are_devices rows ids all)

@@ -18,11 +18,11 @@ use Rattle.learned_devices.specs.Labels.{is_label}
 use Rattle.device_registry.specs.declared.table.Version.{Version}
 use Rattle.device_registry.specs.Table.{number_of, find_all_text, read_version_text}
 use Rattle.device_registry.specs.Table.{max_sender, max_profile, max_maker}
-use Rattle.device_registry.specs.Stored.{HasTables, IsWhole}
+use Rattle.device_registry.specs.Stored.{HasTables, HasValidRows}
 use Rattle.device_registry.specs.Table.Rows.{RowidsDiffer, IsDevice, rows_of}
 use Rattle.learned_devices.specs.Devices.{max_devices}
-use Rattle.device_registry.specs.Table.Rows.{ShowsVersion, natural, is_number, is_maker, is_label_text}
-use Rattle.device_registry.specs.Table.Rows.{shows_device, devices_rise}
+use Rattle.device_registry.specs.Table.Rows.{ShowsVersion, natural_in, is_number, is_maker, is_label_text}
+use Rattle.device_registry.specs.Table.Rows.{is_device_row, are_ascending_devices}
 use Rattle.device_registry.proofs.DistinctRows.{ranked, ranked_all, ranked_rises, apart_turned}
 use Rattle.device_registry.proofs.ListDevicesAnswer.{shown, out, outs_are, shown_are, shows_ranked, envs}
 use Rattle.std.specs.List.{AllByRecursion}
@@ -132,7 +132,7 @@ labelled (Real x) h = absurd cc
 labelled (Blob b) h = absurd cc
 
 -- what is shown as a device is one
-device_is : (row : Row) → shows_device (shown row) ≡ true → IsDevice row
+device_is : (row : Row) → is_device_row (shown row) ≡ true → IsDevice row
 device_is row h =
     let all = both _ _ h in
     let three = both _ _ all.0 in
@@ -157,7 +157,7 @@ device_is row h =
     }
 
 -- and a device is shown as one
-device_shows : (row : Row) → IsDevice row → shows_device (shown row) ≡ true
+device_shows : (row : Row) → IsDevice row → is_device_row (shown row) ≡ true
 device_shows row it =
     let id = ap (is_number max_sender) it.id_is ∙ passes it.id max_sender it.is_sender in
     let eep = ap (is_number max_profile) it.eep_is ∙ passes it.eep max_profile it.is_profile in
@@ -167,29 +167,29 @@ device_shows row it =
 
 -- the sender of the row is this one or a greater one
 abbrev AtLeast : ℕ → Row → Type 0
-AtLeast least row = least ≤ natural (column row 0)
+AtLeast least row = least ≤ natural_in (column row 0)
 
 -- ascending rows are devices, and no two have the same rowid
-rising : (least : ℕ) (rows : List Row) → devices_rise least (map shown rows) ≡ true
+rising : (least : ℕ) (rows : List Row) → are_ascending_devices least (map shown rows) ≡ true
     → AllByRecursion IsDevice rows × AllByRecursion (AtLeast least) rows × RowidsDiffer rows
 rising least [] h = (tt, tt, tt)
 rising least (row ∷ rows) h =
     let parts = both _ _ h in
     let first = both _ _ parts.0 in
-    let up = at_most least (natural (column row 0)) first.1 in
-    let more = rising (natural (column row 0) + 1) rows parts.1 in (
+    let up = at_most least (natural_in (column row 0)) first.1 in
+    let more = rising (natural_in (column row 0) + 1) rows parts.1 in (
       (device_is row first.0, more.0),
       (up, all_weaker _ (AtLeast least) (λ r high. omega (arith, up, high)) rows more.1),
       (
         all_weaker _ (λ r. rowid row ≢ rowid r)
-            (λ r high same. let e = ap natural same in omega (arith, high, e)) rows more.1,
+            (λ r high same. let e = ap natural_in same in omega (arith, high, e)) rows more.1,
         more.2,
       ),
     )
 
 -- if the shown rows are ascending, the table's rows are devices, none twice
 rows_are : (version : Version) (d : ℕ) (db : Trees) (rows : List Row)
-    → IsAnswer (all_query version d) (overlay db []) [] rows → devices_rise 0 rows ≡ true
+    → IsAnswer (all_query version d) (overlay db []) [] rows → are_ascending_devices 0 rows ≡ true
     → AllByRecursion IsDevice (rows_of version (db d)) × RowidsDiffer (rows_of version (db d))
 rows_are version d db rows a h =
     let q = all_query version d in
@@ -198,24 +198,24 @@ rows_are version d db rows a h =
     a.distinct ∙ ap (map (output q)) (a.grouped ∙ ap envs (overlay_is db d)) ∙ outs_are version d (db d) in
     let to = pull_back out a.kept a.ordered a.same table kept in
     let are : rows ≡ map shown to.0 = a.shown ∙ ap (map (λ (o : Output). o.1)) to.2 ∙ shown_are to.0 in
-    let it = rising 0 to.0 (subst (λ rs. devices_rise 0 rs ≡ true) are h) in
+    let it = rising 0 to.0 (subst (λ rs. are_ascending_devices 0 rs ≡ true) are h) in
     let back = IsPermutation-sym table to.0 to.1 in
     (all-permutation IsDevice to.0 table back it.0, apart_turned to.0 table back it.2)
 
 -- the rows of devices, none twice, are shown in ascending order
 shown_rise : (least : ℕ) (rows : List Row) → AllByRecursion IsDevice rows → IsTable rows
-    → AllByRecursion (AtLeast least) rows → devices_rise least (map shown rows) ≡ true
+    → AllByRecursion (AtLeast least) rows → are_ascending_devices least (map shown rows) ≡ true
 shown_rise least [] all up high = refl
 shown_rise least (row ∷ rows) all up high =
-    let tail = shown_rise (natural (column row 0) + 1) rows all.1 up.1 (raised rows all.1 up.0) in
-    rw (device_shows row all.0, passes least (natural (column row 0)) high.0, tail) refl
+    let tail = shown_rise (natural_in (column row 0) + 1) rows all.1 up.1 (raised rows all.1 up.0) in
+    rw (device_shows row all.0, passes least (natural_in (column row 0)) high.0, tail) refl
   where
     raised : (rs : List Row) → AllByRecursion IsDevice rs → AllByRecursion (λ b. value_cmp (rowid row) (rowid b) ≡ Less)
-        rs → AllByRecursion (AtLeast (natural (column row 0) + 1)) rs
+        rs → AllByRecursion (AtLeast (natural_in (column row 0) + 1)) rs
     raised [] ds low = tt
     raised (r ∷ rs) ds low =
-        let a = ap natural all.0.id_is in
-        let b = ap natural ds.0.id_is in
+        let a = ap natural_in all.0.id_is in
+        let b = ap natural_in ds.0.id_is in
         let less = above row r all.0 ds.0 low.0 in (omega (arith, a, b, less), raised rs ds.1 low.1)
 
 from_zero : (rows : List Row) → AllByRecursion (AtLeast 0) rows
@@ -246,7 +246,7 @@ module _ (version : Version) where
   pub whole : (old mid new : State) (versions devices : List Row) (t : HasTables version old.now.schema)
       → ShowsVersion version versions → Shown read_version_text [] old mid versions → IsUnchanged old mid
       → Shown (find_all_text version) [] mid new devices → length devices ≤ max_devices
-      → devices_rise 0 devices ≡ true → IsWhole version old.now.trees t.meta t.devices
+      → are_ascending_devices 0 devices ≡ true → HasValidRows version old.now.trees t.meta t.devices
   whole old mid new versions devices t shows first same second few rise =
       let it = version_shown t.meta old.now.trees versions shows (version_reads old mid versions t first) in
       let count = devices_told old mid new devices t same second in
@@ -267,17 +267,17 @@ module _ (version : Version) where
 
   -- a registry's devices are shown in ascending order
   pub rise_told : (old mid new : State) (devices : List Row) (t : HasTables version old.now.schema)
-      → IsWhole version old.now.trees t.meta t.devices → IsUnchanged old mid
-      → Shown (find_all_text version) [] mid new devices → devices_rise 0 devices ≡ true
+      → HasValidRows version old.now.trees t.meta t.devices → IsUnchanged old mid
+      → Shown (find_all_text version) [] mid new devices → are_ascending_devices 0 devices ≡ true
   rise_told old mid new devices t it same h =
       let table = rows_of version (old.now.trees t.devices) in
       let all = ranked_all IsDevice table it.rows in
-      ap (devices_rise 0) (shows_ranked version t.devices old.now.trees devices it.rows it.once
+      ap (are_ascending_devices 0) (shows_ranked version t.devices old.now.trees devices it.rows it.once
       (devices_read old mid new devices t same h))
       ∙ shown_rise 0 (ranked table) all (ranked_rises table) (from_zero (ranked table))
 
   pub version_told : (old new : State) (rows : List Row) (t : HasTables version old.now.schema)
-      (it : IsWhole version old.now.trees t.meta t.devices) → Shown read_version_text [] old new rows
+      (it : HasValidRows version old.now.trees t.meta t.devices) → Shown read_version_text [] old new rows
       → rows ≡ (Int (pos 1) ∷ Int (pos (number_of version)) ∷ []) ∷ []
   version_told old new rows t it h =
       let a = version_reads old new rows t h in

@@ -14,11 +14,13 @@ use Rattle.sqlite_catalog.specs.Change.{is_used}
 use Rattle.device_registry.specs.declared.table.Version.{Version}
 use Rattle.device_registry.specs.declared.table.Version.TheVariants.{First, Second}
 use Rattle.device_registry.specs.Table.{meta_name, device_name}
-use Rattle.device_registry.specs.Stored.{AreSpared, SparesName, SparesOurs, KeepsTree, HasTables, AreCounted, other}
-use Rattle.device_registry.specs.Stored.{IsClear}
-use Rattle.device_registry.specs.Places.{refers, is_referred, are_referred, is_indexed, lacks_counts, is_clear, is_lone}
-use Rattle.device_registry.specs.Places.{are_counted}
-use Rattle.device_registry.specs.Places.{is_left_alone, if_left_alone, tree_named, trees_in}
+use Rattle.device_registry.specs.Stored.{NoneRefersToOurs, HasNoReferenceTo, HasNoReferenceToOurs, TreeHasName}
+use Rattle.device_registry.specs.Stored.{HasTables, CanCountRowids, other}
+use Rattle.device_registry.specs.Stored.{AdmitsTables}
+use Rattle.device_registry.specs.SchemaChecks.{refers, is_referred, are_referred, is_indexed, lacks_sequence_table}
+use Rattle.device_registry.specs.SchemaChecks.{admits_tables, is_lone}
+use Rattle.device_registry.specs.SchemaChecks.{can_count_rowids}
+use Rattle.device_registry.specs.SchemaChecks.{is_left_alone, if_left_alone, tree_named, trees_in}
 use Rattle.device_registry.proofs.TestSteps.{both}
 
 pub none_any : {X : Type 0} (test : X → Bool) (xs : List X) → list_any test xs ≡ false
@@ -35,16 +37,16 @@ any_none test [] all = refl
 any_none test (x ∷ xs) all = rw all.0 (any_none test xs all.1)
 
 spares : (schema : Schema) (name : List ℕ) → is_referred schema name ≡ false
-    → AllByRecursion (SparesName name) schema.tables
+    → AllByRecursion (HasNoReferenceTo name) schema.tables
 spares schema name h =
-    all_weaker (λ t. refers name t ≡ false) (SparesName name)
+    all_weaker (λ t. refers name t ≡ false) (HasNoReferenceTo name)
     (λ t none. none_any (λ reference. same_name reference.parent name) t.references none) schema.tables
     (none_any (refers name) schema.tables h)
 
-unreferred : (schema : Schema) (name : List ℕ) → AllByRecursion (SparesName name) schema.tables
+unreferred : (schema : Schema) (name : List ℕ) → AllByRecursion (HasNoReferenceTo name) schema.tables
     → is_referred schema name ≡ false
 unreferred schema name all =
-    any_none (refers name) schema.tables (all_weaker (SparesName name) (λ t. refers name t ≡ false)
+    any_none (refers name) schema.tables (all_weaker (HasNoReferenceTo name) (λ t. refers name t ≡ false)
     (λ t none. any_none (λ reference. same_name reference.parent name) t.references none) schema.tables all)
 
 -- what holds for both versions holds for any version
@@ -52,26 +54,29 @@ pub by_version : (P : Version → Type 0) → P First → P Second → (version 
 by_version P first second First = first
 by_version P first second Second = second
 
-spared : (schema : Schema) → are_referred schema ≡ false → AreSpared schema
+spared : (schema : Schema) → are_referred schema ≡ false → NoneRefersToOurs schema
 spared schema h =
     let a = or_parts _ _ h in
     let b = or_parts _ _ a.0 in
-    all_both (λ t. SparesName meta_name t × SparesName (device_name First) t) (SparesName (device_name Second))
-    SparesOurs (λ t both second. record {
+    all_both (λ t. HasNoReferenceTo meta_name t × HasNoReferenceTo (device_name First) t)
+    (HasNoReferenceTo (device_name Second))
+    HasNoReferenceToOurs (λ t both second. record {
       meta = both.0;
-      devices = by_version (λ version. SparesName (device_name version) t) both.1 second;
+      devices = by_version (λ version. HasNoReferenceTo (device_name version) t) both.1 second;
     }) schema.tables
-    (all_both (SparesName meta_name) (SparesName (device_name First))
-    (λ t. SparesName meta_name t × SparesName (device_name First) t) (λ t p q. (p, q)) schema.tables
+    (all_both (HasNoReferenceTo meta_name) (HasNoReferenceTo (device_name First))
+    (λ t. HasNoReferenceTo meta_name t × HasNoReferenceTo (device_name First) t) (λ t p q. (p, q)) schema.tables
     (spares schema meta_name b.0) (spares schema (device_name First) b.1))
     (spares schema (device_name Second) a.1)
 
-unspared : (schema : Schema) → AreSpared schema → are_referred schema ≡ false
+unspared : (schema : Schema) → NoneRefersToOurs schema → are_referred schema ≡ false
 unspared schema all =
     let meta =
-    unreferred schema meta_name (all_weaker SparesOurs (SparesName meta_name) (λ t h. h.meta) schema.tables all) in
+    unreferred schema meta_name (all_weaker HasNoReferenceToOurs (HasNoReferenceTo meta_name) (λ t h. h.meta)
+    schema.tables all) in
     let devices = λ (version : Version). unreferred schema (device_name version)
-    (all_weaker SparesOurs (SparesName (device_name version)) (λ t h. h.devices version) schema.tables all) in
+    (all_weaker HasNoReferenceToOurs (HasNoReferenceTo (device_name version)) (λ t h. h.devices version) schema.tables
+    all) in
     rw (meta, devices First, devices Second) refl
 
 unindexed : (schema : Schema) (tree : ℕ) → is_indexed schema tree ≡ false
@@ -128,13 +133,13 @@ none_is None = refl
 none_is (Some x) = refl
 
 -- the definition of `sqlite` is the same as ours
-counted : (schema : Schema) → lacks_sequence schema ≡ lacks_counts schema
+counted : (schema : Schema) → lacks_sequence schema ≡ lacks_sequence_table schema
 counted schema =
     ap (λ b. list_any (λ t. t.is_counted) schema.tables && not b)
     (there schema (codes "sqlite_sequence") (table_named schema (codes "sqlite_sequence")) refl)
     ∙ ap (λ b. list_any (λ t. t.is_counted) schema.tables && b) (none_is (table_named schema (codes "sqlite_sequence")))
 
-pub cleared : (schema : Schema) → IsTrue (is_clear schema) → IsClear schema
+pub cleared : (schema : Schema) → IsTrue (admits_tables schema) → AdmitsTables schema
 cleared schema h =
     let a = both _ _ h in
     let b = both _ _ a.0 in
@@ -148,7 +153,7 @@ cleared schema h =
       counted = counted schema ∙ not-true _ a.1;
     }
 
-pub is_cleared : (schema : Schema) → IsClear schema → IsTrue (is_clear schema)
+pub is_cleared : (schema : Schema) → AdmitsTables schema → IsTrue (admits_tables schema)
 is_cleared schema it =
     rw (
       it.free_meta,
@@ -159,12 +164,13 @@ is_cleared schema it =
     ) refl
 
 pub record IsLeftAlone (version : Version) (schema : Schema) (meta devices : ℕ) : Type 0 where
-  pub spared : AreSpared schema
+  pub spared : NoneRefersToOurs schema
   pub unindexed : AllByRecursion (λ index. (index.table ≢ meta) × (index.table ≢ devices)) schema.indexes
-  pub alone : AllByRecursion (λ table. KeepsTree meta_name meta table × KeepsTree (device_name version) devices table)
+  pub alone : AllByRecursion (λ table. TreeHasName meta_name meta table
+      × TreeHasName (device_name version) devices table)
       schema.tables
   pub free : is_used schema (device_name (other version)) ≡ false
-  pub counted : AreCounted version schema
+  pub counted : CanCountRowids version schema
 
 all_true : {X : Type 0} (test : X → Bool) (xs : List X) → list_all test xs ≡ true
     → AllByRecursion (λ x. test x ≡ true) xs
@@ -183,26 +189,27 @@ tree_same : (a b : ℕ) → (a == b) ≡ true → a ≡ b
 tree_same a b e = grind (arith, nat_tests)
 
 lone : (schema : Schema) (name : List ℕ) (tree : ℕ) → is_lone schema name tree ≡ true
-    → AllByRecursion (KeepsTree name tree) schema.tables
+    → AllByRecursion (TreeHasName name tree) schema.tables
 lone schema name tree h =
-    all_weaker (λ t. (not (t.tree == tree) || same_name t.name name) ≡ true) (KeepsTree name tree) (λ t passed is.
+    all_weaker (λ t. (not (t.tree == tree) || same_name t.name name) ≡ true) (TreeHasName name tree) (λ t passed is.
     let e = same_tree t.tree tree is in rw e at passed) schema.tables
     (all_true (λ t. not (t.tree == tree) || same_name t.name name) schema.tables h)
 
-is_alone : (schema : Schema) (name : List ℕ) (tree : ℕ) → AllByRecursion (KeepsTree name tree) schema.tables
+is_alone : (schema : Schema) (name : List ℕ) (tree : ℕ) → AllByRecursion (TreeHasName name tree) schema.tables
     → is_lone schema name tree ≡ true
 is_alone schema name tree all = true_all (λ t. not (t.tree == tree) || same_name t.name name) schema.tables
-    (all_weaker (KeepsTree name tree) (λ t. (not (t.tree == tree) || same_name t.name name) ≡ true)
+    (all_weaker (TreeHasName name tree) (λ t. (not (t.tree == tree) || same_name t.name name) ≡ true)
     (λ t keeps. elim (cases_Bool (t.tree == tree)) [
       | inl tie ↦ rw (tie, keeps (tree_same t.tree tree tie)) refl
       | inr apart ↦ rw apart refl
     ]) schema.tables all)
 
-are_so : (version : Version) (schema : Schema) → are_counted version schema ≡ true → AreCounted version schema
+are_so : (version : Version) (schema : Schema) → can_count_rowids version schema ≡ true → CanCountRowids version schema
 are_so First schema h = counted schema ∙ not-true _ h
 are_so Second schema h = tt
 
-so_tested : (version : Version) (schema : Schema) → AreCounted version schema → are_counted version schema ≡ true
+so_tested : (version : Version) (schema : Schema) → CanCountRowids version schema
+    → can_count_rowids version schema ≡ true
 so_tested First schema h = ap not (sym (counted schema) ∙ h)
 so_tested Second schema h = refl
 
@@ -218,8 +225,8 @@ left_alone version schema meta devices h =
     let name = device_name version in
     record {
       alone =
-          all_both (KeepsTree meta_name meta) (KeepsTree name devices)
-          (λ table. KeepsTree meta_name meta table × KeepsTree name devices table) (λ t p q. (p, q)) schema.tables
+          all_both (TreeHasName meta_name meta) (TreeHasName name devices)
+          (λ table. TreeHasName meta_name meta table × TreeHasName name devices table) (λ t p q. (p, q)) schema.tables
           (lone schema meta_name meta y.1) (lone schema name devices z.1);
       spared = spared schema (not-true _ b.0);
       unindexed = all_both (λ index. index.table ≢ meta) (λ index. index.table ≢ devices)
@@ -302,9 +309,9 @@ module _ (version : Version) (schema : Schema) where
       let d = not_indexed schema t.devices
       (all_weaker _ (λ index. index.table ≢ t.devices) (λ x h. h.1) schema.indexes t.unindexed) in
       let m = is_alone schema meta_name t.meta
-      (all_weaker _ (KeepsTree meta_name t.meta) (λ x h. h.0) schema.tables t.alone) in
+      (all_weaker _ (TreeHasName meta_name t.meta) (λ x h. h.0) schema.tables t.alone) in
       let n =
-      is_alone schema name t.devices (all_weaker _ (KeepsTree name t.devices) (λ x h. h.1) schema.tables t.alone) in
+      is_alone schema name t.devices (all_weaker _ (TreeHasName name t.devices) (λ x h. h.1) schema.tables t.alone) in
       let counted = so_tested version schema t.counted in
       let alone : is_left_alone version schema t.meta t.devices ≡ true = rw (a, c, d, m, n, t.free, counted) refl in
       let pair : Bool → Option (ℕ × ℕ) = λ b. if b then Some (t.meta, t.devices) else None in

@@ -36,7 +36,7 @@ use Rattle.sqlite_resolve.specs.Select.{named, paging, constant_or, outermost, i
 use Rattle.sqlite_resolve.specs.Compile.{timed, returning, command, read}
 use Rattle.device_registry.proofs.StatementTexts.{program_of}
 use Rattle.device_registry.proofs.TextMeaning.{IsRead, Means, means, IsTyped, program_is}
-use Rattle.device_registry.specs.Stored.{Stands}
+use Rattle.device_registry.specs.Stored.{IsTableAt}
 
 -- the columns of one table, in this order, that are shown of each row for which the test holds
 pub record PlainSelect : Type 0 where
@@ -113,19 +113,20 @@ module _ (schema : Schema) (at : ℕ) (table : Table) (it : PlainSelect) where
       and_then (lowered (fresh 2 max_budget)) (λ r. and_then (assembled false no_page.0 no_page.1 r.0 r.1)
       (λ d. Ok (d, map (λ o. o.name) r.0.body.level.shown, map (λ o. o.carried.collation) r.0.body.level.shown)))
 
-module _ (it : PlainSelect) {schema : Schema} {at : ℕ} {table : Table} (stands : Stands schema it.name table at) where
-  -- its part is the meaning of its clauses
-  named_is : named schema (core_of it) it.order no_page ≡ asked schema at table it
-  unfolding named parts body bounds bound table_in take_slot result matching joins join shared inner_join tests keys
-      having
-  named_is = rw (out-roll-Core, out-roll-Source, stands.named, out-roll-Source, stands.there)
+module _ (it : PlainSelect) {schema : Schema} {at : ℕ} {table : Table} (stands : IsTableAt schema it.name table at)
+  where
+    -- its part is the meaning of its clauses
+    named_is : named schema (core_of it) it.order no_page ≡ asked schema at table it
+    unfolding named parts body bounds bound table_in take_slot result matching joins join shared inner_join tests keys
+        having
+    named_is = rw (out-roll-Core, out-roll-Source, stands.named, out-roll-Source, stands.there)
 
-  -- and the query is read accordingly
-  pub query_is : (part : Shown) → asked schema at table it ≡ Ok part → query schema (select_of it) ≡ Ok (part, [])
-  query_is part asks = query_as schema it part (named_is ∙ asks)
+    -- and the query is read accordingly
+    pub query_is : (part : Shown) → asked schema at table it ≡ Ok part → query schema (select_of it) ≡ Ok (part, [])
+    query_is part asks = query_as schema it part (named_is ∙ asks)
 
 module _ {text : List ℕ} {it : PlainSelect} (is : IsPlainSelect text it) {schema : Schema} {at : ℕ} {table : Table}
-    (stands : Stands schema it.name table at) where
+    (stands : IsTableAt schema it.name table at) where
   -- the text means this query
   pub select_means : (d : Draft) {names : List (List ℕ)} (collations : List (Option Collation))
       → asked schema at table it ≡ Ok (d, names, collations) → IsTyped table (query_of d)

@@ -22,7 +22,7 @@ use Rattle.sqlite.specs.Program.{overlay}
 use Rattle.std.specs.Option.{unwrap_or}
 use Rattle.sqlite_sql.specs.Ops.{binary, is_true, from_truth}
 use Rattle.sqlite_sql.specs.Term.{Env, holds}
-use Rattle.learned_devices.specs.Devices.{Learned}
+use Rattle.learned_devices.specs.Devices.{DeviceData}
 use Rattle.device_registry.specs.Table.Rows.{RowidsDiffer, IsDevice, entry_of, devices_in}
 use Rattle.device_registry.proofs.StatementTexts.{is_sender}
 use Rattle.device_registry.proofs.RowsAsMap.{seen, key_is, ids_apart, tied_same}
@@ -132,8 +132,8 @@ no_length : {A : Type 0} (xs : List A) → length xs ≡ 0 → xs ≡ []
 no_length [] e = refl
 no_length (x ∷ xs) e = absurd (omega arith)
 
-none_made : entries (empty {X = Learned} {R = nat_cmp}) ≡ []
-none_made = no_length _ (sym (len-entries empty) ∙ len-empty nat_cmp Learned)
+none_made : entries (empty {X = DeviceData} {R = nat_cmp}) ≡ []
+none_made = no_length _ (sym (len-entries empty) ∙ len-empty nat_cmp DeviceData)
 
 -- the entries are those of the rows, in order
 pub entries_are : (rows : List Row) → AllByRecursion IsDevice rows → IsTable rows

@@ -14,8 +14,8 @@ use Rattle.sqlite.specs.State.{IsNotRun, IsUnchanged, IsRolledBack, shows_rows, 
 use Rattle.sqlite.specs.State.{FailsToQuery, FailsToShow, CommitsShowing}
 use Rattle.sqlite.proofs.Callers.{IsPlain, command_of, statement_of, never_commits, unchanged_then}
 use Rattle.sqlite.proofs.StateLemmas.{survives_then}
-use Rattle.device_registry.specs.Stored.{Registers}
-use Rattle.device_registry.specs.Ready.{IsReady, GoesOn, Stays}
+use Rattle.device_registry.specs.Stored.{IsRegistryOf}
+use Rattle.device_registry.specs.Ready.{IsReady, KeepsDevices, WritesNothing}
 
 module _ (sql : List ℕ) (params : Row) (old : State) (command : Command)
     (is : command_of (understood old.now.schema sql) ≡ command) (plain : IsPlain (understood old.now.schema sql)) where
@@ -30,7 +30,7 @@ module _ (sql : List ℕ) (params : Row) (old : State) (command : Command)
 
 -- ---- nothing is written
 
-pub unchanged : (old new : State) → IsUnchanged old new → GoesOn old new
+pub unchanged : (old new : State) → IsUnchanged old new → KeepsDevices old new
 unchanged old new same is_open = (
   same.0.was_open,
   λ devices shows. record {
@@ -38,11 +38,11 @@ unchanged old new same is_open = (
     idle = same.0.mode ∙ shows.idle;
     settled = same.0.now_is ∙ shows.settled ∙ sym same.0.committed_is;
     sound = subst IsDatabase (sym same.0.now_is) shows.sound;
-    registers = subst (λ db. Registers db devices) (sym same.0.now_is) shows.registers;
+    registers = subst (λ db. IsRegistryOf db devices) (sym same.0.now_is) shows.registers;
   },
 )
 
-undone : (old new : State) → IsRolledBack old new → GoesOn old new
+undone : (old new : State) → IsRolledBack old new → KeepsDevices old new
 undone old new back is_open = (
   back.was_open is_open,
   λ devices shows.
@@ -53,7 +53,7 @@ undone old new back is_open = (
         idle = back.autocommit;
         settled = both.0 ∙ sym both.1;
         sound = subst IsDatabase (sym same) shows.sound;
-        registers = subst (λ db. Registers db devices) (sym same) shows.registers;
+        registers = subst (λ db. IsRegistryOf db devices) (sym same) shows.registers;
       },
 )
 
@@ -63,7 +63,7 @@ undone old new back is_open = (
 abbrev pub IsSpared : State → State → Type 0
 IsSpared old new = IsUnchanged old new ⊎ IsRolledBack old new
 
-pub spared : (old new : State) → IsSpared old new → GoesOn old new
+pub spared : (old new : State) → IsSpared old new → KeepsDevices old new
 spared old new (inl same) = unchanged old new same
 spared old new (inr back) = undone old new back
 
@@ -100,22 +100,23 @@ module _ (sql : List ℕ) (params : Row) (old new : State) (plain : IsPlain (und
 
 -- ---- a call
 
-pub stays_from : (old new : State) → Survives old new (λ _. ⊥) → (HasCleanDisk new → GoesOn old new) → Stays old new
+pub stays_from : (old new : State) → Survives old new (λ _. ⊥) → (HasCleanDisk new → KeepsDevices old new)
+    → WritesNothing old new
 stays_from old new survives goes_on = record {
   clean = λ clean. let was : HasCleanDisk old = omega (arith, survives.clean) in was;
-  stop = λ clean trees left. elim (survives.crash clean trees left) [ inl before ↦ before | inr never ↦ absurd never ];
+  crash = λ clean trees left. elim (survives.crash clean trees left) [ inl before ↦ before | inr never ↦ absurd never ];
   goes_on = goes_on;
 }
 
-stays_then : (old mid new : State) → Stays old mid → Stays mid new → Stays old new
+stays_then : (old mid new : State) → WritesNothing old mid → WritesNothing mid new → WritesNothing old new
 stays_then old mid new first second = record {
   clean = λ clean. first.clean (second.clean clean);
-  stop = λ clean trees left. first.stop (second.clean clean) trees (second.stop clean trees left);
+  crash = λ clean trees left. first.crash (second.clean clean) trees (second.crash clean trees left);
   goes_on = λ clean is_open. let late = second.goes_on clean is_open in let early =
       first.goes_on (second.clean clean) late.0 in (early.0, λ devices shows. late.1 devices (early.1 devices shows));
 }
 
-pub ready_on : (old new : State) → GoesOn old new → IsTrue new.is_open → IsReady old → IsReady new
+pub ready_on : (old new : State) → KeepsDevices old new → IsTrue new.is_open → IsReady old → IsReady new
 ready_on old new goes_on is_open ready =
     record { devices = ready.devices; shows = (goes_on is_open).1 ready.devices ready.shows }
 
@@ -124,12 +125,12 @@ query_stays : {V : Type 0} (sql : List ℕ) (params : Row) (old new : State) (it
     → (HasCleanDisk old → IsPlain (understood old.now.schema sql))
     → Survives old new (CommitsShowing sql params old)
     → (HasCleanDisk new → IfOk r (λ v. Shown sql params old new (items v)))
-    → (HasCleanDisk new → IfErr r (FailsToQuery sql params old new)) → Stays old new
+    → (HasCleanDisk new → IfErr r (FailsToQuery sql params old new)) → WritesNothing old new
 query_stays sql params old new items r plain survives shown failed =
     let early = λ (clean : HasCleanDisk new). let was : HasCleanDisk old = omega (arith, survives.clean) in was in
     record {
       clean = early;
-      stop =
+      crash =
           λ clean trees left. elim (survives.crash clean trees left) [
             | inl before ↦ before
             | inr commits ↦
@@ -139,7 +140,8 @@ query_stays sql params old new items r plain survives shown failed =
     }
   where
     goes : (r : Result _ Error) → IsPlain (understood old.now.schema sql)
-        → IfOk r (λ v. Shown sql params old new (items v)) → IfErr r (FailsToQuery sql params old new) → GoesOn old new
+        → IfOk r (λ v. Shown sql params old new (items v)) → IfErr r (FailsToQuery sql params old new)
+        → KeepsDevices old new
     goes (Ok v) known shown failed = unchanged old new (shown_same sql params old new known (items v) shown)
     goes (Err e) known shown failed = spared old new (not_shown sql params old new known e failed)
 
@@ -149,10 +151,10 @@ ok_then A B (Err e) so it = tt
 
 -- a query with a statement that was compiled from a plain text
 pub compiled_query_stays : {V : Type 0} (sql text : List ℕ) (params : Row) (old mid new : State) (items : V → List Row)
-    (r : Result V Error) → Stays old mid → (HasCleanDisk mid → text ≡ sql)
+    (r : Result V Error) → WritesNothing old mid → (HasCleanDisk mid → text ≡ sql)
     → (HasCleanDisk mid → IsPlain (understood mid.now.schema sql)) → Survives mid new (CommitsShowing text params mid)
     → (HasCleanDisk new → IfOk r (λ v. Shown text params mid new (items v)))
-    → (HasCleanDisk new → IfErr r (FailsToQuery text params mid new)) → Stays old new
+    → (HasCleanDisk new → IfErr r (FailsToQuery text params mid new)) → WritesNothing old new
 compiled_query_stays sql text params old mid new items r first is plain survives shown failed =
     let known = λ (clean : HasCleanDisk mid).
     subst (λ t. IsPlain (understood mid.now.schema t)) (sym (is clean)) (plain clean) in
@@ -187,13 +189,13 @@ query_ready sql params old new rows plain ready h =
 -- compiling a text, which writes nothing
 module _ {V : Type 0} (P : V → Type 0) (sql : List ℕ) (old new : State) where
   compiled_goes : (r : Result V Error) → IfOk r (λ v. P v × IsUnchanged old new)
-      → IfErr r (λ e. (params : Row) → IsNotRun old new sql params e) → GoesOn old new
+      → IfErr r (λ e. (params : Row) → IsNotRun old new sql params e) → KeepsDevices old new
   compiled_goes (Ok v) ok err = unchanged old new ok.1
   compiled_goes (Err e) ok err = spared old new (not_run sql [] old new e (err []))
 
   pub compiled_stays : (r : Result V Error) → Survives old new (λ _. ⊥)
       → (HasCleanDisk new → IfOk r (λ v. P v × IsUnchanged old new))
-      → (HasCleanDisk new → IfErr r (λ e. (params : Row) → IsNotRun old new sql params e)) → Stays old new
+      → (HasCleanDisk new → IfErr r (λ e. (params : Row) → IsNotRun old new sql params e)) → WritesNothing old new
   compiled_stays r survives ok err = stays_from old new survives (λ clean. compiled_goes r (ok clean) (err clean))
 
   pub compiled_text : (r : Result V Error) → IfOk r (λ v. P v × IsUnchanged old new) → IfOk r P

@@ -6,7 +6,7 @@ use Rattle.sqlite.specs.Schema.{Schema}
 use Rattle.sqlite.specs.Table.{Table}
 use Rattle.sqlite_schema.specs.Names.{same_name}
 use Rattle.sqlite_typing.specs.Types.{row_classes}
-use Rattle.device_registry.specs.Stored.{Stands}
+use Rattle.device_registry.specs.Stored.{IsTableAt}
 
 placed_from : {X : Type 0} (test : X → Bool) (i : ℕ) (front back : List X) (x : X)
     → AllByRecursion (λ y. test y ≡ false) front → test x ≡ true
@@ -29,7 +29,7 @@ pub stands : (schema : Schema) (front back : List Table) (table : Table) → sch
     → AllByRecursion (λ t. same_name t.name table.name ≡ false) front → same_name table.name table.name ≡ true
     → AllByRecursion (λ t. (t.tree == table.tree) ≡ false) front → (table.tree == table.tree) ≡ true
     → nat_le (2 ^ 31) table.tree ≡ false
-    → Stands schema table.name table (length front)
+    → IsTableAt schema table.name table (length front)
 stands schema front back table tables names own trees itself stored = record {
   named =
       rw tables (placed_from (λ t. same_name t.name table.name) 0 front back table names own ∙ ap Some (omega arith));

@@ -26,8 +26,8 @@ use Rattle.sqlite_schema.specs.declared.schema.Column.{Column}
 use Rattle.device_registry.specs.declared.table.Version.{Version}
 use Rattle.device_registry.specs.declared.table.Version.TheVariants.{First, Second}
 use Rattle.device_registry.specs.Table.{meta_name, device_name, meta_table, device_table, keyed_table}
-use Rattle.device_registry.specs.Stored.{HasTables, SparesOurs}
-use Rattle.device_registry.specs.Stored.{IsClear}
+use Rattle.device_registry.specs.Stored.{HasTables, HasNoReferenceToOurs}
+use Rattle.device_registry.specs.Stored.{AdmitsTables}
 use Rattle.device_registry.proofs.CreateTablesMeaning.{unused}
 use Rattle.device_registry.proofs.TablePlaces.{stands}
 
@@ -113,7 +113,7 @@ still_free schema own name columns checks apart free =
     unnamed after name table index none.2
 
 -- the name of the device table is free after the version table is created
-pub half_free : (schema : Schema) → IsClear schema → (version : Version)
+pub half_free : (schema : Schema) → AdmitsTables schema → (version : Version)
     → is_used (with_meta schema) (device_name version) ≡ false
 unfolding same_name
 half_free schema clear First =
@@ -163,14 +163,14 @@ still_counted schema table plain lacks =
 
 -- a table without foreign keys does not refer to ours
 pub spares_all : {name : List ℕ} {tree : ℕ} {columns : List Column} {checks : List Term}
-    → SparesOurs (keyed_table name tree columns checks)
+    → HasNoReferenceToOurs (keyed_table name tree columns checks)
 spares_all = record { meta = tt; devices = λ version. tt }
 
 pub all_last : {X : Type 0} (P : X → Type 0) (xs : List X) (x : X) → AllByRecursion P (xs ++ x ∷ []) → P x
 all_last P [] x all = all.0
 all_last P (y ∷ xs) x all = all_last P xs x all.1
 
-module _ (schema : Schema) (clear : IsClear schema) (low : next_tree schema < 65536)
+module _ (schema : Schema) (clear : AdmitsTables schema) (low : next_tree schema < 65536)
     (lower : next_tree (with_meta schema) < 65536)
     (owners : AllByRecursion (λ i. i.table < next_tree schema) schema.indexes) where
   abbrev first : ℕ

@@ -18,7 +18,7 @@ use Rattle.sqlite_rules.specs.declared.action.Deed.{Deed}
 use Rattle.sqlite_catalog.proofs.SoundLemmas.{lowered}
 use Rattle.sqlite_trees.proofs.ListLemmas.{all_weaker}
 use Rattle.device_registry.specs.declared.table.Version.{Version}
-use Rattle.device_registry.specs.Stored.{SparesName, SparesOurs, KeepsTree, HasTables}
+use Rattle.device_registry.specs.Stored.{HasNoReferenceTo, HasNoReferenceToOurs, TreeHasName, HasTables}
 use Rattle.device_registry.specs.Table.{meta_name, device_name}
 
 same_through : (a b c : List ℕ) → same_name a b ≡ true → same_name a c ≡ true → same_name b c ≡ true
@@ -39,7 +39,7 @@ keyed : (t : Table) (tree : ℕ) (places : Option (List ℕ)) → (t.tree == tre
 keyed t tree None other = tt
 keyed t tree (Some places) other = in_its_tree t tree places other
 
-other_tree : (t : Table) (tree : ℕ) (name parent : List ℕ) → KeepsTree name tree t → same_name t.name parent ≡ true
+other_tree : (t : Table) (tree : ℕ) (name parent : List ℕ) → TreeHasName name tree t → same_name t.name parent ≡ true
     → same_name parent name ≡ false → (t.tree == tree) ≡ false
 other_tree t tree name parent keeps found spares = elim (cases_Bool (t.tree == tree)) [
   | inl same ↦
@@ -48,7 +48,7 @@ other_tree t tree name parent keeps found spares = elim (cases_Bool (t.tree == t
 ]
 
 elsewhere : (tables : List Table) (reference : Reference) (tree : ℕ) (name : List ℕ)
-    → AllByRecursion (KeepsTree name tree) tables → same_name reference.parent name ≡ false
+    → AllByRecursion (TreeHasName name tree) tables → same_name reference.parent name ≡ false
     → IsElsewhere tree (parent_key tables reference)
 elsewhere [] reference tree name alone spares = tt
 elsewhere (t ∷ tables) reference tree name alone spares = elim (cases_Bool (same_name t.name reference.parent)) [
@@ -58,14 +58,14 @@ elsewhere (t ∷ tables) reference tree name alone spares = elim (cases_Bool (sa
   | inr passed ↦ rw passed (elsewhere tables reference tree name alone.1 spares)
 ]
 
-no_work : (depth tree : ℕ) (moves : List (Row × Row)) (child : Table) (reference : Reference) (deed : Option Deed)
-    (key : Option ParentKey) → IsElsewhere tree key → work_by depth tree moves child reference deed key ≡ None
+no_work : (depth tree : ℕ) (moves : List (Row × Row)) (child : Table) (reference : Reference) (operation : Option Deed)
+    (key : Option ParentKey) → IsElsewhere tree key → work_by depth tree moves child reference operation key ≡ None
 no_work depth tree moves child reference None key other = refl
-no_work depth tree moves child reference (Some deed) None other = refl
-no_work depth tree moves child reference (Some deed) (Some key) other = rw other
+no_work depth tree moves child reference (Some operation) None other = refl
+no_work depth tree moves child reference (Some operation) (Some key) other = rw other
 
 module _ (schema : Schema) (keys : Keys) (tree : ℕ) (name : List ℕ)
-    (alone : AllByRecursion (KeepsTree name tree) schema.tables) (olds news : List Row) where
+    (alone : AllByRecursion (TreeHasName name tree) schema.tables) (olds news : List Row) where
   none_of : (child : Table) (references : List Reference) → AllByRecursion
       (λ reference. same_name reference.parent name ≡ false) references
       → filter_map (work_for schema keys 0 tree olds news child) references ≡ []
@@ -75,13 +75,13 @@ module _ (schema : Schema) (keys : Keys) (tree : ℕ) (name : List ℕ)
       (parent_key schema.tables reference) (elsewhere schema.tables reference tree name alone spares.0))
       (none_of child references spares.1)
 
-  none_in : (tables : List Table) → AllByRecursion (SparesName name) tables
+  none_in : (tables : List Table) → AllByRecursion (HasNoReferenceTo name) tables
       → flat_map (λ child. filter_map (work_for schema keys 0 tree olds news child) child.references) tables ≡ []
   none_in [] spares = refl
   none_in (child ∷ tables) spares = rw (none_of child child.references spares.0) (none_in tables spares.1)
 
   -- a step on the table triggers no action
-  pub sets_off_nothing : AllByRecursion (SparesName name) schema.tables → works schema keys 0 tree olds news ≡ []
+  pub sets_off_nothing : AllByRecursion (HasNoReferenceTo name) schema.tables → works schema keys 0 tree olds news ≡ []
   sets_off_nothing spares = none_in schema.tables spares
 
 pub at_place : {X : Type 0} (P : X → Type 0) (xs : List X) (i : ℕ) (x : X) → AllByRecursion P xs
@@ -95,8 +95,8 @@ pub record StandsAlone (schema : Schema) (tree : ℕ) : Type 0 where
   pub free : (keys : Keys) (olds news : List Row) → works schema keys 0 tree olds news ≡ []
   pub unindexed : AllByRecursion (λ index. index.table ≢ tree) schema.indexes
 
-pub stands_alone : (schema : Schema) (name : List ℕ) (tree : ℕ) → AllByRecursion (KeepsTree name tree) schema.tables
-    → AllByRecursion (SparesName name) schema.tables → AllByRecursion (λ index. index.table ≢ tree) schema.indexes
+pub stands_alone : (schema : Schema) (name : List ℕ) (tree : ℕ) → AllByRecursion (TreeHasName name tree) schema.tables
+    → AllByRecursion (HasNoReferenceTo name) schema.tables → AllByRecursion (λ index. index.table ≢ tree) schema.indexes
     → StandsAlone schema tree
 stands_alone schema name tree keeps spares unindexed = record {
   free = λ keys olds news. sets_off_nothing schema keys tree name keeps olds news spares;
@@ -105,14 +105,15 @@ stands_alone schema name tree keeps spares unindexed = record {
 
 pub devices_alone : {version : Version} (schema : Schema) (t : HasTables version schema) → StandsAlone schema t.devices
 devices_alone {version} schema t = stands_alone schema (device_name version) t.devices
-    (all_weaker _ (KeepsTree (device_name version) t.devices) (λ t both. both.1) schema.tables t.alone)
-    (all_weaker SparesOurs (SparesName (device_name version)) (λ t ours. ours.devices version) schema.tables t.spared)
+    (all_weaker _ (TreeHasName (device_name version) t.devices) (λ t both. both.1) schema.tables t.alone)
+    (all_weaker HasNoReferenceToOurs (HasNoReferenceTo (device_name version)) (λ t ours. ours.devices version)
+    schema.tables t.spared)
     (all_weaker _ (λ index. index.table ≢ t.devices) (λ index both. both.1) schema.indexes t.unindexed)
 
 pub meta_alone : {version : Version} (schema : Schema) (t : HasTables version schema) → StandsAlone schema t.meta
 meta_alone schema t = stands_alone schema meta_name t.meta
-    (all_weaker _ (KeepsTree meta_name t.meta) (λ t both. both.0) schema.tables t.alone)
-    (all_weaker SparesOurs (SparesName meta_name) (λ t ours. ours.meta) schema.tables t.spared)
+    (all_weaker _ (TreeHasName meta_name t.meta) (λ t both. both.0) schema.tables t.alone)
+    (all_weaker HasNoReferenceToOurs (HasNoReferenceTo meta_name) (λ t ours. ours.meta) schema.tables t.spared)
     (all_weaker _ (λ index. index.table ≢ t.meta) (λ index both. both.0) schema.indexes t.unindexed)
 
 not_of : (index : Index) (table : Table) (new row : Row) → index.table ≢ table.tree

@@ -17,7 +17,8 @@ use Rattle.sqlite_rules.specs.Lists.{Has}
 use Rattle.sqlite_rules.proofs.ListLemmas.{all_has, all_from, has_got, has_filtered}
 use Rattle.device_registry.specs.declared.table.Version.TheVariants.{First, Second}
 use Rattle.device_registry.specs.Table.{meta_name, device_name, meta_table, device_table}
-use Rattle.device_registry.specs.Stored.{HasTables, Stands, KeepsTree, SparesName, SparesOurs, AreSpared}
+use Rattle.device_registry.specs.Stored.{HasTables, IsTableAt, TreeHasName, HasNoReferenceTo, HasNoReferenceToOurs}
+use Rattle.device_registry.specs.Stored.{NoneRefersToOurs}
 use Rattle.device_registry.proofs.SchemaTests.{IsNamed}
 use Rattle.device_registry.proofs.TablesRecognized.{stands_in, no_view, no_index, one_table}
 use Rattle.device_registry.proofs.TablesAdded.{unnamed, none_at, lows, owners_below, spares_all}
@@ -80,8 +81,8 @@ place test (y ∷ xs) x (inr later) passes i = elim (cases_Bool (test y)) [
 pub record IsLone (schema : Schema) (name : List ℕ) (table : Table) : Type 0 where
   pub listed : Has schema.tables table
   pub named : same_name table.name name ≡ true
-  pub keeps : AllByRecursion (KeepsTree name table.tree) schema.tables
-  pub spares : AllByRecursion (SparesName name) schema.tables
+  pub keeps : AllByRecursion (TreeHasName name table.tree) schema.tables
+  pub spares : AllByRecursion (HasNoReferenceTo name) schema.tables
   pub unindexed : AllByRecursion (λ index. index.table ≢ table.tree) schema.indexes
 
 pub lone_alone : (schema : Schema) (name : List ℕ) (table : Table) → IsLone schema name table
@@ -90,7 +91,7 @@ lone_alone schema name table it = stands_alone schema name table.tree it.keeps i
 
 -- in a sound database it has an index
 pub lone_stands : (db : Database) → IsDatabase db → (name : List ℕ) (table : Table) → IsLone db.schema name table
-    → (at : ℕ) × Stands db.schema name table at
+    → (at : ℕ) × IsTableAt db.schema name table at
 lone_stands db sound name table it =
     let found = place (λ t. same_name t.name name) db.schema.tables table it.listed it.named 0 in
     let same : found.it ≡ table =
@@ -149,23 +150,23 @@ module _ (db : Database) (sound : IsDatabase db) (t : HasTables First db.schema)
   with_none : (P : Index → Type 0) → AllByRecursion P schema.indexes → AllByRecursion P added.indexes
   with_none P all = all-append P schema.indexes [] all tt
 
-  spares_in_added : AreSpared added
-  spares_in_added = with_new SparesOurs t.spared spares_all
+  spares_in_added : NoneRefersToOurs added
+  spares_in_added = with_new HasNoReferenceToOurs t.spared spares_all
 
-  meta_keeps : AllByRecursion (KeepsTree meta_name t.meta) added.tables
-  meta_keeps = with_new (KeepsTree meta_name t.meta)
-      (all_weaker _ (KeepsTree meta_name t.meta) (λ table both. both.0) schema.tables t.alone)
+  meta_keeps : AllByRecursion (TreeHasName meta_name t.meta) added.tables
+  meta_keeps = with_new (TreeHasName meta_name t.meta)
+      (all_weaker _ (TreeHasName meta_name t.meta) (λ table both. both.0) schema.tables t.alone)
       (λ e. absurd (let low = meta_below in omega (arith, low, e)))
 
-  first_keeps : AllByRecursion (KeepsTree (device_name First) t.devices) added.tables
-  first_keeps = with_new (KeepsTree (device_name First) t.devices)
-      (all_weaker _ (KeepsTree (device_name First) t.devices) (λ table both. both.1) schema.tables t.alone)
+  first_keeps : AllByRecursion (TreeHasName (device_name First) t.devices) added.tables
+  first_keeps = with_new (TreeHasName (device_name First) t.devices)
+      (all_weaker _ (TreeHasName (device_name First) t.devices) (λ table both. both.1) schema.tables t.alone)
       (λ e. absurd (let low = first_below in omega (arith, low, e)))
 
-  new_keeps : AllByRecursion (KeepsTree (device_name Second) fresh) added.tables
+  new_keeps : AllByRecursion (TreeHasName (device_name Second) fresh) added.tables
   unfolding same_name
-  new_keeps = with_new (KeepsTree (device_name Second) fresh)
-      (all_weaker (λ table. table.tree < fresh) (KeepsTree (device_name Second) fresh)
+  new_keeps = with_new (TreeHasName (device_name Second) fresh)
+      (all_weaker (λ table. table.tree < fresh) (TreeHasName (device_name Second) fresh)
       (λ table low e. absurd (omega (arith, low, e))) schema.tables below) (λ e. refl)
 
   meta_unindexed : AllByRecursion (λ index. index.table ≢ t.meta) added.indexes
@@ -184,7 +185,8 @@ module _ (db : Database) (sound : IsDatabase db) (t : HasTables First db.schema)
     named = refl;
     keeps = first_keeps;
     spares =
-        all_weaker SparesOurs (SparesName (device_name First)) (λ table ours. ours.devices First) added.tables
+        all_weaker HasNoReferenceToOurs (HasNoReferenceTo (device_name First)) (λ table ours. ours.devices First)
+        added.tables
         spares_in_added;
     unindexed = with_none (λ index. index.table ≢ t.devices)
         (all_weaker _ (λ index. index.table ≢ t.devices) (λ index both. both.1) schema.indexes t.unindexed);
@@ -197,7 +199,8 @@ module _ (db : Database) (sound : IsDatabase db) (t : HasTables First db.schema)
     named = refl;
     keeps = new_keeps;
     spares =
-        all_weaker SparesOurs (SparesName (device_name Second)) (λ table ours. ours.devices Second) added.tables
+        all_weaker HasNoReferenceToOurs (HasNoReferenceTo (device_name Second)) (λ table ours. ours.devices Second)
+        added.tables
         spares_in_added;
     unindexed = new_unindexed;
   }
@@ -226,10 +229,11 @@ module _ (db : Database) (sound : IsDatabase db) (t : HasTables First db.schema)
         is_kept (λ table. not (table.tree == t.devices)) added.tables (meta_table t.meta)
         (has_before schema.tables (new ∷ []) (meta_table t.meta) meta_has) (apart_trees t.meta t.devices t.apart);
     named = refl;
-    keeps = kept (KeepsTree meta_name t.meta) meta_keeps;
+    keeps = kept (TreeHasName meta_name t.meta) meta_keeps;
     spares =
-        kept (SparesName meta_name)
-        (all_weaker SparesOurs (SparesName meta_name) (λ table ours. ours.meta) added.tables spares_in_added);
+        kept (HasNoReferenceTo meta_name)
+        (all_weaker HasNoReferenceToOurs (HasNoReferenceTo meta_name) (λ table ours. ours.meta) added.tables
+        spares_in_added);
     unindexed = kept_indexes (λ index. index.table ≢ t.meta) meta_unindexed;
   }
 
@@ -239,8 +243,8 @@ module _ (db : Database) (sound : IsDatabase db) (t : HasTables First db.schema)
         is_kept (λ table. not (table.tree == t.devices)) added.tables new new_lone.listed
         (apart_trees fresh t.devices (λ e. let low = first_below in omega (arith, low, e)));
     named = new_lone.named;
-    keeps = kept (KeepsTree (device_name Second) fresh) new_lone.keeps;
-    spares = kept (SparesName (device_name Second)) new_lone.spares;
+    keeps = kept (TreeHasName (device_name Second) fresh) new_lone.keeps;
+    spares = kept (HasNoReferenceTo (device_name Second)) new_lone.spares;
     unindexed = kept_indexes (λ index. index.table ≢ fresh) new_lone.unindexed;
   }
 
@@ -288,13 +292,14 @@ module _ (db : Database) (sound : IsDatabase db) (t : HasTables First db.schema)
           meta_stands = meta.1;
           devices_stand = devices.1;
           apart = meta_apart;
-          spared = subst AreSpared (sym is) (kept SparesOurs spares_in_added);
+          spared = subst NoneRefersToOurs (sym is) (kept HasNoReferenceToOurs spares_in_added);
           alone =
               subst (λ (s : Schema). AllByRecursion
-              (λ table. KeepsTree meta_name t.meta table × KeepsTree (device_name Second) fresh table) s.tables)
+              (λ table. TreeHasName meta_name t.meta table × TreeHasName (device_name Second) fresh table) s.tables)
               (sym is)
-              (all_both (KeepsTree meta_name t.meta) (KeepsTree (device_name Second) fresh)
-              (λ table. KeepsTree meta_name t.meta table × KeepsTree (device_name Second) fresh table) (λ x p q. (p, q))
+              (all_both (TreeHasName meta_name t.meta) (TreeHasName (device_name Second) fresh)
+              (λ table. TreeHasName meta_name t.meta table × TreeHasName (device_name Second) fresh table)
+              (λ x p q. (p, q))
               dropped.tables meta_lone.keeps left_lone.keeps);
           unindexed =
               subst (λ (s : Schema). AllByRecursion (λ index. (index.table ≢ t.meta) × (index.table ≢ fresh)) s.indexes)

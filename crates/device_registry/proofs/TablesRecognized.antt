@@ -43,11 +43,12 @@ use Rattle.device_registry.specs.declared.table.Version.{Version}
 use Rattle.device_registry.specs.declared.table.Version.TheVariants.{First, Second}
 use Rattle.device_registry.specs.Table.{list_objects_text, meta_name, device_name, meta_text}
 use Rattle.device_registry.specs.Table.{device_text, meta_table, device_table}
-use Rattle.device_registry.specs.Stored.{Stands, KeepsTree, HasTables, IsRegistry, listing, IsListedAs, AreListed}
-use Rattle.device_registry.specs.Stored.{IsFree, IsClear}
-use Rattle.device_registry.specs.Opening.{IsOwn, IsAtRest}
-use Rattle.device_registry.specs.private.Listing.{has_text, is_line, are_ours}
-use Rattle.device_registry.specs.Places.{is_clear, trees_in}
+use Rattle.device_registry.specs.Stored.{IsTableAt, TreeHasName, HasTables, IsRegistry, catalog_rows, IsListedAs}
+use Rattle.device_registry.specs.Stored.{AreListed}
+use Rattle.device_registry.specs.Stored.{AdmitsRegistry, AdmitsTables}
+use Rattle.device_registry.specs.Opening.{IsOwnRegistry, IsAtRest}
+use Rattle.device_registry.specs.private.CatalogRows.{has_text, is_line, are_ours}
+use Rattle.device_registry.specs.SchemaChecks.{admits_tables, trees_in}
 use Rattle.sqlite_catalog.proofs.ReadLemmas.{lists_once}
 use Rattle.device_registry.proofs.TableTexts.{meta_is, device_is}
 use Rattle.device_registry.proofs.ListObjectsMeaning.{list_query_is}
@@ -90,7 +91,7 @@ answered test db rows it =
     ∙ sym (list_any-IsPermutation (λ (o : Output). test o.1) it.kept it.ordered it.same)
     ∙ ap (list_any (λ (o : Output). test o.1)) kept ∙ any_output test (db 0)
 
-here : (trees : Trees) (name text : List ℕ) → list_any (λ r. is_line name text (line r)) (listing trees) ≡ true
+here : (trees : Trees) (name text : List ℕ) → list_any (λ r. is_line name text (line r)) (catalog_rows trees) ≡ true
     → IsListedAs trees name text
 here trees name text h =
     let hit = some_has (λ r. is_line name text (line r)) _ h in
@@ -104,7 +105,7 @@ here trees name text h =
 
 -- the query for the objects passes a test if the list of objects does
 lists_as : (old new : State) (rows : List Row) → IsDatabase old.now → Shown list_objects_text [] old new rows
-    → (test : Row → Bool) → list_any test rows ≡ list_any (λ r. test (line r)) (listing old.now.trees)
+    → (test : Row → Bool) → list_any test rows ≡ list_any (λ r. test (line r)) (catalog_rows old.now.trees)
 lists_as old new rows sound shows test =
     let show = listing_shows old new rows sound shows in
     answered test show.0.trees rows (show.2.answer Null) ∙ ap (list_any (λ r. test (line r))) show.1
@@ -339,8 +340,8 @@ find_lone (t ∷ tables) table lone h = elim (cases_Bool (t.tree == table.tree))
 
 pub stands_in : (db : Database) (name : List ℕ) (tree : ℕ) (n : IsNamed db.schema name tree) (table : Table)
     → IsDatabase db
-    → AllByRecursion (KeepsTree name tree) db.schema.tables → n.table ≡ table → table.tree ≡ tree → tree < 65536
-    → Stands db.schema name table n.at
+    → AllByRecursion (TreeHasName name tree) db.schema.tables → n.table ≡ table → table.tree ≡ tree → tree < 65536
+    → IsTableAt db.schema name table n.at
 stands_in db name tree n table sound keeps is at low =
     let there = n.there ∙ ap Some is in
     let has = has_got db.schema.tables n.at table there in
@@ -348,7 +349,7 @@ stands_in db name tree n table sound keeps is at low =
     let lone = λ (t : Table) (h : Has db.schema.tables t) (e : t.tree ≡ table.tree).
     named_once db.schema.tables t table sound.lists.listed.named h has
     ((lowered t.name table.name).1
-    ((lowered t.name name).0 (all_has (KeepsTree name tree) db.schema.tables t keeps h (e ∙ at))
+    ((lowered t.name name).0 (all_has (TreeHasName name tree) db.schema.tables t keeps h (e ∙ at))
     ∙ sym ((lowered table.name name).0 named))) in
     let stored : nat_le (2 ^ 31) table.tree ≡ false = grind (arith, nat_tests, at, low) in
     record {
@@ -372,9 +373,9 @@ tables_told version db meta devices sound placed listed =
     listed.1 (device_is version) in
     let keeps = placed.alone.alone in
     let meta_stands = stands_in db meta_name meta placed.meta_is (meta_table meta) sound
-    (all_weaker _ (KeepsTree meta_name meta) (λ t k. k.0) db.schema.tables keeps) own.0 refl own.1 in
+    (all_weaker _ (TreeHasName meta_name meta) (λ t k. k.0) db.schema.tables keeps) own.0 refl own.1 in
     let devices_stand = stands_in db name devices placed.devices_are (device_table version devices) sound
-    (all_weaker _ (KeepsTree name devices) (λ t k. k.1) db.schema.tables keeps) there.0 refl there.1 in
+    (all_weaker _ (TreeHasName name devices) (λ t k. k.1) db.schema.tables keeps) there.0 refl there.1 in
     record {
       meta = meta;
       devices = devices;
@@ -405,7 +406,8 @@ pub same_schema : (db : Trees) (s t : Schema) → IsSound s db → IsSound t db 
 same_schema db s t a b = lists_once (db catalog_tree) s t a.lists b.lists
 
 -- so a registry as this program leaves it is recognized
-pub own_found : (version : Version) (s : State) → IsAtRest s → IsOwn version s.now.trees → IsRegistry version s.now
+pub own_found : (version : Version) (s : State) → IsAtRest s → IsOwnRegistry version s.now.trees
+    → IsRegistry version s.now
 own_found version s rest own =
     let schema : own.db.schema ≡ s.now.schema = same_schema s.now.trees own.db.schema s.now.schema
     (subst (IsSound own.db.schema) own.same own.sound) rest.sound in
@@ -413,8 +415,8 @@ own_found version s rest own =
     subst (IsRegistry version) db own.registry
 
 -- and so is a database in which the tables can be created
-pub free_found : (s : State) → IsAtRest s → IsFree s.now.trees → IsTrue (is_clear s.now.schema)
+pub free_found : (s : State) → IsAtRest s → AdmitsRegistry s.now.trees → IsTrue (admits_tables s.now.schema)
 free_found s rest free =
     let same : free.db.schema ≡ s.now.schema = same_schema s.now.trees free.db.schema s.now.schema
     (subst (IsSound free.db.schema) free.same free.sound) rest.sound in
-    is_cleared s.now.schema (subst IsClear same free.clear)
+    is_cleared s.now.schema (subst AdmitsTables same free.clear)

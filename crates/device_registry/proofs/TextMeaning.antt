@@ -17,7 +17,7 @@ use Rattle.sqlite_resolve.specs.Write.{simple}
 use Rattle.sqlite_resolve.specs.Compile.{compiled, first, planned, meaning, timed, returning, command, with_command}
 use Rattle.sqlite.proofs.Callers.{IsPlain, command_of}
 use Rattle.device_registry.proofs.StatementTexts.{program_of}
-use Rattle.device_registry.specs.Stored.{Stands}
+use Rattle.device_registry.specs.Stored.{IsTableAt}
 
 -- the text is this statement, which does not read the time
 pub record IsRead (text : List ℕ) (statement : Statement) : Type 0 where
@@ -57,7 +57,7 @@ pub record IsTyped (table : Table) (q : Query) : Type 0 where
   pub accepted : (accepts_after [] q (Some (row_classes table ∷ [])) && (is_count [] q.limit && is_count [] q.offset))
       ≡ true
 
-module _ {schema : Schema} {name : List ℕ} {table : Table} {at : ℕ} (stands : Stands schema name table at) where
+module _ {schema : Schema} {name : List ℕ} {table : Table} {at : ℕ} (stands : IsTableAt schema name table at) where
   accepted_over : (q : Query) → IsTyped table q → accepts_over schema [] q [] ≡ true
   accepted_over q typed =
       let counts = is_count [] q.limit && is_count [] q.offset in

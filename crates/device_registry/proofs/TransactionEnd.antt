@@ -12,9 +12,9 @@ use Rattle.sqlite.proofs.StateLemmas.{survives_weaker}
 use Rattle.sqlite_trees.specs.declared.store.Store.{Ghosts}
 use Rattle.device_registry.specs.declared.table.Version.TheVariants.{Second}
 use Rattle.learned_devices.specs.Devices.{Devices}
-use Rattle.device_registry.specs.Stored.{Registers, Holds}
-use Rattle.device_registry.specs.Ready.{Shows, KeepsOthers}
-use Rattle.device_registry.specs.Opening.{Remains}
+use Rattle.device_registry.specs.Stored.{IsRegistryOf, Holds}
+use Rattle.device_registry.specs.Ready.{IsReadyWith, KeepsOthers}
+use Rattle.device_registry.specs.Opening.{KeepsDatabase}
 use Rattle.device_registry.specs.private.Transaction.{IsListedInside}
 use Rattle.device_registry.proofs.TransactionSteps.{since, leaves, uncommitted_remains}
 
@@ -22,8 +22,8 @@ use Rattle.device_registry.proofs.TransactionSteps.{since, leaves, uncommitted_r
 abbrev pub Commits : State → State → Type 0
 Commits d e = IsTrue d.in_transaction × IsShowing d e d.now d.now false × KeepsCounts d e × (e.marks ≡ [])
 
-shows_committed : (d e : State) (devices : Devices) → Registers d.now devices → IsDatabase d.now → Commits d e
-    → Shows e devices
+shows_committed : (d e : State) (devices : Devices) → IsRegistryOf d.now devices → IsDatabase d.now → Commits d e
+    → IsReadyWith e devices
 shows_committed d e devices registers sound ends =
     let shown = ends.1 in
     record {
@@ -31,7 +31,7 @@ shows_committed d e devices registers sound ends =
       idle = shown.mode;
       settled = shown.now_is ∙ sym shown.committed_is;
       sound = subst IsDatabase (sym shown.now_is) sound;
-      registers = subst (λ db. Registers db devices) (sym shown.now_is) registers;
+      registers = subst (λ db. IsRegistryOf db devices) (sym shown.now_is) registers;
     }
 
 on_ok : {V E : Type 0} (r : Result V E) (P Q : Type 0) → (P → Q) → OnOk r P → OnOk r Q
@@ -40,15 +40,15 @@ on_ok (Err e) P Q so p = tt
 
 -- the end of a transaction that was to create a registry of such devices
 pub record Ends {V : Type 0} (Are : Devices → Type 0) (old new : State) (r : Result V Error) : Type 0 where
-  pub made : HasCleanDisk new → OnOk r ((devices : Devices) → Are devices → Shows new devices)
+  pub made : HasCleanDisk new → OnOk r ((devices : Devices) → Are devices → IsReadyWith new devices)
   pub others : HasCleanDisk new → OnOk r (KeepsOthers old.now new.now)
-  pub stop : Survives old new (λ trees. (devices : Devices) → Are devices → Holds trees devices)
-  pub remains : HasCleanDisk new → OnErr r (Remains old new)
+  pub crash : Survives old new (λ trees. (devices : Devices) → Are devices → Holds trees devices)
+  pub remains : HasCleanDisk new → OnErr r (KeepsDatabase old new)
 
 -- what the transaction shows before its commit
 abbrev pub Shown : (Devices → Type 0) → Database → Database → Type 0
 Shown Are old new =
-    ((devices : Devices) → Are devices → Registers new devices) × IsDatabase new × KeepsOthers old new
+    ((devices : Devices) → Are devices → IsRegistryOf new devices) × IsDatabase new × KeepsOthers old new
 
 module _ {S V : Type 0} (g : Ghosts S) (texts : List (List ℕ)) (old start last : Held S)
     (is : start ≡ record old { in_transaction = true }) (it : IsListedInside g Second texts start last)
@@ -61,12 +61,13 @@ module _ {S V : Type 0} (g : Ghosts S) (texts : List (List ℕ)) (old start last
       let was = since g old start (state g last) is it.uncommitted in
       let db = λ (clean : HasCleanDisk new). shows (omega (arith, clean, commits.clean)) in
       record {
-        made = λ clean. on_ok r (Commits (state g last) new) ((devices : Devices) → Are devices → Shows new devices)
+        made =
+            λ clean. on_ok r (Commits (state g last) new) ((devices : Devices) → Are devices → IsReadyWith new devices)
             (λ done devices are. let it = db clean in
             shows_committed (state g last) new devices (it.0 devices are) it.1 done) (ok clean);
         others = λ clean. on_ok r (Commits (state g last) new) (KeepsOthers (state g old).now new.now)
             (λ done. subst (KeepsOthers (state g old).now) (sym done.1.now_is) (db clean).2) (ok clean);
-        stop = leaves (state g old) (state g last) new was commits
+        crash = leaves (state g old) (state g last) new was commits
             (λ trees. (devices : Devices) → Are devices → Holds trees devices)
             (λ clean devices are. let it = shows clean in record {
               db = (state g last).now;
@@ -87,10 +88,10 @@ module _ {S V : Type 0} (g : Ghosts S) (texts : List (List ℕ)) (old start last
 
 -- it was to create a registry without devices
 module _ {V : Type 0} {old new : State} {r : Result V Error} (it : Ends (λ devices. devices ≡ empty) old new r) where
-  pub made_empty : HasCleanDisk new → OnOk r (Shows new empty)
-  made_empty clean = on_ok r ((devices : Devices) → devices ≡ empty → Shows new devices) (Shows new empty)
+  pub made_empty : HasCleanDisk new → OnOk r (IsReadyWith new empty)
+  made_empty clean = on_ok r ((devices : Devices) → devices ≡ empty → IsReadyWith new devices) (IsReadyWith new empty)
       (λ shows. shows empty refl) (it.made clean)
 
   pub stop_empty : Survives old new (λ trees. Holds trees empty)
   stop_empty = survives_weaker old new (λ trees. (devices : Devices) → devices ≡ empty → Holds trees devices)
-      (λ trees. Holds trees empty) (λ clean trees holds. holds empty refl) it.stop
+      (λ trees. Holds trees empty) (λ clean trees holds. holds empty refl) it.crash

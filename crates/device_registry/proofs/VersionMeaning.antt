@@ -16,8 +16,8 @@ use Rattle.device_registry.proofs.StatementTexts.{column_read, plain_query, prog
 use Rattle.device_registry.proofs.TextMeaning.{IsRead, Means, draft_of}
 use Rattle.device_registry.proofs.SelectMeaning.{IsPlainSelect, plain_select, select_means}
 use Rattle.device_registry.proofs.WriteMeaning.{insert_means, update_means}
-use Rattle.device_registry.specs.Table.{write_version_text, renew_text, read_version_text, meta_table}
-use Rattle.device_registry.specs.Stored.{Stands}
+use Rattle.device_registry.specs.Table.{write_version_text, rewrite_version_text, read_version_text, meta_table}
+use Rattle.device_registry.specs.Stored.{IsTableAt}
 
 -- the version row, as it is written
 abbrev pub version_terms : List Term
@@ -28,18 +28,18 @@ number_read : IsRead write_version_text (written.Insert Abort (codes "enogate_me
 unfolding everything
 number_read = record { parsed = _; read = refl; is = refl; timeless = refl }
 
-pub number_means : (schema : Schema) (at d : ℕ) → Stands schema (codes "enogate_meta") (meta_table d) at
+pub number_means : (schema : Schema) (at d : ℕ) → IsTableAt schema (codes "enogate_meta") (meta_table d) at
     → Means schema write_version_text (Insert at (source.Values version_terms 3))
 unfolding everything
 number_means schema at d it = insert_means it _ number_read refl (λ base. rw (it.named, it.there))
 
-renew_read : IsRead renew_text
+renew_read : IsRead rewrite_version_text
     (written.Update (codes "enogate_meta") ((codes "version", Integer (codes "2")) ∷ []) None [])
 unfolding everything
 renew_read = record { parsed = _; read = refl; is = refl; timeless = refl }
 
-pub renew_means : (schema : Schema) (at d : ℕ) → Stands schema (codes "enogate_meta") (meta_table d) at
-    → Means schema renew_text (Update at (program_of (renew_query d)))
+pub renew_means : (schema : Schema) (at d : ℕ) → IsTableAt schema (codes "enogate_meta") (meta_table d) at
+    → Means schema rewrite_version_text (Update at (program_of (renew_query d)))
 unfolding everything
 renew_means schema at d it =
     update_means it (draft_of (meta_table d) (renew_query d)) renew_read refl (record { from = refl; accepted = refl })
@@ -53,7 +53,7 @@ unfolding everything
 version_is = record { read = record { parsed = _; read = refl; is = refl; timeless = refl } }
 
 -- The key has no collation.
-pub version_means : (schema : Schema) (at d : ℕ) → Stands schema (codes "enogate_meta") (meta_table d) at
+pub version_means : (schema : Schema) (at d : ℕ) → IsTableAt schema (codes "enogate_meta") (meta_table d) at
     → Means schema read_version_text (Select (program_of (version_query d)) (codes "k" ∷ codes "version" ∷ []))
 unfolding everything
 version_means schema at d it =

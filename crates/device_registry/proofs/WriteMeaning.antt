@@ -14,10 +14,10 @@ use Rattle.sqlite_resolve.specs.Write.{deleted, updated}
 use Rattle.sqlite_resolve.specs.Compile.{timed, returning, shows, command, delete, update}
 use Rattle.device_registry.proofs.StatementTexts.{program_of}
 use Rattle.device_registry.proofs.TextMeaning.{IsRead, Means, means, IsTyped, program_is}
-use Rattle.device_registry.specs.Stored.{Stands}
+use Rattle.device_registry.specs.Stored.{IsTableAt}
 
 module _ {schema : Schema} {name : List ℕ} {table : Table} {at : ℕ}
-    (stands : Stands schema name table at) {text : List ℕ} where
+    (stands : IsTableAt schema name table at) {text : List ℕ} where
   -- the rows for which the test holds are deleted
   pub delete_means : {test : Option Expr} (d : Draft) → IsRead text (written.Delete name test [])
       → deleted schema at table test ≡ Ok d → IsTyped table (query_of d)

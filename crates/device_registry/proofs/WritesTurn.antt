@@ -15,10 +15,10 @@ use Rattle.sqlite.specs.State.{State, HasCleanDisk, Survives, Executes, CommitsB
 use Rattle.sqlite.proofs.Callers.{runs_as}
 use Rattle.learned_devices.specs.Labels.{is_label}
 use Rattle.device_registry.specs.declared.table.Version.TheVariants.{Second}
-use Rattle.device_registry.specs.Table.{put_text, forget_text, renew_text}
-use Rattle.learned_devices.specs.Devices.{Devices, Learned, Change, changed, forgotten, is_full}
-use Rattle.device_registry.specs.Stored.{IsRegistry, Registers, Holds}
-use Rattle.device_registry.specs.Ready.{Shows, IsReady, Turns, GoesOn}
+use Rattle.device_registry.specs.Table.{upsert_text, delete_text, rewrite_version_text}
+use Rattle.learned_devices.specs.Devices.{Devices, DeviceData, DeviceUpdate, apply_update, forget_update, is_full}
+use Rattle.device_registry.specs.Stored.{IsRegistry, IsRegistryOf, Holds}
+use Rattle.device_registry.specs.Ready.{IsReadyWith, IsReady, CommitsOrFails, KeepsDevices}
 use Rattle.device_registry.proofs.StatementTexts.{put_terms, program_of, forget_query, renew_query}
 use Rattle.device_registry.proofs.TextMeaning.{Means}
 use Rattle.device_registry.proofs.PutMeaning.{put_means}
@@ -27,7 +27,7 @@ use Rattle.device_registry.proofs.VersionMeaning.{renew_means}
 use Rattle.device_registry.proofs.RowsAsMap.{IsShort}
 use Rattle.device_registry.proofs.SenderTests.{asked}
 use Rattle.device_registry.proofs.TablesAlone.{devices_alone, meta_alone}
-use Rattle.device_registry.specs.Table.Rows.{put_params}
+use Rattle.device_registry.specs.Table.Rows.{upsert_params}
 use Rattle.device_registry.proofs.PutEffect.{puts_in}
 use Rattle.device_registry.proofs.ForgetEffect.{forgets}
 use Rattle.device_registry.proofs.RenewEffect.{renews}
@@ -35,7 +35,7 @@ use Rattle.device_registry.proofs.DevicesHeld.{put_registers, forgotten_register
 use Rattle.device_registry.proofs.StatementSteps.{commits_as, spared, not_executed}
 
 -- A statement that writes, and its effect on a registry that is not full for its sender.
-module _ (sql : List ℕ) (params : Row) (change : Change) (HasRoom : Devices → Type 0)
+module _ (sql : List ℕ) (params : Row) (update : DeviceUpdate) (HasRoom : Devices → Type 0)
     (command : (db : Database) → IsRegistry Second db → Command)
     (means : (db : Database) (registry : IsRegistry Second db) → Means db.schema sql (command db registry))
     (writes : (old new : State) (registry : IsRegistry Second old.now) (text : List ℕ) (count : ℕ)
@@ -44,11 +44,11 @@ module _ (sql : List ℕ) (params : Row) (change : Change) (HasRoom : Devices �
     (ends : (db : Database) (registry : IsRegistry Second db) → (command db registry ≢ Commit)
     × ((name : List ℕ) → command db registry ≢ Release name))
     (does : (s : State) (after : Database) (text : List ℕ) (tally : Tally) (devices : Devices)
-    (had : Registers s.now devices) → IsDatabase s.now → HasRoom devices
+    (had : IsRegistryOf s.now devices) → IsDatabase s.now → HasRoom devices
     → Does s.step_limit (mode_of s) params s.now text None (command s.now had.registry) (Ok (tally, after))
-    → Registers after (changed devices change)) where
-  made : (old new : State) (count : ℕ) (devices : Devices) → HasRoom devices → Shows old devices
-      → Executes sql params old new (Ok count) → Shows new (changed devices change)
+    → IsRegistryOf after (apply_update devices update)) where
+  made : (old new : State) (count : ℕ) (devices : Devices) → HasRoom devices → IsReadyWith old devices
+      → Executes sql params old new (Ok count) → IsReadyWith new (apply_update devices update)
   made old new count devices room shows h =
       let registry = shows.registers.registry in
       let it = means old.now registry in
@@ -63,8 +63,8 @@ module _ (sql : List ℕ) (params : Row) (change : Change) (HasRoom : Devices �
         registers = does old new.now _ w.tally devices shows.registers shows.sound room w.changed;
       }
 
-  left : (s : State) (devices : Devices) (trees : Trees) → HasRoom devices → Shows s devices
-      → CommitsBy sql params s trees → Holds trees (changed devices change)
+  left : (s : State) (devices : Devices) (trees : Trees) → HasRoom devices → IsReadyWith s devices
+      → CommitsBy sql params s trees → Holds trees (apply_update devices update)
   left s devices trees room shows h =
       let registry = shows.registers.registry in
       let it = means s.now registry in
@@ -85,14 +85,14 @@ module _ (sql : List ℕ) (params : Row) (change : Change) (HasRoom : Devices �
       ]
 
   pub turned : (old new : State) (r : Result ℕ Error) → (HasCleanDisk old → IsReady old)
-      → (HasCleanDisk old → (devices : Devices) → Shows old devices → HasRoom devices)
+      → (HasCleanDisk old → (devices : Devices) → IsReadyWith old devices → HasRoom devices)
       → Survives old new (CommitsBy sql params old) → (HasCleanDisk new → Executes sql params old new r)
-      → Turns old new change r
+      → CommitsOrFails old new update r
   turned old new r ready room survives runs =
       let early = λ (clean : HasCleanDisk new). let was : HasCleanDisk old = omega (arith, survives.clean) in was in
       record {
         clean = early;
-        stop = λ clean trees may. elim (survives.crash clean trees may) [
+        crash = λ clean trees may. elim (survives.crash clean trees may) [
           | inl before ↦ inl before
           | inr commits ↦
               inr (
@@ -106,48 +106,48 @@ module _ (sql : List ℕ) (params : Row) (change : Change) (HasRoom : Devices �
       }
     where
       ok_of : (r : Result ℕ Error) → HasCleanDisk old → Executes sql params old new r
-          → OnOk r ((devices : Devices) → Shows old devices → Shows new (changed devices change))
+          → OnOk r ((devices : Devices) → IsReadyWith old devices → IsReadyWith new (apply_update devices update))
       ok_of (Ok count) clean h = λ devices shows. made old new count devices (room clean devices shows) shows h
       ok_of (Err e) clean h = tt
 
-      err_of : (r : Result ℕ Error) → Executes sql params old new r → OnErr r (GoesOn old new)
+      err_of : (r : Result ℕ Error) → Executes sql params old new r → OnErr r (KeepsDevices old new)
       err_of (Ok count) h = tt
       err_of (Err e) h = spared old new (not_executed sql params old new e h)
 
 -- the registry is not full for the sender, and the change gives the sender this data
-abbrev pub MakesIt : Change → ℕ → Learned → Devices → Type 0
-MakesIt change id it devices = (is_full devices id ≡ false) × (changed devices change ≡ insert devices id it)
+abbrev pub MakesIt : DeviceUpdate → ℕ → DeviceData → Devices → Type 0
+MakesIt update id it devices = (is_full devices id ≡ false) × (apply_update devices update ≡ insert devices id it)
 
-put_does : (change : Change) (id : ℕ) (it : Learned) → IsShort it.eep → is_label it.label ≡ true → (s : State)
-    (after : Database) (text : List ℕ) (tally : Tally) (devices : Devices) (had : Registers s.now devices)
-    → IsDatabase s.now → MakesIt change id it devices
-    → Does s.step_limit (mode_of s) (put_params id it) s.now text None
+put_does : (update : DeviceUpdate) (id : ℕ) (it : DeviceData) → IsShort it.eep → is_label it.label ≡ true → (s : State)
+    (after : Database) (text : List ℕ) (tally : Tally) (devices : Devices) (had : IsRegistryOf s.now devices)
+    → IsDatabase s.now → MakesIt update id it devices
+    → Does s.step_limit (mode_of s) (upsert_params id it) s.now text None
     (InsertOr had.registry.tables.devices_at Replace (Values put_terms 5) []) (Ok (tally, after))
-    → Registers after (changed devices change)
-put_does change id it short label s after text tally devices had sound room h =
+    → IsRegistryOf after (apply_update devices update)
+put_does update id it short label s after text tally devices had sound room h =
     let r = had.registry in
     let put = puts_in s.now.schema r.tables.devices_at r.tables.devices s.step_limit (mode_of s) id it label s.now.trees
     text tally after r.tables.devices_stand.there (devices_alone s.now.schema r.tables) r.whole.rows h in
-    subst (Registers after) (sym room.1) (put_registers s.now after devices had sound id it short room.0 put.0 put.1)
+    subst (IsRegistryOf after) (sym room.1) (put_registers s.now after devices had sound id it short room.0 put.0 put.1)
 
-pub put_turns : (change : Change) (id : ℕ) (it : Learned) → IsShort it.eep → is_label it.label ≡ true
+pub put_turns : (update : DeviceUpdate) (id : ℕ) (it : DeviceData) → IsShort it.eep → is_label it.label ≡ true
     → (old new : State) (r : Result ℕ Error) → (HasCleanDisk old → IsReady old)
-    → (HasCleanDisk old → (devices : Devices) → Shows old devices → MakesIt change id it devices)
-    → Survives old new (CommitsBy put_text (put_params id it) old)
-    → (HasCleanDisk new → Executes put_text (put_params id it) old new r) → Turns old new change r
-put_turns change id it short label = turned put_text (put_params id it) change (MakesIt change id it)
+    → (HasCleanDisk old → (devices : Devices) → IsReadyWith old devices → MakesIt update id it devices)
+    → Survives old new (CommitsBy upsert_text (upsert_params id it) old)
+    → (HasCleanDisk new → Executes upsert_text (upsert_params id it) old new r) → CommitsOrFails old new update r
+put_turns update id it short label = turned upsert_text (upsert_params id it) update (MakesIt update id it)
     (λ db registry. InsertOr registry.tables.devices_at Replace (Values put_terms 5) [])
     (λ db registry. put_means db.schema registry.tables.devices_at registry.tables.devices
     registry.tables.devices_stand)
     (λ old new registry text count h. h)
     (λ db registry. (λ e. cc, λ name e. cc))
-    (put_does change id it short label)
+    (put_does update id it short label)
 
 forget_does : (id : ℕ) (s : State) (after : Database) (text : List ℕ) (tally : Tally) (devices : Devices)
-    (had : Registers s.now devices) → IsDatabase s.now → Unit {0}
+    (had : IsRegistryOf s.now devices) → IsDatabase s.now → Unit {0}
     → Does s.step_limit (mode_of s) (asked id) s.now text None
     (Delete had.registry.tables.devices_at (program_of (forget_query had.registry.tables.devices))) (Ok (tally, after))
-    → Registers after (remove devices id)
+    → IsRegistryOf after (remove devices id)
 forget_does id s after text tally devices had sound room h =
     let r = had.registry in
     let gone = forgets s.now.schema r.tables.devices_at r.tables.devices s.step_limit (mode_of s) id s.now.trees text
@@ -155,11 +155,11 @@ forget_does id s after text tally devices had sound room h =
     forgotten_registers s.now after devices had sound id gone.0 gone.1 gone.2
 
 pub forget_turns : (id : ℕ) (old new : State) (r : Result ℕ Error) → (HasCleanDisk old → IsReady old)
-    → Survives old new (CommitsBy forget_text (asked id) old)
-    → (HasCleanDisk new → Executes forget_text (asked id) old new r)
-    → Turns old new (forgotten id) r
+    → Survives old new (CommitsBy delete_text (asked id) old)
+    → (HasCleanDisk new → Executes delete_text (asked id) old new r)
+    → CommitsOrFails old new (forget_update id) r
 forget_turns id old new r ready =
-    turned forget_text (asked id) (forgotten id) (λ devices. Unit {0})
+    turned delete_text (asked id) (forget_update id) (λ devices. Unit {0})
     (λ db registry. Delete registry.tables.devices_at (program_of (forget_query registry.tables.devices)))
     (λ db registry. forget_means db.schema registry.tables.devices_at registry.tables.devices
     registry.tables.devices_stand)
@@ -168,28 +168,29 @@ forget_turns id old new r ready =
     (forget_does id)
     old new r ready (λ clean devices shows. tt)
 
-renew_does : (change : Change) (s : State) (after : Database) (text : List ℕ) (tally : Tally) (devices : Devices)
-    (had : Registers s.now devices) → IsDatabase s.now → changed devices change ≡ devices
+renew_does : (update : DeviceUpdate) (s : State) (after : Database) (text : List ℕ) (tally : Tally) (devices : Devices)
+    (had : IsRegistryOf s.now devices) → IsDatabase s.now → apply_update devices update ≡ devices
     → Does s.step_limit (mode_of s) [] s.now text None
     (Update had.registry.tables.meta_at (program_of (renew_query had.registry.tables.meta))) (Ok (tally, after))
-    → Registers after (changed devices change)
-renew_does change s after text tally devices had sound same h =
+    → IsRegistryOf after (apply_update devices update)
+renew_does update s after text tally devices had sound same h =
     let r = had.registry in
     let kept = renews s.now.schema r.tables.meta_at r.tables.meta s.step_limit (mode_of s) s.now.trees text tally after
     r.whole.row r.tables.meta_stands.there (meta_alone s.now.schema r.tables) r.whole.one r.whole.numbered.key h in
-    subst (Registers after) (sym same) (renewed_registers s.now after devices had sound kept.0 kept.1 kept.2)
+    subst (IsRegistryOf after) (sym same) (renewed_registers s.now after devices had sound kept.0 kept.1 kept.2)
 
 -- a change that leaves the devices as they are is made by rewriting the version row
-pub renew_turns : (change : Change) (old new : State) (r : Result ℕ Error) → (HasCleanDisk old → IsReady old)
-    → (HasCleanDisk old → (devices : Devices) → Shows old devices → changed devices change ≡ devices)
-    → Survives old new (CommitsBy renew_text [] old) → (HasCleanDisk new → Executes renew_text [] old new r)
-    → Turns old new change r
-renew_turns change = turned renew_text [] change (λ devices. changed devices change ≡ devices)
+pub renew_turns : (update : DeviceUpdate) (old new : State) (r : Result ℕ Error) → (HasCleanDisk old → IsReady old)
+    → (HasCleanDisk old → (devices : Devices) → IsReadyWith old devices → apply_update devices update ≡ devices)
+    → Survives old new (CommitsBy rewrite_version_text [] old)
+    → (HasCleanDisk new → Executes rewrite_version_text [] old new r)
+    → CommitsOrFails old new update r
+renew_turns update = turned rewrite_version_text [] update (λ devices. apply_update devices update ≡ devices)
     (λ db registry. Update registry.tables.meta_at (program_of (renew_query registry.tables.meta)))
     (λ db registry. renew_means db.schema registry.tables.meta_at registry.tables.meta registry.tables.meta_stands)
     (λ old new registry text count h. h)
     (λ db registry. (λ e. cc, λ name e. cc))
-    (renew_does change)
+    (renew_does update)
 
 -- a statement that was executed returned a count
 pub executed_if : (sql : List ℕ) (params : Row) (old new : State) (r : Result ℕ Error) → Executes sql params old new r

@@ -4,6 +4,6 @@ pub mod Faults
 pub mod Holding
 pub mod Ready
 pub mod Opening
-pub mod Places
+pub mod SchemaChecks
 pub mod Ranges
 pub mod private

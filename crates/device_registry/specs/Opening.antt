@@ -16,9 +16,10 @@ use Rattle.device_registry.specs.declared.fault.OpenFault.{OpenFault}
 use Rattle.device_registry.specs.declared.fault.OpenFault.TheVariants.{NotARegistry}
 use Rattle.device_registry.specs.declared.table.Version.{Version}
 use Rattle.learned_devices.specs.Devices.{Devices, max_devices}
-use Rattle.device_registry.specs.Stored.{IsRegistry, Holds, IsHeld}
-use Rattle.device_registry.specs.Ready.{Shows, IsReady}
-use Rattle.device_registry.specs.Holding.{AreRegistries, HasDevices, IsCommitted, IsRenewed, MayFind, Finds, Opens}
+use Rattle.device_registry.specs.Stored.{IsRegistry, Holds, AreRegistryTrees}
+use Rattle.device_registry.specs.Ready.{IsReadyWith, IsReady}
+use Rattle.device_registry.specs.Holding.{AreRegistries, HasDevices, IsCommitted, RewritesVersion, MayRecover, Finds}
+use Rattle.device_registry.specs.Holding.{Opens}
 
 -- the maximum size of the cache of looked-up senders. Own choice
 abbrev pub max_cached : ℕ
@@ -32,13 +33,13 @@ pub record IsAtRest (s : State) : Type 0 where
   pub sound : IsDatabase s.now
 
 -- if the connection is still open, it shows the same database as before, with no open transaction
-abbrev pub Remains : State → State → Type 0
-Remains old new = IsTrue new.is_open → IsAtRest old → IsAtRest new × (new.now ≡ old.now)
+abbrev pub KeepsDatabase : State → State → Type 0
+KeepsDatabase old new = IsTrue new.is_open → IsAtRest old → IsAtRest new × (new.now ≡ old.now)
 
 -- the database is prepared: the registry is open with the devices that were found
 pub record IsPrepared (old new : State) (devices : Devices) : Type 0 where
   pub found : Finds old.now.trees devices
-  pub shows : Shows new devices
+  pub shows : IsReadyWith new devices
 
 -- An open succeeded: the database was a registry, or the open made it one.
 pub record IsOpened (old new : State) : Type 0 where
@@ -49,10 +50,10 @@ pub record IsOpened (old new : State) : Type 0 where
   -- the connection is open, with no open transaction
   pub ready : IsReady new
   -- if it was a registry of version 2, it was changed exactly by the text that rewrites its version row unchanged
-  pub written : IsHeld old.committed.trees → IsRenewed old new
+  pub written : AreRegistryTrees old.committed.trees → RewritesVersion old new
 
 -- a registry of this version as this program leaves it
-pub record IsOwn (version : Version) (trees : Trees) : Type 0 where
+pub record IsOwnRegistry (version : Version) (trees : Trees) : Type 0 where
   pub db : Database
   pub same : db.trees ≡ trees
   pub sound : IsDatabase db
@@ -66,17 +67,17 @@ pub record KeepsFound (found left : Trees) : Type 0 where
 
 -- No devices are found in the trees: they are neither those of a registry of either version as this program leaves it,
 -- nor those of a database in which the tables can be created.
-abbrev pub IsOther : Trees → Type 0
-IsOther trees = (devices : Devices) → ¬ Finds trees devices
+abbrev pub IsNoRegistry : Trees → Type 0
+IsNoRegistry trees = (devices : Devices) → ¬ Finds trees devices
 
 -- A database is rejected, or opening it failed. One that is no registry is as it was. After another fault, a crash
 -- leaves what it could leave before, or a registry of the devices that were committed.
 pub record RefusesToOpen (old new : State) (fault : OpenFault) : Type 0 where
   pub survives : Survives old new (KeepsFound old.committed.trees)
   pub clean : HasCleanDisk new → HasCleanDisk old
-  pub other : HasCleanDisk new → fault ≡ NotARegistry → IsOther old.committed.trees × IsUnchanged old new
+  pub other : HasCleanDisk new → fault ≡ NotARegistry → IsNoRegistry old.committed.trees × IsUnchanged old new
       × ((trees : Trees) → new.may_leave trees → old.may_leave trees)
-  pub stop : HasCleanDisk new → (trees : Trees) → new.may_leave trees
+  pub crash : HasCleanDisk new → (trees : Trees) → new.may_leave trees
       → old.may_leave trees ⊎ (IsTrue old.is_open × KeepsFound old.committed.trees trees)
 
 -- An open failed, and dropped its connection. After `NotARegistry`, some state satisfies `RefusesToOpen`. No contract
@@ -88,46 +89,47 @@ RefusesAndDrops {C} state conn fault =
 -- ---- theorems
 
 -- a registry has at most 1,000 devices
-abbrev pub FewAreHeld : Type 0
-FewAreHeld = (trees : Trees) (devices : Devices) → Holds trees devices → len devices ≤ max_devices
+abbrev pub DevicesAreLimited : Type 0
+DevicesAreLimited = (trees : Trees) (devices : Devices) → Holds trees devices → len devices ≤ max_devices
 
 -- the devices that an open finds in what a crash left are unique, however often it is opened
-abbrev pub FoundAgain : Type 0
-FoundAgain = (trees : Trees) (left found : Devices) → Finds trees left → Finds trees found → left ≡ found
+abbrev pub OpensAgree : Type 0
+OpensAgree = (trees : Trees) (left found : Devices) → Finds trees left → Finds trees found → left ≡ found
 
 -- the next open after a crash at this moment may find these devices
-abbrev pub MayFindNext : State → Devices → Type 0
-MayFindNext s devices = (trees : Trees) × s.may_leave trees × Finds trees devices
+abbrev pub MayFindAfterCrash : State → Devices → Type 0
+MayFindAfterCrash s devices = (trees : Trees) × s.may_leave trees × Finds trees devices
 
 -- the next open finds some devices in whatever a crash leaves at this moment
-abbrev pub FindsSomeNext : State → Type 0
-FindsSomeNext s = (trees : Trees) → s.may_leave trees → (devices : Devices) × Finds trees devices
+abbrev pub FindsSomeAfterCrash : State → Type 0
+FindsSomeAfterCrash s = (trees : Trees) → s.may_leave trees → (devices : Devices) × Finds trees devices
 
 -- After a failed open, the next one finds devices if it would have found some before. They are what it could have found
 -- before, or what was committed then.
-abbrev pub RefusedOpensKeep : {C : Type 0} → (C → State) → Type 0
-RefusedOpensKeep {C} state = (old new : C) (fault : OpenFault) → HasCleanDisk (state new)
+abbrev pub FailedOpensKeep : {C : Type 0} → (C → State) → Type 0
+FailedOpensKeep {C} state = (old new : C) (fault : OpenFault) → HasCleanDisk (state new)
     → RefusesToOpen (state old) (state new) fault
-    → (FindsSomeNext (state old) → FindsSomeNext (state new))
-    × ((devices : Devices) → MayFindNext (state new) devices → MayFindNext (state old) devices
+    → (FindsSomeAfterCrash (state old) → FindsSomeAfterCrash (state new))
+    × ((devices : Devices) → MayFindAfterCrash (state new) devices → MayFindAfterCrash (state old) devices
     ⊎ (IsTrue (state old).is_open × Finds (state old).committed.trees devices))
 
 -- No open rejects, as no registry, a database in which devices are found. They are found in whatever a crash leaves of
 -- an opened registry.
 abbrev pub RegistriesAreRecognized : {C : Type 0} → (C → State) → Type 0
-RegistriesAreRecognized {C} state = ((trees : Trees) → IsHeld trees → (devices : Devices) × Finds trees devices)
+RegistriesAreRecognized {C} state =
+    ((trees : Trees) → AreRegistryTrees trees → (devices : Devices) × Finds trees devices)
     × ((old new : C) (fault : OpenFault) (devices : Devices) → HasCleanDisk (state new)
     → RefusesToOpen (state old) (state new) fault → Finds (state old).committed.trees devices → fault ≢ NotARegistry)
 
 -- A database is rejected as no registry only if it is none. This also holds of an open that drops its connection, if
 -- the disk had returned what was written when the connection was dropped.
-abbrev pub OnlyOthersAreRefused : {C : Type 0} → (C → State) → Type 0
-OnlyOthersAreRefused {C} state = (conn last : C) → HasCleanDisk (state last)
-    → RefusesToOpen (state conn) (state last) NotARegistry → IsOther (state conn).committed.trees
+abbrev pub OnlyNonRegistriesAreRefused : {C : Type 0} → (C → State) → Type 0
+OnlyNonRegistriesAreRefused {C} state = (conn last : C) → HasCleanDisk (state last)
+    → RefusesToOpen (state conn) (state last) NotARegistry → IsNoRegistry (state conn).committed.trees
 
 -- the next open finds what a closed registry returned
-abbrev pub HandedOn : {C : Type 0} → (C → State) → Type 0
-HandedOn {C} state = (closed opened : C) (devices found : Devices) → HasCleanDisk (state closed)
+abbrev pub ReturnedIsFound : {C : Type 0} → (C → State) → Type 0
+ReturnedIsFound {C} state = (closed opened : C) (devices found : Devices) → HasCleanDisk (state closed)
     → IsCommitted (state closed)
     → HasDevices (state closed) devices → Opens (state closed) (state opened) found → found ≡ devices
 
@@ -146,4 +148,4 @@ CrashedFilesAreFound {D} g =
     (stopped opened : Held (FileStore D g)) (image : _) → IsTrue (view stopped.store).is_numbered
     → AreRegistries (file_state stopped).may_leave → (stored stopped.store).may_leave image
     → FindsIn image (file_state opened)
-    → ∥ ((left : Devices) × MayFind (file_state stopped) left × Finds (file_state opened).committed.trees left) ∥₁
+    → ∥ ((left : Devices) × MayRecover (file_state stopped) left × Finds (file_state opened).committed.trees left) ∥₁

@@ -8,20 +8,20 @@ use Rattle.sqlite_trees.specs.Tree.{Trees}
 use Rattle.sqlite_schema.specs.Names.{same_name}
 use Rattle.device_registry.specs.declared.table.Version.{Version}
 use Rattle.device_registry.specs.Table.{meta_name, device_name}
-use Rattle.learned_devices.specs.Devices.{Devices, Change, changed}
-use Rattle.device_registry.specs.Stored.{Registers, Holds}
+use Rattle.learned_devices.specs.Devices.{Devices, DeviceUpdate, apply_update}
+use Rattle.device_registry.specs.Stored.{IsRegistryOf, Holds}
 
 -- the registry is open with no open transaction, and has these devices
-pub record Shows (s : State) (devices : Devices) : Type 0 where
+pub record IsReadyWith (s : State) (devices : Devices) : Type 0 where
   pub is_open : IsTrue s.is_open
   pub idle : s.in_transaction ≡ false
   pub settled : s.now ≡ s.committed
   pub sound : IsDatabase s.now
-  pub registers : Registers s.now devices
+  pub registers : IsRegistryOf s.now devices
 
 pub record IsReady (s : State) : Type 0 where
   pub devices : Devices
-  pub shows : Shows s devices
+  pub shows : IsReadyWith s devices
 
 -- ready before and after
 abbrev pub AreReady : State → State → Type 0
@@ -32,23 +32,25 @@ abbrev pub StaysReady : State → Type 0
 StaysReady s = HasCleanDisk s → IsTrue s.is_open → IsReady s
 
 -- if the connection is still open, it was open before, and has the same devices
-abbrev pub GoesOn : State → State → Type 0
-GoesOn old new = IsTrue new.is_open → IsTrue old.is_open × ((devices : Devices) → Shows old devices → Shows new devices)
+abbrev pub KeepsDevices : State → State → Type 0
+KeepsDevices old new =
+    IsTrue new.is_open → IsTrue old.is_open × ((devices : Devices) → IsReadyWith old devices → IsReadyWith new devices)
 
 -- nothing is written
-pub record Stays (old new : State) : Type 0 where
+pub record WritesNothing (old new : State) : Type 0 where
   pub clean : HasCleanDisk new → HasCleanDisk old
-  pub stop : HasCleanDisk new → (trees : Trees) → new.may_leave trees → old.may_leave trees
-  pub goes_on : HasCleanDisk new → GoesOn old new
+  pub crash : HasCleanDisk new → (trees : Trees) → new.may_leave trees → old.may_leave trees
+  pub goes_on : HasCleanDisk new → KeepsDevices old new
 
 -- the change is made and committed; or it failed, and then a crash may leave it nevertheless
-pub record Turns {T E : Type 0} (old new : State) (change : Change) (result : Result T E) : Type 0 where
+pub record CommitsOrFails {T E : Type 0} (old new : State) (update : DeviceUpdate) (result : Result T E) : Type 0 where
   pub clean : HasCleanDisk new → HasCleanDisk old
-  pub stop : HasCleanDisk new → (trees : Trees) → new.may_leave trees → old.may_leave trees
-      ⊎ (IsTrue old.is_open × ((devices : Devices) → Shows old devices → Holds trees (changed devices change)))
+  pub crash : HasCleanDisk new → (trees : Trees) → new.may_leave trees → old.may_leave trees
+      ⊎ (IsTrue old.is_open × ((devices : Devices) → IsReadyWith old devices
+      → Holds trees (apply_update devices update)))
   pub made : HasCleanDisk new
-      → OnOk result ((devices : Devices) → Shows old devices → Shows new (changed devices change))
-  pub refused : HasCleanDisk new → OnErr result (GoesOn old new)
+      → OnOk result ((devices : Devices) → IsReadyWith old devices → IsReadyWith new (apply_update devices update))
+  pub refused : HasCleanDisk new → OnErr result (KeepsDevices old new)
 
 -- each table has the rows that it had
 pub record KeepsRows (old new : State) : Type 0 where

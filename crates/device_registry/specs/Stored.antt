@@ -22,27 +22,27 @@ use Rattle.device_registry.specs.Table.{meta_name, device_name, meta_text, devic
 use Rattle.device_registry.specs.Table.Rows.{IsDevice, IsVersion, RowidsDiffer, devices_in, rows_of}
 
 -- the schema's table of this name is this one, at this index
-pub record Stands (schema : Schema) (name : List ℕ) (table : Table) (at : ℕ) : Type 0 where
+pub record IsTableAt (schema : Schema) (name : List ℕ) (table : Table) (at : ℕ) : Type 0 where
   pub named : table_named schema name ≡ Some at
   pub there : slice_get schema.tables at ≡ Some table
   pub classes : table_classes schema [] table.tree ≡ Some (row_classes table)
 
 -- no foreign key of the table refers to this name
-abbrev pub SparesName : List ℕ → Table → Type 0
-SparesName name table = AllByRecursion (λ reference. same_name reference.parent name ≡ false) table.references
+abbrev pub HasNoReferenceTo : List ℕ → Table → Type 0
+HasNoReferenceTo name table = AllByRecursion (λ reference. same_name reference.parent name ≡ false) table.references
 
 -- no foreign key of the table refers to one of ours, of either version
-pub record SparesOurs (table : Table) : Type 0 where
-  pub meta : SparesName meta_name table
-  pub devices : (version : Version) → SparesName (device_name version) table
+pub record HasNoReferenceToOurs (table : Table) : Type 0 where
+  pub meta : HasNoReferenceTo meta_name table
+  pub devices : (version : Version) → HasNoReferenceTo (device_name version) table
 
 -- no table refers to ours
-abbrev pub AreSpared : Schema → Type 0
-AreSpared schema = AllByRecursion SparesOurs schema.tables
+abbrev pub NoneRefersToOurs : Schema → Type 0
+NoneRefersToOurs schema = AllByRecursion HasNoReferenceToOurs schema.tables
 
 -- a table in this tree has this name
-abbrev pub KeepsTree : List ℕ → ℕ → Table → Type 0
-KeepsTree name tree table = table.tree ≡ tree → same_name table.name name ≡ true
+abbrev pub TreeHasName : List ℕ → ℕ → Table → Type 0
+TreeHasName name tree table = table.tree ≡ tree → same_name table.name name ≡ true
 
 abbrev pub other : Version → Version
 other First = Second
@@ -50,9 +50,9 @@ other Second = First
 
 -- In version 1, no table counts its rowids without SQLite's table of the counts: creating the device table of version 2
 -- would add it.
-abbrev pub AreCounted : Version → Schema → Type 0
-AreCounted First schema = lacks_sequence schema ≡ false
-AreCounted Second schema = Unit {0}
+abbrev pub CanCountRowids : Version → Schema → Type 0
+CanCountRowids First schema = lacks_sequence schema ≡ false
+CanCountRowids Second schema = Unit {0}
 
 -- The schema has the two tables of a registry of this version, and the other objects do not affect them: no foreign key
 -- refers to them, no other table is in their trees, they have no index, and the name of the other version's table is
@@ -63,18 +63,19 @@ pub record HasTables (version : Version) (schema : Schema) : Type 0 where
   pub devices : ℕ
   pub meta_at : ℕ
   pub devices_at : ℕ
-  pub meta_stands : Stands schema meta_name (meta_table meta) meta_at
-  pub devices_stand : Stands schema (device_name version) (device_table version devices) devices_at
+  pub meta_stands : IsTableAt schema meta_name (meta_table meta) meta_at
+  pub devices_stand : IsTableAt schema (device_name version) (device_table version devices) devices_at
   pub apart : meta ≢ devices
-  pub spared : AreSpared schema
-  pub alone : AllByRecursion (λ table. KeepsTree meta_name meta table × KeepsTree (device_name version) devices table)
+  pub spared : NoneRefersToOurs schema
+  pub alone : AllByRecursion (λ table. TreeHasName meta_name meta table
+      × TreeHasName (device_name version) devices table)
       schema.tables
   pub unindexed : AllByRecursion (λ index. (index.table ≢ meta) × (index.table ≢ devices)) schema.indexes
   pub free : is_used schema (device_name (other version)) ≡ false
-  pub counted : AreCounted version schema
+  pub counted : CanCountRowids version schema
 
 -- in the trees of the two tables, the version is this one, and the other rows are devices, none twice and at most 1,000
-pub record IsWhole (version : Version) (trees : Trees) (meta devices : ℕ) : Type 0 where
+pub record HasValidRows (version : Version) (trees : Trees) (meta devices : ℕ) : Type 0 where
   pub row : Row
   pub one : trees meta ≡ row ∷ []
   pub numbered : IsVersion version row
@@ -83,13 +84,13 @@ pub record IsWhole (version : Version) (trees : Trees) (meta devices : ℕ) : Ty
   pub few : length (rows_of version (trees devices)) ≤ max_devices
 
 -- the list of the database's objects, as SQLite shows it
-abbrev pub listing : Trees → List Row
-listing trees = put_all [] (map shown (trees catalog_tree))
+abbrev pub catalog_rows : Trees → List Row
+catalog_rows trees = put_all [] (map shown (trees catalog_tree))
 
 -- an object of this name is listed with this text
 pub record IsListedAs (trees : Trees) (name text : List ℕ) : Type 0 where
   pub row : Row
-  pub listed : Has (listing trees) row
+  pub listed : Has (catalog_rows trees) row
   pub name_is : column row 2 ≡ Text name
   pub sql : column row 5 ≡ Text text
 
@@ -101,11 +102,11 @@ AreListed version trees =
 -- the database is a registry of this version, as this program leaves it
 pub record IsRegistry (version : Version) (db : Database) : Type 0 where
   pub tables : HasTables version db.schema
-  pub whole : IsWhole version db.trees tables.meta tables.devices
+  pub whole : HasValidRows version db.trees tables.meta tables.devices
   pub listed : AreListed version db.trees
 
 -- the database is a registry of this version with these devices
-pub record RegistersAs (version : Version) (db : Database) (devices : Devices) : Type 0 where
+pub record IsRegistryOfVersion (version : Version) (db : Database) (devices : Devices) : Type 0 where
   pub registry : IsRegistry version db
   pub is : devices_in (rows_of version (db.trees registry.tables.devices)) ≡ devices
 
@@ -114,31 +115,31 @@ pub record HoldsAs (version : Version) (trees : Trees) (devices : Devices) : Typ
   pub db : Database
   pub same : db.trees ≡ trees
   pub sound : IsDatabase db
-  pub registers : RegistersAs version db devices
+  pub registers : IsRegistryOfVersion version db devices
 
 -- the same for an opened registry, which is of version 2
-abbrev pub Registers : Database → Devices → Type 0
-Registers = RegistersAs Second
+abbrev pub IsRegistryOf : Database → Devices → Type 0
+IsRegistryOf = IsRegistryOfVersion Second
 
 abbrev pub Holds : Trees → Devices → Type 0
 Holds = HoldsAs Second
 
 -- the trees are those of a registry of version 2
-pub record IsHeld (trees : Trees) : Type 0 where
+pub record AreRegistryTrees (trees : Trees) : Type 0 where
   pub devices : Devices
   pub holds : Holds trees devices
 
 -- The tables can be created: nothing has their names, of either version; no foreign key refers to them; and no table
 -- counts its rowids without SQLite's table of the counts, which our CREATE would add.
-pub record IsClear (schema : Schema) : Type 0 where
+pub record AdmitsTables (schema : Schema) : Type 0 where
   pub free_meta : is_used schema meta_name ≡ false
   pub free_devices : (version : Version) → is_used schema (device_name version) ≡ false
-  pub spared : AreSpared schema
+  pub spared : NoneRefersToOurs schema
   pub counted : lacks_sequence schema ≡ false
 
 -- the trees are those of a database in which the tables can be created
-pub record IsFree (trees : Trees) : Type 0 where
+pub record AdmitsRegistry (trees : Trees) : Type 0 where
   pub db : Database
   pub same : db.trees ≡ trees
   pub sound : IsDatabase db
-  pub clear : IsClear db.schema
+  pub clear : AdmitsTables db.schema

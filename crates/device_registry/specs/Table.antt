@@ -61,8 +61,8 @@ abbrev pub read_version_text : List ℕ
 read_version_text = codes "SELECT k, version FROM enogate_meta"
 
 -- it writes version 2; in a registry of that version the row does not change
-abbrev pub renew_text : List ℕ
-renew_text = codes "UPDATE enogate_meta SET version = 2"
+abbrev pub rewrite_version_text : List ℕ
+rewrite_version_text = codes "UPDATE enogate_meta SET version = 2"
 
 abbrev pub find_text : List ℕ
 find_text = codes "SELECT id, eep, maker, label FROM enogate_device_v2 WHERE id = ?1"
@@ -75,11 +75,11 @@ find_all_text Second = codes "SELECT id, eep, maker, label FROM enogate_device_v
 abbrev pub count_others_text : List ℕ
 count_others_text = codes "SELECT count(*) FROM enogate_device_v2 WHERE id <> ?1"
 
-abbrev pub put_text : List ℕ
-put_text = codes "INSERT OR REPLACE INTO enogate_device_v2 (id, eep, maker, label) VALUES (?1, ?2, ?3, ?4)"
+abbrev pub upsert_text : List ℕ
+upsert_text = codes "INSERT OR REPLACE INTO enogate_device_v2 (id, eep, maker, label) VALUES (?1, ?2, ?3, ?4)"
 
-abbrev pub forget_text : List ℕ
-forget_text = codes "DELETE FROM enogate_device_v2 WHERE id = ?1"
+abbrev pub delete_text : List ℕ
+delete_text = codes "DELETE FROM enogate_device_v2 WHERE id = ?1"
 
 abbrev pub copy_text : List ℕ
 copy_text =
@@ -97,8 +97,8 @@ abbrev pub key_column : List ℕ → Column
 key_column name =
     record { name = name; kind = Integer; is_strict = true; not_null = false; default = Null; collation = Binary }
 
-abbrev pub filled_column : Kind → List ℕ → Column
-filled_column kind name =
+abbrev pub not_null_column : Kind → List ℕ → Column
+not_null_column kind name =
     record { name = name; kind = kind; is_strict = true; not_null = true; default = Null; collation = Binary }
 
 abbrev pub keyed_table : List ℕ → ℕ → List Column → List Term → Table
@@ -123,14 +123,14 @@ between place low high =
     op2 And (op2 (Compare Ge Binary) (col 1 place) low) (op2 (Compare Le Binary) (col 1 place) high)
 
 abbrev pub meta_table : ℕ → Table
-meta_table tree = keyed_table meta_name tree (key_column (codes "k") ∷ filled_column Integer (codes "version") ∷ [])
+meta_table tree = keyed_table meta_name tree (key_column (codes "k") ∷ not_null_column Integer (codes "version") ∷ [])
     (op2 (Compare Eq Binary) (col 1 0) (lit (Int (pos 1))) ∷ [])
 
 abbrev pub device_columns : Version → List Column
 device_columns First =
-    key_column (codes "id") ∷ filled_column Integer (codes "eep") ∷ filled_column Integer (codes "maker") ∷ []
-device_columns Second = key_column (codes "id") ∷ filled_column Integer (codes "eep")
-    ∷ filled_column Integer (codes "maker") ∷ filled_column Text (codes "label") ∷ []
+    key_column (codes "id") ∷ not_null_column Integer (codes "eep") ∷ not_null_column Integer (codes "maker") ∷ []
+device_columns Second = key_column (codes "id") ∷ not_null_column Integer (codes "eep")
+    ∷ not_null_column Integer (codes "maker") ∷ not_null_column Text (codes "label") ∷ []
 
 abbrev pub device_table : Version → ℕ → Table
 device_table version tree =

@@ -1,5 +1,5 @@
 -- For private postconditions: no public contract depends on these.
 pub mod Cached
-pub mod Listing
+pub mod CatalogRows
 pub mod TableCalls
 pub mod Transaction

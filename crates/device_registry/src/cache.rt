@@ -27,7 +27,7 @@ pub fn copied(known: &Option<Device>) -> Option<Device>
 }
 
 /// The cache entry of a sender, which becomes the last to be evicted.
-pub fn cached(cache: &mut Cache, id: u32) -> Option<Option<Device>>
+pub fn look_up_cached(cache: &mut Cache, id: u32) -> Option<Option<Device>>
     ensures known { IfSome result (λ known. Contains cache.old.entries (id, known)) }
     ensures kept { (entry : _) → Contains cache.new.entries entry → Contains cache.old.entries entry }
     ensures first { OnSome result (cache.new.entries ≡ promoted (nat_eq id) cache.old.entries) }

@@ -1,12 +1,12 @@
 //! The registry as a device store.
-ghost use Rattle.device_registry.specs.Holding.{Writes, kept_by};
+ghost use Rattle.device_registry.specs.Holding.{Writes, registry_state_of};
 
 use crate::registry::RegistryOver;
 use crate::sql_connection::SqlConnection;
 use learned_devices::{Device, DeviceStore, Label, LearnFault, StoreFault};
 
 impl<C: SqlConnection> DeviceStore for RegistryOver<C> {
-    ghost kept = { kept_by C.state };
+    ghost store_state = { registry_state_of C.state };
 
     ghost wrote = { Writes C.state };
 

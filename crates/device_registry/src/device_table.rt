@@ -2,15 +2,16 @@
 ghost use Rattle.std.specs.Prelude.{◌≡◌, OnOk, IfOk, IsTrue, Some, None};
 ghost use Rattle.std.specs.FinMap.{get};
 ghost use Rattle.sqlite.specs.State.{HasCleanDisk};
-ghost use Rattle.learned_devices.specs.Devices.{Devices, Learn, Relabel, after, known_of, learned, relabelled};
+ghost use Rattle.learned_devices.specs.Devices.{Devices, Learn, Relabel, data_after, device_data, learn_update};
+ghost use Rattle.learned_devices.specs.Devices.{relabel_update};
 ghost use Rattle.learned_devices.specs.StoreCalls.{LooksUp, Updates, Forgets, ListsAll};
-ghost use Rattle.device_registry.specs.Holding.{HasDevices, HandsOn, IsRenewed, WritesRow, kept};
+ghost use Rattle.device_registry.specs.Holding.{HasDevices, IsReturned, RewritesVersion, WritesRow, registry_state};
 ghost use Rattle.device_registry.specs.private.TableCalls.{Adds};
 ghost use Rattle.device_registry.specs.Ready.{IsReady, AreReady};
 
+use crate::queries::{delete_or_rewrite_version, is_full_for, list_devices, look_up, upsert};
 use crate::sql_connection::SqlConnection;
-use crate::store_calls::{forget_or_renew, has_no_room, list, look_up, put};
-use crate::table::rows::{all_listed, found};
+use crate::table::row_codec::{decode_all, decode_found};
 use learned_devices::Device;
 use sqlite::Error;
 use std::alloc::Global;
@@ -43,30 +44,30 @@ impl<C: SqlConnection> Model for DeviceTable<C> {
 impl<C: SqlConnection> DeviceTable<C> {
     /// The device of a sender, if it is learned.
     pub fn find(&mut self, id: u32) -> Result<Option<Device>, Error>
-        ensures looks_up { LooksUp (kept (C.state self.old)) (kept (C.state self.new)) id result }
+        ensures looks_up { LooksUp (registry_state (C.state self.old)) (registry_state (C.state self.new)) id result }
         ensures ready { HasCleanDisk (C.state self.new) → OnOk result (AreReady (C.state self.old)
             (C.state self.new)) }
     {
         let rows = look_up(&mut self.conn, id)?;
-        found(&rows)
+        decode_found(&rows)
     }
 
     /// Upserts a device, unless the registry is full, and returns whether it did. The device already has the label that
     /// its sender keeps.
     pub fn learn(&mut self, device: Device) -> Result<bool, Error>
         requires { HasCleanDisk (C.state self.old) → (devices : Devices) → HasDevices (C.state self.old) devices →
-            after (get devices device.id) (Learn device.eep device.maker) ≡ Some (known_of device) }
-        ensures adds { Adds (kept (C.state self.old)) (kept (C.state self.new)) device result }
+            data_after (get devices device.id) (Learn device.eep device.maker) ≡ Some (device_data device) }
+        ensures adds { Adds (registry_state (C.state self.old)) (registry_state (C.state self.new)) device result }
         ensures written { HasCleanDisk (C.state self.new) → (devices : Devices) →
             HasDevices (C.state self.old) devices → IfOk result (λ room. IsTrue room →
-            WritesRow C.state self.new (learned device) devices) }
+            WritesRow C.state self.new (learn_update device) devices) }
         ensures ready { HasCleanDisk (C.state self.new) → OnOk result (AreReady (C.state self.old)
             (C.state self.new)) }
     {
-        if has_no_room(&mut self.conn, device.id)? {
+        if is_full_for(&mut self.conn, device.id)? {
             return Ok(false);
         }
-        put(&mut self.conn, device)?;
+        upsert(&mut self.conn, device)?;
         Ok(true)
     }
 
@@ -74,47 +75,47 @@ impl<C: SqlConnection> DeviceTable<C> {
     pub fn relabel(&mut self, device: Device) -> Result<(), Error>
         requires ready { HasCleanDisk (C.state self.old) → IsReady (C.state self.old) }
         requires known { HasCleanDisk (C.state self.old) → (devices : Devices) → HasDevices (C.state self.old) devices →
-            after (get devices device.id) (Relabel device.label) ≡ Some (known_of device) }
-        ensures updates { Updates (kept (C.state self.old)) (kept (C.state self.new))
-            (relabelled device.id device.label) result }
+            data_after (get devices device.id) (Relabel device.label) ≡ Some (device_data device) }
+        ensures updates { Updates (registry_state (C.state self.old)) (registry_state (C.state self.new))
+            (relabel_update device.id device.label) result }
         ensures written { HasCleanDisk (C.state self.new) → (devices : Devices) →
             HasDevices (C.state self.old) devices → OnOk result (WritesRow C.state self.new
-            (relabelled device.id device.label) devices) }
+            (relabel_update device.id device.label) devices) }
         ensures ready { HasCleanDisk (C.state self.new) → OnOk result (AreReady (C.state self.old)
             (C.state self.new)) }
     {
-        put(&mut self.conn, device)?;
+        upsert(&mut self.conn, device)?;
         Ok(())
     }
 
     /// Forgets a sender. Commits also if the sender is not known.
     pub fn forget(&mut self, id: u32) -> Result<(), Error>
-        ensures forgets { Forgets (kept (C.state self.old)) (kept (C.state self.new)) id result }
+        ensures forgets { Forgets (registry_state (C.state self.old)) (registry_state (C.state self.new)) id result }
         ensures written { HasCleanDisk (C.state self.new) → (devices : Devices) →
             HasDevices (C.state self.old) devices → OnOk result (get devices id ≡ None →
-            IsRenewed (C.state self.old) (C.state self.new)) }
+            RewritesVersion (C.state self.old) (C.state self.new)) }
         ensures ready { HasCleanDisk (C.state self.new) → OnOk result (AreReady (C.state self.old)
             (C.state self.new)) }
     {
         let rows = look_up(&mut self.conn, id)?;
-        forget_or_renew(&mut self.conn, id, &rows)?;
+        delete_or_rewrite_version(&mut self.conn, id, &rows)?;
         Ok(())
     }
 
     /// All devices, by ascending ID.
     pub fn all(&mut self) -> Result<Vec<Device>, Error>
-        ensures lists { ListsAll (kept (C.state self.old)) (kept (C.state self.new)) result }
+        ensures lists { ListsAll (registry_state (C.state self.old)) (registry_state (C.state self.new)) result }
         ensures ready { HasCleanDisk (C.state self.new) → OnOk result (AreReady (C.state self.old)
             (C.state self.new)) }
     {
-        let rows = list(&mut self.conn)?;
-        all_listed(self.alloc, &rows)
+        let rows = list_devices(&mut self.conn)?;
+        decode_all(self.alloc, &rows)
     }
 
     /// Returns the connection, unchanged.
     pub fn close(self) -> C
         ensures same { result ≡ self }
-        ensures hands_on { HandsOn (C.state self) }
+        ensures hands_on { IsReturned (C.state self) }
     {
         let DeviceTable { alloc: _, conn } = self;
         conn

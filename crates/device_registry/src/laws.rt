@@ -3,9 +3,9 @@ ghost use Rattle.std.specs.Prelude.{◌≡◌};
 ghost use Rattle.device_registry.specs.declared.cache_limits.TheConstants.{MAX_CACHED};
 ghost use Rattle.device_registry.specs.Opening.{max_cached};
 ghost use Rattle.device_registry.specs.Holding.{HoldsSome};
-ghost use Rattle.device_registry.specs.Opening.{ClosedFilesAreFound, FewAreHeld, FoundAgain, HandedOn};
+ghost use Rattle.device_registry.specs.Opening.{ClosedFilesAreFound, DevicesAreLimited, OpensAgree, ReturnedIsFound};
 ghost use Rattle.device_registry.specs.Opening.{CrashedFilesAreFound};
-ghost use Rattle.device_registry.specs.Opening.{RegistriesAreRecognized, OnlyOthersAreRefused, RefusedOpensKeep};
+ghost use Rattle.device_registry.specs.Opening.{RegistriesAreRecognized, OnlyNonRegistriesAreRefused, FailedOpensKeep};
 ghost use Rattle.device_registry.specs.Ranges.{RegistriesAreInRange};
 
 use crate::registry::RegistryOver;
@@ -18,13 +18,13 @@ pub fn limits()
 {}
 
 /// A registry has at most 1,000 devices.
-pub fn few_are_held()
-    ensures { FewAreHeld }
+pub fn devices_are_limited()
+    ensures { DevicesAreLimited }
 {}
 
 /// The next open finds what a crash left of a registry, or of a database that has neither of its tables yet.
-pub fn found_again()
-    ensures { FoundAgain }
+pub fn opens_agree()
+    ensures { OpensAgree }
 {}
 
 /// The following devices are in range: those that a registry holds while its connection is open, those that a crash may
@@ -35,8 +35,8 @@ pub fn registries_are_in_range<C: SqlConnection>()
 
 /// After a failed `prepare`, which is what an open does, the next open finds what it could have found before, or what
 /// was committed then. It finds something if it would have before.
-pub fn refused_opens_keep<C: SqlConnection>()
-    ensures { RefusedOpensKeep C.state }
+pub fn failed_opens_keep<C: SqlConnection>()
+    ensures { FailedOpensKeep C.state }
 {}
 
 /// The next open finds whatever a crash leaves of a registry. No open rejects, as no registry, what can be found: a
@@ -47,13 +47,13 @@ pub fn registries_are_recognized<C: SqlConnection>()
 
 /// A database is rejected as no registry only if it is none. This also holds of an open that drops its connection, if
 /// the disk had returned what was written when the connection was dropped.
-pub fn only_others_are_refused<C: SqlConnection>()
-    ensures { OnlyOthersAreRefused C.state }
+pub fn only_non_registries_are_refused<C: SqlConnection>()
+    ensures { OnlyNonRegistriesAreRefused C.state }
 {}
 
 /// The next open finds what a closed registry returned.
-pub fn handed_on<C: SqlConnection>()
-    ensures { HandedOn C.state }
+pub fn returned_is_found<C: SqlConnection>()
+    ensures { ReturnedIsFound C.state }
 {}
 
 /// An open of two files finds what a crash left in them: devices of a registry that this crash could leave.

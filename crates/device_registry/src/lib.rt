@@ -7,21 +7,21 @@
 
 mod cache;
 mod cache_limits;
+mod catalog;
+mod create;
 mod device_store;
 mod device_table;
 mod fault;
 pub mod laws;
-mod listing;
-mod making;
-mod migrating;
+mod migrate;
 mod opening;
-mod places;
+mod queries;
 mod ranges;
+mod recognize;
 mod registry;
+mod schema_check;
 mod sql_connection;
-mod store_calls;
 mod table;
-mod taking;
 #[cfg(test)]
 mod tests;
 mod transaction;

@@ -4,22 +4,22 @@ ghost use Rattle.sqlite.specs.State.{HasCleanDisk, Survives, IsUnchanged};
 ghost use Rattle.sqlite_trees.specs.Tree.{Trees};
 ghost use Rattle.learned_devices.specs.Devices.{Devices};
 ghost use Rattle.device_registry.specs.Opening.{max_cached};
-ghost use Rattle.device_registry.specs.Holding.{IsRenewed};
-ghost use Rattle.device_registry.specs.Stored.{IsHeld};
+ghost use Rattle.device_registry.specs.Holding.{RewritesVersion};
+ghost use Rattle.device_registry.specs.Stored.{AreRegistryTrees};
 ghost use Rattle.device_registry.specs.Ready.{KeepsOthers, KeepsRows};
-ghost use Rattle.device_registry.specs.Opening.{IsAtRest, Remains, IsPrepared, KeepsFound, IsOther};
+ghost use Rattle.device_registry.specs.Opening.{IsAtRest, KeepsDatabase, IsPrepared, KeepsFound, IsNoRegistry};
 ghost use Rattle.device_registry.specs.Opening.{IsOpened, RefusesAndDrops, RefusesToOpen};
 
 use crate::cache::new_cache;
 use crate::cache_limits::DEFAULT_CACHED;
 use crate::device_table::DeviceTable;
 use crate::fault::OpenFault;
-use crate::places::is_clear;
+use crate::queries::rewrite_version;
+use crate::recognize::version_of;
 use crate::registry::RegistryOver;
+use crate::schema_check::admits_tables;
 use crate::sql_connection::SqlConnection;
-use crate::store_calls::renew;
 use crate::table::Version;
-use crate::taking::version_of;
 use sqlite::Error;
 use std::alloc::Global;
 
@@ -29,7 +29,7 @@ fn check_open<C: SqlConnection>(conn: &mut C) -> Result<(), Error>
     ensures idle { OnOk result ((C.state conn.new).in_transaction ≡ false) }
     ensures same { HasCleanDisk (C.state conn.new) → OnOk result (IsUnchanged (C.state conn.old)
         (C.state conn.new) × IsAtRest (C.state conn.old)) }
-    ensures stop { Survives (C.state conn.old) (C.state conn.new) (λ _. ⊥) }
+    ensures crash { Survives (C.state conn.old) (C.state conn.new) (λ _. ⊥) }
     ensures kept { HasCleanDisk (C.state conn.new) → OnErr result (IsTrue (C.state conn.new).is_open →
         IsAtRest (C.state conn.new) × ((C.state conn.new).now ≡ (C.state conn.old).now)) }
 {
@@ -41,29 +41,29 @@ fn check_open<C: SqlConnection>(conn: &mut C) -> Result<(), Error>
 }
 
 /// Accepts the registry in the database, migrates it, or creates it.
-fn make_or_take<C: SqlConnection>(conn: &mut C) -> Result<(), OpenFault>
+fn create_or_recognize<C: SqlConnection>(conn: &mut C) -> Result<(), OpenFault>
     requires idle { (C.state conn.old).in_transaction ≡ false }
     requires rest { HasCleanDisk (C.state conn.old) → IsAtRest (C.state conn.old) }
     ensures prepared { HasCleanDisk (C.state conn.new) → OnOk result ((devices : Devices) × IsPrepared
         (C.state conn.old) (C.state conn.new) devices) }
-    ensures refused { HasCleanDisk (C.state conn.new) → result ≡ Err OpenFault.NotARegistry → IsOther
+    ensures refused { HasCleanDisk (C.state conn.new) → result ≡ Err OpenFault.NotARegistry → IsNoRegistry
         (C.state conn.old).now.trees }
     ensures unchanged { HasCleanDisk (C.state conn.new) → result ≡ Err OpenFault.NotARegistry →
         IsUnchanged (C.state conn.old) (C.state conn.new)
         × ((trees : Trees) → (C.state conn.new).may_leave trees → (C.state conn.old).may_leave trees) }
-    ensures stop { Survives (C.state conn.old) (C.state conn.new) (KeepsFound
+    ensures crash { Survives (C.state conn.old) (C.state conn.new) (KeepsFound
         (C.state conn.old).now.trees) }
-    ensures rows { HasCleanDisk (C.state conn.new) → OnOk result (IsHeld (C.state conn.old).now.trees →
+    ensures rows { HasCleanDisk (C.state conn.new) → OnOk result (AreRegistryTrees (C.state conn.old).now.trees →
         KeepsRows (C.state conn.old) (C.state conn.new)) }
-    ensures written { HasCleanDisk (C.state conn.new) → OnOk result (IsHeld (C.state conn.old).now.trees →
-        IsRenewed (C.state conn.old) (C.state conn.new)) }
+    ensures written { HasCleanDisk (C.state conn.new) → OnOk result (AreRegistryTrees (C.state conn.old).now.trees →
+        RewritesVersion (C.state conn.old) (C.state conn.new)) }
     ensures others { HasCleanDisk (C.state conn.new) → OnOk result (KeepsOthers (C.state conn.old).now
         (C.state conn.new).now) }
-    ensures remains { HasCleanDisk (C.state conn.new) → OnErr result (Remains (C.state conn.old)
+    ensures remains { HasCleanDisk (C.state conn.new) → OnErr result (KeepsDatabase (C.state conn.old)
         (C.state conn.new)) }
 {
-    if is_clear(conn.schema()) {
-        conn.make_tables()?;
+    if admits_tables(conn.schema()) {
+        conn.create_tables()?;
         return Ok(());
     }
     match version_of(conn)? {
@@ -73,7 +73,7 @@ fn make_or_take<C: SqlConnection>(conn: &mut C) -> Result<(), OpenFault>
             Ok(())
         }
         Some(Version::Second) => {
-            renew(conn)?;
+            rewrite_version(conn)?;
             Ok(())
         }
     }
@@ -90,7 +90,7 @@ pub fn prepare<C: SqlConnection>(conn: &mut C) -> Result<(), OpenFault>
     requires idle { (C.state conn.old).in_transaction ≡ false }
     ensures clean { HasCleanDisk (C.state conn.new) → HasCleanDisk (C.state conn.old) }
     ensures opened { HasCleanDisk (C.state conn.new) → OnOk result (IsOpened (C.state conn.old) (C.state conn.new)) }
-    ensures rows { HasCleanDisk (C.state conn.new) → OnOk result (IsHeld
+    ensures rows { HasCleanDisk (C.state conn.new) → OnOk result (AreRegistryTrees
         (C.state conn.old).committed.trees → KeepsRows (C.state conn.old) (C.state conn.new)) }
     ensures others { HasCleanDisk (C.state conn.new) → OnOk result (KeepsOthers (C.state conn.old).now
         (C.state conn.new).now) }
@@ -99,7 +99,7 @@ pub fn prepare<C: SqlConnection>(conn: &mut C) -> Result<(), OpenFault>
     ensures refused { IfErr result (RefusesToOpen (C.state conn.old) (C.state conn.new)) }
 {
     check_open(conn)?;
-    make_or_take(conn)
+    create_or_recognize(conn)
 }
 
 impl<C: SqlConnection + Drop> RegistryOver<C> {

@@ -3,13 +3,13 @@ ghost use Rattle.std.specs.Prelude.{◌≡◌, [], true, false, Some, None, opti
 ghost use Rattle.std.specs.FinMap.{get};
 ghost use Rattle.sqlite.specs.State.{HasCleanDisk};
 ghost use Rattle.learned_devices.specs.Labels.{is_label};
-ghost use Rattle.learned_devices.specs.Devices.{Devices, Learn, Relabel, after, kept_label, known_of};
-ghost use Rattle.learned_devices.specs.Devices.{learned, relabelled};
+ghost use Rattle.learned_devices.specs.Devices.{Devices, Learn, Relabel, data_after, kept_label, device_data};
+ghost use Rattle.learned_devices.specs.Devices.{learn_update, relabel_update};
 ghost use Rattle.learned_devices.specs.StoreCalls.{LooksUp, Updates, Learns, Forgets, Relabels, ListsAll};
-ghost use Rattle.device_registry.specs.Holding.{HasDevices, HandsOn, IsRenewed, WritesRow, kept};
+ghost use Rattle.device_registry.specs.Holding.{HasDevices, IsReturned, RewritesVersion, WritesRow, registry_state};
 ghost use Rattle.device_registry.specs.Ready.{IsReady, AreReady};
 
-use crate::cache::{Cache, cached, copied, forget_entry, remember};
+use crate::cache::{Cache, copied, forget_entry, look_up_cached, remember};
 use crate::device_table::DeviceTable;
 use crate::fault::store_fault;
 use crate::sql_connection::SqlConnection;
@@ -47,10 +47,10 @@ impl<C: SqlConnection> Model for RegistryOver<C> {
 
 // The device, with the label of `known`, if the sender is known.
 fn keeping_label(device: Device, known: Option<Device>) -> Device
-    ensures { (result.id ≡ device.id) × (known_of result ≡ record {
+    ensures { (result.id ≡ device.id) × (device_data result ≡ record {
       eep = device.eep;
       maker = device.maker;
-      label = kept_label (option_map known_of known);
+      label = kept_label (option_map device_data known);
     }) }
 {
     let label = match known {
@@ -67,7 +67,7 @@ fn keeping_label(device: Device, known: Option<Device>) -> Device
 
 // The device of a known sender, with this label in place of its own.
 fn with_label(id: u32, known: Device, label: Label) -> Device
-    ensures { (result.id ≡ id) × (known_of result ≡ record {
+    ensures { (result.id ≡ id) × (device_data result ≡ record {
       eep = known.eep;
       maker = known.maker;
       label = label;
@@ -84,11 +84,11 @@ fn with_label(id: u32, known: Device, label: Label) -> Device
 impl<C: SqlConnection> RegistryOver<C> {
     // The device of a sender, if it is learned. `Ok` also means that the connection is open.
     fn known(&mut self, id: u32) -> Result<Option<Device>, StoreFault>
-        ensures looks_up { LooksUp (kept (C.state self.old)) (kept (C.state self.new)) id result }
+        ensures looks_up { LooksUp (registry_state (C.state self.old)) (registry_state (C.state self.new)) id result }
         ensures ready { HasCleanDisk (C.state self.new) → OnOk result (AreReady (C.state self.old)
             (C.state self.new)) }
     {
-        if let Some(known) = cached(&mut self.cache, id) {
+        if let Some(known) = look_up_cached(&mut self.cache, id) {
             return Ok(known);
         }
         match self.table.find(id) {
@@ -106,18 +106,19 @@ impl<C: SqlConnection> RegistryOver<C> {
 
     /// The device of a sender, if it is learned.
     pub fn find(&mut self, id: u32) -> Result<Option<Device>, StoreFault>
-        ensures { LooksUp (kept (C.state self.old)) (kept (C.state self.new)) id result }
+        ensures { LooksUp (registry_state (C.state self.old)) (registry_state (C.state self.new)) id result }
     {
         self.known(id)
     }
 
     // Learns a device with the label that its sender keeps.
-    fn learn_kept(&mut self, device: Device) -> Result<(), LearnFault>
+    fn store_learned(&mut self, device: Device) -> Result<(), LearnFault>
         requires { HasCleanDisk (C.state self.old) → (devices : Devices) → HasDevices (C.state self.old) devices →
-            after (get devices device.id) (Learn device.eep device.maker) ≡ Some (known_of device) }
-        ensures learns { Learns (kept (C.state self.old)) (kept (C.state self.new)) device result }
+            data_after (get devices device.id) (Learn device.eep device.maker) ≡ Some (device_data device) }
+        ensures learns { Learns (registry_state (C.state self.old)) (registry_state (C.state self.new)) device result }
         ensures written { HasCleanDisk (C.state self.new) → (devices : Devices) →
-            HasDevices (C.state self.old) devices → OnOk result (WritesRow C.state self.new (learned device) devices) }
+            HasDevices (C.state self.old) devices → OnOk result
+            (WritesRow C.state self.new (learn_update device) devices) }
     {
         let id = device.id;
         let copy = device.copied();
@@ -138,12 +139,13 @@ impl<C: SqlConnection> RegistryOver<C> {
     // Stores a device. A known sender keeps its label; an unknown one gets the empty label, which the device has here.
     pub(crate) fn put_device(&mut self, device: Device) -> Result<(), LearnFault>
         requires { device.label ≡ [] }
-        ensures learns { Learns (kept (C.state self.old)) (kept (C.state self.new)) device result }
+        ensures learns { Learns (registry_state (C.state self.old)) (registry_state (C.state self.new)) device result }
         ensures written { HasCleanDisk (C.state self.new) → (devices : Devices) →
-            HasDevices (C.state self.old) devices → OnOk result (WritesRow C.state self.new (learned device) devices) }
+            HasDevices (C.state self.old) devices → OnOk result
+            (WritesRow C.state self.new (learn_update device) devices) }
     {
         let known = self.known(device.id)?;
-        self.learn_kept(keeping_label(device, known))
+        self.store_learned(keeping_label(device, known))
     }
 
     /// Learns a device, in place of what was stored for its sender. A known sender keeps its label; an unknown one gets
@@ -151,10 +153,11 @@ impl<C: SqlConnection> RegistryOver<C> {
     /// stored is written again.
     pub fn learn(&mut self, device: Device) -> Result<Receipt, LearnFault>
         requires { device.label ≡ [] }
-        ensures learns { Learns (kept (C.state self.old)) (kept (C.state self.new)) device result }
+        ensures learns { Learns (registry_state (C.state self.old)) (registry_state (C.state self.new)) device result }
         ensures receipt { IfOk result (λ receipt. (receipt.id ≡ device.id) × IsTrue receipt.is_learned) }
         ensures written { HasCleanDisk (C.state self.new) → (devices : Devices) →
-            HasDevices (C.state self.old) devices → OnOk result (WritesRow C.state self.new (learned device) devices) }
+            HasDevices (C.state self.old) devices → OnOk result
+            (WritesRow C.state self.new (learn_update device) devices) }
     {
         DeviceStore::learn(self, device)
     }
@@ -163,12 +166,12 @@ impl<C: SqlConnection> RegistryOver<C> {
     fn relabel_known(&mut self, device: Device) -> Result<(), StoreFault>
         requires ready { HasCleanDisk (C.state self.old) → IsReady (C.state self.old) }
         requires known { HasCleanDisk (C.state self.old) → (devices : Devices) → HasDevices (C.state self.old) devices
-            → after (get devices device.id) (Relabel device.label) ≡ Some (known_of device) }
-        ensures updates { Updates (kept (C.state self.old)) (kept (C.state self.new))
-            (relabelled device.id device.label) result }
+            → data_after (get devices device.id) (Relabel device.label) ≡ Some (device_data device) }
+        ensures updates { Updates (registry_state (C.state self.old)) (registry_state (C.state self.new))
+            (relabel_update device.id device.label) result }
         ensures written { HasCleanDisk (C.state self.new) → (devices : Devices) →
             HasDevices (C.state self.old) devices → OnOk result (WritesRow C.state self.new
-            (relabelled device.id device.label) devices) }
+            (relabel_update device.id device.label) devices) }
     {
         let id = device.id;
         let labelled = device.copied();
@@ -187,10 +190,11 @@ impl<C: SqlConnection> RegistryOver<C> {
 
     // Gives a sender this label if it is learned, and returns whether it is.
     pub(crate) fn relabel_as(&mut self, id: u32, label: Label) -> Result<bool, StoreFault>
-        ensures relabels { Relabels (kept (C.state self.old)) (kept (C.state self.new)) id label result }
+        ensures relabels { Relabels (registry_state (C.state self.old)) (registry_state (C.state self.new)) id label
+            result }
         ensures written { HasCleanDisk (C.state self.new) → (devices : Devices) →
             HasDevices (C.state self.old) devices → IfOk result (λ known. IsTrue known → WritesRow C.state self.new
-            (relabelled id label) devices) }
+            (relabel_update id label) devices) }
     {
         match self.known(id)? {
             Some(known) => {
@@ -205,10 +209,11 @@ impl<C: SqlConnection> RegistryOver<C> {
     /// again.
     pub fn relabel(&mut self, id: u32, text: &str) -> Result<bool, StoreFault>
         requires { is_label text.now ≡ true }
-        ensures relabels { Relabels (kept (C.state self.old)) (kept (C.state self.new)) id text.now result }
+        ensures relabels { Relabels (registry_state (C.state self.old)) (registry_state (C.state self.new)) id text.now
+            result }
         ensures written { HasCleanDisk (C.state self.new) → (devices : Devices) →
             HasDevices (C.state self.old) devices → IfOk result (λ known. IsTrue known → WritesRow C.state self.new
-            (relabelled id text.now) devices) }
+            (relabel_update id text.now) devices) }
     {
         match Label::new(text) {
             Some(label) => self.relabel_as(id, label),
@@ -218,10 +223,10 @@ impl<C: SqlConnection> RegistryOver<C> {
 
     // Deletes the device of a sender. Commits also if the sender is not known.
     pub(crate) fn delete_device(&mut self, id: u32) -> Result<(), StoreFault>
-        ensures forgets { Forgets (kept (C.state self.old)) (kept (C.state self.new)) id result }
+        ensures forgets { Forgets (registry_state (C.state self.old)) (registry_state (C.state self.new)) id result }
         ensures written { HasCleanDisk (C.state self.new) → (devices : Devices) →
             HasDevices (C.state self.old) devices → OnOk result (get devices id ≡ None →
-            IsRenewed (C.state self.old) (C.state self.new)) }
+            RewritesVersion (C.state self.old) (C.state self.new)) }
     {
         forget_entry(&mut self.cache, id);
         match self.table.forget(id) {
@@ -238,18 +243,18 @@ impl<C: SqlConnection> RegistryOver<C> {
 
     /// Forgets a sender. Commits also if the sender is not known: the version row is then rewritten unchanged.
     pub fn forget(&mut self, id: u32) -> Result<Receipt, StoreFault>
-        ensures forgets { Forgets (kept (C.state self.old)) (kept (C.state self.new)) id result }
+        ensures forgets { Forgets (registry_state (C.state self.old)) (registry_state (C.state self.new)) id result }
         ensures receipt { IfOk result (λ receipt. (receipt.id ≡ id) × (receipt.is_learned ≡ false)) }
         ensures written { HasCleanDisk (C.state self.new) → (devices : Devices) →
             HasDevices (C.state self.old) devices → OnOk result (get devices id ≡ None →
-            IsRenewed (C.state self.old) (C.state self.new)) }
+            RewritesVersion (C.state self.old) (C.state self.new)) }
     {
         DeviceStore::forget(self, id)
     }
 
     /// All devices, by ascending ID.
     pub fn all(&mut self) -> Result<Vec<Device>, StoreFault>
-        ensures { ListsAll (kept (C.state self.old)) (kept (C.state self.new)) result }
+        ensures { ListsAll (registry_state (C.state self.old)) (registry_state (C.state self.new)) result }
     {
         match self.table.all() {
             Ok(all) => Ok(all),
@@ -264,7 +269,7 @@ impl<C: SqlConnection> RegistryOver<C> {
     /// opening it again, check `is_autocommit`: nothing is known about a disk that did not return what was written.
     pub fn close(self) -> C
         ensures same { result ≡ self }
-        ensures hands_on { HandsOn (C.state self) }
+        ensures hands_on { IsReturned (C.state self) }
     {
         let RegistryOver { table, cache: _ } = self;
         table.close()

@@ -8,18 +8,18 @@ ghost use Rattle.sqlite.specs.State.{Executes, CommitsBy, Shown, FailsToQuery, C
 ghost use Rattle.sqlite_trees.specs.Tree.{Trees};
 ghost use Rattle.device_registry.specs.declared.table.Version.TheVariants.{First};
 ghost use Rattle.learned_devices.specs.Devices.{Devices};
-ghost use Rattle.device_registry.specs.Stored.{IsRegistry, RegistersAs, Holds};
-ghost use Rattle.device_registry.specs.Ready.{Shows, KeepsOthers};
-ghost use Rattle.device_registry.specs.Opening.{Remains};
-ghost use Rattle.device_registry.specs.Places.{is_clear};
+ghost use Rattle.device_registry.specs.Stored.{IsRegistry, IsRegistryOfVersion, Holds};
+ghost use Rattle.device_registry.specs.Ready.{IsReadyWith, KeepsOthers};
+ghost use Rattle.device_registry.specs.Opening.{KeepsDatabase};
+ghost use Rattle.device_registry.specs.SchemaChecks.{admits_tables};
 
-use crate::{making, migrating};
+use crate::{create, migrate};
 use sqlite::types::ValueRef;
 use sqlite::{Alter, Connection, Error, Row, Statement};
 use sqlite_schema::schema::Schema;
 
 /// The operations that the registry needs of a connection: calls of `sqlite::Connection` and of its statements, with
-/// their contracts, and two of the registry's own, `make_tables` and `migrate_tables`.
+/// their contracts, and two of the registry's own, `create_tables` and `migrate_tables`.
 pub trait SqlConnection {
     /// The state: what the connection shows, what is committed, and what a crash may leave.
     ghost state: { Self → State };
@@ -75,15 +75,16 @@ pub trait SqlConnection {
             (CommitsShowing statement.now.text (bound params.now) (state self.old)) };
 
     /// Creates the two tables, in a database in which nothing has their names, in one transaction.
-    fn make_tables(&mut self) -> Result<(), Error>
+    fn create_tables(&mut self) -> Result<(), Error>
         requires idle { (state self.old).in_transaction ≡ false }
-        requires clear { HasCleanDisk (state self.old) → IsTrue (is_clear (state self.old).now.schema) ×
+        requires clear { HasCleanDisk (state self.old) → IsTrue (admits_tables (state self.old).now.schema) ×
             IsDatabase (state self.old).now }
-        ensures made { HasCleanDisk (state self.new) → OnOk result (Shows (state self.new) empty) }
+        ensures made { HasCleanDisk (state self.new) → OnOk result (IsReadyWith (state self.new) empty) }
         ensures others { HasCleanDisk (state self.new) → OnOk result (KeepsOthers (state self.old).now
             (state self.new).now) }
-        ensures stop { Survives (state self.old) (state self.new) (λ trees. Holds trees empty) }
-        ensures remains { HasCleanDisk (state self.new) → OnErr result (Remains (state self.old) (state self.new)) };
+        ensures crash { Survives (state self.old) (state self.new) (λ trees. Holds trees empty) }
+        ensures remains { HasCleanDisk (state self.new)
+            → OnErr result (KeepsDatabase (state self.old) (state self.new)) };
 
     /// Migrates the tables of a registry of version 1 to version 2, in one transaction.
     fn migrate_tables(&mut self) -> Result<(), Error>
@@ -91,12 +92,13 @@ pub trait SqlConnection {
         requires first { HasCleanDisk (state self.old) → IsRegistry First (state self.old).now ×
             IsDatabase (state self.old).now }
         ensures made { HasCleanDisk (state self.new) → OnOk result ((devices : Devices) →
-            RegistersAs First (state self.old).now devices → Shows (state self.new) devices) }
+            IsRegistryOfVersion First (state self.old).now devices → IsReadyWith (state self.new) devices) }
         ensures others { HasCleanDisk (state self.new) → OnOk result (KeepsOthers (state self.old).now
             (state self.new).now) }
-        ensures stop { Survives (state self.old) (state self.new) (λ trees. (devices : Devices) →
-            RegistersAs First (state self.old).now devices → Holds trees devices) }
-        ensures remains { HasCleanDisk (state self.new) → OnErr result (Remains (state self.old) (state self.new)) };
+        ensures crash { Survives (state self.old) (state self.new) (λ trees. (devices : Devices) →
+            IsRegistryOfVersion First (state self.old).now devices → Holds trees devices) }
+        ensures remains { HasCleanDisk (state self.new)
+            → OnErr result (KeepsDatabase (state self.old) (state self.new)) };
 
     // While the connection is open, a crash leaves what is committed.
     ghost settled: { (s : Self) (trees : Trees) → IsTrue (state s).is_open → (state s).may_leave trees
@@ -136,12 +138,12 @@ impl<S: Alter> SqlConnection for Connection<S> {
         statement.query_all(self, params)
     }
 
-    fn make_tables(&mut self) -> Result<(), Error> {
-        making::make(self)
+    fn create_tables(&mut self) -> Result<(), Error> {
+        create::create_registry(self)
     }
 
     fn migrate_tables(&mut self) -> Result<(), Error> {
-        migrating::migrate(self)
+        migrate::migrate(self)
     }
 
     ghost settled = { λ s. S.Store.settled s.store };

@@ -3,7 +3,7 @@ ghost use Rattle.std.specs.Prelude.{◌≡◌, pos};
 ghost use Rattle.device_registry.specs.Stored.{other};
 ghost use Rattle.device_registry.specs.Table.{number_of, device_name, device_text, find_all_text};
 
-pub mod rows;
+pub mod row_codec;
 pub mod statements;
 
 use statements::{CREATE_DEVICE, CREATE_FIRST_DEVICE, FIND_ALL, FIND_ALL_FIRST};

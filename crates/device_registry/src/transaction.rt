@@ -5,7 +5,7 @@ ghost use Rattle.sqlite.specs.State.{HasCleanDisk};
 ghost use Rattle.sqlite.specs.Held.{state};
 ghost use Rattle.device_registry.specs.private.Transaction.{IsInside, IsListedInside, IsUncommitted};
 
-use crate::listing::are_ours;
+use crate::catalog::are_ours;
 use crate::table::Version;
 use crate::table::statements::LIST_OBJECTS;
 use sqlite::{Alter, Error, ErrorCode, Transaction};
@@ -27,7 +27,7 @@ pub fn run_all<S: Alter>(ours: &mut Transaction<'_, S>, texts: &[&str]) -> Resul
 
 /// Runs the texts, and checks that the two tables of this version are then listed with our texts. If they are not,
 /// SQLite has not done what the texts say.
-pub fn run_listed<S: Alter>(
+pub fn run_and_check_catalog<S: Alter>(
     ours: &mut Transaction<'_, S>,
     texts: &[&str],
     version: Version,

@@ -14,8 +14,8 @@ is_own base id = nat_le base id && nat_le id (base + 127)
 
 -- own choice: a telegram is filtered out if its sender is the broadcast ID, or if it is neither a broadcast nor
 -- addressed to this gateway
-abbrev pub is_passed_over : ℕ → Telegram → Bool
-is_passed_over base t = t.sender == 0xFFFF_FFFF || not (t.dest == 0xFFFF_FFFF || is_own base t.dest)
+abbrev pub is_filtered_out : ℕ → Telegram → Bool
+is_filtered_out base t = t.sender == 0xFFFF_FFFF || not (t.dest == 0xFFFF_FFFF || is_own base t.dest)
 
 -- why it is filtered out: the sender is checked first. Own choice
 abbrev pub filter_reason : Telegram → FilterReason

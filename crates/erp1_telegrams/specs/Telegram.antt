@@ -17,12 +17,12 @@ pub record Telegram : Type 0 where
   pub dbm : Option ℕ
 
 -- the RORGs that are read: RPS, 1BS, 4BS, VLD and UTE (ISO/IEC 14543-3-10, "RORG"). Own choice: no others
-abbrev pub is_kind : ℕ → Bool
-is_kind rorg = rorg == 0xF6 || rorg == 0xD5 || rorg == 0xA5 || rorg == 0xD2 || rorg == 0xD4
+abbrev pub is_known_rorg : ℕ → Bool
+is_known_rorg rorg = rorg == 0xF6 || rorg == 0xD5 || rorg == 0xA5 || rorg == 0xD2 || rorg == 0xD4
 
 -- the payload lengths, in bytes, of each RORG (ISO/IEC 14543-3-10, "RORG")
-abbrev pub fits : ℕ → ℕ → Bool
-fits rorg n =
+abbrev pub payload_fits : ℕ → ℕ → Bool
+payload_fits rorg n =
     if rorg == 0xF6 then n == 1
     else if rorg == 0xD5 then n == 1
     else if rorg == 0xA5 then n == 4
@@ -38,9 +38,9 @@ destination (n ∷ a ∷ b ∷ c ∷ d ∷ dbm ∷ security ∷ more) = from_be_
 destination opt = 0xFFFF_FFFF
 
 -- dBm in the optional data. Own choice: shorter data has none
-abbrev pub strength : List ℕ → Option ℕ
-strength (n ∷ a ∷ b ∷ c ∷ d ∷ dbm ∷ security ∷ more) = Some dbm
-strength opt = None
+abbrev pub dbm_in : List ℕ → Option ℕ
+dbm_in (n ∷ a ∷ b ∷ c ∷ d ∷ dbm ∷ security ∷ more) = Some dbm
+dbm_in opt = None
 
 -- The packet p carries the telegram t (EnOcean Serial Protocol 3, "Packet type 1: RADIO_ERP1"): its data is the RORG,
 -- the payload, the four bytes of the sender ID, the high byte first, and the status.
@@ -50,9 +50,9 @@ pub record CarriesTelegram (p : Packet) (t : Telegram) : Type 0 where
   pub four : length id ≡ 4
   pub body : p.body ≡ t.rorg ∷ t.payload ++ id ++ t.status ∷ []
   pub sender : t.sender ≡ from_be_bytes w32 id
-  pub length_fits : IsTrue (fits t.rorg (length t.payload))
+  pub length_fits : IsTrue (payload_fits t.rorg (length t.payload))
   pub dest : t.dest ≡ destination p.opt
-  pub dbm : t.dbm ≡ strength p.opt
+  pub dbm : t.dbm ≡ dbm_in p.opt
 
 -- the telegram in a packet whose data is long enough; all but six bytes of the data are payload
 abbrev pub telegram_in : Packet → Telegram
@@ -64,7 +64,7 @@ telegram_in p =
       sender = from_be_bytes w32 (slice_range p.body (n + 1) (n + 5));
       status = slice_index p.body (n + 5);
       dest = destination p.opt;
-      dbm = strength p.opt;
+      dbm = dbm_in p.opt;
     }
 
 -- the telegram that a packet carries, or the first fault. Theorem `one_telegram`: it is the only telegram.
@@ -72,14 +72,14 @@ abbrev pub telegram_of : Packet → Result Telegram TelegramFault
 telegram_of p =
     if not (p.kind == 1) then Err NotRadio
     else if length p.body == 0 then Err BadLength
-    else if not (is_kind (slice_index p.body 0)) then Err OtherKind
-    else if not (fits (slice_index p.body 0) (length p.body - 6)) then Err BadLength
+    else if not (is_known_rorg (slice_index p.body 0)) then Err OtherKind
+    else if not (payload_fits (slice_index p.body 0) (length p.body - 6)) then Err BadLength
     else Ok (telegram_in p)
 
 -- the packet in which a telegram is sent: 3 subtelegrams, the highest value of dBm, no security (EnOcean Serial
 -- Protocol 3, "Packet type 1: RADIO_ERP1", the case "send")
-abbrev pub sent : Telegram → Packet
-sent t = record {
+abbrev pub radio_packet : Telegram → Packet
+radio_packet t = record {
   kind = 1;
   body = t.rorg ∷ t.payload ++ to_be_bytes w32 t.sender ++ t.status ∷ [];
   opt = 3 ∷ to_be_bytes w32 t.dest ++ 0xFF ∷ 0 ∷ [];
@@ -87,5 +87,5 @@ sent t = record {
 
 -- the maximum length of a packet in which a telegram is sent: 20 bytes of data and 7 of optional data, with a header of
 -- 6 bytes and one CRC
-abbrev pub max_sent : ℕ
-max_sent = 34
+abbrev pub max_radio_packet : ℕ
+max_radio_packet = 34

@@ -1,7 +1,7 @@
 //! The gateway's own IDs, and the telegrams that it filters out.
 ghost use Rattle.std.specs.Prelude.{◌≡◌, true, false, MatchOption};
 ghost use Rattle.erp1_telegrams.specs.Address;
-ghost use Rattle.erp1_telegrams.specs.Address.{filter_reason, is_passed_over};
+ghost use Rattle.erp1_telegrams.specs.Address.{filter_reason, is_filtered_out};
 
 use crate::telegram::{BROADCAST, Telegram};
 
@@ -36,8 +36,8 @@ pub enum FilterReason {
 /// Why a gateway with this base ID filters out a telegram, or `None` if it does not: the sender is the broadcast ID, or
 /// the destination is neither the broadcast ID nor one of the 128 IDs from `base` on. Own choice.
 pub fn filter_reason(base: u32, telegram: &Telegram) -> Option<FilterReason>
-    ensures { MatchOption result (is_passed_over base telegram.now ≡ false)
-        (λ reason. (is_passed_over base telegram.now ≡ true) × (reason ≡ filter_reason telegram.now)) }
+    ensures { MatchOption result (is_filtered_out base telegram.now ≡ false)
+        (λ reason. (is_filtered_out base telegram.now ≡ true) × (reason ≡ filter_reason telegram.now)) }
 {
     if telegram.sender() == BROADCAST {
         return Some(FilterReason::FromBroadcast);

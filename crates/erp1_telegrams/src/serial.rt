@@ -4,9 +4,9 @@ ghost use Rattle.std.specs.Prelude.{Ok, Err, OnOk, OnErr};
 ghost use Rattle.arrayvec.specs.ArrayVec.{array_vec_len};
 ghost use Rattle.esp3_frames.specs.Packet.{IsPacket, spelling};
 ghost use Rattle.esp3_frames.specs.Outcome.{packet_of};
-ghost use Rattle.erp1_telegrams.specs.Telegram.{telegram_of, destination, strength, sent, max_sent};
+ghost use Rattle.erp1_telegrams.specs.Telegram.{telegram_of, destination, dbm_in, radio_packet, max_radio_packet};
 
-use crate::telegram::{BROADCAST, Telegram, TelegramFault, is_kind};
+use crate::telegram::{BROADCAST, Telegram, TelegramFault, is_known_rorg};
 use arrayvec::ArrayVec;
 use esp3_frames::packet_type::RADIO_ERP1;
 use esp3_frames::{PacketFault, PacketRef, write_packet};
@@ -25,7 +25,7 @@ pub fn read(p: &PacketRef<'_>) -> Result<Telegram, TelegramFault>
         return Err(TelegramFault::BadLength);
     };
     let [payload @ .., a, b, c, d, status] = rest else {
-        return Err(if is_kind(*rorg) {
+        return Err(if is_known_rorg(*rorg) {
             TelegramFault::BadLength
         } else {
             TelegramFault::OtherKind
@@ -39,7 +39,7 @@ pub fn read(p: &PacketRef<'_>) -> Result<Telegram, TelegramFault>
 /// The destination and the dBm of the optional data.
 fn addressee(opt: &[u8]) -> (u32, Option<u8>)
     ensures dest { result.0 ≡ destination opt.now }
-    ensures dbm { result.1 ≡ strength opt.now }
+    ensures dbm { result.1 ≡ dbm_in opt.now }
 {
     match opt {
         [_, a, b, c, d, dbm, _, ..] => (u32::from_be_bytes([*a, *b, *c, *d]), Some(*dbm)),
@@ -51,11 +51,11 @@ fn addressee(opt: &[u8]) -> (u32, Option<u8>)
 /// telegram's own status. `NoRoom` if the packet does not fit after the contents of `out`, which then does not change.
 /// A packet has at most 34 bytes, so it fits after 30.
 pub fn write(t: &Telegram, out: &mut ArrayVec<u8, 64>) -> Result<(), PacketFault>
-    ensures outcome { result ≡ (if nat_lt (64 - array_vec_len out.old) (length (spelling (sent t.now)))
+    ensures outcome { result ≡ (if nat_lt (64 - array_vec_len out.old) (length (spelling (radio_packet t.now)))
         then Err PacketFault.NoRoom else Ok tt) }
-    ensures ok { OnOk result (out.new.items ≡ out.old.items ++ spelling (sent t.now)) }
-    ensures packet { IsPacket (sent t.now) (spelling (sent t.now)) }
-    ensures room { array_vec_len out.old + max_sent ≤ 64 → result ≡ Ok tt }
+    ensures ok { OnOk result (out.new.items ≡ out.old.items ++ spelling (radio_packet t.now)) }
+    ensures packet { IsPacket (radio_packet t.now) (spelling (radio_packet t.now)) }
+    ensures room { array_vec_len out.old + max_radio_packet ≤ 64 → result ≡ Ok tt }
     ensures err { OnErr result (out.new ≡ out.old) }
 {
     let mut body = ArrayVec::<u8, 20>::new();

@@ -6,5 +6,5 @@ pub use Rattle.esp3_frames.proofs.FramingLemmas.{one_of_three, empty_may_become,
 pub use Rattle.esp3_frames.proofs.FramingLemmas.{rest_may_become, frames_of-may_become, framing_in_parts, front_never}
 pub use Rattle.esp3_frames.proofs.FramesByFront.{cases_front, front-empty, partial_short, whole_length, frames-never}
 pub use Rattle.esp3_frames.proofs.FramesByFront.{frames-skipped, frames-partial, frames-whole, packets_in-one}
-pub use Rattle.esp3_frames.proofs.FrontByHeader.{front-short, front-good, front-bad, front_behind-partial}
-pub use Rattle.esp3_frames.proofs.FrontByHeader.{front_behind-whole, front_behind-never}
+pub use Rattle.esp3_frames.proofs.FrontByHeader.{front-short, front-good, front-bad, front_after_header-partial}
+pub use Rattle.esp3_frames.proofs.FrontByHeader.{front_after_header-whole, front_after_header-never}

@@ -6,7 +6,7 @@ use Rattle.std.specs.Prelude.{Result, Ok, Err}
 use Rattle.std.proofs.lemmas.Bool.{and_parts, and_from, le-leb, lt-leb, eq-eqb, ne_eqb}
 use Rattle.esp3_frames.specs.Check.{check}
 use Rattle.esp3_frames.specs.Packet.{lengths_fit, Packet}
-use Rattle.esp3_frames.specs.Frames.{may_begin, Front, front_behind, front_of}
+use Rattle.esp3_frames.specs.Frames.{may_begin, Front, front_after_header, front_of}
 use Rattle.esp3_frames.specs.Frames.Front.{Never, Partial, Whole}
 use Rattle.esp3_frames.specs.Outcome.{header_in, header_of}
 use Rattle.esp3_frames.specs.declared.packet.Header.{Header}
@@ -36,7 +36,7 @@ chosen true x e = refl
 chosen false x e = absurd cc
 
 front-header : (b f w : List ℕ) (x : Header) → length f ≡ 6 → f ++ w ≡ b → header_of f ≡ Ok x
-    → front_of b ≡ front_behind x.data_len x.opt_len x.kind w
+    → front_of b ≡ front_after_header x.data_len x.opt_len x.kind w
 unfolding front_of
 front-header b f w x hf hb hx =
     let t = six f hf in
@@ -48,9 +48,10 @@ front-header b f w x hf hb hx =
     let ek : x.kind ≡ k = (let e = r.is in cc) in
     let good : (may_begin (s ∷ h ∷ l ∷ o ∷ []) && c == check (h ∷ l ∷ o ∷ k ∷ [])) ≡ true =
     and_from _ _ (and_from _ _ (eq-eqb s 0x55 r.sync) r.fits) (eq-eqb c _ r.checked) in
-    ap front_of (sym eb) ∙ chosen _ (front_behind (256 * h + l) o k w) good
-    ∙ sym (ap (λ (n : ℕ). front_behind n x.opt_len x.kind w) ed
-    ∙ ap (λ (n : ℕ). front_behind (256 * h + l) n x.kind w) eo ∙ ap (λ (n : ℕ). front_behind (256 * h + l) o n w) ek)
+    ap front_of (sym eb) ∙ chosen _ (front_after_header (256 * h + l) o k w) good
+    ∙ sym (ap (λ (n : ℕ). front_after_header n x.opt_len x.kind w) ed
+    ∙ ap (λ (n : ℕ). front_after_header (256 * h + l) n x.kind w) eo
+    ∙ ap (λ (n : ℕ). front_after_header (256 * h + l) o n w) ek)
 
 good_header : (s h l o k c : ℕ) → (may_begin (s ∷ h ∷ l ∷ o ∷ []) && c == check (h ∷ l ∷ o ∷ k ∷ [])) ≡ true
     → header_of (s ∷ h ∷ l ∷ o ∷ k ∷ c ∷ []) ≡ Ok (header_in (s ∷ h ∷ l ∷ o ∷ k ∷ c ∷ []))
@@ -77,29 +78,30 @@ front-no_header b f w e hf hb he =
     let s = t.0 in let h = t.1 in let l = t.2 in let o = t.3 in let k = t.4 in let c = t.5 in
     let eb : s ∷ h ∷ l ∷ o ∷ k ∷ c ∷ w ≡ b = ap (λ (y : List ℕ). y ++ w) (sym t.6) ∙ hb in
     ap front_of (sym eb)
-    ∙ never_or _ (front_behind (256 * h + l) o k w)
+    ∙ never_or _ (front_after_header (256 * h + l) o k w)
     (λ good. apart _ e (sym (good_header s h l o k c good) ∙ sym (ap header_of t.6) ∙ he))
 
-pub front_behind-partial : (d o k : ℕ) (w : List ℕ) → length w ≤ d + o → front_behind d o k w ≡ Partial
-front_behind-partial d o k w h = let e : leb (length w) (d + o) ≡ true = le-leb (length w) (d + o) h in rw e refl
+pub front_after_header-partial : (d o k : ℕ) (w : List ℕ) → length w ≤ d + o → front_after_header d o k w ≡ Partial
+front_after_header-partial d o k w h = let e : leb (length w) (d + o) ≡ true = le-leb (length w) (d + o) h in rw e refl
 
-pub front_behind-whole : (d o k : ℕ) (w : List ℕ) → d + o < length w → get_or w (d + o) 0 ≡ check (take (d + o) w)
-    → front_behind d o k w ≡ Whole (record { kind = k; body = take d (take (d + o) w); opt = drop d (take (d + o) w) })
-front_behind-whole d o k w h g =
+pub front_after_header-whole : (d o k : ℕ) (w : List ℕ) → d + o < length w → get_or w (d + o) 0 ≡ check (take (d + o) w)
+    → front_after_header d o k w ≡ Whole (record
+    { kind = k; body = take d (take (d + o) w); opt = drop d (take (d + o) w) })
+front_after_header-whole d o k w h g =
     let e1 : leb (length w) (d + o) ≡ false = lt-leb (length w) (d + o) h in
     let e2 : eqb (get_or w (d + o) 0) (check (take (d + o) w)) ≡ true = eq-eqb _ _ g in
     rw (e1, e2) refl
 
-pub front_behind-never : (d o k : ℕ) (w : List ℕ) → d + o < length w → get_or w (d + o) 0 ≢ check (take (d + o) w)
-    → front_behind d o k w ≡ Never
-front_behind-never d o k w h g =
+pub front_after_header-never : (d o k : ℕ) (w : List ℕ) → d + o < length w → get_or w (d + o) 0 ≢ check (take (d + o) w)
+    → front_after_header d o k w ≡ Never
+front_after_header-never d o k w h g =
     let e1 : leb (length w) (d + o) ≡ false = lt-leb (length w) (d + o) h in
     let e2 : eqb (get_or w (d + o) 0) (check (take (d + o) w)) ≡ false = ne_eqb _ _ g in
     rw (e1, e2) refl
 
 -- a text of at least six bytes with a valid header
 pub front-good : (b : List ℕ) (x : Header) → 6 ≤ length b → header_of (take 6 b) ≡ Ok x
-    → front_of b ≡ front_behind x.data_len x.opt_len x.kind (drop 6 b)
+    → front_of b ≡ front_after_header x.data_len x.opt_len x.kind (drop 6 b)
 front-good b x long good =
     let s = six_first b (take 6 b) (drop 6 b) long refl refl in front-header b (take 6 b) (drop 6 b) x s.0 s.1 good
 

@@ -16,8 +16,8 @@ pub data Front : Type 0 where
   Whole : Packet → Front
 
 -- the front of a text whose first six bytes are a valid header with these lengths and this type, followed by w
-abbrev pub front_behind : ℕ → ℕ → ℕ → List ℕ → Front
-front_behind d o kind w =
+abbrev pub front_after_header : ℕ → ℕ → ℕ → List ℕ → Front
+front_after_header d o kind w =
     if nat_le (length w) (d + o) then Partial
     else if slice_index w (d + o) == check (take (d + o) w) then Whole
     (record { kind = kind; body = take d (take (d + o) w); opt = drop d (take (d + o) w) })
@@ -25,7 +25,7 @@ front_behind d o kind w =
 
 unfoldable pub front_of : List ℕ → Front
 front_of (s ∷ h ∷ l ∷ o ∷ k ∷ c ∷ w) =
-    if may_begin (s ∷ h ∷ l ∷ o ∷ []) && c == check (h ∷ l ∷ o ∷ k ∷ []) then front_behind (256 * h + l) o k w
+    if may_begin (s ∷ h ∷ l ∷ o ∷ []) && c == check (h ∷ l ∷ o ∷ k ∷ []) then front_after_header (256 * h + l) o k w
     else Never
 front_of w = if may_begin w then Partial else Never
 

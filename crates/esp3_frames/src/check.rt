@@ -53,7 +53,7 @@ pub fn check8(b: &[u8]) -> u8
 }
 
 // All CRCs, in the order in which more zero bytes change them: two cycles of 127, and then the two that do not change.
-static ROUNDS: [u8; 256] = [
+static POWERS: [u8; 256] = [
     0x01, 0x07, 0x15, 0x6b, 0x16, 0x62, 0x29, 0xdf, 0x13, 0x79, 0x68, 0x1f, 0x5d, 0x94, 0xe5, 0xb5,
     0x02, 0x0e, 0x2a, 0xd6, 0x2c, 0xc4, 0x52, 0xb9, 0x26, 0xf2, 0xd0, 0x3e, 0xba, 0x2f, 0xcd, 0x6d,
     0x04, 0x1c, 0x54, 0xab, 0x58, 0x8f, 0xa4, 0x75, 0x4c, 0xe3, 0xa7, 0x7c, 0x73, 0x5e, 0x9d, 0xda,
@@ -72,8 +72,8 @@ static ROUNDS: [u8; 256] = [
     0x9c, 0xdd, 0x1d, 0x53, 0xbe, 0x33, 0x99, 0xc6, 0x5c, 0x93, 0xf0, 0xde, 0x14, 0x6c, 0x00, 0xfd,
 ];
 
-// The index of each byte in `ROUNDS`.
-static PLACES: [u8; 256] = [
+// The index of each byte in `POWERS`.
+static LOGS: [u8; 256] = [
     0xfe, 0x00, 0x10, 0x7f, 0x20, 0xdc, 0x8f, 0x01, 0x30, 0x80, 0xec, 0x73, 0x9f, 0x59, 0x11, 0xba,
     0x40, 0x98, 0x90, 0x08, 0xfc, 0x02, 0x04, 0xd8, 0xaf, 0x35, 0x69, 0xdd, 0x21, 0xf2, 0xca, 0x0b,
     0x50, 0x8a, 0xa8, 0x5a, 0xa0, 0x6c, 0x18, 0xd0, 0x8d, 0x06, 0x12, 0xb4, 0x14, 0xbb, 0xe8, 0x1d,
@@ -93,32 +93,32 @@ static PLACES: [u8; 256] = [
 ];
 
 // The length of a cycle: 127 more zero bytes change no CRC.
-const ROUND: usize = 127;
+const ORDER: usize = 127;
 
 // The CRC of a message with the CRC `check`, after `count` more zero bytes.
-fn after_zeros(check: u8, count: usize) -> u8
-    ensures { result ≡ Check.after_zeros check count }
+fn crc_after_zeros(check: u8, count: usize) -> u8
+    ensures { result ≡ Check.crc_after_zeros check count }
 {
-    let place = PLACES[check as usize] as usize;
-    if place >= 2 * ROUND {
+    let place = LOGS[check as usize] as usize;
+    if place >= 2 * ORDER {
         return check;
     }
-    let end = if place < ROUND { ROUND } else { 2 * ROUND };
-    let gone_on = place + count % ROUND;
+    let end = if place < ORDER { ORDER } else { 2 * ORDER };
+    let gone_on = place + count % ORDER;
     let then = if gone_on < end {
         gone_on
     } else {
-        gone_on - ROUND
+        gone_on - ORDER
     };
-    ROUNDS[then]
+    POWERS[then]
 }
 
 /// The CRC of the `len` bytes that came between two moments of a running CRC: `before` is the running CRC at the first
 /// moment, and `all` at the second. The number of steps does not depend on the length. Own choice: the standard goes
 /// through the bytes.
 pub fn check8_between(before: u8, all: u8, len: usize) -> u8
-    ensures value { result ≡ bit_xor all (Check.after_zeros before len) }
+    ensures value { result ≡ bit_xor all (Check.crc_after_zeros before len) }
     ensures part { (m w : List ℕ) → before ≡ check m → all ≡ check (m ++ w) → len ≡ length w → result ≡ check w }
 {
-    all ^ after_zeros(before, len)
+    all ^ crc_after_zeros(before, len)
 }

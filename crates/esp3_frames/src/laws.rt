@@ -1,11 +1,11 @@
 //! Theorems about the definitions. Each function does nothing: its contract is the theorem.
 ghost use Rattle.std.specs.Prelude.{◌≡◌, ◌≢◌, ℕ, ◌+◌, ◌<◌, ◌≤◌, List, [], ◌∷◌, ◌++◌, ◌⊎◌};
 ghost use Rattle.std.specs.Prelude.{length, take, drop, slice_index, bit_xor, replicate, if◌then◌else◌, Ok, Err};
-ghost use Rattle.esp3_frames.specs.Check.{check, after_zeros};
+ghost use Rattle.esp3_frames.specs.Check.{check, crc_after_zeros};
 ghost use Rattle.esp3_frames.specs.Packet.{max_data, max_optional_data, max_packet, Packet, IsPacket};
 ghost use Rattle.esp3_frames.specs.Packet.{OneReading};
 ghost use Rattle.esp3_frames.specs.Framing.{Framing, BeginsWithPacket, MayBecomePacket, NeverPacket};
-ghost use Rattle.esp3_frames.specs.Frames.{front_of, front_behind, may_begin, frames_of, packets_in, rest_of};
+ghost use Rattle.esp3_frames.specs.Frames.{front_of, front_after_header, may_begin, frames_of, packets_in, rest_of};
 ghost use Rattle.esp3_frames.specs.Frames.Front.{Never, Partial, Whole};
 ghost use Rattle.esp3_frames.specs.Outcome.{header_of};
 ghost use Rattle.esp3_frames.specs.declared.limits.TheConstants.{MAX_DATA, MAX_OPTIONAL_DATA, MAX_PACKET};
@@ -27,9 +27,9 @@ pub fn check_next()
 /// The CRC of a message in two parts: the CRC of the first part, advanced over as many zero bytes as the second part
 /// has, joined with the CRC of the second part. A sequence of 127 zero bytes changes no CRC.
 pub fn check_in_parts()
-    ensures parts { (m w : List ℕ) → check (m ++ w) ≡ bit_xor (after_zeros (check m) (length w)) (check w) }
-    ensures zeros { (m : List ℕ) (n : ℕ) → check (m ++ replicate n 0) ≡ after_zeros (check m) n }
-    ensures period { (c n : ℕ) → c < 256 → after_zeros c (n + 127) ≡ after_zeros c n }
+    ensures parts { (m w : List ℕ) → check (m ++ w) ≡ bit_xor (crc_after_zeros (check m) (length w)) (check w) }
+    ensures zeros { (m : List ℕ) (n : ℕ) → check (m ++ replicate n 0) ≡ crc_after_zeros (check m) n }
+    ensures period { (c n : ℕ) → c < 256 → crc_after_zeros c (n + 127) ≡ crc_after_zeros c n }
 {}
 
 /// A text is at most one packet, a packet has one text, and no packet is a proper prefix of another.
@@ -91,5 +91,5 @@ pub fn front_by_header()
     ensures short { (b : List ℕ) → length b < 6 → front_of b ≡ (if may_begin b then Partial else Never) }
     ensures bad { (b : List ℕ) (e : HeaderFault) → 6 ≤ length b → header_of (take 6 b) ≡ Err e → front_of b ≡ Never }
     ensures good { (b : List ℕ) (x : Header) → 6 ≤ length b → header_of (take 6 b) ≡ Ok x →
-        front_of b ≡ front_behind x.data_len x.opt_len x.kind (drop 6 b) }
+        front_of b ≡ front_after_header x.data_len x.opt_len x.kind (drop 6 b) }
 {}

@@ -6,12 +6,12 @@ use Rattle.std.proofs.lemmas.List.{get_or-drop, take-append-le, take-take}
 use Rattle.std.proofs.lemmas.Bool.{cases_eq, cases_lt}
 use Rattle.esp3_frames.specs.Check.{check}
 use Rattle.esp3_frames.specs.Packet.{max_packet}
-use Rattle.esp3_frames.specs.Frames.{Front, front_of, front_behind, may_begin}
+use Rattle.esp3_frames.specs.Frames.{Front, front_of, front_after_header, may_begin}
 use Rattle.esp3_frames.specs.Frames.Front.{Never, Partial, Whole}
 use Rattle.esp3_frames.specs.Outcome.{header_of}
 use Rattle.esp3_frames.specs.declared.packet.Header.{Header}
-use Rattle.esp3_frames.proofs.ForCallers.{front-short, front-good, front_behind-partial, front_behind-whole}
-use Rattle.esp3_frames.proofs.ForCallers.{front_behind-never, whole_length}
+use Rattle.esp3_frames.proofs.ForCallers.{front-short, front-good, front_after_header-partial, front_after_header-whole}
+use Rattle.esp3_frames.proofs.ForCallers.{front_after_header-never, whole_length}
 use Rattle.esp3_resync.specs.private.Settled.{HasHeader, packet_at}
 
 -- less than six bytes that are not skipped
@@ -37,7 +37,7 @@ abbrev IsRight : Header → List ℕ → Type 0
 IsRight h w = get_or w (announced_len h + 6) 0 ≡ check (take (announced_len h) (drop 6 w))
 
 module _ (w : List ℕ) (h : Header) (has : HasHeader w (Some h)) where
-  behind : front_of w ≡ front_behind h.data_len h.opt_len h.kind (drop 6 w)
+  behind : front_of w ≡ front_after_header h.data_len h.opt_len h.kind (drop 6 w)
   behind = front-good w h has.0 has.1
 
   -- the byte of the CRC, by its index after the header and by its index in the packet
@@ -49,17 +49,17 @@ module _ (w : List ℕ) (h : Header) (has : HasHeader w (Some h)) where
   pub waits : length w ≤ announced_len h + 6 → front_of w ≡ Partial
   waits short =
       let n : length (drop 6 w) ≤ announced_len h = omega (arith, length-drop 6 w) in
-      behind ∙ front_behind-partial h.data_len h.opt_len h.kind (drop 6 w) n
+      behind ∙ front_after_header-partial h.data_len h.opt_len h.kind (drop 6 w) n
 
   pub stands : announced_len h + 6 < length w → IsRight h w → front_of w ≡ Whole (packet_at h w)
   stands long right =
       let n : announced_len h < length (drop 6 w) = omega (arith, length-drop 6 w) in
-      behind ∙ front_behind-whole h.data_len h.opt_len h.kind (drop 6 w) n (last ∙ right)
+      behind ∙ front_after_header-whole h.data_len h.opt_len h.kind (drop 6 w) n (last ∙ right)
 
   pub refused : announced_len h + 6 < length w → (IsRight h w → ⊥) → front_of w ≡ Never
   refused long wrong =
       let n : announced_len h < length (drop 6 w) = omega (arith, length-drop 6 w) in
-      behind ∙ front_behind-never h.data_len h.opt_len h.kind (drop 6 w) n (λ e. wrong (sym last ∙ e))
+      behind ∙ front_after_header-never h.data_len h.opt_len h.kind (drop 6 w) n (λ e. wrong (sym last ∙ e))
 
   -- with all its bytes there, the packet is whole unless it is rejected
   pub whole : announced_len h + 6 < length w → front_of w ≢ Never → front_of w ≡ Whole (packet_at h w)

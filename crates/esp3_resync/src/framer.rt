@@ -10,7 +10,7 @@ ghost use Rattle.esp3_frames.specs.Frames.Front.{Whole};
 ghost use Rattle.esp3_frames.specs.Outcome.{packet_of};
 ghost use Rattle.esp3_frames.specs.Packet.{Packet, max_data};
 
-use crate::front::{announced_len, is_refused, is_whole, settle, settle_behind};
+use crate::front::{announced_len, is_complete, is_refused, resync, resync_after_first};
 use crate::runs::{noise_len, push_announced, push_first};
 use crate::window::Window;
 use esp3_frames::{Header, MAX_PACKET, PacketRef, first_packet};
@@ -29,11 +29,11 @@ pub struct PacketBuf {
 impl Model for PacketBuf {
     ghost use Rattle.std.specs.Prelude.{Option};
     ghost use Rattle.esp3_frames.specs.Packet.{Packet};
-    ghost use Rattle.esp3_resync.specs.Kept.{Buffered, kept};
+    ghost use Rattle.esp3_resync.specs.BufferedPacket.{Buffered, buffered_packet};
 
     ghost Value = { Option Packet };
 
-    ghost view = { λ b. kept b.header b.bytes.items };
+    ghost view = { λ b. buffered_packet b.header b.bytes.items };
 
     ghost invariant = { λ b. Buffered b.bytes b.header };
 }
@@ -78,13 +78,13 @@ pub struct Framer {
 
 impl Model for Framer {
     ghost use Rattle.esp3_frames.specs.Frames.{Frames, frames_of};
-    ghost use Rattle.esp3_resync.specs.private.Settled.{Settled};
+    ghost use Rattle.esp3_resync.specs.private.Settled.{IsSettled};
 
     ghost Value = { Frames };
 
     ghost view = { λ f. frames_of f.window };
 
-    ghost invariant = { λ f. Settled f.window f.header };
+    ghost invariant = { λ f. IsSettled f.window f.header };
 }
 
 impl Framer {
@@ -104,7 +104,7 @@ impl Framer {
         ensures rest { MayBecomePacket self.now.rest }
     {
         match self.header {
-            Some(header) => is_whole(&self.window, header),
+            Some(header) => is_complete(&self.window, header),
             None => false,
         }
     }
@@ -152,7 +152,7 @@ impl Framer {
         if let Some(header) = self.header {
             let count = push_announced(&mut self.window, header, bytes);
             if is_refused(&self.window, header) {
-                self.header = settle_behind(&mut self.window);
+                self.header = resync_after_first(&mut self.window);
             }
             return count;
         }
@@ -163,14 +163,14 @@ impl Framer {
             }
         }
         let count = push_first(&mut self.window, bytes);
-        self.header = settle(&mut self.window);
+        self.header = resync(&mut self.window);
         count
     }
 
     /// The packet with which the next bytes of the stream begin, and its length in bytes. `None` if a byte is held, or
     /// if the bytes begin with no whole packet. If the packet's bytes were pushed and the packet taken, the framer
     /// would be as it is now. Copies nothing.
-    pub fn lend<'b>(&self, bytes: &'b [u8]) -> Option<(PacketRef<'b>, usize)>
+    pub fn borrow_packet<'b>(&self, bytes: &'b [u8]) -> Option<(PacketRef<'b>, usize)>
         requires { length self.now.ready ≡ 0 }
         ensures within { IfSome result (λ r. (0 < r.1) × (r.1 ≤ length bytes.now)) }
         ensures short { IfSome result (λ r. length r.0.body.now ≤ max_data) }
@@ -197,14 +197,14 @@ impl Framer {
         let Some(header) = self.header else {
             return false;
         };
-        if !is_whole(&self.window, header) {
+        if !is_complete(&self.window, header) {
             return false;
         }
         self.window.skip(6);
         self.window.move_into(announced_len(header), &mut out.bytes);
         self.window.skip(1);
         out.header = Some(header);
-        self.header = settle(&mut self.window);
+        self.header = resync(&mut self.window);
         true
     }
 }

@@ -4,20 +4,20 @@ ghost use Rattle.std.specs.Bool.{OnTrue, OnFalse};
 ghost use Rattle.esp3_frames.specs.Frames.{front_of, frames_of};
 ghost use Rattle.esp3_frames.specs.Frames;
 ghost use Rattle.esp3_frames.specs.Frames.Front.{Never, Partial, Whole};
-ghost use Rattle.esp3_resync.specs.private.Settled.{HasHeader, IsFound, Settled, packet_at};
+ghost use Rattle.esp3_resync.specs.private.Settled.{HasHeader, IsWindowFront, IsSettled, packet_at};
 
 use crate::window::Window;
 use esp3_frames::{Header, SYNC_BYTE, lengths_fit, read_header};
 
 /// The front of a window.
 #[derive(Clone, Copy)]
-pub enum Found {
+pub enum WindowFront {
     /// No packet begins here, whatever follows.
-    Refused,
+    NoPacket,
     /// A packet may begin here; less than six of its bytes have come.
-    Begun,
+    PartialHeader,
     /// A packet with this header is here, or may be.
-    Announced(Header),
+    WholeHeader(Header),
 }
 
 /// The length of the data and optional data that a header announces.
@@ -28,8 +28,8 @@ pub fn announced_len(header: Header) -> usize
 }
 
 /// Whether the packet with the header at the front is complete, if it is not rejected.
-pub fn is_whole(window: &Window, header: Header) -> bool
-    requires { Settled window.now (Some header) }
+pub fn is_complete(window: &Window, header: Header) -> bool
+    requires { IsSettled window.now (Some header) }
     ensures whole { OnTrue result (front_of window.now ≡ Whole (packet_at header window.now)) }
     ensures partial { OnFalse result (front_of window.now ≡ Partial) }
 {
@@ -57,47 +57,47 @@ fn may_begin(window: &Window) -> bool
         )
 }
 
-fn front(window: &Window) -> Found
-    ensures { IsFound result window.now }
+fn front(window: &Window) -> WindowFront
+    ensures { IsWindowFront result window.now }
 {
     let Some(first_six) = window.as_slice().first_chunk::<6>() else {
         return if may_begin(window) {
-            Found::Begun
+            WindowFront::PartialHeader
         } else {
-            Found::Refused
+            WindowFront::NoPacket
         };
     };
     let Ok(header) = read_header(first_six) else {
-        return Found::Refused;
+        return WindowFront::NoPacket;
     };
     if is_refused(window, header) {
-        Found::Refused
+        WindowFront::NoPacket
     } else {
-        Found::Announced(header)
+        WindowFront::WholeHeader(header)
     }
 }
 
 /// Skips bytes until a packet may begin at the front, and returns its header once that is complete.
-pub fn settle(window: &mut Window) -> Option<Header>
+pub fn resync(window: &mut Window) -> Option<Header>
     ensures frames { frames_of window.new ≡ frames_of window.old }
-    ensures settled { Settled window.new result }
+    ensures settled { IsSettled window.new result }
 {
     loop {
         match front(window) {
-            Found::Refused => window.skip_to_sync(),
-            Found::Begun => return None,
-            Found::Announced(header) => return Some(header),
+            WindowFront::NoPacket => window.skip_to_sync(),
+            WindowFront::PartialHeader => return None,
+            WindowFront::WholeHeader(header) => return Some(header),
         }
     }
 }
 
 /// Skips the first byte, at which no packet begins, and then proceeds as `settle`, so it does not check that byte
 /// again.
-pub fn settle_behind(window: &mut Window) -> Option<Header>
+pub fn resync_after_first(window: &mut Window) -> Option<Header>
     requires { front_of window.old ≡ Never }
     ensures frames { frames_of window.new ≡ frames_of window.old }
-    ensures settled { Settled window.new result }
+    ensures settled { IsSettled window.new result }
 {
     window.skip_to_sync();
-    settle(window)
+    resync(window)
 }

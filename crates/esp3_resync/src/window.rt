@@ -3,7 +3,7 @@ ghost use Rattle.std.specs.Prelude.{◌≡◌, ℕ, ◌+◌, ◌<◌, ◌≤◌,
 ghost use Rattle.std.specs.Prelude.{slice_index, slice_index_or, vec_capacity, ◌==◌, IfOk};
 ghost use Rattle.esp3_frames.specs.Check.{check};
 ghost use Rattle.esp3_frames.specs.Packet.{max_packet};
-ghost use Rattle.esp3_resync.specs.private.Running.{Noted, Running, room};
+ghost use Rattle.esp3_resync.specs.private.RunningChecks.{HasChecks, HasRunningChecks, room};
 ghost use Rattle.esp3_resync.specs.private.Settled.{ReachesSync};
 
 use esp3_frames::{MAX_PACKET, SYNC_BYTE, check8_between, check8_next};
@@ -19,11 +19,11 @@ const ROOM: usize = MAX_PACKET + SLACK;
 
 // Continues a running CRC over some bytes: `checks` has at `at` the CRC of all bytes before them, and gets the CRC of
 // all bytes up to each of them.
-fn note_checks(checks: &mut [u8], at: usize, bytes: &[u8])
+fn record_checks(checks: &mut [u8], at: usize, bytes: &[u8])
     requires { at + length bytes.now < length checks.old }
     ensures len { length checks.new ≡ length checks.old }
-    ensures noted { (gone w : List ℕ) → at ≡ length w → Noted gone w checks.old →
-        Noted gone (w ++ bytes.now) checks.new }
+    ensures noted { (gone w : List ℕ) → at ≡ length w → HasChecks gone w checks.old →
+        HasChecks gone (w ++ bytes.now) checks.new }
 {
     let mut all = checks[at];
     for i in 0..bytes.len() {
@@ -35,9 +35,9 @@ fn note_checks(checks: &mut [u8], at: usize, bytes: &[u8])
 // Moves the bytes from `start` on to the front, with their CRCs, if `count` more bytes do not fit. Returns their new
 // start.
 fn make_room(bytes: &mut Vec<u8>, start: usize, checks: &mut Vec<u8>, count: usize) -> usize
-    requires running { Running bytes.old start checks.old }
+    requires running { HasRunningChecks bytes.old start checks.old }
     requires few { length bytes.old.items + count ≤ start + max_packet }
-    ensures running { Running bytes.new result checks.new }
+    ensures running { HasRunningChecks bytes.new result checks.new }
     ensures same { drop result bytes.new.items ≡ drop start bytes.old.items }
     ensures room { length bytes.new.items + count ≤ room }
 {
@@ -52,7 +52,7 @@ fn make_room(bytes: &mut Vec<u8>, start: usize, checks: &mut Vec<u8>, count: usi
 
 // Extends `checks` to at least `count` entries, within its capacity. Memory is therefore not written to before as many
 // bytes have come.
-fn make_places(checks: &mut Vec<u8>, count: usize)
+fn make_check_slots(checks: &mut Vec<u8>, count: usize)
     requires { count ≤ vec_capacity checks.old }
     ensures enough { count ≤ length checks.new.items }
     ensures same { (i : ℕ) → i < length checks.old.items →
@@ -81,13 +81,13 @@ pub struct Window {
 
 impl Model for Window {
     ghost use Rattle.std.specs.Prelude.{ℕ, List, drop};
-    ghost use Rattle.esp3_resync.specs.private.Running.{Running};
+    ghost use Rattle.esp3_resync.specs.private.RunningChecks.{HasRunningChecks};
 
     ghost Value = { List ℕ };
 
     ghost view = { λ w. drop w.start w.bytes.items };
 
-    ghost invariant = { λ w. Running w.bytes w.start w.checks };
+    ghost invariant = { λ w. HasRunningChecks w.bytes w.start w.checks };
 }
 
 impl Window {
@@ -149,8 +149,8 @@ impl Window {
         ensures { self.new ≡ self.old ++ bytes.now }
     {
         self.start = make_room(&mut self.bytes, self.start, &mut self.checks, bytes.len());
-        make_places(&mut self.checks, self.bytes.len() + bytes.len() + 1);
-        note_checks(&mut self.checks, self.bytes.len(), bytes);
+        make_check_slots(&mut self.checks, self.bytes.len() + bytes.len() + 1);
+        record_checks(&mut self.checks, self.bytes.len(), bytes);
         let _has_room = self.bytes.extend_from_slice(bytes);
     }
 

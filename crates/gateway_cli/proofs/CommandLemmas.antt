@@ -33,8 +33,8 @@ use Rattle.clap.specs.declared.parser.matches.ArgMatches.{ArgMatches}
 use Rattle.clap.proofs.SimpleLemmas.{plain_fields}
 use Rattle.clap.proofs.ValueTestLemmas.{accepts-Accepts}
 use Rattle.gateway_cli.specs.Bases.{base_in}
-use Rattle.gateway_cli.specs.CommandLine.{HasExplain, IsComplete, IsTaken, IsWhole, base_rule, enogate_app}
-use Rattle.gateway_cli.specs.CommandLine.{explain_rule, given_to, text_found}
+use Rattle.gateway_cli.specs.CommandLine.{HasExplain, IsComplete, IsAccepted, HasLiveOptions, base_rule, enogate_app}
+use Rattle.gateway_cli.specs.CommandLine.{explain_rule, subcommand_rows, option_text}
 use Rattle.gateway_cli.proofs.RequiredLemmas.{DefaultFits, HasOne, RowFits, RuleFits, default_one, found_in, given_one}
 use Rattle.gateway_cli.proofs.RequiredLemmas.{level_fits, none_missing, or_else_none}
 
@@ -54,7 +54,7 @@ more_commands old sub new app below added above is plain =
 
 -- the parse of the command `enogate` accepts the words
 pub taken_so : (words : List Text) (command : Command) → app_of command ≡ enogate_app
-    → (is_simple_and_free (app_of command) ≡ true → fault_of (app_of command) words ≡ []) → IsTaken words
+    → (is_simple_and_free (app_of command) ≡ true → fault_of (app_of command) words ≡ []) → IsAccepted words
 taken_so words command is none =
     let P : App → Type 0 = λ app. is_simple_and_free app ≡ true → fault_of app words ≡ [] in subst P is none refl
 
@@ -167,7 +167,7 @@ replay_passes words e =
 
 -- everything that `live` requires is there, if its words pass
 live_passes : (words : List Text) → level_fault live_shape [] nothing_held words false [] ≡ []
-    → HasExplain (rows_after live_shape.rules [] words) × IsWhole (rows_after live_shape.rules [] words)
+    → HasExplain (rows_after live_shape.rules [] words) × HasLiveOptions (rows_after live_shape.rules [] words)
 live_passes words e =
     let rows = rows_after live_shape.rules [] words in
     let level = level_fits live_shape refl live_rules_fit (λ n. refl) live_defaults_fit words e in
@@ -182,7 +182,7 @@ live_passes words e =
     λ k low required own. let got = one k low required own in
     ap (λ o. is_some o) (first_text (rule k).id rows got.0 got.2.0 got.1 got.2.1) in
     let turns = one 4 (omega arith) refl refl in
-    let whole : IsWhole rows = record {
+    let whole : HasLiveOptions rows = record {
       serial = text 1 (omega arith) refl refl;
       desk = text 2 (omega arith) refl refl;
       out = text 3 (omega arith) refl refl;
@@ -239,8 +239,8 @@ entered_complete (Some p) found e is named =
         (complete (subst (λ (x : Text × List Row). Serves x.0) (sym same) named) p.1 e)
 
 -- if a base was found, the subcommand is one that serves, with everything that it requires
-complete : (words : List Text) (found : Option (Text × List Row)) (base : ℕ) → IsTaken words
-    → found ≡ subcommand_of enogate_app words → option_and_then base_in (text_found (codes "base") found) ≡ Some base
+complete : (words : List Text) (found : Option (Text × List Row)) (base : ℕ) → IsAccepted words
+    → found ≡ subcommand_of enogate_app words → option_and_then base_in (option_text (codes "base") found) ≡ Some base
     → IsComplete found
 complete words None base taken is read = cc
 complete words (Some found) base taken is read =
@@ -266,7 +266,7 @@ complete words (Some found) base taken is read =
 pub complete_so : (words : List Text) (command : Command) (m : ArgMatches) (base : ℕ) → app_of command ≡ enogate_app
     → (is_simple_and_free (app_of command) ≡ true → fault_of (app_of command) words ≡ [])
     → HasMatchesOf (app_of command) words m
-    → option_and_then base_in (text_found (codes "base") (subcommand_rows_of m)) ≡ Some base
+    → option_and_then base_in (option_text (codes "base") (subcommand_rows_of m)) ≡ Some base
     → IsComplete (subcommand_rows_of m)
 complete_so words command m base is none found read =
     complete words (subcommand_rows_of m) base (taken_so words command is none) (found_so words command m is found) read
@@ -275,7 +275,7 @@ complete_so words command m base is none found read =
 
 -- what was given to a complete subcommand has the text of `--explain`
 pub has_explain : (found : Option (Text × List Row)) (rows : List Row) → IsComplete found
-    → Some rows ≡ option_and_then given_to found → HasExplain rows
+    → Some rows ≡ option_and_then subcommand_rows found → HasExplain rows
 has_explain None rows complete is = cc
 has_explain (Some found) rows complete is =
     go (bytes_eq found.0 (codes "replay") || bytes_eq found.0 (codes "live")) is

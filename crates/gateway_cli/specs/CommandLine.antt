@@ -12,8 +12,8 @@ use Rattle.clap.specs.declared.builder.value_parser.ValueParser.TheVariants.{Uns
 use Rattle.clap.specs.declared.error.ErrorKind.TheVariants.{OutOfMemory}
 use Rattle.gateway_cli.specs.Bases.{base_in}
 use Rattle.gateway_cli.specs.declared.LiveOptions.{LiveOptions}
-use Rattle.gateway_cli.specs.declared.Refused.{Refused}
-use Rattle.gateway_cli.specs.declared.Refused.TheVariants.{Words, BadBase}
+use Rattle.gateway_cli.specs.declared.CommandLineFault.{CommandLineFault}
+use Rattle.gateway_cli.specs.declared.CommandLineFault.TheVariants.{Words, BadBase}
 use Rattle.gateway_cli.specs.declared.Task.{Task}
 use Rattle.gateway_cli.specs.declared.Task.TheVariants.{Replay, Live}
 
@@ -67,28 +67,29 @@ enogate_app =
     (with_subcommand (with_subcommand_required (with_version (new_app (codes "enogate")))) replay_app.top) live_app.top
 
 -- what was given to the subcommand, if it is `replay` or `live`
-abbrev pub given_to : Text × List Row → Option (List Row)
-given_to (name, rows) = if bytes_eq name (codes "replay") || bytes_eq name (codes "live") then Some rows else None
+abbrev pub subcommand_rows : Text × List Row → Option (List Row)
+subcommand_rows (name, rows) =
+    if bytes_eq name (codes "replay") || bytes_eq name (codes "live") then Some rows else None
 
 -- the text of its option of this name
-abbrev pub text_found : Text → Option (Text × List Row) → Option Text
-text_found name found = option_and_then (first_of name) (option_and_then given_to found)
+abbrev pub option_text : Text → Option (Text × List Row) → Option Text
+option_text name found = option_and_then (first_of name) (option_and_then subcommand_rows found)
 
 -- its flag of this name was given: `clap` then finds the text `true` for it, and otherwise `false`
-abbrev pub flag_found : Text → Option (Text × List Row) → Bool
-flag_found name found = option_map_or (λ text. bytes_eq text (codes "true")) (text_found name found) false
+abbrev pub option_flag : Text → Option (Text × List Row) → Bool
+option_flag name found = option_map_or (λ text. bytes_eq text (codes "true")) (option_text name found) false
 
 -- the base ID of a command line that `clap` accepts
 abbrev pub base_of_line : List Text → Option ℕ
-base_of_line words = option_and_then base_in (text_found (codes "base") (subcommand_of enogate_app words))
+base_of_line words = option_and_then base_in (option_text (codes "base") (subcommand_of enogate_app words))
 
 -- the path of its registry, if it names one
 abbrev pub db_of_line : List Text → Option Text
-db_of_line words = text_found (codes "db") (subcommand_of enogate_app words)
+db_of_line words = option_text (codes "db") (subcommand_of enogate_app words)
 
 -- whether it asks for explanations
 abbrev pub explain_of_line : List Text → Bool
-explain_of_line words = flag_found (codes "explain") (subcommand_of enogate_app words)
+explain_of_line words = option_flag (codes "explain") (subcommand_of enogate_app words)
 
 -- the text spells this number in decimal digits, after one optional `+`
 abbrev pub Spells : Text → ℕ → Type 0
@@ -103,7 +104,7 @@ pub record AreTurns (rows : List Row) (turns : ℕ) : Type 0 where
   pub most : turns ≤ 4294967295
 
 -- the options of `live` as they were given
-pub record AreLive (rows : List Row) (options : LiveOptions) : Type 0 where
+pub record AreLiveOptions (rows : List Row) (options : LiveOptions) : Type 0 where
   pub serial : first_of (codes "serial") rows ≡ Some options.serial.now
   pub desk : first_of (codes "desk") rows ≡ Some options.desk.now
   pub out : first_of (codes "out") rows ≡ Some options.out.now
@@ -113,7 +114,7 @@ pub record AreLive (rows : List Row) (options : LiveOptions) : Type 0 where
 abbrev pub Asks : Option (Text × List Row) → Task → Type 0
 Asks None task = ⊥
 Asks (Some (name, rows)) Replay = name ≡ codes "replay"
-Asks (Some (name, rows)) (Live options) = (name ≡ codes "live") × AreLive rows options
+Asks (Some (name, rows)) (Live options) = (name ≡ codes "live") × AreLiveOptions rows options
 
 -- what a command line that `clap` accepts asks for
 abbrev pub AsksFor : List Text → Task → Type 0
@@ -134,7 +135,7 @@ pub record HasExplain (rows : List Row) : Type 0 where
   pub is : (text ≡ codes "true") ⊎ (text ≡ codes "false")
 
 -- each option that `live` requires was given
-pub record IsWhole (rows : List Row) : Type 0 where
+pub record HasLiveOptions (rows : List Row) : Type 0 where
   pub serial : is_some (first_of (codes "serial") rows) ≡ true
   pub desk : is_some (first_of (codes "desk") rows) ≡ true
   pub out : is_some (first_of (codes "out") rows) ≡ true
@@ -144,19 +145,19 @@ pub record IsWhole (rows : List Row) : Type 0 where
 abbrev pub IsComplete : Option (Text × List Row) → Type 0
 IsComplete None = ⊥
 IsComplete (Some (name, rows)) =
-    HasExplain rows × ((name ≡ codes "replay") ⊎ ((name ≡ codes "live") × IsWhole rows))
+    HasExplain rows × ((name ≡ codes "replay") ⊎ ((name ≡ codes "live") × HasLiveOptions rows))
 
 -- it was rejected because memory ran out
-abbrev pub IsMemory : Refused → Type 0
-IsMemory BadBase = ⊥
-IsMemory (Words error) = kind_of error ≡ OutOfMemory
+abbrev pub IsOutOfMemory : CommandLineFault → Type 0
+IsOutOfMemory BadBase = ⊥
+IsOutOfMemory (Words error) = kind_of error ≡ OutOfMemory
 
 -- `clap` accepts the line
-abbrev pub IsTaken : List Text → Type 0
-IsTaken words = fault_of enogate_app words ≡ []
+abbrev pub IsAccepted : List Text → Type 0
+IsAccepted words = fault_of enogate_app words ≡ []
 
 -- `clap` rejects the line for a cause that the line has, or because memory ran out; or it accepts it, and the base is
 -- invalid
-abbrev pub RefusesLine : List Text → Refused → Type 0
+abbrev pub RefusesLine : List Text → CommandLineFault → Type 0
 RefusesLine words (Words error) = HasKind (fault_of enogate_app words) error
-RefusesLine words BadBase = IsTaken words × (base_of_line words ≡ None)
+RefusesLine words BadBase = IsAccepted words × (base_of_line words ≡ None)

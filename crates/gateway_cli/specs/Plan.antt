@@ -7,20 +7,21 @@ use Rattle.gateway_cli.specs.declared.Task.TheVariants as task
 use Rattle.gateway_cli.specs.declared.plan.Plan.{Plan}
 use Rattle.gateway_cli.specs.declared.plan.Service.{Service}
 use Rattle.gateway_cli.specs.declared.plan.Service.TheVariants.{Replay, Live}
-use Rattle.gateway_cli.specs.declared.plan.Opened.{Opened}
+use Rattle.gateway_cli.specs.declared.plan.FileToOpen.{FileToOpen}
 use Rattle.gateway_cli.specs.declared.plan.Access.{Access}
 use Rattle.gateway_cli.specs.declared.plan.Access.TheVariants.{Read, ReadAndWrite, WriteAnew}
 
 -- a file, and its access
-abbrev pub opened : Bor (List ℕ) → Access → Opened
-opened path access = record { path = path; access = access }
+abbrev pub file_to_open : Bor (List ℕ) → Access → FileToOpen
+file_to_open path access = record { path = path; access = access }
 
 -- The service of a run. A replay makes at most 4,000,000,000 reads; a live gateway reads and writes the serial line,
 -- reads the desk, and writes its answers to a new or emptied file.
 abbrev pub service_of : Task → Service
 service_of task.Replay = Replay 4000000000
 service_of (task.Live options) =
-    Live (opened options.serial ReadAndWrite) (opened options.desk Read) (opened options.out WriteAnew) options.turns
+    Live (file_to_open options.serial ReadAndWrite) (file_to_open options.desk Read)
+    (file_to_open options.out WriteAnew) options.turns
 
 abbrev pub plan_of : Options → Plan
 plan_of options = record {

@@ -2,21 +2,22 @@
 #![tactic(auto)]
 
 mod commands;
-mod given;
 mod limits;
+mod option_values;
 mod plan;
 
 ghost use Rattle.std.specs.Prelude.{◌≡◌, ◌⊎◌, IfOk, IfErr, OnOk, Some, map, option_map, true};
 ghost use Rattle.std.specs.String.{string_bytes};
 ghost use Rattle.clap.specs.Words.{takes};
 ghost use Rattle.erp1_telegrams.specs.Address;
-ghost use Rattle.gateway_cli.specs.CommandLine.{AsksFor, IsMemory, IsTaken, RefusesLine, base_of_line, db_of_line};
+ghost use Rattle.gateway_cli.specs.CommandLine.{AsksFor, IsOutOfMemory, IsAccepted, RefusesLine, base_of_line};
+ghost use Rattle.gateway_cli.specs.CommandLine.{db_of_line};
 ghost use Rattle.gateway_cli.specs.CommandLine.{enogate_app, explain_of_line};
 
 use clap::Error;
 use commands::command;
-use given::{base_given, explain_given, task_given, text_given};
-pub use plan::{Access, Opened, Plan, Service};
+use option_values::{base_value, explain_flag, task_value, text_value};
+pub use plan::{Access, FileToOpen, Plan, Service};
 use std::alloc::{AllocError, Global};
 
 /// What the command line asks for.
@@ -56,7 +57,7 @@ pub struct LiveOptions<'a> {
 
 /// Why a command line was rejected.
 #[derive(Debug, Drop, thiserror::Error)]
-pub enum Refused {
+pub enum CommandLineFault {
     /// `clap` rejected it, or was asked for help or for the version, or is out of memory.
     #[error(transparent)]
     Words(Error),
@@ -65,23 +66,23 @@ pub enum Refused {
     BadBase,
 }
 
-impl From<Error> for Refused {
-    ghost use Rattle.gateway_cli.specs.declared.Refused.TheVariants.{Words};
+impl From<Error> for CommandLineFault {
+    ghost use Rattle.gateway_cli.specs.declared.CommandLineFault.TheVariants.{Words};
 
     ghost from_gives = { λ error why. why ≡ Words error };
 
-    fn from(error: Error) -> Refused {
-        Refused::Words(error)
+    fn from(error: Error) -> CommandLineFault {
+        CommandLineFault::Words(error)
     }
 }
 
-impl From<AllocError> for Refused {
-    ghost use Rattle.gateway_cli.specs.CommandLine.{IsMemory};
+impl From<AllocError> for CommandLineFault {
+    ghost use Rattle.gateway_cli.specs.CommandLine.{IsOutOfMemory};
 
-    ghost from_gives = { λ _ why. IsMemory why };
+    ghost from_gives = { λ _ why. IsOutOfMemory why };
 
-    fn from(error: AllocError) -> Refused {
-        Refused::Words(Error::from(error))
+    fn from(error: AllocError) -> CommandLineFault {
+        CommandLineFault::Words(Error::from(error))
     }
 }
 
@@ -93,8 +94,8 @@ impl From<AllocError> for Refused {
 /// ID is a base ID as eight hexadecimal digits, in upper or lower case, and N is 1 to 4294967295. The options may be in
 /// any order, and in the spellings that `clap` has for them. Any other line is rejected, and so is one that asks for
 /// help or for the version.
-pub fn read<'a>(alloc: Global, words: &'a [String]) -> Result<Options<'a>, Refused>
-    ensures taken { OnOk result (IsTaken (map string_bytes words.now)) }
+pub fn read<'a>(alloc: Global, words: &'a [String]) -> Result<Options<'a>, CommandLineFault>
+    ensures taken { OnOk result (IsAccepted (map string_bytes words.now)) }
     ensures base { IfOk result (λ options. base_of_line (map string_bytes words.now) ≡ Some options.base) }
     ensures db { IfOk result (λ options.
         option_map (λ path. path.now) options.db ≡ db_of_line (map string_bytes words.now)) }
@@ -103,16 +104,16 @@ pub fn read<'a>(alloc: Global, words: &'a [String]) -> Result<Options<'a>, Refus
     ensures is_base { IfOk result (λ options. Address.is_base options.base ≡ true) }
     ensures refused { IfErr result (RefusesLine (map string_bytes words.now)) }
     ensures passes { takes enogate_app (map string_bytes words.now) ≡ true →
-        IfErr result (λ why. (why ≡ Refused.BadBase) ⊎ IsMemory why) }
+        IfErr result (λ why. (why ≡ CommandLineFault.BadBase) ⊎ IsOutOfMemory why) }
 {
     let matches = command(alloc)?.try_get_matches_from(words)?;
-    match base_given(&matches) {
+    match base_value(&matches) {
         Some(base) => Ok(Options {
             base,
-            db: text_given(&matches, "db"),
-            explain: explain_given(&matches),
-            task: task_given(&matches),
+            db: text_value(&matches, "db"),
+            explain: explain_flag(&matches),
+            task: task_value(&matches),
         }),
-        None => Err(Refused::BadBase),
+        None => Err(CommandLineFault::BadBase),
     }
 }

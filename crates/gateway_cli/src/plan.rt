@@ -28,16 +28,16 @@ pub enum Service<'a> {
     /// The files that are served, and for how many turns. They are opened in this order, none after one that cannot be
     /// opened; no postcondition says so.
     Live {
-        serial: Opened<'a>,
-        desk: Opened<'a>,
-        out: Opened<'a>,
+        serial: FileToOpen<'a>,
+        desk: FileToOpen<'a>,
+        out: FileToOpen<'a>,
         turns: u64,
     },
 }
 
 /// A file that is opened.
 #[derive(Clone, Copy, Debug, PartialEq, Eq)]
-pub struct Opened<'a> {
+pub struct FileToOpen<'a> {
     /// Its path.
     pub path: &'a str,
     /// Its access.
@@ -75,15 +75,15 @@ fn service_of<'a>(task: Task<'a>) -> Service<'a>
     match task {
         Task::Replay => Service::Replay { reads: MAX_READS },
         Task::Live(options) => Service::Live {
-            serial: Opened {
+            serial: FileToOpen {
                 path: options.serial,
                 access: Access::ReadAndWrite,
             },
-            desk: Opened {
+            desk: FileToOpen {
                 path: options.desk,
                 access: Access::Read,
             },
-            out: Opened {
+            out: FileToOpen {
                 path: options.out,
                 access: Access::WriteAnew,
             },

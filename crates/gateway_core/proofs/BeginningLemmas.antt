@@ -1,55 +1,58 @@
--- One execution, from its calls.
+-- One session, from its calls.
 use Rattle.std.proofs.Common.{◌≡◌, inl, inr, refl, sym, subst}
-use Rattle.learned_devices.specs.Kept.{Kept}
+use Rattle.learned_devices.specs.StoreState.{StoreState}
 use Rattle.learned_devices.specs.Devices.{Devices}
-use Rattle.gateway_core.specs.Step.{change_of}
-use Rattle.gateway_core.specs.Stops.{Safe, pending, nothing_left, left_by}
-use Rattle.gateway_core.specs.Lives.{begun}
-use Rattle.gateway_core.specs.Beginnings.{CallsLeaveALife, EndsLeaveALife}
-use Rattle.gateway_core.specs.Beginnings.{StopsLeaveALife}
+use Rattle.gateway_core.specs.Step.{update_of}
+use Rattle.gateway_core.specs.CrashStates.{IsCrashConsistent, with_pending, no_updates, crash_states}
+use Rattle.gateway_core.specs.Sessions.{initial_state}
+use Rattle.gateway_core.specs.SessionCalls.{CallsAreSessions, ClosesEndSessions}
+use Rattle.gateway_core.specs.SessionCalls.{CrashesEndSessions}
 use Rattle.gateway_core.proofs.StopLemmas.{safe-weaker, safe-pending, safe-last}
 
-module _ {S : Type 0} (stored : S → Kept) where
-  pub calls_leave_a_life : CallsLeaveALife stored
-  calls_leave_a_life old new found items answers honest begins handles left may =
-      let went = handles.went honest (begun old.base found) begins.at in
+module _ {S : Type 0} (stored : S → StoreState) where
+  pub calls_are_sessions : CallsAreSessions stored
+  calls_are_sessions old new found inputs answers honest begins handles left may =
+      let went = handles.went honest (initial_state old.base found) begins.at in
       record {
-        fates = went.fates;
+        results = went.results;
         last = went.last;
         is = record {
           run = went.run;
-          safe = safe-weaker (stored old.registry).may_recover (λ d. d ≡ found) begins.stop _ left
-              (went.stop left may);
+          safe = safe-weaker (stored old.registry).may_recover (λ d. d ≡ found) begins.crash _ left
+              (went.crash left may);
         };
       }
 
-  pub stops_leave_a_life : StopsLeaveALife stored
-  stops_leave_a_life old new within found items answers item change honest early begins handles asks tries left may =
-      let went = handles.went early (begun old.base found) begins.at in
+  pub crashes_end_sessions : CrashesEndSessions stored
+  crashes_end_sessions old new within found inputs answers input update honest early begins handles asks tries left may
+      =
+      let went = handles.went early (initial_state old.base found) begins.at in
       let leaves = tries went.last.devices went.at.2 in
       let is = asks went.last went.at in
       let Before = λ (d : Devices). d ≡ found in
-      let so_far = left_by nothing_left (begun old.base found) items went.fates in
-      let safe : Safe Before (pending so_far went.last.devices (change_of went.last item)) left =
+      let so_far = crash_states no_updates (initial_state old.base found) inputs went.results in
+      let safe : IsCrashConsistent Before (with_pending so_far went.last.devices (update_of went.last input)) left =
       elim (leaves left may) [
-        | inl before ↦ safe-pending Before so_far went.last.devices (change_of went.last item) left
-            (safe-weaker (stored old.registry).may_recover Before begins.stop so_far left (went.stop left before))
-        | inr made ↦ subst (λ o. Safe Before (pending so_far went.last.devices o) left) (sym is) (inl (inl made))
+        | inl before ↦ safe-pending Before so_far went.last.devices (update_of went.last input) left
+            (safe-weaker (stored old.registry).may_recover Before begins.crash so_far left (went.crash left before))
+        | inr made ↦ subst (λ o. IsCrashConsistent Before (with_pending so_far went.last.devices o) left) (sym is)
+            (inl (inl made))
       ] in
-      record { fates = went.fates; last = went.last; is = record { run = went.run; safe = safe } }
+      record { results = went.results; last = went.last; is = record { run = went.run; safe = safe } }
 
-  pub ends_leave_a_life : EndsLeaveALife stored
-  ends_leave_a_life old new found items answers honest begins handles =
-      let went = handles.went honest (begun old.base found) begins.at in (
+  pub closes_end_sessions : ClosesEndSessions stored
+  closes_end_sessions old new found inputs answers honest begins handles =
+      let went = handles.went honest (initial_state old.base found) begins.at in (
         went.last.devices,
         went.at.2,
         record {
-          life = record {
-            fates = went.fates;
+          session = record {
+            results = went.results;
             last = went.last;
             is = record {
               run = went.run;
-              safe = safe-last (λ d. d ≡ found) nothing_left (begun old.base found) went.last items went.fates answers
+              safe = safe-last (λ d. d ≡ found) no_updates (initial_state old.base found) went.last inputs went.results
+                  answers
                   went.run (inr (refl, refl));
             };
           };

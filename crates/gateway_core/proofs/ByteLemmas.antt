@@ -14,9 +14,9 @@ use Rattle.esp3_frames.specs.Frames.{packets_in}
 use Rattle.esp3_frames.specs.Framing.{Framing}
 use Rattle.esp3_frames.specs.Framing.Framing.{ends, skips, finds}
 use Rattle.esp3_frames.proofs.ForCallers.{framing_of}
-use Rattle.gateway_core.specs.Step.{Item, Received}
-use Rattle.gateway_core.specs.Events.{Piece, Line, brought, bytes_in, items_of}
-use Rattle.gateway_core.specs.Ranges.{IsOfBytes, ItemsAreOfBytes}
+use Rattle.gateway_core.specs.Step.{Input, Received}
+use Rattle.gateway_core.specs.Events.{Chunk, Line, new_packets, bytes_in, inputs_of}
+use Rattle.gateway_core.specs.Ranges.{IsOfBytes, InputsAreOfBytes}
 
 -- ---- a field is below two to the power of its length
 
@@ -119,17 +119,17 @@ drop-packets zero packets all = all
 drop-packets (suc n) [] all = tt
 drop-packets (suc n) (packet ∷ packets) all = drop-packets n packets all.1
 
-joined-items : (packets : List Packet) (items : List Item) → AllByRecursion HasByteData packets
-    → AllByRecursion IsOfBytes items → AllByRecursion IsOfBytes (map Received packets ++ items)
-joined-items [] items all more = more
-joined-items (packet ∷ packets) items all more = (all.0, joined-items packets items all.1 more)
+joined-inputs : (packets : List Packet) (inputs : List Input) → AllByRecursion HasByteData packets
+    → AllByRecursion IsOfBytes inputs → AllByRecursion IsOfBytes (map Received packets ++ inputs)
+joined-inputs [] inputs all more = more
+joined-inputs (packet ∷ packets) inputs all more = (all.0, joined-inputs packets inputs all.1 more)
 
-pub items_are_of_bytes : ItemsAreOfBytes
+pub items_are_of_bytes : InputsAreOfBytes
 items_are_of_bytes stream [] all = tt
-items_are_of_bytes stream (Piece bytes ∷ events) all =
+items_are_of_bytes stream (Chunk bytes ∷ events) all =
     let grouped : AreBytes ((stream ++ bytes) ++ bytes_in events) =
     subst AreBytes (sym (append_assoc stream bytes (bytes_in events))) all in
-    joined-items (brought stream bytes) (items_of (stream ++ bytes) events)
+    joined-inputs (new_packets stream bytes) (inputs_of (stream ++ bytes) events)
     (drop-packets (length (packets_in stream)) (packets_in (stream ++ bytes))
     (framed-bytes (framing_of (stream ++ bytes)) (front-bytes (stream ++ bytes) (bytes_in events) grouped)))
     (items_are_of_bytes (stream ++ bytes) events grouped)

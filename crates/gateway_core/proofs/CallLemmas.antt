@@ -3,35 +3,36 @@ use Rattle.std.proofs.Common.{◌≡◌, ℕ, suc, ◌<◌, List, [], ◌∷◌,
 use Rattle.std.proofs.Common.{append_assoc, arith}
 use Rattle.std.proofs.Common.{append-nil, Some}
 use Rattle.std.proofs.Common.{None}
-use Rattle.learned_devices.specs.Kept.{Kept}
+use Rattle.learned_devices.specs.StoreState.{StoreState}
 use Rattle.esp3_frames.specs.Packet.{Packet}
 use Rattle.esp3_frames.specs.Frames.{packets_in, rest_of}
 use Rattle.esp3_frames.proofs.ForCallers.{framing_in_parts, frames_of-may_become, empty_may_become}
-use Rattle.gateway_core.specs.Step.{Item, Received, Ordered}
+use Rattle.gateway_core.specs.Step.{Input, Received, Ordered}
 use Rattle.gateway_core.specs.Handling.{HandlerValue, Handles}
-use Rattle.gateway_core.specs.Calls.{Value, Call, Bytes, Next, Order, Moves, AllMove, bytes_of, answers_of, AreItems}
-use Rattle.gateway_core.specs.Calls.{CallsAreARun, RunsAreBytes}
+use Rattle.gateway_core.specs.Calls.{GatewayValue, Call, Bytes, Next, Order, Transition, Transitions, bytes_of}
+use Rattle.gateway_core.specs.Calls.{answers_of, AreInputs}
+use Rattle.gateway_core.specs.Calls.{CallsAreARun, BytesOneByOne}
 use Rattle.gateway_core.proofs.RunLemmas.{handles-nothing, handles-append}
 
-module _ {S : Type 0} (stored : S → Kept) where
+module _ {S : Type 0} (stored : S → StoreState) where
   -- the stream so far consists of the packets handled, those that are ready, and the rest
-  record Stands (stream : List ℕ) (before : List Packet) (v : Value S) : Type 0 where
+  record Stands (stream : List ℕ) (before : List Packet) (v : GatewayValue S) : Type 0 where
     pub packets : packets_in stream ≡ before ++ v.ready
     pub rest : rest_of stream ≡ v.rest
 
   -- the theorem, from the middle of a stream
-  record GoesOn (stream : List ℕ) (before : List Packet) (old : Value S) (calls : List Call)
-      (new : Value S) : Type 0 where
+  record GoesOn (stream : List ℕ) (before : List Packet) (old : GatewayValue S) (calls : List Call)
+      (new : GatewayValue S) : Type 0 where
     pub handled : List Packet
-    pub items : List Item
+    pub items : List Input
     pub packets : packets_in (stream ++ bytes_of calls) ≡ before ++ (handled ++ new.ready)
     pub rest : rest_of (stream ++ bytes_of calls) ≡ new.rest
-    pub in_order : AreItems calls handled items
+    pub in_order : AreInputs calls handled items
     pub run : Handles stored old.handler items (answers_of calls) new.handler
 
-  stands_after_bytes : (stream : List ℕ) (before : List Packet) (old mid : Value S) (bytes : List ℕ)
+  stands_after_bytes : (stream : List ℕ) (before : List Packet) (old mid : GatewayValue S) (bytes : List ℕ)
       → Stands stream before old
-      → Moves stored old (Bytes bytes) mid → Stands (stream ++ bytes) before mid
+      → Transition stored old (Bytes bytes) mid → Stands (stream ++ bytes) before mid
   stands_after_bytes stream before old mid bytes stands (none, same, ready, rest) =
       let parts = framing_in_parts stream bytes in
       record {
@@ -42,15 +43,15 @@ module _ {S : Type 0} (stored : S → Kept) where
         rest = parts.1 ∙ ap (λ r. rest_of (r ++ bytes)) stands.rest ∙ sym rest;
       }
 
-  goes_on : (stream : List ℕ) (before : List Packet) (old : Value S) (calls : List Call) (new : Value S)
-      → Stands stream before old → AllMove stored old calls new → GoesOn stream before old calls new
+  goes_on : (stream : List ℕ) (before : List Packet) (old : GatewayValue S) (calls : List Call) (new : GatewayValue S)
+      → Stands stream before old → Transitions stored old calls new → GoesOn stream before old calls new
   goes_on stream before old [] new stands move = record {
     handled = [];
     items = [];
     packets = rw (append-nil, move) stands.packets;
     rest = rw (append-nil, move) stands.rest;
     in_order = (refl, refl);
-    run = let P : Value S → Type 0 =
+    run = let P : GatewayValue S → Type 0 =
         λ v. Handles stored old.handler [] [] v.handler in subst P (sym move) (handles-nothing stored old.handler);
   }
   goes_on stream before old (Bytes bytes ∷ calls) new stands (mid, move, moves) =
@@ -70,7 +71,7 @@ module _ {S : Type 0} (stored : S → Kept) where
       }
   goes_on stream before old (Next None ∷ calls) new stands (mid, (none, same), moves) =
       let from : Stands stream before mid =
-      let P : Value S → Type 0 = λ v. Stands stream before v in subst P (sym same) stands in
+      let P : GatewayValue S → Type 0 = λ v. Stands stream before v in subst P (sym same) stands in
       let on = goes_on stream before mid calls new from moves in
       record {
         handled = on.handled;
@@ -78,7 +79,7 @@ module _ {S : Type 0} (stored : S → Kept) where
         packets = on.packets;
         rest = on.rest;
         in_order = on.in_order;
-        run = let P : Value S → Type 0 =
+        run = let P : GatewayValue S → Type 0 =
             λ v. Handles stored v.handler on.items (answers_of calls) new.handler in subst P same on.run;
       }
   goes_on stream before old (Next (Some answer) ∷ calls) new stands
@@ -125,12 +126,12 @@ module _ {S : Type 0} (stored : S → Kept) where
       }
 
   -- the first byte of a run, and the others from what it leaves
-  pub runs_are_bytes : RunsAreBytes stored
-  runs_are_bytes old new [] some none moved = absurd (omega arith)
-  runs_are_bytes old new (byte ∷ []) some none moved = (new, moved, refl)
-  runs_are_bytes old new (byte ∷ next ∷ bytes) some none (idle, same, ready, rest) =
+  pub bytes_one_by_one : BytesOneByOne stored
+  bytes_one_by_one old new [] some none moved = absurd (omega arith)
+  bytes_one_by_one old new (byte ∷ []) some none moved = (new, moved, refl)
+  bytes_one_by_one old new (byte ∷ next ∷ bytes) some none (idle, same, ready, rest) =
       let first : List ℕ = old.rest ++ byte ∷ [] in
-      let mid : Value S = record {
+      let mid : GatewayValue S = record {
         handler = old.handler;
         ready = packets_in first;
         rest = rest_of first;
@@ -147,7 +148,7 @@ module _ {S : Type 0} (stored : S → Kept) where
       λ k below. behind (take k (next ∷ bytes)) ∙ none (suc k) (omega arith) in (
         mid,
         (idle, refl, refl, refl),
-        runs_are_bytes mid new (next ∷ bytes) (omega arith) later (
+        bytes_one_by_one mid new (next ∷ bytes) (omega arith) later (
           quiet,
           same,
           ready ∙ sym (behind (next ∷ bytes)),

@@ -5,7 +5,7 @@ use Rattle.std.specs.Prelude.{Result, Ok, Err, nat_lt, length, ◌==◌, if◌th
 use Rattle.esp3_frames.specs.Packet.{Packet}
 use Rattle.erp1_telegrams.specs.declared.eep.Eep.{Eep}
 use Rattle.erp1_telegrams.specs.declared.telegram.TelegramFault.{TelegramFault}
-use Rattle.erp1_telegrams.specs.Address.{filter_reason, is_passed_over}
+use Rattle.erp1_telegrams.specs.Address.{filter_reason, is_filtered_out}
 use Rattle.erp1_telegrams.specs.Telegram.{Telegram, telegram_of}
 use Rattle.profile_rows.specs.Reading.{Entry}
 use Rattle.profile_rows.specs.declared.unreadable.Unreadable.{Unreadable}
@@ -38,21 +38,23 @@ use Rattle.actuator_commands.specs.declared.orders.Order.TheVariants.{Central, L
 use Rattle.actuator_commands.specs.declared.orders.OrderFault.{OrderFault}
 use Rattle.actuator_commands.specs.Packets.{sends}
 use Rattle.actuator_commands.specs.Orders.{order_of}
-use Rattle.json_lines.specs.Lines.{Reading, StatusLine, ResponseLine, Error, ReadingLine, TeachLine, Response, listing}
-use Rattle.gateway_core.specs.declared.account.Account.{Account}
-use Rattle.gateway_core.specs.Accounts.{because, counted_as, of_device}
-use Rattle.gateway_core.specs.Accounts.{why_filtered, why_silent, why_other, why_unread}
+use Rattle.json_lines.specs.Lines.{Reading, StatusLine, ResponseLine, Error, ReadingLine, TeachLine, Response}
+use Rattle.json_lines.specs.Lines.{list_lines}
+use Rattle.gateway_core.specs.declared.disposition.Disposition.{Disposition}
+use Rattle.gateway_core.specs.Dispositions.{without_device, count_for, for_device}
+use Rattle.gateway_core.specs.Dispositions.{why_filtered, why_silent, why_other, why_unread}
 use Rattle.gateway_core.specs.Profiles.{read_by}
 use Rattle.gateway_core.specs.Responses.{response_in}
-use Rattle.gateway_core.specs.Step.{State, Item, Received, Ordered, Effect, unsaid}
+use Rattle.gateway_core.specs.Step.{State, Input, Received, Ordered, Effect, silent_effect}
 use Rattle.gateway_core.specs.Step.{Need, NeedsMemory, NeedsStore}
-use Rattle.gateway_core.specs.Step.{tells_of_packet, denied, sends_packet, telegram_sent, error_of}
-use Rattle.gateway_core.specs.Step.{sending_effect}
-use Rattle.gateway_core.specs.Step.{tells, sets, learns, forgets, labels, tells_sender, accepts, deletes, line_with}
+use Rattle.gateway_core.specs.Step.{packet_line_effect, error_effect, send_effect, send_result_effect, error_of}
+use Rattle.gateway_core.specs.Step.{device_order_effect}
+use Rattle.gateway_core.specs.Step.{lines_effect, mode_effect, learn_effect, forget_effect, relabel_effect}
+use Rattle.gateway_core.specs.Step.{teach_effect, accept_effect, delete_effect, query_teach_line}
 use Rattle.gateway_core.specs.Step.{plan_effect}
-use Rattle.gateway_core.specs.Step.{PassedOver, Teaches, data_case, kind_case, reading_effect, case_effect}
+use Rattle.gateway_core.specs.Step.{FilteredOut, TeachInTelegram, data_case, teach_case, reading_effect, case_effect}
 use Rattle.gateway_core.specs.Step.{telegram_effect, packet_effect, line_effect}
-use Rattle.gateway_core.specs.Step.{packet_by, other_effect, if_known, if_supported, order_effect}
+use Rattle.gateway_core.specs.Step.{packet_effect_from, non_telegram_effect, if_known, if_supported, order_effect}
 use Rattle.gateway_core.specs.Step.{effect}
 use Rattle.gateway_core.proofs.DeviceLemmas.{device_of-known}
 
@@ -65,11 +67,11 @@ IsTeaching kind =
     ⊎ ((kind ≡ teach.Bare)
     ⊎ (((query : FourByteQuery) × (kind ≡ teach.FourByte query)) ⊎ ((query : UteQuery) × (kind ≡ teach.Ute query))))
 
-pub teaches : (kind : Teach) (known : Option Device) → IsTeaching kind → kind_case kind known ≡ Teaches
-teaches kind known (inl is) = ap (λ k. kind_case k known) is
-teaches kind known (inr (inl is)) = ap (λ k. kind_case k known) is
-teaches kind known (inr (inr (inl (query, is)))) = ap (λ k. kind_case k known) is
-teaches kind known (inr (inr (inr (query, is)))) = ap (λ k. kind_case k known) is
+pub teaches : (kind : Teach) (known : Option Device) → IsTeaching kind → teach_case kind known ≡ TeachInTelegram
+teaches kind known (inl is) = ap (λ k. teach_case k known) is
+teaches kind known (inr (inl is)) = ap (λ k. teach_case k known) is
+teaches kind known (inr (inr (inl (query, is)))) = ap (λ k. teach_case k known) is
+teaches kind known (inr (inr (inr (query, is)))) = ap (λ k. teach_case k known) is
 
 pub not-data : (kind : Teach) → IsTeaching kind → kind ≢ teach.Plain
 not-data kind (inl is) plain = absurd cc
@@ -85,33 +87,33 @@ IsRefusal Accepted = ⊥
 IsRefusal Deleted = ⊥
 IsRefusal outcome = Unit {0}
 
-is-refusal : (id : ℕ) (kind : Teach) (outcome : Outcome) → Refuses kind outcome
-    → IsRefusal (line_with id kind outcome).outcome
-is-refusal id teach.Bare NoProfile is = tt
-is-refusal id (teach.FourByte query) Unsupported is = tt
-is-refusal id (teach.Ute query) Unsupported is = tt
-is-refusal id (teach.Ute query) General is = tt
-is-refusal id kind outcome is = absurd is
+is-failure : (id : ℕ) (kind : Teach) (outcome : Outcome) → Refuses kind outcome
+    → IsRefusal (query_teach_line id kind outcome).outcome
+is-failure id teach.Bare NoProfile is = tt
+is-failure id (teach.FourByte query) Unsupported is = tt
+is-failure id (teach.Ute query) Unsupported is = tt
+is-failure id (teach.Ute query) General is = tt
+is-failure id kind outcome is = absurd is
 
 -- ---- whatever the reason, an ignored packet is counted as ignored
 
-other-ignores : (packet : Packet) → counted_as (why_other packet) ≡ count.Ignored
+other-ignores : (packet : Packet) → count_for (why_other packet) ≡ count.Ignored
 other-ignores packet =
-    let Ignores = λ (why : Why). counted_as why ≡ count.Ignored in
+    let Ignores = λ (why : Why). count_for why ≡ count.Ignored in
     either Ignores (packet.kind == 1) _ _ refl (either Ignores (packet.kind == 2) _ _ refl refl)
 
-filtered-ignores : (t : Telegram) → counted_as (why_filtered (filter_reason t)) ≡ count.Ignored
+filtered-ignores : (t : Telegram) → count_for (why_filtered (filter_reason t)) ≡ count.Ignored
 filtered-ignores t =
-    either (λ reason. counted_as (why_filtered reason) ≡ count.Ignored) (t.sender == 0xFFFF_FFFF) _ _ refl refl
+    either (λ reason. count_for (why_filtered reason) ≡ count.Ignored) (t.sender == 0xFFFF_FFFF) _ _ refl refl
 
-silent-ignores : (asked : Bool) (mode : Mode) → counted_as (why_silent asked mode) ≡ count.Ignored
+silent-ignores : (asked : Bool) (mode : Mode) → count_for (why_silent asked mode) ≡ count.Ignored
 silent-ignores true mode = refl
 silent-ignores false mode.Closed = refl
 silent-ignores false mode.Learn = refl
 silent-ignores false mode.LearnAnswer = refl
 silent-ignores false (mode.LearnAs eep) = refl
 
-unread-ignores : (fault : Unreadable) → counted_as (why_unread fault) ≡ count.Ignored
+unread-ignores : (fault : Unreadable) → count_for (why_unread fault) ≡ count.Ignored
 unread-ignores unreadable.NotSupported = refl
 unread-ignores unreadable.WrongKind = refl
 unread-ignores unreadable.WrongLength = refl
@@ -121,15 +123,17 @@ unread-ignores unreadable.OtherMessage = refl
 
 -- it holds for each effect that a telegram may have
 pub record OfTelegram (P : Effect → Type 0) (state : State) (t : Telegram) : Type 0 where
-  pub unsays : (asked : Bool) (account : Account) → counted_as account.why ≡ count.Ignored → P (unsaid asked account)
+  pub unsays : (asked : Bool) (disposition : Disposition) → count_for disposition.why ≡ count.Ignored
+      → P (silent_effect asked disposition)
   pub reads : (known : Device) (line : ReadingLine)
-      → P (tells_of_packet NeedsStore (of_device known why.Read) (Reading line))
+      → P (packet_line_effect NeedsStore (for_device known why.Read) (Reading line))
   pub admits : Hears state.mode (teach_in_of t) → (eep : Eep) (maker : Option ℕ) (known : Bool)
       → plan_of t state.mode known ≡ add t eep maker
-      → P (accepts state (teach_in_of t) (record { id = t.sender; eep = eep; maker = maker; label = [] }))
-  pub removes : LearnsByTold state.mode → AsksDeletion (teach_in_of t) → P (deletes state (teach_in_of t) t.sender)
+      → P (accept_effect state (teach_in_of t) (record { id = t.sender; eep = eep; maker = maker; label = [] }))
+  pub removes : LearnsByTold state.mode → AsksDeletion (teach_in_of t)
+      → P (delete_effect state (teach_in_of t) t.sender)
   pub refuses : Hears state.mode (teach_in_of t) → (need : Need) (line : TeachLine) → IsRefusal line.outcome
-      → P (record (tells_sender state (teach_in_of t) line) { need = need })
+      → P (record (teach_effect state (teach_in_of t) line) { need = need })
 
 module _ (P : Effect → Type 0) (state : State) (t : Telegram) (each : OfTelegram P state t) where
   of-reading : (known : Device) (readings : Result (List Entry) Unreadable) → P (reading_effect t known readings)
@@ -146,15 +150,15 @@ module _ (P : Effect → Type 0) (state : State) (t : Telegram) (each : OfTelegr
             (each.admits hears eep maker known planned);
         forgets = λ told asks planned. each.removes told asks;
         refuses = λ hears outcome is planned.
-            each.refuses hears _ (line_with t.sender (teach_in_of t) outcome)
-            (is-refusal t.sender (teach_in_of t) outcome is);
+            each.refuses hears _ (query_teach_line t.sender (teach_in_of t) outcome)
+            (is-failure t.sender (teach_in_of t) outcome is);
       }) refl
 
   of-data : (known : Option Device) → P (case_effect state t (data_case known))
   of-data None = of-plan true false
   of-data (Some known) = of-reading known (read_by known.eep t)
 
-  of-kind : (kind : Teach) (known : Option Device) → P (case_effect state t (kind_case kind known))
+  of-kind : (kind : Teach) (known : Option Device) → P (case_effect state t (teach_case kind known))
   of-kind teach.Answer known = each.unsays false _ refl
   of-kind teach.Contact known = of-plan false _
   of-kind teach.Bare known = of-plan false _
@@ -164,23 +168,25 @@ module _ (P : Effect → Type 0) (state : State) (t : Telegram) (each : OfTelegr
 
   of-case : (over : Bool)
       → P (case_effect state t
-      (if over then PassedOver else kind_case (teach_in_of t) (device_of state.devices t.sender)))
+      (if over then FilteredOut else teach_case (teach_in_of t) (device_of state.devices t.sender)))
   of-case true = each.unsays false _ (filtered-ignores t)
   of-case false = of-kind (teach_in_of t) (device_of state.devices t.sender)
 
   -- so it holds for the effect of this one
   pub of_telegram : P (telegram_effect state t)
-  of_telegram = of-case (is_passed_over state.base t)
+  of_telegram = of-case (is_filtered_out state.base t)
 
 -- it holds for each effect that a packet may have
 pub record OfPacket (P : Effect → Type 0) (state : State) (packet : Packet) : Type 0 where
   pub telegrams : (t : Telegram) → telegram_of packet ≡ Ok t → OfTelegram P state t
-  pub passes : (account : Account) → counted_as account.why ≡ count.Ignored → P (unsaid false account)
-  pub hears : (response : Response) → P (tells_of_packet NeedsMemory (because why.Response) (ResponseLine response))
+  pub passes : (disposition : Disposition) → count_for disposition.why ≡ count.Ignored
+      → P (silent_effect false disposition)
+  pub hears : (response : Response) → P (packet_line_effect NeedsMemory (without_device why.Response)
+      (ResponseLine response))
 
 -- an order to devices has no other effect
 pub sends-effect : (state : State) (order : Order) → sends order ≡ true
-    → order_effect state (Ok order) ≡ sending_effect state order
+    → order_effect state (Ok order) ≡ device_order_effect state order
 sends-effect state (Switch id channel on) is = refl
 sends-effect state (Dim id channel value) is = refl
 sends-effect state (Query id channel) is = refl
@@ -194,25 +200,25 @@ sends-effect state order is = absurd cc
 
 -- it holds for each effect that a line may have that spells this
 pub record OfLine (P : Effect → Type 0) (state : State) (spelled : Result Order OrderFault) : Type 0 where
-  pub denies : (name : ErrorName) → P (denied name)
-  pub finds : (name : ErrorName) → P (tells NeedsStore (Error name ∷ []))
-  pub opens : (set : Mode) → ((eep : Eep) → set ≡ mode.LearnAs eep → spelled ≡ Ok (LearnAs eep)) → P (sets set)
-  pub sends : (asked : Bool) (bytes : List ℕ) → P (sends_packet asked bytes)
-  pub lists : P (tells NeedsStore (listing (all_of state.devices)))
-  pub reports : P (tells NeedsMemory (StatusLine state.counts state.mode ∷ []))
-  pub adds : (known : Device) → (spelled ≡ Ok (Add known.id known.eep)) × (known.maker ≡ None) → P (learns known)
-  pub drops : (known : Device) → device_of state.devices known.id ≡ Some known → P (forgets known)
+  pub denies : (name : ErrorName) → P (error_effect name)
+  pub finds : (name : ErrorName) → P (lines_effect NeedsStore (Error name ∷ []))
+  pub opens : (set : Mode) → ((eep : Eep) → set ≡ mode.LearnAs eep → spelled ≡ Ok (LearnAs eep)) → P (mode_effect set)
+  pub sends : (asked : Bool) (bytes : List ℕ) → P (send_effect asked bytes)
+  pub lists : P (lines_effect NeedsStore (list_lines (all_of state.devices)))
+  pub reports : P (lines_effect NeedsMemory (StatusLine state.counts state.mode ∷ []))
+  pub adds : (known : Device) → (spelled ≡ Ok (Add known.id known.eep)) × (known.maker ≡ None) → P (learn_effect known)
+  pub drops : (known : Device) → device_of state.devices known.id ≡ Some known → P (forget_effect known)
   pub relabels : (id : ℕ) (label : List ℕ) → spelled ≡ Ok (Label id label) → IsSome (device_of state.devices id)
-      → P (labels id label)
+      → P (relabel_effect id label)
 
 module _ (P : Effect → Type 0) (state : State) where
   of-other : (packet : Packet) → OfPacket P state packet → (response : Option Response)
-      → P (other_effect packet response)
+      → P (non_telegram_effect packet response)
   of-other packet each None = each.passes _ (other-ignores packet)
   of-other packet each (Some response) = each.hears response
 
   of-packet : (packet : Packet) → OfPacket P state packet → (telegram : Result Telegram TelegramFault)
-      → telegram_of packet ≡ telegram → P (packet_by state packet telegram)
+      → telegram_of packet ≡ telegram → P (packet_effect_from state packet telegram)
   of-packet packet each (Ok t) is = of_telegram P state t (each.telegrams t is)
   of-packet packet each (Err fault) is = of-other packet each (response_in packet)
 
@@ -231,7 +237,7 @@ module _ (P : Effect → Type 0) (state : State) where
   of-known each (Some it) effect_of holds = holds it refl
 
   of-sending : {spelled : Result Order OrderFault} → OfLine P state spelled → (asked : Bool)
-      (telegram : Result Telegram OrderFault) → P (telegram_sent asked (Some telegram))
+      (telegram : Result Telegram OrderFault) → P (send_result_effect asked (Some telegram))
   of-sending each asked (Ok t) = each.sends asked _
   of-sending each true (Err fault) = each.finds (error_of fault)
   of-sending each false (Err fault) = each.denies (error_of fault)
@@ -247,10 +253,10 @@ module _ (P : Effect → Type 0) (state : State) where
       of-supported each eep _
       (either P (is_full state.devices id) _ _ (each.finds error.Full) (each.adds known (refl, refl)))
   of-order (Ok (Remove id)) each =
-      of-known each (device_of state.devices id) forgets
+      of-known each (device_of state.devices id) forget_effect
       (λ known has. each.drops known (device_of-known state.devices id known has))
   of-order (Ok (Label id label)) each =
-      of-known each (device_of state.devices id) (λ known. labels id label)
+      of-known each (device_of state.devices id) (λ known. relabel_effect id label)
       (λ known has. each.relabels id label refl (subst (λ o. IsSome o) (sym has) refl))
   of-order (Ok ListAll) each = each.lists
   of-order (Ok Status) each = each.reports
@@ -272,6 +278,6 @@ module _ (P : Effect → Type 0) (state : State) where
 
   -- and for every input
   pub of_effect : ((packet : Packet) → OfPacket P state packet) → ((line : List ℕ) → OfLine P state (order_of line))
-      → (item : Item) → P (effect state item)
+      → (input : Input) → P (effect state input)
   of_effect packets lines (Received packet) = of_packet packet (packets packet)
   of_effect packets lines (Ordered line) = of_line line (lines line)

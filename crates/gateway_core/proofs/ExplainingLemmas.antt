@@ -8,7 +8,7 @@ use Rattle.esp3_frames.specs.Packet.{Packet}
 use Rattle.erp1_telegrams.specs.declared.eep.Eep.{Eep}
 use Rattle.erp1_telegrams.specs.declared.telegram.TelegramFault.{TelegramFault}
 use Rattle.erp1_telegrams.specs.declared.address.FilterReason.TheVariants as reason
-use Rattle.erp1_telegrams.specs.Address.{filter_reason, is_own, is_passed_over}
+use Rattle.erp1_telegrams.specs.Address.{filter_reason, is_own, is_filtered_out}
 use Rattle.erp1_telegrams.specs.Telegram.{Telegram, telegram_of}
 use Rattle.profile_rows.specs.Reading.{Entry}
 use Rattle.profile_rows.specs.declared.unreadable.Unreadable.{Unreadable}
@@ -28,49 +28,51 @@ use Rattle.teach_in.specs.declared.telegrams.Teach.TheVariants as teach
 use Rattle.teach_in.specs.FourByte as four_byte
 use Rattle.teach_in.specs.Profiles.{supported}
 use Rattle.teach_in.specs.Telegrams.{teach_in_of}
-use Rattle.teach_in.specs.Plans.{add, add_told, in_mode, is_learned_by, plan_asked, plan_of, row_of}
+use Rattle.teach_in.specs.Plans.{add, add_supported, in_mode, can_teach, ute_plan, plan_of, row_of}
 use Rattle.teach_in.specs.Ute as ute
 use Rattle.teach_in.specs.Ute.{request_in, deletion, not_used}
 use Rattle.teach_in.proofs.ForCallers.{IsOpen, LearnsByTold, either, hears-open, of_plan}
 use Rattle.teach_in.specs.declared.why.Why.{Why}
 use Rattle.teach_in.specs.declared.why.Why.TheVariants as why
-use Rattle.json_lines.specs.ToldTelegram.{destination_told}
-use Rattle.gateway_core.specs.declared.account.Account.{Account}
-use Rattle.gateway_core.specs.Accounts.{because, eep_told, explanation, line_of, of_device}
-use Rattle.gateway_core.specs.Accounts.{told_packet}
-use Rattle.gateway_core.specs.Accounts.{why_filtered, why_other, why_silent}
+use Rattle.json_lines.specs.ShownTelegram.{shown_destination}
+use Rattle.gateway_core.specs.declared.disposition.Disposition.{Disposition}
+use Rattle.gateway_core.specs.Dispositions.{without_device, query_eep, explanation, packet_line_of, for_device}
+use Rattle.gateway_core.specs.Dispositions.{shown_packet}
+use Rattle.gateway_core.specs.Dispositions.{why_filtered, why_other, why_silent}
 use Rattle.gateway_core.specs.Profiles.{read_by}
 use Rattle.gateway_core.specs.Responses.{response_from, response_in}
-use Rattle.gateway_core.specs.Explaining.{DoesNotFit, ExplanationsAreTrue, IsHeard, IsDataOf, Means, IsTeachIn}
+use Rattle.gateway_core.specs.Explaining.{DoesNotFit, ExplanationsAreTrue, IsAddressedToUs, IsDataOf, Means, IsTeachIn}
 use Rattle.gateway_core.specs.Explaining.{IsPlanned, Shows}
-use Rattle.gateway_core.specs.Step.{State, Effect, case_effect, case_of, data_case, kind_case}
-use Rattle.gateway_core.specs.Step.{PassedOver, other_effect, packet_by, packet_effect, plan_effect}
-use Rattle.gateway_core.specs.Step.{accepts, is_learned, reading_effect, tells_sender, told_of, unsaid}
+use Rattle.gateway_core.specs.Step.{State, Effect, case_effect, case_of, data_case, teach_case}
+use Rattle.gateway_core.specs.Step.{FilteredOut, non_telegram_effect, packet_effect_from, packet_effect, plan_effect}
+use Rattle.gateway_core.specs.Step.{accept_effect, is_learned, reading_effect, teach_effect, device_teach_line}
+use Rattle.gateway_core.specs.Step.{silent_effect}
 use Rattle.std.specs.Option.{option_map}
 
 -- if the effect is that of the packet, its disposition is true
 abbrev Truth : State → Packet → Effect → Type 0
 Truth state packet e =
-    (packet_effect state packet).change ≡ e.change
-    → (account : Account) × (e.account ≡ Some account) × Means state packet account account.why
+    (packet_effect state packet).update ≡ e.update
+    → (disposition : Disposition) × (e.disposition ≡ Some disposition) × Means state packet disposition disposition.why
 
 -- ---- a packet without a telegram
 
 module _ (state : State) (packet : Packet) where
-  of-word : (word one : Why) → word ≡ one → Means state packet (because one) one
-      → Truth state packet (unsaid false (because word))
+  of-word : (word one : Why) → word ≡ one → Means state packet (without_device one) one
+      → Truth state packet (silent_effect false (without_device word))
   of-word word one is means =
-      subst (λ w. Truth state packet (unsaid false (because w))) (sym is) (λ change. (because one, refl, means))
+      subst (λ w. Truth state packet (silent_effect false (without_device w))) (sym is)
+      (λ update. (without_device one, refl, means))
 
   -- it is no response
   of-none : (fault : TelegramFault) → telegram_of packet ≡ Err fault → (packet.kind == 2) ≡ false
-      → Truth state packet (other_effect packet None)
+      → Truth state packet (non_telegram_effect packet None)
   of-none fault is other = by (packet.kind == 1) refl
     where
       word : (b c : Bool) → Why
       word b c = if b then why.NoTelegram else if c then why.EmptyResponse else why.OtherType
 
-      by : (b : Bool) → (packet.kind == 1) ≡ b → Truth state packet (other_effect packet None)
+      by : (b : Bool) → (packet.kind == 1) ≡ b → Truth state packet (non_telegram_effect packet None)
       by true one =
           of-word (why_other packet) why.NoTelegram (ap (λ b. word b (packet.kind == 2)) one)
           (eqb-true packet.kind 1 one, subst (λ r. IsErr r) (sym is) refl, (refl, refl))
@@ -81,25 +83,33 @@ module _ (state : State) (packet : Packet) where
 
   -- it is a response
   of-body : (body : List ℕ) → packet.kind ≡ 2 → packet.body ≡ body
-      → Truth state packet (other_effect packet (response_from body))
-  of-body [] kind is change =
+      → Truth state packet (non_telegram_effect packet (response_from body))
+  of-body [] kind is update =
       of-word (why_other packet) why.EmptyResponse
       (ap (λ (k : ℕ). if k == 1 then why.NoTelegram else if k == 2 then why.EmptyResponse else why.OtherType) kind)
-      (kind, is, (refl, refl)) change
-  of-body (code ∷ bytes) kind is change =
-      (because why.Response, refl, (kind, subst (λ (b : List ℕ). 0 < length b) (sym is) (omega arith), (refl, refl)))
+      (kind, is, (refl, refl)) update
+  of-body (code ∷ bytes) kind is update = (
+    without_device why.Response,
+    refl,
+    (
+      kind,
+      subst (λ (b : List ℕ). 0 < length b) (sym is) (omega arith),
+      (refl, refl),
+    ),
+  )
 
   of-other : (fault : TelegramFault) → telegram_of packet ≡ Err fault
-      → Truth state packet (other_effect packet (response_in packet))
+      → Truth state packet (non_telegram_effect packet (response_in packet))
   of-other fault is = by (packet.kind == 2) refl
     where
       by : (b : Bool) → (packet.kind == 2) ≡ b
-          → Truth state packet (other_effect packet (if packet.kind == 2 then response_from packet.body else None))
+          → Truth state packet (non_telegram_effect packet
+          (if packet.kind == 2 then response_from packet.body else None))
       by true two =
-          subst (λ b. Truth state packet (other_effect packet (if b then response_from packet.body else None)))
+          subst (λ b. Truth state packet (non_telegram_effect packet (if b then response_from packet.body else None)))
           (sym two) (of-body packet.body (eqb-true packet.kind 2 two) refl)
       by false two =
-          subst (λ b. Truth state packet (other_effect packet (if b then response_from packet.body else None)))
+          subst (λ b. Truth state packet (non_telegram_effect packet (if b then response_from packet.body else None)))
           (sym two) (of-none fault is two)
 
 -- ---- the meaning of a plan
@@ -110,14 +120,14 @@ outcome_in plan = Accepted
 
 -- why a sender is rejected
 abbrev RefusalMeans : Teach → Outcome → Type 0
-RefusalMeans kind Unsupported = (eep : Eep) × (eep_told kind ≡ Some eep) × (supported eep ≡ false)
+RefusalMeans kind Unsupported = (eep : Eep) × (query_eep kind ≡ Some eep) × (supported eep ≡ false)
 RefusalMeans kind General = (query : UteQuery) × (kind ≡ teach.Ute query) × (request_in query ≡ not_used)
 RefusalMeans kind NoProfile = kind ≡ teach.Bare
 RefusalMeans kind outcome = ⊥
 
 module _ (t : Telegram) where
-  query-refuses : (kind : Teach) (eep : Eep) (maker : ℕ) (outcome : Outcome) → eep_told kind ≡ Some eep
-      → add_told t eep maker ≡ Refuse outcome → RefusalMeans kind outcome
+  query-refuses : (kind : Teach) (eep : Eep) (maker : ℕ) (outcome : Outcome) → query_eep kind ≡ Some eep
+      → add_supported t eep maker ≡ Refuse outcome → RefusalMeans kind outcome
   query-refuses kind eep maker outcome is = by (supported eep) refl
     where
       by : (b : Bool) → supported eep ≡ b
@@ -125,13 +135,13 @@ module _ (t : Telegram) where
       by true sup e = absurd cc
       by false sup e = subst (RefusalMeans kind) (ap outcome_in e) (eep, is, sup)
 
-  asked-refuses : (query : UteQuery) (outcome : Outcome) → plan_asked t query ≡ Refuse outcome
+  asked-refuses : (query : UteQuery) (outcome : Outcome) → ute_plan t query ≡ Refuse outcome
       → RefusalMeans (teach.Ute query) outcome
   asked-refuses query outcome = by (request_in query == deletion) (request_in query == not_used) refl
     where
       by : (b c : Bool) → (request_in query == not_used) ≡ c
           → (if b then Forget t.sender else if c then Refuse General
-          else add_told t (ute.eep_in query) (ute.maker_in query)) ≡ Refuse outcome
+          else add_supported t (ute.eep_in query) (ute.maker_in query)) ≡ Refuse outcome
           → RefusalMeans (teach.Ute query) outcome
       by true c is e = absurd cc
       by false true is e =
@@ -171,16 +181,16 @@ module _ (t : Telegram) where
   refuse-means known teach.Plain mode.Learn outcome e = absurd cc
   refuse-means known teach.Plain mode.LearnAnswer outcome e = absurd cc
   refuse-means known teach.Plain (mode.LearnAs eep) outcome e =
-      data-refuses (not known && is_learned_by t) (eep.rorg == t.rorg) _ outcome e
+      data-refuses (not known && can_teach t) (eep.rorg == t.rorg) _ outcome e
   refuse-means known teach.Answer mode.Learn outcome e = absurd cc
   refuse-means known teach.Answer mode.LearnAnswer outcome e = absurd cc
   refuse-means known teach.Answer (mode.LearnAs eep) outcome e = absurd cc
 
   -- in a window for all senders there is a plan for each teach-in telegram
-  query-speaks : (eep : Eep) (maker : ℕ) → add_told t eep maker ≢ Silent
+  query-speaks : (eep : Eep) (maker : ℕ) → add_supported t eep maker ≢ Silent
   query-speaks eep maker = either (λ p. p ≢ Silent) (supported eep) _ _ (λ e. absurd cc) (λ e. absurd cc)
 
-  speaks : (known : Bool) (kind : Teach) → IsTeachIn kind → (row_of t known kind).told ≢ Silent
+  speaks : (known : Bool) (kind : Teach) → IsTeachIn kind → (row_of t known kind).reported ≢ Silent
   speaks known teach.Contact is e = absurd cc
   speaks known teach.Bare is e = absurd cc
   speaks known (teach.FourByte query) is e = query-speaks _ _ e
@@ -223,11 +233,12 @@ others false false true is isnt = absurd cc
 others false false false is isnt = (refl, refl)
 
 module _ (state : State) (packet : Packet) (t : Telegram) (carried : telegram_of packet ≡ Ok t) where
-  of-passed : is_passed_over state.base t ≡ true → Truth state packet (unsaid false (because (why_filtered (filter_reason t))))
+  of-passed : is_filtered_out state.base t ≡ true
+      → Truth state packet (silent_effect false (without_device (why_filtered (filter_reason t))))
   of-passed over = by (t.sender == 0xFFFF_FFFF) refl
     where
       by : (b : Bool) → (t.sender == 0xFFFF_FFFF) ≡ b
-          → Truth state packet (unsaid false (because (why_filtered (filter_reason t))))
+          → Truth state packet (silent_effect false (without_device (why_filtered (filter_reason t))))
       by true is =
           of-word state packet (why_filtered (filter_reason t)) why.FromBroadcast
           (ap (λ b. why_filtered (if b then reason.FromBroadcast else reason.ForOthers)) is)
@@ -238,18 +249,18 @@ module _ (state : State) (packet : Packet) (t : Telegram) (carried : telegram_of
           (ap (λ b. why_filtered (if b then reason.FromBroadcast else reason.ForOthers)) is)
           (t, carried, eqb-false t.sender 0xFFFF_FFFF is, eqb-false t.dest 0xFFFF_FFFF both.0, both.1, (refl, refl))
 
-  module _ (heard : IsHeard state packet t) where
+  module _ (heard : IsAddressedToUs state packet t) where
     refused : (outcome : Outcome) → RefusalMeans (teach_in_of t) outcome → state.mode ≢ mode.Closed
-        → IsPlanned state t (Refuse outcome) → (change : (packet_effect state packet).change ≡ None)
-        → Means state packet (because (why.Told outcome)) (why.Told outcome)
-    refused Unsupported means opened planned change =
-        (t, means.0, heard, opened, means.1, means.2, planned, change, (refl, refl))
-    refused General means opened planned change =
-        (t, means.0, heard, opened, means.1, means.2, planned, change, (refl, refl))
-    refused NoProfile means opened planned change = (t, heard, opened, means, planned, change, (refl, refl))
-    refused Accepted means opened planned change = absurd means
-    refused Deleted means opened planned change = absurd means
-    refused Full means opened planned change = absurd means
+        → IsPlanned state t (Refuse outcome) → (update : (packet_effect state packet).update ≡ None)
+        → Means state packet (without_device (why.TeachIn outcome)) (why.TeachIn outcome)
+    refused Unsupported means opened planned update =
+        (t, means.0, heard, opened, means.1, means.2, planned, update, (refl, refl))
+    refused General means opened planned update =
+        (t, means.0, heard, opened, means.1, means.2, planned, update, (refl, refl))
+    refused NoProfile means opened planned update = (t, heard, opened, means, planned, update, (refl, refl))
+    refused Accepted means opened planned update = absurd means
+    refused Deleted means opened planned update = absurd means
+    refused Full means opened planned update = absurd means
 
     of-planned : (asked known : Bool) → is_learned state.devices t.sender ≡ known
         → (plan_of t state.mode known ≡ Silent → Truth state packet (plan_effect state t asked Silent))
@@ -262,16 +273,16 @@ module _ (state : State) (packet : Packet) (t : Telegram) (carried : telegram_of
               let device : Device = record { id = t.sender; eep = eep; maker = maker; label = [] } in
               let is_open = hears-open state.mode (teach_in_of t) hears in
               by-room device (is_full state.devices t.sender) refl refl is_open (planned ∙ is);
-          forgets = λ learning (query, asks, wants) is change. (
-            because (why.Told Deleted),
+          forgets = λ learning (query, asks, wants) is update. (
+            without_device (why.TeachIn Deleted),
             refl,
-            (t, query, heard, query-open state.mode learning, asks, wants, planned ∙ is, change, (refl, refl)),
+            (t, query, heard, query-open state.mode learning, asks, wants, planned ∙ is, update, (refl, refl)),
           );
-          refuses = λ hears outcome cause is change. (
-            because (why.Told outcome),
+          refuses = λ hears outcome cause is update. (
+            without_device (why.TeachIn outcome),
             refl,
             refused outcome (refuse-means t known (teach_in_of t) state.mode outcome is)
-                (not-closed state.mode (hears-open state.mode (teach_in_of t) hears)) (planned ∙ is) change,
+                (not-closed state.mode (hears-open state.mode (teach_in_of t) hears)) (planned ∙ is) update,
           );
         }) refl
       where
@@ -280,15 +291,15 @@ module _ (state : State) (packet : Packet) (t : Telegram) (carried : telegram_of
 
         by-room : (device : Device) (full : Bool) → is_full state.devices t.sender ≡ full → device.id ≡ t.sender
             → IsOpen state.mode → IsPlanned state t (Add device)
-            → Truth state packet (if full then tells_sender state (teach_in_of t) (told_of device Full)
-            else accepts state (teach_in_of t) device)
-        by-room device true is same is_open is_planned change = (
-          because (why.Told Full),
+            → Truth state packet (if full then teach_effect state (teach_in_of t) (device_teach_line device Full)
+            else accept_effect state (teach_in_of t) device)
+        by-room device true is same is_open is_planned update = (
+          without_device (why.TeachIn Full),
           refl,
-          (t, device, heard, same, not-closed state.mode is_open, is_planned, is, change, (refl, refl)),
+          (t, device, heard, same, not-closed state.mode is_open, is_planned, is, update, (refl, refl)),
         )
-        by-room device false is same is_open is_planned change = (
-          of_device device (why.Told Accepted),
+        by-room device false is same is_open is_planned update = (
+          for_device device (why.TeachIn Accepted),
           refl,
           (
             t,
@@ -297,7 +308,7 @@ module _ (state : State) (packet : Packet) (t : Telegram) (carried : telegram_of
             same,
             not-closed state.mode is_open,
             is_planned,
-            change,
+            update,
             (refl, refl),
           ),
         )
@@ -308,44 +319,44 @@ module _ (state : State) (packet : Packet) (t : Telegram) (carried : telegram_of
     of-taught known same teaches = of-planned false known same (by state.mode refl)
       where
         by : (mode : Mode) → state.mode ≡ mode → in_mode (row_of t known (teach_in_of t)) mode ≡ Silent
-            → Truth state packet (unsaid false (because (why_silent false mode)))
-        by mode.Closed is silent change = (because why.WindowClosed, refl, (t, heard, teaches, is, (refl, refl)))
-        by (mode.LearnAs eep) is silent change = (
-          because why.OtherMode,
+            → Truth state packet (silent_effect false (without_device (why_silent false mode)))
+        by mode.Closed is silent update = (without_device why.WindowClosed, refl, (t, heard, teaches, is, (refl, refl)))
+        by (mode.LearnAs eep) is silent update = (
+          without_device why.OtherMode,
           refl,
           (t, heard, teaches, (eep, is, does-not-fit t known (teach_in_of t) eep teaches silent), (refl, refl)),
         )
-        by mode.Learn is silent change = absurd (speaks t known (teach_in_of t) teaches silent)
-        by mode.LearnAnswer is silent change = absurd (speaks t known (teach_in_of t) teaches silent)
+        by mode.Learn is silent update = absurd (speaks t known (teach_in_of t) teaches silent)
+        by mode.LearnAnswer is silent update = absurd (speaks t known (teach_in_of t) teaches silent)
 
     -- data
     of-reading : (known : Device) → IsDataOf state packet t known → (readings : Result (List Entry) Unreadable)
         → read_by known.eep t ≡ readings → Truth state packet (reading_effect t known readings)
-    of-reading known of (Ok readings) is change = (
-      of_device known why.Read,
+    of-reading known of (Ok readings) is update = (
+      for_device known why.Read,
       refl,
       (t, known, readings, of, is, (refl, refl)),
     )
-    of-reading known of (Err unreadable.NotSupported) is change =
-        (of_device known why.OtherMessage, refl, (t, known, _, of, is, inr refl, (refl, refl)))
-    of-reading known of (Err unreadable.WrongKind) is change =
-        (of_device known why.WrongKind, refl, (t, known, _, of, is, refl, (refl, refl)))
-    of-reading known of (Err unreadable.WrongLength) is change =
-        (of_device known why.WrongLength, refl, (t, known, _, of, is, refl, (refl, refl)))
-    of-reading known of (Err unreadable.OtherMessage) is change =
-        (of_device known why.OtherMessage, refl, (t, known, _, of, is, inl refl, (refl, refl)))
+    of-reading known of (Err unreadable.NotSupported) is update =
+        (for_device known why.OtherMessage, refl, (t, known, _, of, is, inr refl, (refl, refl)))
+    of-reading known of (Err unreadable.WrongKind) is update =
+        (for_device known why.WrongKind, refl, (t, known, _, of, is, refl, (refl, refl)))
+    of-reading known of (Err unreadable.WrongLength) is update =
+        (for_device known why.WrongLength, refl, (t, known, _, of, is, refl, (refl, refl)))
+    of-reading known of (Err unreadable.OtherMessage) is update =
+        (for_device known why.OtherMessage, refl, (t, known, _, of, is, inl refl, (refl, refl)))
 
     of-data : (known : Option Device) → teach_in_of t ≡ teach.Plain → device_of state.devices t.sender ≡ known
         → Truth state packet (case_effect state t (data_case known))
     of-data None plain is =
-        of-planned true false (ap is_some is) (λ silent change.
-        (because why.UnknownSender, refl, (t, heard, plain, is, change, (refl, refl))))
+        of-planned true false (ap is_some is) (λ silent update.
+        (without_device why.UnknownSender, refl, (t, heard, plain, is, update, (refl, refl))))
     of-data (Some known) plain is =
         of-reading known (record { hears = heard; data_alone = plain; is_known = is }) (read_by known.eep t) refl
 
     of-kind : (kind : Teach) (known : Option Device) → teach_in_of t ≡ kind
-        → device_of state.devices t.sender ≡ known → Truth state packet (case_effect state t (kind_case kind known))
-    of-kind teach.Answer known is has = λ change. (because why.TeachInReply, refl, (t, heard, is, (refl, refl)))
+        → device_of state.devices t.sender ≡ known → Truth state packet (case_effect state t (teach_case kind known))
+    of-kind teach.Answer known is has = λ update. (without_device why.TeachInReply, refl, (t, heard, is, (refl, refl)))
     of-kind teach.Contact known is has = of-taught _ refl (subst IsTeachIn (sym is) tt)
     of-kind teach.Bare known is has = of-taught _ refl (subst IsTeachIn (sym is) tt)
     of-kind (teach.FourByte query) known is has = of-taught _ refl (subst IsTeachIn (sym is) tt)
@@ -353,39 +364,40 @@ module _ (state : State) (packet : Packet) (t : Telegram) (carried : telegram_of
     of-kind teach.Plain known is has = of-data known is has
 
   of-telegram : Truth state packet (case_effect state t (case_of state t))
-  of-telegram = by (is_passed_over state.base t) refl
+  of-telegram = by (is_filtered_out state.base t) refl
     where
-      by : (over : Bool) → is_passed_over state.base t ≡ over
+      by : (over : Bool) → is_filtered_out state.base t ≡ over
           → Truth state packet (case_effect state t (case_of state t))
       by true is =
           subst (λ o. Truth state packet (case_effect state t
-          (if o then PassedOver else kind_case (teach_in_of t) (device_of state.devices t.sender)))) (sym is)
+          (if o then FilteredOut else teach_case (teach_in_of t) (device_of state.devices t.sender)))) (sym is)
           (of-passed is)
       by false is =
           subst (λ o. Truth state packet (case_effect state t
-          (if o then PassedOver else kind_case (teach_in_of t) (device_of state.devices t.sender)))) (sym is)
+          (if o then FilteredOut else teach_case (teach_in_of t) (device_of state.devices t.sender)))) (sym is)
           (of-kind (record { carried = carried; heard = is }) (teach_in_of t)
           (device_of state.devices t.sender) refl refl)
 
 -- ---- each packet
 
 of-packet : (state : State) (packet : Packet) (telegram : Result Telegram TelegramFault)
-    → telegram_of packet ≡ telegram → Truth state packet (packet_by state packet telegram)
+    → telegram_of packet ≡ telegram → Truth state packet (packet_effect_from state packet telegram)
 of-packet state packet (Ok t) is = of-telegram state packet t is
 of-packet state packet (Err fault) is = of-other state packet fault is
 
 -- ---- the line
 
-shown-destination : (t : Telegram) → ((t.dest ≡ 0xFFFF_FFFF) × (destination_told t.dest ≡ None))
-    ⊎ ((t.dest ≢ 0xFFFF_FFFF) × (destination_told t.dest ≡ Some t.dest))
+shown-destination : (t : Telegram) → ((t.dest ≡ 0xFFFF_FFFF) × (shown_destination t.dest ≡ None))
+    ⊎ ((t.dest ≢ 0xFFFF_FFFF) × (shown_destination t.dest ≡ Some t.dest))
 shown-destination t = elim (eqb_tells t.dest 0xFFFF_FFFF) [
   | inl (test, is) ↦ inl (is, ap (λ b. if b then None else Some t.dest) test)
   | inr (test, other) ↦ inr (other, ap (λ b. if b then None else Some t.dest) test)
 ]
 
-shows : (packet : Packet) (account : Account) (carried : Result Telegram TelegramFault) → telegram_of packet ≡ carried
-    → Shows packet account (told_packet packet carried account)
-shows packet account (Ok t) is = (
+shows : (packet : Packet) (disposition : Disposition) (carried : Result Telegram TelegramFault)
+    → telegram_of packet ≡ carried
+    → Shows packet disposition (shown_packet packet carried disposition)
+shows packet disposition (Ok t) is = (
   t,
   is,
   record {
@@ -399,16 +411,16 @@ shows packet account (Ok t) is = (
     maker = refl;
   },
 )
-shows packet account (Err fault) is = (subst IsErr (sym is) refl, refl, refl)
+shows packet disposition (Err fault) is = (subst IsErr (sym is) refl, refl, refl)
 
 pub explanations_are_true : ExplanationsAreTrue
 explanations_are_true state packet =
-    let (account, is, means) = of-packet state packet (telegram_of packet) refl refl in
+    let (disposition, is, means) = of-packet state packet (telegram_of packet) refl refl in
     record {
-      account = account;
-      line = line_of packet account;
-      explained = ap (λ o. explanation (option_map (line_of packet) o)) is;
+      disposition = disposition;
+      line = packet_line_of packet disposition;
+      explained = ap (λ o. explanation (option_map (packet_line_of packet) o)) is;
       word = refl;
-      shows = shows packet account (telegram_of packet) refl;
+      shows = shows packet disposition (telegram_of packet) refl;
       means = means;
     }

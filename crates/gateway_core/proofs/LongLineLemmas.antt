@@ -2,65 +2,68 @@
 use Rattle.std.proofs.Common.{◌≡◌, ℕ, ◌<◌, List, [], ◌∷◌, length, refl, ap, sym, subst, ◌∙◌}
 use Rattle.std.specs.Prelude.{if◌then◌else◌, IsSome}
 use Rattle.std.proofs.lemmas.Bool.{lt-ltb}
-use Rattle.learned_devices.specs.Kept.{Kept}
-use Rattle.json_lines.specs.Counts.{raised}
+use Rattle.learned_devices.specs.StoreState.{StoreState}
+use Rattle.json_lines.specs.Counts.{increment_if_any}
 use Rattle.json_lines.specs.declared.error_lines.ErrorName.TheVariants.{TooLong}
 use Rattle.actuator_commands.specs.Limits.{max_line}
 use Rattle.actuator_commands.specs.Orders.{order_of}
-use Rattle.gateway_core.specs.Step.{State, Item, Ordered, Answer, said, Effect, denied, order_effect}
-use Rattle.gateway_core.specs.Step.{Permits, line_effect, effect, answer_by, count_in, with_change, with_mode}
-use Rattle.gateway_core.specs.Run.{Fate, Taken, Refused, RefusedAtWrite, Run, cause_text, refused}
-use Rattle.gateway_core.specs.Stops.{Left, nothing_left, told, pending, left_by, Safe}
-use Rattle.gateway_core.specs.Handling.{HandlerValue, Went, Handles}
+use Rattle.gateway_core.specs.Step.{State, Input, Ordered, Answer, text_answer, Effect, error_effect, order_effect}
+use Rattle.gateway_core.specs.Step.{MayFailFor, line_effect, effect, answer_from_effect, count_in, with_update}
+use Rattle.gateway_core.specs.Step.{with_mode}
+use Rattle.gateway_core.specs.Run.{InputResult, Applied, Failed, FailedAtCommit, Run, cause_text, state_after_failure}
+use Rattle.gateway_core.specs.CrashStates.{CrashStates, no_updates, with_committed, with_pending, crash_states}
+use Rattle.gateway_core.specs.CrashStates.{IsCrashConsistent}
+use Rattle.gateway_core.specs.Handling.{HandlerValue, HandlesFrom, Handles}
 
 effect-long : (start : State) (line : List ℕ) → max_line < length line
-    → line_effect start line ≡ denied TooLong
+    → line_effect start line ≡ error_effect TooLong
 effect-long start line h =
-    ap (λ b. if b then denied TooLong else order_effect start (order_of line))
+    ap (λ b. if b then error_effect TooLong else order_effect start (order_of line))
     (lt-ltb max_line (length line) h)
 
 -- a run on one line depends only on its effect
-run_alike : (old new : State) (line other : List ℕ) (fates : List Fate) (answers : List Answer)
-    → line_effect old line ≡ line_effect old other → Run old (Ordered line ∷ []) fates answers new
-    → Run old (Ordered other ∷ []) fates answers new
-run_alike old new line other (Taken ∷ fates) (answer ∷ answers) e run =
-    let P : Effect → Type 0 = λ d. Unit {0} × (answer ≡ answer_by d)
+run_alike : (old new : State) (line other : List ℕ) (results : List InputResult) (answers : List Answer)
+    → line_effect old line ≡ line_effect old other → Run old (Ordered line ∷ []) results answers new
+    → Run old (Ordered other ∷ []) results answers new
+run_alike old new line other (Applied ∷ results) (answer ∷ answers) e run =
+    let P : Effect → Type 0 = λ d. Unit {0} × (answer ≡ answer_from_effect d)
     × Run (record {
       base = old.base;
       mode = with_mode old.mode d.mode;
-      counts = raised old.counts (count_in d.account);
-      devices = with_change old.devices d.change;
-    }) [] fates answers new in subst P e run
-run_alike old new line other (Refused cause ∷ fates) (answer ∷ answers) e run =
-    let P : Effect → Type 0 = λ d. Permits d.need cause × (answer ≡ said (cause_text cause))
-    × Run (refused old) [] fates answers new in subst P e run
-run_alike old new line other (RefusedAtWrite cause ∷ fates) (answer ∷ answers) e run =
-    let P : Effect → Type 0 = λ d. IsSome d.change × (answer ≡ said (cause_text cause))
-    × Run (refused old) [] fates answers new in subst P e run
+      counts = increment_if_any old.counts (count_in d.disposition);
+      devices = with_update old.devices d.update;
+    }) [] results answers new in subst P e run
+run_alike old new line other (Failed cause ∷ results) (answer ∷ answers) e run =
+    let P : Effect → Type 0 = λ d. MayFailFor d.need cause × (answer ≡ text_answer (cause_text cause))
+    × Run (state_after_failure old) [] results answers new in subst P e run
+run_alike old new line other (FailedAtCommit cause ∷ results) (answer ∷ answers) e run =
+    let P : Effect → Type 0 = λ d. IsSome d.update × (answer ≡ text_answer (cause_text cause))
+    × Run (state_after_failure old) [] results answers new in subst P e run
 run_alike old new line other [] [] e run = absurd run
 run_alike old new line other [] (answer ∷ answers) e run = absurd run
-run_alike old new line other (fate ∷ fates) [] e run = absurd run
+run_alike old new line other (result ∷ results) [] e run = absurd run
 
 -- and so do its crash states
-left_alike : (old : State) (item other : Item) (fates : List Fate) → effect old item ≡ effect old other
-    → left_by nothing_left old (item ∷ []) fates ≡ left_by nothing_left old (other ∷ []) fates
-left_alike old item other [] e = refl
-left_alike old item other (Taken ∷ fates) e = ap (λ (d : Effect). told nothing_left old.devices d.change) e
-left_alike old item other (Refused cause ∷ fates) e = refl
-left_alike old item other (RefusedAtWrite cause ∷ fates) e =
-    ap (λ (d : Effect). pending nothing_left old.devices d.change) e
+left_alike : (old : State) (input other : Input) (results : List InputResult) → effect old input ≡ effect old other
+    → crash_states no_updates old (input ∷ []) results ≡ crash_states no_updates old (other ∷ []) results
+left_alike old input other [] e = refl
+left_alike old input other (Applied ∷ results) e = ap (λ (d : Effect). with_committed no_updates old.devices d.update) e
+left_alike old input other (Failed cause ∷ results) e = refl
+left_alike old input other (FailedAtCommit cause ∷ results) e =
+    ap (λ (d : Effect). with_pending no_updates old.devices d.update) e
 
-module _ {S : Type 0} (stored : S → Kept) where
+module _ {S : Type 0} (stored : S → StoreState) where
   went_alike : (old new : HandlerValue S) (start : State) (line other : List ℕ) (answers : List Answer)
-      → line_effect start line ≡ line_effect start other → Went stored old start (Ordered line ∷ []) answers new
-      → Went stored old start (Ordered other ∷ []) answers new
+      → line_effect start line ≡ line_effect start other → HandlesFrom stored old start (Ordered line ∷ []) answers new
+      → HandlesFrom stored old start (Ordered other ∷ []) answers new
   went_alike old new start line other answers e went = record {
-    fates = went.fates;
+    results = went.results;
     last = went.last;
-    run = run_alike start went.last line other went.fates answers e went.run;
+    run = run_alike start went.last line other went.results answers e went.run;
     at = went.at;
-    stop = λ left may. let P : Left → Type 0 = λ l. Safe (stored old.registry).may_recover l left in
-        subst P (left_alike start (Ordered line) (Ordered other) went.fates e) (went.stop left may);
+    crash =
+        λ left may. let P : CrashStates → Type 0 = λ l. IsCrashConsistent (stored old.registry).may_recover l left in
+        subst P (left_alike start (Ordered line) (Ordered other) went.results e) (went.crash left may);
   }
 
   -- two lines that are too long are handled alike

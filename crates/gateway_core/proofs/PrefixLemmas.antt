@@ -2,203 +2,215 @@
 use Rattle.std.proofs.Common.{◌≡◌, ◌<◌, ◌⊎◌, inl, inr, IsSome, length, List, [], ◌∷◌, ◌++◌, Option}
 use Rattle.std.proofs.Common.{Some, None, refl}
 use Rattle.std.proofs.Common.{sym, ap, subst, ◌∙◌, arith}
-use Rattle.learned_devices.specs.Devices.{Devices, Change}
-use Rattle.gateway_core.specs.Step.{State, Item, Answer, change_of, with_change}
-use Rattle.gateway_core.specs.Run.{Fate, Taken, Refused, RefusedAtWrite, state_with, Run}
-use Rattle.gateway_core.specs.Stops.{Left, nothing_left, told, pending, left_with, left_by, Safe}
-use Rattle.gateway_core.specs.Lives.{begun, stopped_in}
-use Rattle.gateway_core.specs.Prefixes.{IsTold, NoneTold, state_by, AfterPrefix, SafeIsPrefix, ToldStandBefore}
-use Rattle.gateway_core.specs.Prefixes.{StopIsDone, LeftIsPrefix}
+use Rattle.learned_devices.specs.Devices.{Devices, DeviceUpdate}
+use Rattle.gateway_core.specs.Step.{State, Input, Answer, update_of, with_update}
+use Rattle.gateway_core.specs.Run.{InputResult, Applied, Failed, FailedAtCommit, state_with, Run}
+use Rattle.gateway_core.specs.CrashStates.{CrashStates, no_updates, with_committed, with_pending, crash_states_with}
+use Rattle.gateway_core.specs.CrashStates.{crash_states, IsCrashConsistent}
+use Rattle.gateway_core.specs.Sessions.{initial_state, with_interrupted}
+use Rattle.gateway_core.specs.Prefixes.{IsAcknowledged, NoneAcknowledged, state_after_run, AfterPrefix}
+use Rattle.gateway_core.specs.Prefixes.{CrashStatesArePrefixes, AcknowledgedAreInPrefix}
+use Rattle.gateway_core.specs.Prefixes.{IncludesInterrupted, SessionsLeavePrefixes}
 
 module _ (Before : Devices → Type 0) where
   -- what one input makes of crash-consistent devices
-  abbrev Steps : Left → State → Item → Fate → Devices → Type 0
-  Steps left state item fate devices =
-      (Safe Before left devices × (¬ IsTold state item fate))
-      ⊎ ((devices ≡ (state_with state item fate).devices)
-      ⊎ ((cause : _) × (fate ≡ RefusedAtWrite cause)
-      × (devices ≡ with_change state.devices (change_of state item))))
+  abbrev Steps : CrashStates → State → Input → InputResult → Devices → Type 0
+  Steps left state input result devices =
+      (IsCrashConsistent Before left devices × (¬ IsAcknowledged state input result))
+      ⊎ ((devices ≡ (state_with state input result).devices)
+      ⊎ ((cause : _) × (result ≡ FailedAtCommit cause)
+      × (devices ≡ with_update state.devices (update_of state input))))
 
-  told_steps : (left : Left) (known devices : Devices) (o : Option Change) → Safe Before (told left known o) devices
-      → (Safe Before left devices × (¬ IsSome o)) ⊎ (devices ≡ with_change known o)
+  told_steps : (left : CrashStates) (known devices : Devices) (o : Option DeviceUpdate)
+      → IsCrashConsistent Before (with_committed left known o) devices
+      → (IsCrashConsistent Before left devices × (¬ IsSome o)) ⊎ (devices ≡ with_update known o)
   told_steps left known devices None safe = inl (safe, λ is. absurd cc)
-  told_steps left known devices (Some change) (inl (inl is)) = inr is
-  told_steps left known devices (Some change) (inl (inr never)) = absurd never
-  told_steps left known devices (Some change) (inr non) = absurd (let e = non.0 in cc)
+  told_steps left known devices (Some update) (inl (inl is)) = inr is
+  told_steps left known devices (Some update) (inl (inr never)) = absurd never
+  told_steps left known devices (Some update) (inr non) = absurd (let e = non.0 in cc)
 
-  pending_steps : (left : Left) (known devices : Devices) (o : Option Change)
-      → Safe Before (pending left known o) devices → Safe Before left devices ⊎ (devices ≡ with_change known o)
+  pending_steps : (left : CrashStates) (known devices : Devices) (o : Option DeviceUpdate)
+      → IsCrashConsistent Before (with_pending left known o) devices
+      → IsCrashConsistent Before left devices ⊎ (devices ≡ with_update known o)
   pending_steps left known devices None safe = inl safe
-  pending_steps left known devices (Some change) (inl (inl is)) = inr is
-  pending_steps left known devices (Some change) (inl (inr more)) = inl (inl more)
-  pending_steps left known devices (Some change) (inr non) = inl (inr non)
+  pending_steps left known devices (Some update) (inl (inl is)) = inr is
+  pending_steps left known devices (Some update) (inl (inr more)) = inl (inl more)
+  pending_steps left known devices (Some update) (inr non) = inl (inr non)
 
-  steps : (left : Left) (state : State) (item : Item) (fate : Fate) (devices : Devices)
-      → Safe Before (left_with left state item fate) devices → Steps left state item fate devices
-  steps left state item Taken devices safe =
-      elim (told_steps left state.devices devices (change_of state item) safe) [
+  steps : (left : CrashStates) (state : State) (input : Input) (result : InputResult) (devices : Devices)
+      → IsCrashConsistent Before (crash_states_with left state input result) devices
+      → Steps left state input result devices
+  steps left state input Applied devices safe =
+      elim (told_steps left state.devices devices (update_of state input) safe) [
         | inl old ↦ inl old
         | inr is ↦
             inr (inl is)
       ]
-  steps left state item (Refused cause) devices safe = inl (safe, λ never. never)
-  steps left state item (RefusedAtWrite cause) devices safe =
-      elim (pending_steps left state.devices devices (change_of state item) safe) [
+  steps left state input (Failed cause) devices safe = inl (safe, λ never. never)
+  steps left state input (FailedAtCommit cause) devices safe =
+      elim (pending_steps left state.devices devices (update_of state input) safe) [
         | inl old ↦
             inl (old, λ never. never)
         | inr is ↦ inr (inr (cause, refl, is))
       ]
 
-  prefixes : (left : Left) (state : State) (items : List Item) (fates : List Fate) (devices : Devices)
-      → length items ≡ length fates → Safe Before (left_by left state items fates) devices
-      → (Safe Before left devices × NoneTold state items fates) ⊎ AfterPrefix state items fates devices
+  prefixes : (left : CrashStates) (state : State) (inputs : List Input) (results : List InputResult) (devices : Devices)
+      → length inputs ≡ length results → IsCrashConsistent Before (crash_states left state inputs results) devices
+      → (IsCrashConsistent Before left devices × NoneAcknowledged state inputs results)
+      ⊎ AfterPrefix state inputs results devices
   prefixes left state [] [] devices same safe = inl (safe, tt)
-  prefixes left state [] (fate ∷ fates) devices same safe = absurd (omega (arith, same))
-  prefixes left state (item ∷ items) [] devices same safe = absurd (omega (arith, same))
-  prefixes left state (item ∷ items) (fate ∷ fates) devices same safe =
-      elim (prefixes (left_with left state item fate) (state_with state item fate) items fates devices
+  prefixes left state [] (result ∷ results) devices same safe = absurd (omega (arith, same))
+  prefixes left state (input ∷ inputs) [] devices same safe = absurd (omega (arith, same))
+  prefixes left state (input ∷ inputs) (result ∷ results) devices same safe =
+      elim (prefixes (crash_states_with left state input result) (state_with state input result) inputs results devices
       (omega (arith, same)) safe) [
         | inr p ↦ inr (record {
-          before = item ∷ p.before;
+          before = input ∷ p.before;
           after = p.after;
-          done = fate ∷ p.done;
+          done = result ∷ p.done;
           more = p.more;
-          items_are = ap (λ xs. item ∷ xs) p.items_are;
-          fates_are = ap (λ xs. fate ∷ xs) p.fates_are;
+          inputs_are = ap (λ xs. input ∷ xs) p.inputs_are;
+          results_are = ap (λ xs. result ∷ xs) p.results_are;
           as_many = omega (arith, p.as_many);
           at = p.at;
           at_is = p.at_is;
-          untold = p.untold;
+          unacknowledged = p.unacknowledged;
           is = p.is;
         })
-        | inl both ↦ elim (steps left state item fate devices both.0) [
+        | inl both ↦ elim (steps left state input result devices both.0) [
           | inl old ↦ inl (old.0, (old.1, both.1))
           | inr (inl is) ↦ inr (record {
-            before = item ∷ [];
-            after = items;
-            done = fate ∷ [];
-            more = fates;
-            items_are = refl;
-            fates_are = refl;
+            before = input ∷ [];
+            after = inputs;
+            done = result ∷ [];
+            more = results;
+            inputs_are = refl;
+            results_are = refl;
             as_many = refl;
-            at = state_with state item fate;
+            at = state_with state input result;
             at_is = refl;
-            untold = both.1;
+            unacknowledged = both.1;
             is = inl is;
           })
           | inr (inr yet) ↦
-              let P = λ (f : Fate). NoneTold (state_with state item f) items fates
-              → AfterPrefix state (item ∷ items) (f ∷ fates) devices in
-              let at_write : P (RefusedAtWrite yet.0) = λ untold. record {
+              let P = λ (f : InputResult). NoneAcknowledged (state_with state input f) inputs results
+              → AfterPrefix state (input ∷ inputs) (f ∷ results) devices in
+              let at_write : P (FailedAtCommit yet.0) = λ unacknowledged. record {
                 before = [];
-                after = item ∷ items;
+                after = input ∷ inputs;
                 done = [];
-                more = RefusedAtWrite yet.0 ∷ fates;
-                items_are = refl;
-                fates_are = refl;
+                more = FailedAtCommit yet.0 ∷ results;
+                inputs_are = refl;
+                results_are = refl;
                 as_many = refl;
                 at = state;
                 at_is = refl;
-                untold = (λ never. never, untold);
+                unacknowledged = (λ never. never, unacknowledged);
                 is = inr yet.2;
               } in
               inr (subst P (sym yet.1) at_write both.1)
         ]
       ]
 
-pub safe_is_prefix : SafeIsPrefix
-safe_is_prefix start items fates devices same safe =
-    elim (prefixes (λ found. found ≡ start.devices) nothing_left start items fates devices same safe) [
+pub crash_states_are_prefixes : CrashStatesArePrefixes
+crash_states_are_prefixes start inputs results devices same safe =
+    elim (prefixes (λ found. found ≡ start.devices) no_updates start inputs results devices same safe) [
       | inr p ↦ p
       | inl both ↦ elim both.0 [
         | inl never ↦ absurd never
         | inr found ↦ record {
           before = [];
-          after = items;
+          after = inputs;
           done = [];
-          more = fates;
-          items_are = refl;
-          fates_are = refl;
+          more = results;
+          inputs_are = refl;
+          results_are = refl;
           as_many = refl;
           at = start;
           at_is = refl;
-          untold = both.1;
+          unacknowledged = both.1;
           is = inl found.1;
         }
       ]
     ]
 
-run-length : (old new : State) (items : List Item) (fates : List Fate) (answers : List Answer)
-    → Run old items fates answers new → length items ≡ length fates
+run-length : (old new : State) (inputs : List Input) (results : List InputResult) (answers : List Answer)
+    → Run old inputs results answers new → length inputs ≡ length results
 run-length old new [] [] [] run = refl
-run-length old new (item ∷ items) (fate ∷ fates) (answer ∷ answers) run =
-    omega (arith, run-length (state_with old item fate) new items fates answers run.2)
+run-length old new (input ∷ inputs) (result ∷ results) (answer ∷ answers) run =
+    omega (arith, run-length (state_with old input result) new inputs results answers run.2)
 run-length old new [] [] (answer ∷ answers) run = absurd run
-run-length old new [] (fate ∷ fates) answers run = absurd run
-run-length old new (item ∷ items) [] answers run = absurd run
-run-length old new (item ∷ items) (fate ∷ fates) [] run = absurd run
+run-length old new [] (result ∷ results) answers run = absurd run
+run-length old new (input ∷ inputs) [] answers run = absurd run
+run-length old new (input ∷ inputs) (result ∷ results) [] run = absurd run
 
 -- no input in a list without acknowledged ones was acknowledged
-untold-at : (state : State) (ahead behind : List Item) (item : Item) (earlier later : List Fate) (fate : Fate)
-    → NoneTold state (ahead ++ item ∷ behind) (earlier ++ fate ∷ later) → length ahead ≡ length earlier
-    → ¬ IsTold (state_by state ahead earlier) item fate
-untold-at state [] behind item [] later fate none same = none.0
-untold-at state (first ∷ ahead) behind item (its ∷ earlier) later fate none same =
-    untold-at (state_with state first its) ahead behind item earlier later fate none.1 (omega (arith, same))
-untold-at state [] behind item (its ∷ earlier) later fate none same = absurd (omega (arith, same))
-untold-at state (first ∷ ahead) behind item [] later fate none same = absurd (omega (arith, same))
+unacknowledged-at : (state : State) (ahead behind : List Input) (input : Input) (earlier later : List InputResult)
+    (result : InputResult)
+    → NoneAcknowledged state (ahead ++ input ∷ behind) (earlier ++ result ∷ later) → length ahead ≡ length earlier
+    → ¬ IsAcknowledged (state_after_run state ahead earlier) input result
+unacknowledged-at state [] behind input [] later result none same = none.0
+unacknowledged-at state (first ∷ ahead) behind input (its ∷ earlier) later result none same =
+    unacknowledged-at (state_with state first its) ahead behind input earlier later result none.1 (omega (arith, same))
+unacknowledged-at state [] behind input (its ∷ earlier) later result none same = absurd (omega (arith, same))
+unacknowledged-at state (first ∷ ahead) behind input [] later result none same = absurd (omega (arith, same))
 
-told-before : (state : State) (before after ahead behind : List Item) (item : Item)
-    (done more earlier later : List Fate) (fate : Fate)
-    → before ++ after ≡ ahead ++ item ∷ behind → done ++ more ≡ earlier ++ fate ∷ later → length before ≡ length done
+told-before : (state : State) (before after ahead behind : List Input) (input : Input)
+    (done more earlier later : List InputResult) (result : InputResult)
+    → before ++ after ≡ ahead ++ input ∷ behind → done ++ more ≡ earlier ++ result ∷ later → length before ≡ length done
     → length ahead ≡ length earlier
-    → NoneTold (state_by state before done) after more → IsTold (state_by state ahead earlier) item fate
+    → NoneAcknowledged (state_after_run state before done) after more
+    → IsAcknowledged (state_after_run state ahead earlier) input result
     → length ahead < length before
-told-before state [] after ahead behind item [] more earlier later fate items fates many same none is =
-    let at : NoneTold state (ahead ++ item ∷ behind) (earlier ++ fate ∷ later) = rw (sym items, sym fates) none in
-    absurd (untold-at state ahead behind item earlier later fate at same is)
-told-before state (b ∷ before) after [] behind item (d ∷ done) more [] later fate items fates many same none is =
+told-before state [] after ahead behind input [] more earlier later result inputs results many same none is =
+    let at : NoneAcknowledged state (ahead ++ input ∷ behind) (earlier ++ result ∷ later) = rw (sym inputs, sym results)
+    none in
+    absurd (unacknowledged-at state ahead behind input earlier later result at same is)
+told-before state (b ∷ before) after [] behind input (d ∷ done) more [] later result inputs results many same none is =
     omega arith
-told-before state (b ∷ before) after (a ∷ ahead) behind item (d ∷ done) more
-    (e ∷ earlier) later fate items fates many same none is =
+told-before state (b ∷ before) after (a ∷ ahead) behind input (d ∷ done) more
+    (e ∷ earlier) later result inputs results many same none is =
     let first : a ≡ b = cc in
     let its : e ≡ d = cc in
-    let on : IsTold (state_by (state_with state b d) ahead earlier) item fate =
-    subst (λ f. IsTold (state_by (state_with state b f) ahead earlier) item fate) its
-    (subst (λ i. IsTold (state_by (state_with state i e) ahead earlier) item fate) first is) in
+    let on : IsAcknowledged (state_after_run (state_with state b d) ahead earlier) input result =
+    subst (λ f. IsAcknowledged (state_after_run (state_with state b f) ahead earlier) input result) its
+    (subst (λ i. IsAcknowledged (state_after_run (state_with state i e) ahead earlier) input result) first is) in
     omega (
       arith,
-      told-before (state_with state b d) before after ahead behind item done more earlier later fate (cc) (cc)
+      told-before (state_with state b d) before after ahead behind input done more earlier later result (cc) (cc)
           (omega (arith, many)) (omega (arith, same)) none on,
     )
-told-before state [] after ahead behind item (d ∷ done) more earlier later fate items fates many same none is =
+told-before state [] after ahead behind input (d ∷ done) more earlier later result inputs results many same none is =
     absurd (omega (arith, many))
-told-before state (b ∷ before) after ahead behind item [] more earlier later fate items fates many same none is =
+told-before state (b ∷ before) after ahead behind input [] more earlier later result inputs results many same none is =
     absurd (omega (arith, many))
-told-before state (b ∷ before) after [] behind item (d ∷ done) more
-    (e ∷ earlier) later fate items fates many same none is = absurd (omega (arith, same))
-told-before state (b ∷ before) after (a ∷ ahead) behind item (d ∷ done) more [] later fate items fates many same none
+told-before state (b ∷ before) after [] behind input (d ∷ done) more
+    (e ∷ earlier) later result inputs results many same none is = absurd (omega (arith, same))
+told-before state (b ∷ before) after (a ∷ ahead) behind input (d ∷ done) more [] later result inputs results many same
+    none
     is = absurd (omega (arith, same))
 
-pub told_stand_before : ToldStandBefore
-told_stand_before start items ahead behind item fates earlier later fate devices p is are same told =
-    told-before start p.before p.after ahead behind item p.done p.more earlier later fate (sym p.items_are ∙ is)
-    (sym p.fates_are ∙ are) p.as_many same
-    (subst (λ s. NoneTold s p.after p.more) p.at_is p.untold) told
+pub told_stand_before : AcknowledgedAreInPrefix
+told_stand_before start inputs ahead behind input results earlier later result devices p is are same with_committed =
+    told-before start p.before p.after ahead behind input p.done p.more earlier later result (sym p.inputs_are ∙ is)
+    (sym p.results_are ∙ are) p.as_many same
+    (subst (λ s. NoneAcknowledged s p.after p.more) p.at_is p.unacknowledged) with_committed
 
-stop_steps : (Before : Devices → Type 0) (left : Left) (state : State) (stopped : Option Item) (devices : Devices)
-    → Safe Before (stopped_in left state stopped) devices
-    → Safe Before left devices ⊎ StopIsDone state stopped devices
+stop_steps : (Before : Devices → Type 0) (left : CrashStates) (state : State) (interrupted : Option Input)
+    (devices : Devices)
+    → IsCrashConsistent Before (with_interrupted left state interrupted) devices
+    → IsCrashConsistent Before left devices ⊎ IncludesInterrupted state interrupted devices
 stop_steps Before left state None devices safe = inl safe
-stop_steps Before left state (Some item) devices safe =
-    pending_steps Before left state.devices devices (change_of state item) safe
+stop_steps Before left state (Some input) devices safe =
+    pending_steps Before left state.devices devices (update_of state input) safe
 
-pub left_is_prefix : LeftIsPrefix
-left_is_prefix life is =
-    let start = begun life.base life.found in
-    let same = run-length start life.last life.items life.fates life.answers is.run in
-    elim (stop_steps (λ devices. devices ≡ life.found) (left_by nothing_left start life.items life.fates) life.last
-    life.stopped life.left is.safe) [
-      | inl safe ↦ inl (safe_is_prefix start life.items life.fates life.left same safe)
+pub sessions_leave_prefixes : SessionsLeavePrefixes
+sessions_leave_prefixes session is =
+    let start = initial_state session.base session.found in
+    let same = run-length start session.last session.items session.results session.answers is.run in
+    elim (stop_steps (λ devices. devices ≡ session.found) (crash_states no_updates start session.items session.results)
+    session.last
+    session.interrupted session.left is.safe) [
+      | inl safe ↦ inl (crash_states_are_prefixes start session.items session.results session.left same safe)
       | inr done ↦ inr done
     ]

@@ -14,7 +14,7 @@ use Rattle.teach_in.specs.Telegrams.{teach_in_of}
 use Rattle.teach_in.specs.Ute.{ute_code}
 use Rattle.teach_in.specs.Plans.{plan_of}
 use Rattle.teach_in.proofs.ForCallers.{Refuses, AsksDeletion, of_plan, query-sender, ute-sender}
-use Rattle.gateway_core.specs.private.Tries.{MayReply}
+use Rattle.gateway_core.specs.private.Attempts.{MayReply}
 
 -- a reply can have this outcome
 abbrev CanSay : Teach → Outcome → Type 0

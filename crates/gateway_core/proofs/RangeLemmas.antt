@@ -13,8 +13,9 @@ use Rattle.erp1_telegrams.specs.declared.eep.Eep.{Eep}
 use Rattle.erp1_telegrams.specs.Telegram.{Telegram, telegram_of}
 use Rattle.erp1_telegrams.proofs.TelegramLemmas.{of_carried}
 use Rattle.learned_devices.specs.declared.Device.{Device}
-use Rattle.learned_devices.specs.Devices.{Learned, Devices, Deed, Learn, Forget, Relabel, Change, after, changed}
-use Rattle.learned_devices.specs.Devices.{device, learned}
+use Rattle.learned_devices.specs.Devices.{DeviceData, Devices, Operation, Learn, Forget, Relabel, DeviceUpdate}
+use Rattle.learned_devices.specs.Devices.{data_after, apply_update}
+use Rattle.learned_devices.specs.Devices.{device, learn_update}
 use Rattle.learned_devices.specs.Ranges.{IsProfileInRange, IsMakerInRange, IsDeviceInRange, AreInRange}
 use Rattle.learned_devices.proofs.ForCallers.{entered-in}
 use Rattle.teach_in.specs.declared.four_byte.FourByteQuery.{FourByteQuery}
@@ -30,29 +31,30 @@ use Rattle.teach_in.specs.FourByte as four_byte
 use Rattle.teach_in.specs.Profiles.{supported}
 use Rattle.teach_in.specs.Telegrams.{teach_in_of}
 use Rattle.teach_in.specs.Ute.{eep_in, maker_in, request_in, deletion, not_used}
-use Rattle.teach_in.specs.Plans.{row_of, is_learned_by, plan_of}
+use Rattle.teach_in.specs.Plans.{row_of, can_teach, plan_of}
 use Rattle.teach_in.proofs.ForCallers.{either}
 use Rattle.teach_in.specs.declared.outcome.Outcome.{Outcome}
 use Rattle.teach_in.specs.declared.outcome.Outcome.TheVariants.{Accepted, Deleted}
 use Rattle.actuator_commands.specs.declared.orders.Order.{Order}
 use Rattle.actuator_commands.specs.declared.orders.Order.TheVariants as order
 use Rattle.actuator_commands.specs.Orders.{order_of, words_of}
-use Rattle.actuator_commands.specs.Words.{Word, Says, Id, Profile, Number, Text, SpellsId, SpellsEep, SpellsWord}
+use Rattle.actuator_commands.specs.Words.{Word, Literal, Id, Profile, Number, Text, SpellsId, SpellsEep, SpellsWord}
 use Rattle.actuator_commands.proofs.OrderLemmas.{orders_are_spelled}
 use Rattle.json_lines.specs.Lines.{Teach, TeachLine, text}
 use Rattle.json_lines.proofs.TeachLines.{one_teach_line}
-use Rattle.gateway_core.specs.Step.{State, Item, Received, Ordered, Effect, change_of, effect, mode_set, told_of}
-use Rattle.gateway_core.specs.Step.{mode_after_one, with_change, with_mode}
-use Rattle.gateway_core.specs.Run.{Fate, Taken, Refused, RefusedAtWrite, state_with}
-use Rattle.gateway_core.specs.Lives.{begun}
-use Rattle.gateway_core.specs.Prefixes.{IsYetDone, StopIsDone, state_by}
-use Rattle.gateway_core.specs.Telling.{IsDeleted, Tells, acknowledged_change}
+use Rattle.gateway_core.specs.Step.{State, Input, Received, Ordered, Effect, update_of, effect, new_mode_of}
+use Rattle.gateway_core.specs.Step.{device_teach_line}
+use Rattle.gateway_core.specs.Step.{mode_after_learning, with_update, with_mode}
+use Rattle.gateway_core.specs.Run.{InputResult, Applied, Failed, FailedAtCommit, state_with}
+use Rattle.gateway_core.specs.Sessions.{initial_state}
+use Rattle.gateway_core.specs.Prefixes.{IncludesPendingUpdate, IncludesInterrupted, state_after_run}
+use Rattle.gateway_core.specs.Reporting.{IsDeleted, ReportsEffect, acknowledged_update}
 use Rattle.gateway_core.specs.Ranges.{IsModeInRange, IsStateInRange}
-use Rattle.gateway_core.specs.Ranges.{IsOfBytes, StaysInRange, LeavesInRange, IsOfDevice, TellsInRange}
+use Rattle.gateway_core.specs.Ranges.{IsOfBytes, StaysInRange, LeavesInRange, IsOfDevice, ReportsInRange}
 use Rattle.gateway_core.proofs.ByteLemmas.{AreBytes, field-below, four-below, front-bytes, back-bytes}
 use Rattle.gateway_core.proofs.EffectLemmas.{of_packet, of_line}
-use Rattle.gateway_core.proofs.PrefixLemmas.{left_is_prefix}
-use Rattle.gateway_core.proofs.TellingLemmas.{teach_lines_are_told}
+use Rattle.gateway_core.proofs.PrefixLemmas.{sessions_leave_prefixes}
+use Rattle.gateway_core.proofs.TellingLemmas.{teach_lines_are_true}
 
 -- ---- the sender of a telegram
 
@@ -88,7 +90,7 @@ maker-below : (query : FourByteQuery) → four_byte.maker_in query < 2 ^ 16
 maker-below query = omega (arith, field-below query.payload 13 11)
 
 module _ (t : Telegram) where
-  by-query-in : (known : Bool) (kind : Kind) → IsPlanInRange (row_of t known kind).told
+  by-query-in : (known : Bool) (kind : Kind) → IsPlanInRange (row_of t known kind).reported
   by-query-in known Contact = ((omega arith, omega arith, omega arith), tt)
   by-query-in known Bare = tt
   by-query-in known (FourByte query) =
@@ -110,7 +112,7 @@ module _ (t : Telegram) where
   given-in known Bare eep is = either IsPlanInRange (eep.rorg == 0xA5) _ _ (is, tt) tt
   given-in known (FourByte query) eep is = either IsPlanInRange (eep.rorg == 0xA5) _ _ (is, maker-below query) tt
   given-in known Plain eep is =
-      either IsPlanInRange (not known && is_learned_by t) _ _
+      either IsPlanInRange (not known && can_teach t) _ _
       (either IsPlanInRange (eep.rorg == t.rorg) _ _ (is, tt) tt) tt
   given-in known (Ute query) eep is = tt
   given-in known Answer eep is = tt
@@ -145,7 +147,7 @@ IsWordInBytes (Profile eep) = IsProfileInRange eep
 IsWordInBytes word = Unit {0}
 
 word-in : (text : List ℕ) (word : Word) → SpellsWord text word → IsWordInBytes word
-word-in text (Says name) is = tt
+word-in text (Literal name) is = tt
 word-in text (Id id) is = id-in text id is
 word-in text (Profile eep) is = profile-in text eep is
 word-in text (Number most n) is = tt
@@ -172,34 +174,34 @@ set-in line (LearnAs eep) is =
 
 -- ---- the update of an effect
 
-abbrev IsDeedInRange : ℕ → Deed → Type 0
+abbrev IsDeedInRange : ℕ → Operation → Type 0
 IsDeedInRange sender (Learn eep maker) = IsProfileInRange eep × (sender < 2 ^ 32) × IsMakerInRange maker
-IsDeedInRange sender deed = Unit {0}
+IsDeedInRange sender operation = Unit {0}
 
-abbrev IsChangeInRange : Change → Type 0
-IsChangeInRange change = IsDeedInRange change.sender change.deed
+abbrev IsChangeInRange : DeviceUpdate → Type 0
+IsChangeInRange update = IsDeedInRange update.sender update.operation
 
 -- the update and the mode that is set are in range
 abbrev KeepsRange : Effect → Type 0
-KeepsRange e = IfSome e.change IsChangeInRange × IfSome e.mode IsModeInRange
+KeepsRange e = IfSome e.update IsChangeInRange × IfSome e.mode IsModeInRange
 
 added-in : (line : List ℕ) (known : Device) → order_of line ≡ Ok (order.Add known.id known.eep) → known.maker ≡ None
-    → IsChangeInRange (learned known)
+    → IsChangeInRange (learn_update known)
 added-in line known is unknown =
     let words = order-in line (order.Add known.id known.eep) is in
     (words.1.1.0, words.1.0, subst IsMakerInRange (sym unknown) tt)
 
-after-one : (mode : Mode) → IfSome (mode_after_one mode) IsModeInRange
+after-one : (mode : Mode) → IfSome (mode_after_learning mode) IsModeInRange
 after-one Closed = tt
 after-one mode.Learn = tt
 after-one LearnAnswer = tt
 after-one (LearnAs eep) = tt
 
-item-keeps : (state : State) (item : Item) → IsStateInRange state → IsOfBytes item → KeepsRange (effect state item)
-item-keeps state (Received packet) in_range bytes =
+input-keeps : (state : State) (input : Input) → IsStateInRange state → IsOfBytes input → KeepsRange (effect state input)
+input-keeps state (Received packet) in_range bytes =
     of_packet KeepsRange state packet (record {
       telegrams = λ t carried. record {
-        unsays = λ asked account is. (tt, tt);
+        unsays = λ asked disposition is. (tt, tt);
         reads = λ known line. (tt, tt);
         admits = λ hears eep maker known planned.
             let plan = subst IsPlanInRange planned (planned-in t state.mode known in_range.1) in
@@ -207,10 +209,10 @@ item-keeps state (Received packet) in_range bytes =
         removes = λ learning asks. (tt, tt);
         refuses = λ hears need line is. (tt, tt);
       };
-      passes = λ account is. (tt, tt);
+      passes = λ disposition is. (tt, tt);
       hears = λ response. (tt, tt);
     })
-item-keeps state (Ordered line) in_range bytes =
+input-keeps state (Ordered line) in_range bytes =
     of_line KeepsRange state line (record {
       denies = λ name. (tt, tt);
       finds = λ name. (tt, tt);
@@ -225,111 +227,116 @@ item-keeps state (Ordered line) in_range bytes =
 
 -- ---- the next state
 
-after-in : (sender : ℕ) (known : Option Learned) (deed : Deed) → IsDeedInRange sender deed
+after-in : (sender : ℕ) (known : Option DeviceData) (operation : Operation) → IsDeedInRange sender operation
     → IfSome (option_map (device sender) known) IsDeviceInRange
-    → IfSome (option_map (device sender) (after known deed)) IsDeviceInRange
+    → IfSome (option_map (device sender) (data_after known operation)) IsDeviceInRange
 after-in sender known (Learn eep maker) is old = is
 after-in sender known Forget is old = tt
 after-in sender (Some it) (Relabel label) is old = old
 after-in sender None (Relabel label) is old = tt
 
-changed-in : (devices : Devices) (change : Change) → IsChangeInRange change → AreInRange devices
-    → AreInRange (changed devices change)
-changed-in devices change is old =
-    entered-in devices change.sender (after (get devices change.sender) change.deed)
-    (after-in change.sender (get devices change.sender) change.deed is (old change.sender)) old
+changed-in : (devices : Devices) (update : DeviceUpdate) → IsChangeInRange update → AreInRange devices
+    → AreInRange (apply_update devices update)
+changed-in devices update is old =
+    entered-in devices update.sender (data_after (get devices update.sender) update.operation)
+    (after-in update.sender (get devices update.sender) update.operation is (old update.sender)) old
 
-pub with_change-in : (devices : Devices) (change : Option Change) → IfSome change IsChangeInRange → AreInRange devices
-    → AreInRange (with_change devices change)
-with_change-in devices None is old = old
-with_change-in devices (Some change) is old = changed-in devices change is old
+pub with_update-in : (devices : Devices) (update : Option DeviceUpdate) → IfSome update IsChangeInRange
+    → AreInRange devices
+    → AreInRange (with_update devices update)
+with_update-in devices None is old = old
+with_update-in devices (Some update) is old = changed-in devices update is old
 
 with_mode-in : (mode : Mode) (set : Option Mode) → IfSome set IsModeInRange → IsModeInRange mode
     → IsModeInRange (with_mode mode set)
 with_mode-in mode None is old = old
 with_mode-in mode (Some set) is old = is
 
-state_with-in : (state : State) (item : Item) (fate : Fate) → IsOfBytes item → IsStateInRange state
-    → IsStateInRange (state_with state item fate)
-state_with-in state item Taken bytes old =
-    let keeps = item-keeps state item old bytes in (
-      with_change-in state.devices (change_of state item) keeps.0 old.0,
-      with_mode-in state.mode (mode_set state item) keeps.1 old.1,
+state_with-in : (state : State) (input : Input) (result : InputResult) → IsOfBytes input → IsStateInRange state
+    → IsStateInRange (state_with state input result)
+state_with-in state input Applied bytes old =
+    let keeps = input-keeps state input old bytes in (
+      with_update-in state.devices (update_of state input) keeps.0 old.0,
+      with_mode-in state.mode (new_mode_of state input) keeps.1 old.1,
     )
-state_with-in state item (Refused cause) bytes old = old
-state_with-in state item (RefusedAtWrite cause) bytes old = old
+state_with-in state input (Failed cause) bytes old = old
+state_with-in state input (FailedAtCommit cause) bytes old = old
 
 pub stays_in_range : StaysInRange
 stays_in_range old new [] [] [] run bytes is = subst IsStateInRange (sym run) is
-stays_in_range old new (item ∷ items) (fate ∷ fates) (answer ∷ answers) run bytes is =
-    stays_in_range (state_with old item fate) new items fates answers run.2 bytes.1
-    (state_with-in old item fate bytes.0 is)
+stays_in_range old new (input ∷ inputs) (result ∷ results) (answer ∷ answers) run bytes is =
+    stays_in_range (state_with old input result) new inputs results answers run.2 bytes.1
+    (state_with-in old input result bytes.0 is)
 stays_in_range old new [] [] (answer ∷ answers) run bytes is = absurd run
-stays_in_range old new [] (fate ∷ fates) answers run bytes is = absurd run
-stays_in_range old new (item ∷ items) [] answers run bytes is = absurd run
-stays_in_range old new (item ∷ items) (fate ∷ fates) [] run bytes is = absurd run
+stays_in_range old new [] (result ∷ results) answers run bytes is = absurd run
+stays_in_range old new (input ∷ inputs) [] answers run bytes is = absurd run
+stays_in_range old new (input ∷ inputs) (result ∷ results) [] run bytes is = absurd run
 
--- ---- what an execution leaves
+-- ---- what a session leaves
 
-change-in : (state : State) (item : Item) → IsOfBytes item → IsStateInRange state
-    → AreInRange (with_change state.devices (change_of state item))
-change-in state item bytes is =
-    with_change-in state.devices (change_of state item) (item-keeps state item is bytes).0 is.0
+update-in : (state : State) (input : Input) → IsOfBytes input → IsStateInRange state
+    → AreInRange (with_update state.devices (update_of state input))
+update-in state input bytes is =
+    with_update-in state.devices (update_of state input) (input-keeps state input is bytes).0 is.0
 
-state_by-in : (state : State) (items : List Item) (fates : List Fate) → AllByRecursion IsOfBytes items
-    → IsStateInRange state → IsStateInRange (state_by state items fates)
-state_by-in state [] fates bytes is = is
-state_by-in state (item ∷ items) [] bytes is = is
-state_by-in state (item ∷ items) (fate ∷ fates) bytes is =
-    state_by-in (state_with state item fate) items fates bytes.1 (state_with-in state item fate bytes.0 is)
+state_after_run-in : (state : State) (inputs : List Input) (results : List InputResult)
+    → AllByRecursion IsOfBytes inputs
+    → IsStateInRange state → IsStateInRange (state_after_run state inputs results)
+state_after_run-in state [] results bytes is = is
+state_after_run-in state (input ∷ inputs) [] bytes is = is
+state_after_run-in state (input ∷ inputs) (result ∷ results) bytes is =
+    state_after_run-in (state_with state input result) inputs results bytes.1
+    (state_with-in state input result bytes.0 is)
 
-yet-in : (state : State) (items : List Item) (fates : List Fate) (devices : Devices)
-    → IsYetDone state items fates devices → AllByRecursion IsOfBytes items → IsStateInRange state → AreInRange devices
-yet-in state (item ∷ items) (RefusedAtWrite cause ∷ fates) devices done bytes is =
-    subst AreInRange (sym done) (change-in state item bytes.0 is)
-yet-in state (item ∷ items) (Taken ∷ fates) devices done bytes is = absurd done
-yet-in state (item ∷ items) (Refused cause ∷ fates) devices done bytes is = absurd done
-yet-in state (item ∷ items) [] devices done bytes is = absurd done
-yet-in state [] fates devices done bytes is = absurd done
+yet-in : (state : State) (inputs : List Input) (results : List InputResult) (devices : Devices)
+    → IncludesPendingUpdate state inputs results devices → AllByRecursion IsOfBytes inputs → IsStateInRange state
+    → AreInRange devices
+yet-in state (input ∷ inputs) (FailedAtCommit cause ∷ results) devices done bytes is =
+    subst AreInRange (sym done) (update-in state input bytes.0 is)
+yet-in state (input ∷ inputs) (Applied ∷ results) devices done bytes is = absurd done
+yet-in state (input ∷ inputs) (Failed cause ∷ results) devices done bytes is = absurd done
+yet-in state (input ∷ inputs) [] devices done bytes is = absurd done
+yet-in state [] results devices done bytes is = absurd done
 
-stopped-in : (state : State) (stopped : Option Item) (devices : Devices) → StopIsDone state stopped devices
-    → IfSome stopped IsOfBytes → IsStateInRange state → AreInRange devices
-stopped-in state (Some item) devices done bytes is = subst AreInRange (sym done) (change-in state item bytes is)
-stopped-in state None devices done bytes is = absurd done
+interrupted-in : (state : State) (interrupted : Option Input) (devices : Devices)
+    → IncludesInterrupted state interrupted devices
+    → IfSome interrupted IsOfBytes → IsStateInRange state → AreInRange devices
+interrupted-in state (Some input) devices done bytes is = subst AreInRange (sym done) (update-in state input bytes is)
+interrupted-in state None devices done bytes is = absurd done
 
 -- the first inputs are of bytes, and the others
-parts-in : (before after : List Item) → AllByRecursion IsOfBytes (before ++ after)
-    → AllByRecursion IsOfBytes before × AllByRecursion IsOfBytes after
-parts-in [] after bytes = (tt, bytes)
-parts-in (item ∷ before) after bytes =
-    let rest = parts-in before after bytes.1 in ((bytes.0, rest.0), rest.1)
+parts-in : (before data_after : List Input) → AllByRecursion IsOfBytes (before ++ data_after)
+    → AllByRecursion IsOfBytes before × AllByRecursion IsOfBytes data_after
+parts-in [] data_after bytes = (tt, bytes)
+parts-in (input ∷ before) data_after bytes =
+    let rest = parts-in before data_after bytes.1 in ((bytes.0, rest.0), rest.1)
 
 pub leaves_in_range : LeavesInRange
-leaves_in_range life is found bytes stopped =
-    let start = begun life.base life.found in
-    elim (left_is_prefix life is) [
+leaves_in_range session is found bytes interrupted =
+    let start = initial_state session.base session.found in
+    elim (sessions_leave_prefixes session is) [
       | inl prefix ↦
-          let parts = parts-in prefix.before prefix.after (subst (AllByRecursion IsOfBytes) prefix.items_are bytes) in
-          let at = subst IsStateInRange (sym prefix.at_is) (state_by-in start prefix.before prefix.done parts.0
+          let parts = parts-in prefix.before prefix.after (subst (AllByRecursion IsOfBytes) prefix.inputs_are bytes) in
+          let at = subst IsStateInRange (sym prefix.at_is) (state_after_run-in start prefix.before prefix.done parts.0
           (found, tt)) in
           elim prefix.is [
             | inl same ↦ subst AreInRange (sym same) at.0
-            | inr yet ↦ yet-in prefix.at prefix.after prefix.more life.left yet parts.1 at
+            | inr yet ↦ yet-in prefix.at prefix.after prefix.more session.left yet parts.1 at
           ]
       | inr done ↦
-          stopped-in life.last life.stopped life.left done stopped
-          (stays_in_range start life.last life.items life.fates life.answers is.run bytes (found, tt))
+          interrupted-in session.last session.interrupted session.left done interrupted
+          (stays_in_range start session.last session.items session.results session.answers is.run bytes (found, tt))
     ]
 
 -- ---- what a teach line reports
 
-pub learned-in : (state : State) (item : Item) (known : Device) → IsStateInRange state → IsOfBytes item
-    → change_of state item ≡ Some (learned known) → IsDeviceInRange known
-learned-in state item known in_range bytes is =
-    subst (λ (o : Option Change). IfSome o IsChangeInRange) is (item-keeps state item in_range bytes).0
+pub learned-in : (state : State) (input : Input) (known : Device) → IsStateInRange state → IsOfBytes input
+    → update_of state input ≡ Some (learn_update known) → IsDeviceInRange known
+learned-in state input known in_range bytes is =
+    subst (λ (o : Option DeviceUpdate). IfSome o IsChangeInRange) is (input-keeps state input in_range bytes).0
 
-pub deleted-in : (state : State) (item : Item) (known : Device) → IsStateInRange state → IsOfBytes item
-    → IsDeleted state item known → IsDeviceInRange known
+pub deleted-in : (state : State) (input : Input) (known : Device) → IsStateInRange state → IsOfBytes input
+    → IsDeleted state input known → IsDeviceInRange known
 deleted-in state (Ordered line) known in_range bytes is =
     subst (λ (o : Option Device). IfSome o IsDeviceInRange) is (in_range.0 known.id)
 deleted-in state (Received packet) known in_range bytes (t, carried, id, query, asked, wants, eep, maker) =
@@ -339,27 +346,28 @@ deleted-in state (Received packet) known in_range bytes (t, carried, id, query, 
       subst IsMakerInRange (sym maker) carried_in.1,
     )
 
-device-in : (state : State) (item : Item) (line : TeachLine) (outcome : Outcome) (known : Device)
-    → line.outcome ≡ outcome → IsDeviceInRange known → change_of state item ≡ Some (acknowledged_change outcome known)
-    → text (Teach line) ≡ text (Teach (told_of known outcome)) → IsOfDevice state item line
-device-in state item line outcome known word in_range change same =
-    let one = subst (λ o. text (Teach line) ≡ text (Teach (told_of known o))) (sym word) same in record {
+device-in : (state : State) (input : Input) (line : TeachLine) (outcome : Outcome) (known : Device)
+    → line.outcome ≡ outcome → IsDeviceInRange known → update_of state input ≡ Some (acknowledged_update outcome known)
+    → text (Teach line) ≡ text (Teach (device_teach_line known outcome)) → IsOfDevice state input line
+device-in state input line outcome known word in_range update same =
+    let one = subst (λ o. text (Teach line) ≡ text (Teach (device_teach_line known o))) (sym word) same in record {
       known = known;
       in_range = in_range;
-      change = change ∙ ap (λ o. Some (acknowledged_change o known)) (sym word);
+      update = update ∙ ap (λ o. Some (acknowledged_update o known)) (sym word);
       same_text = one;
-      line_is = λ numbers. one_teach_line line (told_of known line.outcome) numbers in_range one;
+      line_is = λ numbers. one_teach_line line (device_teach_line known line.outcome) numbers in_range one;
     }
 
-pub tells_in_range : TellsInRange
-tells_in_range state item fate line in_range bytes answered word =
-    let tells = teach_lines_are_told state item fate line answered in
-    let Of = Tells (IsDeleted state item) (effect state item) line in
+pub tells_in_range : ReportsInRange
+tells_in_range state input result line in_range bytes answered word =
+    let tells = teach_lines_are_true state input result line answered in
+    let Of = ReportsEffect (IsDeleted state input) (effect state input) line in
     elim word [
       | inl accepted ↦
           let (known, same, asks) = subst Of accepted tells.1 in
-          device-in state item line Accepted known accepted (learned-in state item known in_range bytes asks) asks same
+          device-in state input line Accepted known accepted (learned-in state input known in_range bytes asks) asks
+          same
       | inr deleted ↦
           let (known, same, gone, asks) = subst Of deleted tells.1 in
-          device-in state item line Deleted known deleted (deleted-in state item known in_range bytes gone) asks same
+          device-in state input line Deleted known deleted (deleted-in state input known in_range bytes gone) asks same
     ]

@@ -3,7 +3,7 @@ use Rattle.std.proofs.Common.{◌≡◌, inl, inr, ℕ, Bool, true, false, List,
 use Rattle.std.proofs.Common.{sym, ap, subst, append-nil}
 use Rattle.std.specs.Prelude.{unwrap_or, is_some, nat_lt, length, if◌then◌else◌}
 use Rattle.esp3_frames.specs.Packet.{Packet, spelling}
-use Rattle.erp1_telegrams.specs.Telegram.{Telegram, telegram_of, sent}
+use Rattle.erp1_telegrams.specs.Telegram.{Telegram, telegram_of, radio_packet}
 use Rattle.erp1_telegrams.specs.declared.eep.Eep.{Eep}
 use Rattle.learned_devices.specs.declared.Device.{Device}
 use Rattle.learned_devices.specs.Devices.{device_of, is_full}
@@ -27,22 +27,24 @@ use Rattle.actuator_commands.specs.declared.orders.OrderFault.{OrderFault}
 use Rattle.actuator_commands.specs.Orders.{order_of}
 use Rattle.actuator_commands.specs.Packets.{order_telegram, recipient}
 use Rattle.json_lines.specs.Lines.{TeachLine, Teach, Done, text, texts}
-use Rattle.gateway_core.specs.Run.{Taken, Refused, RefusedAtWrite}
-use Rattle.gateway_core.specs.Step.{State, Received, Ordered, Effect, told_of, radio_of, reply_of, line_with}
+use Rattle.gateway_core.specs.Run.{Applied, Failed, FailedAtCommit}
+use Rattle.gateway_core.specs.Step.{State, Received, Ordered, Effect, device_teach_line, radio_of, reply_of}
+use Rattle.gateway_core.specs.Step.{query_teach_line}
 use Rattle.gateway_core.specs.Step.{packet_effect, line_effect}
-use Rattle.gateway_core.specs.Step.{order_effect, sending_effect, telegram_sent, forgets, labels, if_known}
-use Rattle.gateway_core.specs.Step.{base_query, known_of, if_supported}
-use Rattle.gateway_core.specs.Telling.{IsReply, IsPacketOf, RadioIsTold}
+use Rattle.gateway_core.specs.Step.{order_effect, device_order_effect, send_result_effect, forget_effect}
+use Rattle.gateway_core.specs.Step.{relabel_effect, if_known}
+use Rattle.gateway_core.specs.Step.{base_query, recipient_device, if_supported}
+use Rattle.gateway_core.specs.Reporting.{IsReply, IsPacketOf, RadioIsReported}
 use Rattle.gateway_core.proofs.EffectLemmas.{of_packet, of_line}
 
 -- the bytes are those of a reply to this telegram with this outcome for its sender
 abbrev Replies : State → Telegram → Outcome → List ℕ → Type 0
 Replies state t outcome bytes =
-    (reply : Telegram) × IsReply state t outcome reply × (bytes ≡ spelling (sent reply))
+    (reply : Telegram) × IsReply state t outcome reply × (bytes ≡ spelling (radio_packet reply))
 
 -- the bytes of a telegram, if there is one
 telegram-in : (t : Option Telegram) (bytes : List ℕ) → radio_of t ≡ Some bytes
-    → (telegram : Telegram) × (t ≡ Some telegram) × (bytes ≡ spelling (sent telegram))
+    → (telegram : Telegram) × (t ≡ Some telegram) × (bytes ≡ spelling (radio_packet telegram))
 telegram-in None bytes e = absurd cc
 telegram-in (Some telegram) bytes e = (telegram, refl, ap (λ o. unwrap_or o bytes) (sym e))
 
@@ -77,18 +79,18 @@ packet-replies state packet bytes =
       telegrams = λ t carried.
           let replies = λ (outcome : Outcome).
           reply-is state t state.mode (teach_in_of t) outcome bytes refl refl in record {
-            unsays = λ asked account is e. absurd cc;
+            unsays = λ asked disposition is e. absurd cc;
             reads = λ known line e. absurd cc;
             admits = λ hears eep maker learned planned e.
                 let known : Device = record { id = t.sender; eep = eep; maker = maker; label = [] } in
-                (t, carried, told_of known Accepted, append-nil _, replies Accepted hears e);
+                (t, carried, device_teach_line known Accepted, append-nil _, replies Accepted hears e);
             removes = λ learning (query, asked, wants) e.
                 let hears = subst (Hears state.mode) (sym asked) learning in
-                let line = line_with t.sender (teach_in_of t) Deleted in
+                let line = query_teach_line t.sender (teach_in_of t) Deleted in
                 (t, carried, line, append-nil _, replies line.outcome hears e);
             refuses = λ hears need line is e. (t, carried, line, append-nil _, replies line.outcome hears e);
           };
-      passes = λ account is e. absurd cc;
+      passes = λ disposition is e. absurd cc;
       hears = λ response e. absurd cc;
     })
 
@@ -131,15 +133,15 @@ unfolding Silent
 no-bytes state spelled bytes silent e = absurd cc
 
 -- an order to devices has those of its telegram
-by-telegram : (state : State) (order : Order) (bytes : List ℕ) → (sending_effect state order).radio ≡ Some bytes
+by-telegram : (state : State) (order : Order) (bytes : List ℕ) → (device_order_effect state order).radio ≡ Some bytes
     → Sends state (Ok order) bytes
 by-telegram state order bytes e =
-    one (order_telegram order (known_of state.devices (recipient order)) state.base) refl e
+    one (order_telegram order (recipient_device state.devices (recipient order)) state.base) refl e
   where
     one : (telegram : Option (Result Telegram OrderFault))
-        → order_telegram order (known_of state.devices (recipient order)) state.base ≡ telegram
-        → (telegram_sent (is_some (recipient order)) telegram).radio ≡ Some bytes → Sends state (Ok order) bytes
-    one (Some (Ok t)) is e = (order, refl, sent t, inr (t, refl, is), ap (λ o. unwrap_or o bytes) (sym e))
+        → order_telegram order (recipient_device state.devices (recipient order)) state.base ≡ telegram
+        → (send_result_effect (is_some (recipient order)) telegram).radio ≡ Some bytes → Sends state (Ok order) bytes
+    one (Some (Ok t)) is e = (order, refl, radio_packet t, inr (t, refl, is), ap (λ o. unwrap_or o bytes) (sym e))
     one (Some (Err fault)) is e = absurd cc
     one None is e = absurd cc
 
@@ -161,10 +163,10 @@ order-sends state (Ok (Add id eep)) bytes e =
     no-bytes state (Ok (Add id eep)) bytes
     (supported-silent eep _ (either (λ (x : Effect). x.radio ≡ None) (is_full state.devices id) _ _ refl refl)) e
 order-sends state (Ok (Remove id)) bytes e =
-    no-bytes state (Ok (Remove id)) bytes (known-silent (device_of state.devices id) forgets (λ known. refl)) e
+    no-bytes state (Ok (Remove id)) bytes (known-silent (device_of state.devices id) forget_effect (λ known. refl)) e
 order-sends state (Ok (Label id label)) bytes e =
     no-bytes state (Ok (Label id label)) bytes
-    (known-silent (device_of state.devices id) (λ known. labels id label) (λ known. refl)) e
+    (known-silent (device_of state.devices id) (λ known. relabel_effect id label) (λ known. refl)) e
 order-sends state (Ok ListAll) bytes e = absurd cc
 order-sends state (Ok Status) bytes e = absurd cc
 order-sends state (Ok Base) bytes e =
@@ -178,8 +180,8 @@ line-orders state line bytes =
     either (λ (x : Effect). x.radio ≡ Some bytes → Sends state (order_of line) bytes)
     (nat_lt max_line (length line)) _ _ (λ e. absurd cc) (order-sends state (order_of line) bytes)
 
-pub radio_is_told : RadioIsTold
-radio_is_told state (Received packet) Taken bytes e =
+pub radio_is_reported : RadioIsReported
+radio_is_reported state (Received packet) Applied bytes e =
     let (t, carried, line, told, (reply, says, sent_as)) = packet-replies state packet bytes e in (
       refl,
       inl (record {
@@ -188,13 +190,13 @@ radio_is_told state (Received packet) Taken bytes e =
         telegram = t;
         carried = carried;
         line = line;
-        told = told;
+        reported = told;
         reply = reply;
         says = says;
         sent_as = sent_as;
       }),
     )
-radio_is_told state (Ordered line) Taken bytes e =
+radio_is_reported state (Ordered line) Applied bytes e =
     let (order, spelled, packet, is_packet, sent_as) = line-orders state line bytes e in (
       refl,
       inr (record {
@@ -202,11 +204,11 @@ radio_is_told state (Ordered line) Taken bytes e =
         ordered = refl;
         order = order;
         spelled = spelled;
-        told = line-sends state bytes line e;
+        reported = line-sends state bytes line e;
         packet = packet;
         is_packet = is_packet;
         sent_as = sent_as;
       }),
     )
-radio_is_told state item (Refused cause) bytes e = absurd cc
-radio_is_told state item (RefusedAtWrite cause) bytes e = absurd cc
+radio_is_reported state input (Failed cause) bytes e = absurd cc
+radio_is_reported state input (FailedAtCommit cause) bytes e = absurd cc

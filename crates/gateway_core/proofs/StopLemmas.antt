@@ -1,65 +1,70 @@
 -- Crash consistency composes.
 use Rattle.std.proofs.Common.{◌≡◌, ◌⊎◌, inl, inr, Bool, true, false, cond, List, [], ◌∷◌, ◌++◌, Option, Some, None}
 use Rattle.std.proofs.Common.{refl, sym, ap, subst, ◌∙◌}
-use Rattle.learned_devices.specs.Devices.{Devices, changed}
-use Rattle.learned_devices.specs.Devices.{Change}
-use Rattle.gateway_core.specs.Step.{State, Item, Answer, change_of, with_change}
-use Rattle.gateway_core.specs.Run.{Fate, Taken, Refused, RefusedAtWrite, state_with, Run}
-use Rattle.gateway_core.specs.Stops.{Left, nothing_left, told, pending, left_with, left_by, IsOneOf, Safe, SafeJoins}
+use Rattle.learned_devices.specs.Devices.{Devices, apply_update}
+use Rattle.learned_devices.specs.Devices.{DeviceUpdate}
+use Rattle.gateway_core.specs.Step.{State, Input, Answer, update_of, with_update}
+use Rattle.gateway_core.specs.Run.{InputResult, Applied, Failed, FailedAtCommit, state_with, Run}
+use Rattle.gateway_core.specs.CrashStates.{CrashStates, no_updates, with_committed, with_pending, crash_states_with}
+use Rattle.gateway_core.specs.CrashStates.{crash_states, IsOneOf, IsCrashConsistent, CrashConsistencyComposes}
 
 -- the crash states of a first list of inputs and then a second
-abbrev over : Left → Left → Left
+abbrev over : CrashStates → CrashStates → CrashStates
 over first second =
     record {
-      renewed = cond second.renewed true first.renewed;
-      maps = cond second.renewed second.maps (second.maps ++ first.maps);
+      has_commit = cond second.has_commit true first.has_commit;
+      maps = cond second.has_commit second.maps (second.maps ++ first.maps);
     }
 
-over-told : (first second : Left) (devices : Devices) (o : Option Change)
-    → told (over first second) devices o ≡ over first (told second devices o)
-over-told first second devices (Some change) = refl
+over-told : (first second : CrashStates) (devices : Devices) (o : Option DeviceUpdate)
+    → with_committed (over first second) devices o ≡ over first (with_committed second devices o)
+over-told first second devices (Some update) = refl
 over-told first second devices None = refl
 
-pushed : (first second : Left) (devices : Devices) (b : Bool) → second.renewed ≡ b
+pushed : (first second : CrashStates) (devices : Devices) (b : Bool) → second.has_commit ≡ b
     → devices ∷ cond b second.maps (second.maps ++ first.maps)
     ≡ cond b (devices ∷ second.maps) (devices ∷ second.maps ++ first.maps)
 pushed first second devices true is = refl
 pushed first second devices false is = refl
 
-over-pending : (first second : Left) (devices : Devices) (o : Option Change)
-    → pending (over first second) devices o ≡ over first (pending second devices o)
-over-pending first second devices (Some change) =
-    ap (λ (maps : List Devices). let l : Left =
-    record { renewed = cond second.renewed true first.renewed; maps = maps } in l)
-    (pushed first second (changed devices change) second.renewed refl)
+over-pending : (first second : CrashStates) (devices : Devices) (o : Option DeviceUpdate)
+    → with_pending (over first second) devices o ≡ over first (with_pending second devices o)
+over-pending first second devices (Some update) =
+    ap (λ (maps : List Devices). let l : CrashStates =
+    record { has_commit = cond second.has_commit true first.has_commit; maps = maps } in l)
+    (pushed first second (apply_update devices update) second.has_commit refl)
 over-pending first second devices None = refl
 
-over-with : (first second : Left) (state : State) (item : Item) (fate : Fate)
-    → left_with (over first second) state item fate ≡ over first (left_with second state item fate)
-over-with first second state item Taken = over-told first second state.devices (change_of state item)
-over-with first second state item (Refused cause) = refl
-over-with first second state item (RefusedAtWrite cause) =
-    over-pending first second state.devices (change_of state item)
+over-with : (first second : CrashStates) (state : State) (input : Input) (result : InputResult)
+    → crash_states_with (over first second) state input result
+    ≡ over first (crash_states_with second state input result)
+over-with first second state input Applied = over-told first second state.devices (update_of state input)
+over-with first second state input (Failed cause) = refl
+over-with first second state input (FailedAtCommit cause) =
+    over-pending first second state.devices (update_of state input)
 
-over-by : (first second : Left) (state : State) (items : List Item) (fates : List Fate)
-    → left_by (over first second) state items fates ≡ over first (left_by second state items fates)
-over-by first second state [] fates = refl
-over-by first second state (item ∷ items) [] = refl
-over-by first second state (item ∷ items) (fate ∷ fates) =
-    ap (λ l. left_by l (state_with state item fate) items fates) (over-with first second state item fate)
-    ∙ over-by first (left_with second state item fate) (state_with state item fate) items fates
+over-by : (first second : CrashStates) (state : State) (inputs : List Input) (results : List InputResult)
+    → crash_states (over first second) state inputs results ≡ over first (crash_states second state inputs results)
+over-by first second state [] results = refl
+over-by first second state (input ∷ inputs) [] = refl
+over-by first second state (input ∷ inputs) (result ∷ results) =
+    ap (λ l. crash_states l (state_with state input result) inputs results) (over-with first second state input result)
+    ∙ over-by first (crash_states_with second state input result) (state_with state input result) inputs results
 
 -- the inputs of a run, and then others
-pub left_by-append : (left : Left) (old mid : State) (items others : List Item) (fates more : List Fate)
-    (answers : List Answer) → Run old items fates answers mid
-    → left_by left old (items ++ others) (fates ++ more) ≡ left_by (left_by left old items fates) mid others more
-left_by-append left old mid [] others [] more [] run = ap (λ s. left_by left s others more) (sym run)
-left_by-append left old mid (item ∷ items) others (fate ∷ fates) more (answer ∷ answers) run =
-    left_by-append (left_with left old item fate) (state_with old item fate) mid items others fates more answers run.2
+pub left_by-append : (left : CrashStates) (old mid : State) (inputs others : List Input)
+    (results more : List InputResult)
+    (answers : List Answer) → Run old inputs results answers mid
+    → crash_states left old (inputs ++ others) (results ++ more)
+    ≡ crash_states (crash_states left old inputs results) mid others more
+left_by-append left old mid [] others [] more [] run = ap (λ s. crash_states left s others more) (sym run)
+left_by-append left old mid (input ∷ inputs) others (result ∷ results) more (answer ∷ answers) run =
+    left_by-append (crash_states_with left old input result) (state_with old input result) mid inputs others results
+    more answers run.2
 left_by-append left old mid [] others [] more (answer ∷ answers) run = absurd run
-left_by-append left old mid [] others (fate ∷ fates) more answers run = absurd run
-left_by-append left old mid (item ∷ items) others [] more answers run = absurd run
-left_by-append left old mid (item ∷ items) others (fate ∷ fates) more [] run = absurd run
+left_by-append left old mid [] others (result ∷ results) more answers run = absurd run
+left_by-append left old mid (input ∷ inputs) others [] more answers run = absurd run
+left_by-append left old mid (input ∷ inputs) others (result ∷ results) more [] run = absurd run
 
 among_left : (xs ys : List Devices) (devices : Devices) → IsOneOf xs devices → IsOneOf (xs ++ ys) devices
 among_left (x ∷ xs) ys devices (inl is) = inl is
@@ -79,49 +84,53 @@ both_safe Before r false xs ys devices (inl is) = inl (among_left ys xs devices 
 both_safe Before r false xs ys devices (inr (non, inl is)) = inl (among_right ys xs devices is)
 both_safe Before r false xs ys devices (inr (non, inr is)) = inr is
 
-pub safe_joins : (Before : Devices → Type 0) → SafeJoins Before
-safe_joins Before old mid items others fates more answers devices run safe =
-    let first = left_by nothing_left old items fates in
-    let second = left_by nothing_left mid others more in
-    let is : left_by nothing_left old (items ++ others) (fates ++ more) ≡ over first second =
-    left_by-append nothing_left old mid items others fates more answers run
-    ∙ over-by first nothing_left mid others more in
-    subst (λ l. Safe Before l devices) (sym is)
-    (both_safe Before first.renewed second.renewed first.maps second.maps devices safe)
+pub crash_consistency_composes : (Before : Devices → Type 0) → CrashConsistencyComposes Before
+crash_consistency_composes Before old mid inputs others results more answers devices run safe =
+    let first = crash_states no_updates old inputs results in
+    let second = crash_states no_updates mid others more in
+    let is : crash_states no_updates old (inputs ++ others) (results ++ more) ≡ over first second =
+    left_by-append no_updates old mid inputs others results more answers run
+    ∙ over-by first no_updates mid others more in
+    subst (λ l. IsCrashConsistent Before l devices) (sym is)
+    (both_safe Before first.has_commit second.has_commit first.maps second.maps devices safe)
 
 pub safe-weaker : (P Q : Devices → Type 0) → ((devices : Devices) → P devices → Q devices)
-    → (left : Left) (devices : Devices) → Safe P left devices → Safe Q left devices
+    → (left : CrashStates) (devices : Devices) → IsCrashConsistent P left devices → IsCrashConsistent Q left devices
 safe-weaker P Q f left devices (inl one) = inl one
 safe-weaker P Q f left devices (inr (non, before)) = inr (non, f devices before)
 
-pub safe-pending : (Before : Devices → Type 0) (left : Left) (known : Devices) (o : Option Change) (devices : Devices)
-    → Safe Before left devices → Safe Before (pending left known o) devices
+pub safe-pending : (Before : Devices → Type 0) (left : CrashStates) (known : Devices) (o : Option DeviceUpdate)
+    (devices : Devices)
+    → IsCrashConsistent Before left devices → IsCrashConsistent Before (with_pending left known o) devices
 safe-pending Before left known None devices safe = safe
-safe-pending Before left known (Some change) devices (inl one) = inl (inr one)
-safe-pending Before left known (Some change) devices (inr non) = inr non
+safe-pending Before left known (Some update) devices (inl one) = inl (inr one)
+safe-pending Before left known (Some update) devices (inr non) = inr non
 
-safe-told : (Before : Devices → Type 0) (left : Left) (known : Devices) (o : Option Change)
-    → Safe Before left known → Safe Before (told left known o) (with_change known o)
+safe-told : (Before : Devices → Type 0) (left : CrashStates) (known : Devices) (o : Option DeviceUpdate)
+    → IsCrashConsistent Before left known → IsCrashConsistent Before (with_committed left known o) (with_update known o)
 safe-told Before left known None safe = safe
-safe-told Before left known (Some change) safe = inl (inl refl)
+safe-told Before left known (Some update) safe = inl (inl refl)
 
-safe-step : (Before : Devices → Type 0) (left : Left) (state : State) (item : Item) (fate : Fate)
-    → Safe Before left state.devices
-    → Safe Before (left_with left state item fate) (state_with state item fate).devices
-safe-step Before left state item Taken safe = safe-told Before left state.devices (change_of state item) safe
-safe-step Before left state item (Refused cause) safe = safe
-safe-step Before left state item (RefusedAtWrite cause) safe =
-    safe-pending Before left state.devices (change_of state item) state.devices safe
+safe-step : (Before : Devices → Type 0) (left : CrashStates) (state : State) (input : Input) (result : InputResult)
+    → IsCrashConsistent Before left state.devices
+    → IsCrashConsistent Before (crash_states_with left state input result) (state_with state input result).devices
+safe-step Before left state input Applied safe = safe-told Before left state.devices (update_of state input) safe
+safe-step Before left state input (Failed cause) safe = safe
+safe-step Before left state input (FailedAtCommit cause) safe =
+    safe-pending Before left state.devices (update_of state input) state.devices safe
 
 -- the last state is crash-consistent
-pub safe-last : (Before : Devices → Type 0) (left : Left) (start last : State) (items : List Item) (fates : List Fate)
-    (answers : List Answer) → Run start items fates answers last → Safe Before left start.devices
-    → Safe Before (left_by left start items fates) last.devices
-safe-last Before left start last [] [] [] run safe = subst (λ (s : State). Safe Before left s.devices) (sym run) safe
-safe-last Before left start last (item ∷ items) (fate ∷ fates) (answer ∷ answers) run safe =
-    safe-last Before (left_with left start item fate) (state_with start item fate) last items fates answers run.2
-    (safe-step Before left start item fate safe)
+pub safe-last : (Before : Devices → Type 0) (left : CrashStates) (start last : State) (inputs : List Input)
+    (results : List InputResult)
+    (answers : List Answer) → Run start inputs results answers last → IsCrashConsistent Before left start.devices
+    → IsCrashConsistent Before (crash_states left start inputs results) last.devices
+safe-last Before left start last [] [] [] run safe =
+    subst (λ (s : State). IsCrashConsistent Before left s.devices) (sym run) safe
+safe-last Before left start last (input ∷ inputs) (result ∷ results) (answer ∷ answers) run safe =
+    safe-last Before (crash_states_with left start input result) (state_with start input result) last inputs results
+    answers run.2
+    (safe-step Before left start input result safe)
 safe-last Before left start last [] [] (answer ∷ answers) run safe = absurd run
-safe-last Before left start last [] (fate ∷ fates) answers run safe = absurd run
-safe-last Before left start last (item ∷ items) [] answers run safe = absurd run
-safe-last Before left start last (item ∷ items) (fate ∷ fates) [] run safe = absurd run
+safe-last Before left start last [] (result ∷ results) answers run safe = absurd run
+safe-last Before left start last (input ∷ inputs) [] answers run safe = absurd run
+safe-last Before left start last (input ∷ inputs) (result ∷ results) [] run safe = absurd run

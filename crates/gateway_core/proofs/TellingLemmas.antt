@@ -6,7 +6,7 @@ use Rattle.std.proofs.lemmas.Bool.{le-ltb}
 use Rattle.esp3_frames.specs.Packet.{Packet}
 use Rattle.erp1_telegrams.specs.Telegram.{Telegram, telegram_of}
 use Rattle.learned_devices.specs.declared.Device.{Device}
-use Rattle.learned_devices.specs.Devices.{Change, device_of, all_of, relabelled}
+use Rattle.learned_devices.specs.Devices.{DeviceUpdate, device_of, all_of, relabel_update}
 use Rattle.teach_in.specs.declared.outcome.Outcome.{Outcome}
 use Rattle.teach_in.specs.declared.outcome.Outcome.TheVariants.{Accepted, Deleted, Unsupported, General, NoProfile}
 use Rattle.teach_in.specs.declared.outcome.Outcome.TheVariants as outcome
@@ -24,13 +24,16 @@ use Rattle.actuator_commands.specs.Orders.{order_of}
 use Rattle.json_lines.specs.declared.error_lines.ErrorName.{ErrorName}
 use Rattle.json_lines.specs.declared.error_lines.ErrorName.TheVariants as error
 use Rattle.json_lines.specs.Lines.{DeskLine, Reading, Teach, ListEnd, StatusLine, ResponseLine, Done, Error}
-use Rattle.json_lines.specs.Lines.{TeachLine, text, texts, listing}
+use Rattle.json_lines.specs.Lines.{TeachLine, text, texts, list_lines}
 use Rattle.json_lines.proofs.ForCallers.{of_teach_lines}
-use Rattle.gateway_core.specs.Step.{State, Received, Ordered, Effect, told_of, tells_sender, accepts, deletes}
-use Rattle.gateway_core.specs.Step.{line_with, learns, forgets, labels, if_known, denied, packet_effect, line_effect}
-use Rattle.gateway_core.specs.Step.{order_effect, change_of, Cause, Memory, Store}
-use Rattle.gateway_core.specs.Run.{Fate, Taken, Refused, RefusedAtWrite, cause_text, answer_with}
-use Rattle.gateway_core.specs.Telling.{IsDeleted, Tells, ChangesAreTold, LabelsAreTold, TeachLinesAreTold}
+use Rattle.gateway_core.specs.Step.{State, Received, Ordered, Effect, device_teach_line, teach_effect, accept_effect}
+use Rattle.gateway_core.specs.Step.{delete_effect}
+use Rattle.gateway_core.specs.Step.{query_teach_line, learn_effect, forget_effect, relabel_effect, if_known}
+use Rattle.gateway_core.specs.Step.{error_effect, packet_effect, line_effect}
+use Rattle.gateway_core.specs.Step.{order_effect, update_of, Cause, Memory, Store}
+use Rattle.gateway_core.specs.Run.{InputResult, Applied, Failed, FailedAtCommit, cause_text, answer_with}
+use Rattle.gateway_core.specs.Reporting.{IsDeleted, ReportsEffect, UpdatesAreReported, LabelsAreAcknowledged}
+use Rattle.gateway_core.specs.Reporting.{TeachLinesAreTrue}
 use Rattle.gateway_core.proofs.EffectLemmas.{IsRefusal, of_packet, of_line}
 
 abbrev IsTeach : DeskLine → Type 0
@@ -50,10 +53,10 @@ other-line one line other e =
     let found = of_teach_lines (one ∷ []) line e in
     other (subst IsTeach (sym (alone one (Teach found.0) found.1)) tt)
 
-listing-other : (known : List Device) (line : TeachLine) → texts (listing known) ≡ text (Teach line) → ⊥
+listing-other : (known : List Device) (line : TeachLine) → texts (list_lines known) ≡ text (Teach line) → ⊥
 listing-other [] line e = other-line (ListEnd 0) line (λ never. never) e
 listing-other (known ∷ others) line e =
-    let found = of_teach_lines (listing (known ∷ others)) line e in
+    let found = of_teach_lines (list_lines (known ∷ others)) line e in
     absurd (let is = found.1 in cc)
 
 cause-other : (cause : Cause) (line : TeachLine) → cause_text cause ≡ text (Teach line) → ⊥
@@ -73,7 +76,7 @@ same-outcome one line e =
 
 -- what is rejected changes nothing
 refused-tells : (Gone : Device → Type 0) (state : State) (kind : Kind) (one line : TeachLine) (outcome : Outcome)
-    → IsRefusal outcome → Tells Gone (tells_sender state kind one) line outcome
+    → IsRefusal outcome → ReportsEffect Gone (teach_effect state kind one) line outcome
 refused-tells Gone state kind one line Accepted is = absurd is
 refused-tells Gone state kind one line Deleted is = absurd is
 refused-tells Gone state kind one line Unsupported is = (refl, refl)
@@ -82,11 +85,12 @@ refused-tells Gone state kind one line General is = (refl, refl)
 refused-tells Gone state kind one line NoProfile is = (refl, refl)
 
 told : (Gone : Device → Type 0) (line : TeachLine) (e : Effect) (known : Device) (outcome : Outcome)
-    → texts (Teach (told_of known outcome) ∷ []) ≡ text (Teach line)
-    → (text (Teach line) ≡ text (Teach (told_of known outcome)) → Tells Gone e line outcome)
-    → Tells Gone e line line.outcome
+    → texts (Teach (device_teach_line known outcome) ∷ []) ≡ text (Teach line)
+    → (text (Teach line) ≡ text (Teach (device_teach_line known outcome)) → ReportsEffect Gone e line outcome)
+    → ReportsEffect Gone e line line.outcome
 told Gone line e known outcome is asks =
-    subst (Tells Gone e line) (same-outcome (told_of known outcome) line is) (asks (sym is ∙ append-nil _))
+    subst (ReportsEffect Gone e line) (same-outcome (device_teach_line known outcome) line is)
+    (asks (sym is ∙ append-nil _))
 
 -- ---- a sender that is forgotten over the air
 
@@ -96,123 +100,125 @@ asked_of id query = record { id = id; eep = eep_in query; maker = Some (maker_in
 
 -- its line is the one with the outcome of the query
 line-asked : (id : ℕ) (kind : Kind) (query : UteQuery) (outcome : Outcome) → kind ≡ Ute query
-    → line_with id kind outcome ≡ told_of (asked_of id query) outcome
-line-asked id kind query outcome is = ap (λ k. line_with id k outcome) is
+    → query_teach_line id kind outcome ≡ device_teach_line (asked_of id query) outcome
+line-asked id kind query outcome is = ap (λ k. query_teach_line id k outcome) is
 
 deleted-tells : (state : State) (packet : Packet) (t : Telegram) (line : TeachLine) → telegram_of packet ≡ Ok t
     → AsksDeletion (teach_in_of t)
-    → texts (deletes state (teach_in_of t) t.sender).desk ≡ text (Teach line)
-    → Tells (IsDeleted state (Received packet)) (deletes state (teach_in_of t) t.sender) line line.outcome
+    → texts (delete_effect state (teach_in_of t) t.sender).desk ≡ text (Teach line)
+    → ReportsEffect (IsDeleted state (Received packet)) (delete_effect state (teach_in_of t) t.sender) line line.outcome
 deleted-tells state packet t line carried (query, asked, wants) e =
-    told (IsDeleted state (Received packet)) line (deletes state (teach_in_of t) t.sender) (asked_of t.sender query)
+    told (IsDeleted state (Received packet)) line (delete_effect state (teach_in_of t) t.sender)
+    (asked_of t.sender query)
     Deleted
     (ap (λ l. texts (Teach l ∷ [])) (sym (line-asked t.sender (teach_in_of t) query Deleted asked)) ∙ e)
     (λ is. (asked_of t.sender query, is, (t, carried, refl, query, asked, wants, refl, refl), refl))
 
 packet-tells : (state : State) (line : TeachLine) (packet : Packet)
     → texts (packet_effect state packet).desk ≡ text (Teach line)
-    → Tells (IsDeleted state (Received packet)) (packet_effect state packet) line line.outcome
+    → ReportsEffect (IsDeleted state (Received packet)) (packet_effect state packet) line line.outcome
 packet-tells state line packet =
     let Gone = IsDeleted state (Received packet) in
-    of_packet (λ e. texts e.desk ≡ text (Teach line) → Tells Gone e line line.outcome) state packet (record {
+    of_packet (λ e. texts e.desk ≡ text (Teach line) → ReportsEffect Gone e line line.outcome) state packet (record {
       telegrams = λ t carried. record {
-        unsays = λ asked account is e. absurd (no_line line e);
+        unsays = λ asked disposition is e. absurd (no_line line e);
         reads = λ known read e. absurd (other-line (Reading read) line (λ never. never) e);
         admits = λ hears eep maker learned planned e.
             let known : Device = record { id = t.sender; eep = eep; maker = maker; label = [] } in
-            told Gone line (accepts state (teach_in_of t) known) known Accepted e (λ is. (known, is, refl));
+            told Gone line (accept_effect state (teach_in_of t) known) known Accepted e (λ is. (known, is, refl));
         removes = λ learning asks e. deleted-tells state packet t line carried asks e;
         refuses = λ hears need other is e.
-            subst (Tells Gone (tells_sender state (teach_in_of t) other) line) (same-outcome other line e)
+            subst (ReportsEffect Gone (teach_effect state (teach_in_of t) other) line) (same-outcome other line e)
             (refused-tells Gone state (teach_in_of t) other line other.outcome is);
       };
-      passes = λ account is e. absurd (no_line line e);
+      passes = λ disposition is e. absurd (no_line line e);
       hears = λ response e. absurd (other-line (ResponseLine response) line (λ never. never) e);
     })
 
 line-tells : (state : State) (line : TeachLine) (ordered : List ℕ)
     → texts (line_effect state ordered).desk ≡ text (Teach line)
-    → Tells (IsDeleted state (Ordered ordered)) (line_effect state ordered) line line.outcome
+    → ReportsEffect (IsDeleted state (Ordered ordered)) (line_effect state ordered) line line.outcome
 line-tells state line ordered =
     let Gone = IsDeleted state (Ordered ordered) in
-    of_line (λ e. texts e.desk ≡ text (Teach line) → Tells Gone e line line.outcome) state ordered (record {
+    of_line (λ e. texts e.desk ≡ text (Teach line) → ReportsEffect Gone e line line.outcome) state ordered (record {
       denies = λ name e. absurd (other-line (Error name) line (λ never. never) e);
       finds = λ name e. absurd (other-line (Error name) line (λ never. never) e);
       opens = λ mode is e. absurd (other-line Done line (λ never. never) e);
       sends = λ asked bytes e. absurd (other-line Done line (λ never. never) e);
       lists = λ e. absurd (listing-other (all_of state.devices) line e);
       reports = λ e. absurd (other-line (StatusLine state.counts state.mode) line (λ never. never) e);
-      adds = λ known spells e. told Gone line (learns known) known Accepted e (λ is. (known, is, refl));
-      drops = λ known has e. told Gone line (forgets known) known Deleted e (λ is. (known, is, has, refl));
+      adds = λ known spells e. told Gone line (learn_effect known) known Accepted e (λ is. (known, is, refl));
+      drops = λ known has e. told Gone line (forget_effect known) known Deleted e (λ is. (known, is, has, refl));
       relabels = λ id label is known e. absurd (other-line Done line (λ never. never) e);
     })
 
-pub teach_lines_are_told : TeachLinesAreTold
-teach_lines_are_told state (Received packet) Taken line e = (refl, packet-tells state line packet e)
-teach_lines_are_told state (Ordered ordered) Taken line e = (refl, line-tells state line ordered e)
-teach_lines_are_told state item (Refused cause) line e = absurd (cause-other cause line e)
-teach_lines_are_told state item (RefusedAtWrite cause) line e = absurd (cause-other cause line e)
+pub teach_lines_are_true : TeachLinesAreTrue
+teach_lines_are_true state (Received packet) Applied line e = (refl, packet-tells state line packet e)
+teach_lines_are_true state (Ordered ordered) Applied line e = (refl, line-tells state line ordered e)
+teach_lines_are_true state input (Failed cause) line e = absurd (cause-other cause line e)
+teach_lines_are_true state input (FailedAtCommit cause) line e = absurd (cause-other cause line e)
 
 -- ---- an update is reported
 
 -- an effect with an update reports it by a teach line
 abbrev Answers : (Device → Type 0) → Effect → Type 0
-Answers Gone e = (line : TeachLine) × (texts e.desk ≡ text (Teach line)) × Tells Gone e line line.outcome
+Answers Gone e = (line : TeachLine) × (texts e.desk ≡ text (Teach line)) × ReportsEffect Gone e line line.outcome
 
 deleted-answers : (state : State) (packet : Packet) (t : Telegram) → telegram_of packet ≡ Ok t
     → AsksDeletion (teach_in_of t)
-    → Answers (IsDeleted state (Received packet)) (deletes state (teach_in_of t) t.sender)
+    → Answers (IsDeleted state (Received packet)) (delete_effect state (teach_in_of t) t.sender)
 deleted-answers state packet t carried (query, asked, wants) = (
-  told_of (asked_of t.sender query) Deleted,
+  device_teach_line (asked_of t.sender query) Deleted,
   append-nil _ ∙ ap (λ l. text (Teach l)) (line-asked t.sender (teach_in_of t) query Deleted asked),
   (asked_of t.sender query, refl, (t, carried, refl, query, asked, wants, refl, refl), refl),
 )
 
-packet-answers : (state : State) (packet : Packet) (change : Change) → (packet_effect state packet).change ≡ Some change
+packet-answers : (state : State) (packet : Packet) (update : DeviceUpdate)
+    → (packet_effect state packet).update ≡ Some update
     → Answers (IsDeleted state (Received packet)) (packet_effect state packet)
-packet-answers state packet change =
-    of_packet (λ e. e.change ≡ Some change → Answers (IsDeleted state (Received packet)) e) state packet (record {
+packet-answers state packet update =
+    of_packet (λ e. e.update ≡ Some update → Answers (IsDeleted state (Received packet)) e) state packet (record {
       telegrams = λ t carried. record {
-        unsays = λ asked account is e. absurd cc;
+        unsays = λ asked disposition is e. absurd cc;
         reads = λ known line e. absurd cc;
         admits = λ hears eep maker learned planned e.
             let known : Device = record { id = t.sender; eep = eep; maker = maker; label = [] } in
-            (told_of known Accepted, append-nil _, (known, refl, refl));
+            (device_teach_line known Accepted, append-nil _, (known, refl, refl));
         removes = λ learning asks e. deleted-answers state packet t carried asks;
         refuses = λ hears need line is e. absurd cc;
       };
-      passes = λ account is e. absurd cc;
+      passes = λ disposition is e. absurd cc;
       hears = λ response e. absurd cc;
     })
 
 -- or, for a label, by `ok`
-abbrev Labels : State → List ℕ → Effect → Change → Type 0
-Labels state line e change =
+abbrev Labels : State → List ℕ → Effect → DeviceUpdate → Type 0
+Labels state line e update =
     (id : ℕ) × (label : List ℕ) × (order_of line ≡ Ok (Label id label)) × IsSome (device_of state.devices id)
-    × (change ≡ relabelled id label) × (texts e.desk ≡ text Done)
+    × (update ≡ relabel_update id label) × (texts e.desk ≡ text Done)
 
-line-answers : (state : State) (line : List ℕ) (change : Change) → (line_effect state line).change ≡ Some change
+line-answers : (state : State) (line : List ℕ) (update : DeviceUpdate) → (line_effect state line).update ≡ Some update
     → Answers (IsDeleted state (Ordered line)) (line_effect state line)
-    ⊎ Labels state line (line_effect state line) change
-line-answers state line change =
+    ⊎ Labels state line (line_effect state line) update
+line-answers state line update =
     let Gone = IsDeleted state (Ordered line) in
-    of_line (λ e. e.change ≡ Some change → Answers Gone e ⊎ Labels state line e change) state line (record {
+    of_line (λ e. e.update ≡ Some update → Answers Gone e ⊎ Labels state line e update) state line (record {
       denies = λ name e. absurd cc;
       finds = λ name e. absurd cc;
       opens = λ mode is e. absurd cc;
       sends = λ asked bytes e. absurd cc;
       lists = λ e. absurd cc;
       reports = λ e. absurd cc;
-      adds = λ known spells e. inl (told_of known Accepted, append-nil _, (known, refl, refl));
-      drops = λ known is e. inl (told_of known Deleted, append-nil _, (known, refl, is, refl));
+      adds = λ known spells e. inl (device_teach_line known Accepted, append-nil _, (known, refl, refl));
+      drops = λ known is e. inl (device_teach_line known Deleted, append-nil _, (known, refl, is, refl));
       relabels = λ id label is known e.
-          inr (id, label, is, known, ap (λ o. unwrap_or o change) (sym e), append-nil _);
+          inr (id, label, is, known, ap (λ o. unwrap_or o update) (sym e), append-nil _);
     })
 
-pub changes_are_told : ChangesAreTold
-changes_are_told state (Received packet) change e = inl (packet-answers state packet change e)
-changes_are_told state (Ordered line) change e =
-    elim (line-answers state line change e) [
+pub updates_are_reported : UpdatesAreReported
+updates_are_reported state (Received packet) update e = inl (packet-answers state packet update e)
+updates_are_reported state (Ordered line) update e =
+    elim (line-answers state line update e) [
       | inl teaches ↦ inl teaches
       | inr (id, label, is, known, gives, says) ↦ inr (record {
         line = line;
@@ -222,7 +228,7 @@ changes_are_told state (Ordered line) change e =
         spelled = is;
         is_known = known;
         gives = gives;
-        told = says;
+        reported = says;
       })
     ]
 
@@ -237,21 +243,21 @@ tenth text = slice_index_or text 10 0
 
 -- the answer to a line that spells a label, and its update
 label-done : (id : ℕ) (label : List ℕ) (long : Bool) (known : Option Device)
-    → let e : Effect = if long then denied error.TooLong else if_known known (λ it. labels id label) in
-    texts e.desk ≡ text Done → IsSome known × (e.change ≡ Some (relabelled id label))
+    → let e : Effect = if long then error_effect error.TooLong else if_known known (λ it. relabel_effect id label) in
+    texts e.desk ≡ text Done → IsSome known × (e.update ≡ Some (relabel_update id label))
 label-done id label true known e = absurd (not-done error.TooLong e)
 label-done id label false None e = absurd (not-done error.UnknownDevice e)
 label-done id label false (Some it) e = (refl, refl)
 
 label-unknown : (id : ℕ) (label : List ℕ) (long : Bool) (known : Option Device)
-    → let e : Effect = if long then denied error.TooLong else if_known known (λ it. labels id label) in
-    texts e.desk ≡ text (Error error.UnknownDevice) → (known ≡ None) × (e.change ≡ None)
+    → let e : Effect = if long then error_effect error.TooLong else if_known known (λ it. relabel_effect id label) in
+    texts e.desk ≡ text (Error error.UnknownDevice) → (known ≡ None) × (e.update ≡ None)
 label-unknown id label true known e = let at : 116 ≡ 117 = ap tenth e in absurd (omega (arith, at))
 label-unknown id label false None e = (refl, refl)
 label-unknown id label false (Some it) e = let at : 107 ≡ 117 = ap tenth e in absurd (omega (arith, at))
 
 label-answers : (id : ℕ) (label : List ℕ) (known : Option Device)
-    → let e = if_known known (λ it. labels id label) in
+    → let e = if_known known (λ it. relabel_effect id label) in
     (texts e.desk ≡ text Done) ⊎ (texts e.desk ≡ text (Error error.UnknownDevice))
 label-answers id label None = inr (append-nil _)
 label-answers id label (Some it) = inl (append-nil _)
@@ -264,13 +270,13 @@ cause-not-unknown : (cause : Cause) → cause_text cause ≡ text (Error error.U
 cause-not-unknown Memory e = let at : 109 ≡ 117 = ap tenth e in absurd (omega (arith, at))
 cause-not-unknown Store e = let at : 115 ≡ 117 = ap tenth e in absurd (omega (arith, at))
 
-pub labels_are_told : LabelsAreTold
-labels_are_told state line id label is = record {
+pub labels_are_acknowledged : LabelsAreAcknowledged
+labels_are_acknowledged state line id label is = record {
   done = done;
   unknown = unknown;
   answers = λ short.
       let At = λ (long : Bool) (order : Result Order OrderFault).
-      let e : Effect = if long then denied error.TooLong else order_effect state order in
+      let e : Effect = if long then error_effect error.TooLong else order_effect state order in
       (texts e.desk ≡ text Done) ⊎ (texts e.desk ≡ text (Error error.UnknownDevice)) in
       let at : At false (Ok (Label id label)) = label-answers id label (device_of state.devices id) in
       subst (λ b. At b (order_of line)) (sym (le-ltb max_line (length line) short))
@@ -280,24 +286,24 @@ labels_are_told state line id label is = record {
     long : Bool
     long = nat_lt max_line (length line)
 
-    done : (fate : Fate) → (answer_with state (Ordered line) fate).desk ≡ text Done
-        → (fate ≡ Taken) × IsSome (device_of state.devices id)
-        × (change_of state (Ordered line) ≡ Some (relabelled id label))
-    done Taken e =
+    done : (result : InputResult) → (answer_with state (Ordered line) result).desk ≡ text Done
+        → (result ≡ Applied) × IsSome (device_of state.devices id)
+        × (update_of state (Ordered line) ≡ Some (relabel_update id label))
+    done Applied e =
         let At = λ (order : Result Order OrderFault).
-        let e : Effect = if long then denied error.TooLong else order_effect state order in
-        texts e.desk ≡ text Done → IsSome (device_of state.devices id) × (e.change ≡ Some (relabelled id label)) in
+        let e : Effect = if long then error_effect error.TooLong else order_effect state order in
+        texts e.desk ≡ text Done → IsSome (device_of state.devices id) × (e.update ≡ Some (relabel_update id label)) in
         let so = subst At (sym is) (label-done id label long (device_of state.devices id)) e in (refl, so.0, so.1)
-    done (Refused cause) e = absurd (cause-not-done cause e)
-    done (RefusedAtWrite cause) e = absurd (cause-not-done cause e)
+    done (Failed cause) e = absurd (cause-not-done cause e)
+    done (FailedAtCommit cause) e = absurd (cause-not-done cause e)
 
-    unknown : (fate : Fate) → (answer_with state (Ordered line) fate).desk ≡ text (Error error.UnknownDevice)
-        → (fate ≡ Taken) × (device_of state.devices id ≡ None) × (change_of state (Ordered line) ≡ None)
-    unknown Taken e =
+    unknown : (result : InputResult) → (answer_with state (Ordered line) result).desk ≡ text (Error error.UnknownDevice)
+        → (result ≡ Applied) × (device_of state.devices id ≡ None) × (update_of state (Ordered line) ≡ None)
+    unknown Applied e =
         let At = λ (order : Result Order OrderFault).
-        let e : Effect = if long then denied error.TooLong else order_effect state order in
+        let e : Effect = if long then error_effect error.TooLong else order_effect state order in
         texts e.desk ≡ text (Error error.UnknownDevice)
-        → (device_of state.devices id ≡ None) × (e.change ≡ None) in
+        → (device_of state.devices id ≡ None) × (e.update ≡ None) in
         let so = subst At (sym is) (label-unknown id label long (device_of state.devices id)) e in (refl, so.0, so.1)
-    unknown (Refused cause) e = absurd (cause-not-unknown cause e)
-    unknown (RefusedAtWrite cause) e = absurd (cause-not-unknown cause e)
+    unknown (Failed cause) e = absurd (cause-not-unknown cause e)
+    unknown (FailedAtCommit cause) e = absurd (cause-not-unknown cause e)

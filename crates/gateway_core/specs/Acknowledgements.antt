@@ -1,4 +1,4 @@
--- An update that a teach line acknowledged holds in every later execution.
+-- An update that a teach line acknowledged holds in every later session.
 use Rattle.std.specs.Prelude.{◌≡◌, ◌⊎◌, length, List, ◌∷◌, ◌++◌, Some}
 use Rattle.std.specs.List.{AllByRecursion}
 use Rattle.std.specs.FinMap.{get}
@@ -7,54 +7,56 @@ use Rattle.learned_devices.specs.Devices.{Devices}
 use Rattle.learned_devices.specs.Ranges.{AreInRange, IsDeviceInRange}
 use Rattle.teach_in.specs.declared.outcome.Outcome.TheVariants.{Accepted, Deleted}
 use Rattle.json_lines.specs.Lines.{HasNumbersInRange, Teach, TeachLine, text}
-use Rattle.gateway_core.specs.Step.{State, Item, Answer, change_of, state_after, told_of}
-use Rattle.gateway_core.specs.Run.{Fate, Run, Taken}
-use Rattle.gateway_core.specs.Lives.{AreLives, IsLife, Life, LifeSpares, Spares, StopSpares, begun}
+use Rattle.gateway_core.specs.Step.{State, Input, Answer, update_of, state_after, device_teach_line}
+use Rattle.gateway_core.specs.Run.{InputResult, Run, Applied}
+use Rattle.gateway_core.specs.Sessions.{AreSessions, IsSession, Session, SessionDoesNotOverride, NoneOverrides}
+use Rattle.gateway_core.specs.Sessions.{InterruptedDoesNotOverride, initial_state}
 use Rattle.gateway_core.specs.Promises.{Promises}
 use Rattle.gateway_core.specs.Ranges.{IsOfBytes}
-use Rattle.gateway_core.specs.Telling.{acknowledged_change}
+use Rattle.gateway_core.specs.Reporting.{acknowledged_update}
 
--- at one index, an execution answered an input with this teach line
-pub record Acknowledges (life : Life) (line : TeachLine) : Type 0 where
-  pub before : List Item
-  pub item : Item
-  pub after : List Item
-  pub fates : List Fate
-  pub fate : Fate
-  pub more : List Fate
+-- at one index, a session answered an input with this teach line
+pub record Acknowledges (session : Session) (line : TeachLine) : Type 0 where
+  pub before : List Input
+  pub input : Input
+  pub after : List Input
+  pub results : List InputResult
+  pub result : InputResult
+  pub more : List InputResult
   pub answers : List Answer
   pub answer : Answer
   pub later : List Answer
-  pub items_are : life.items ≡ before ++ item ∷ after
-  pub fates_are : life.fates ≡ fates ++ fate ∷ more
-  pub answers_are : life.answers ≡ answers ++ answer ∷ later
-  pub as_many_fates : length before ≡ length fates
+  pub inputs_are : session.items ≡ before ++ input ∷ after
+  pub results_are : session.results ≡ results ++ result ∷ more
+  pub answers_are : session.answers ≡ answers ++ answer ∷ later
+  pub as_many_results : length before ≡ length results
   pub as_many_answers : length before ≡ length answers
   pub reported : answer.desk ≡ text (Teach line)
 
 -- The input asks for the acknowledged update of this device, in the state that the run reached before it. The line has
--- the text of this device's line. Every later execution finds the update, until an input that changes that sender
+-- the text of this device's line. Every later session finds the update, until an input that changes that sender
 -- otherwise is applied, fails at its write, or is interrupted by a crash. If the devices found are in range and the
 -- data of packets are bytes, the device is in range, and a line in range is the line of this device.
-pub record IsDurable (life : Life) (line : TeachLine) (answered : Acknowledges life line) : Type 0 where
+pub record IsDurable (session : Session) (line : TeachLine) (answered : Acknowledges session line) : Type 0 where
   pub at : State
   pub known : Device
-  pub run : Run (begun life.base life.found) answered.before answered.fates answered.answers at
-  pub taken : answered.fate ≡ Taken
-  pub asks : change_of at answered.item ≡ Some (acknowledged_change line.outcome known)
-  pub same_text : text (Teach line) ≡ text (Teach (told_of known line.outcome))
-  pub keeps : Spares (acknowledged_change line.outcome known) (state_after at answered.item)
+  pub run : Run (initial_state session.base session.found) answered.before answered.results answered.answers at
+  pub taken : answered.result ≡ Applied
+  pub asks : update_of at answered.input ≡ Some (acknowledged_update line.outcome known)
+  pub same_text : text (Teach line) ≡ text (Teach (device_teach_line known line.outcome))
+  pub keeps : NoneOverrides (acknowledged_update line.outcome known) (state_after at answered.input)
       answered.after answered.more
-      → StopSpares (acknowledged_change line.outcome known) life.last life.stopped
-      → (lives : List Life) (last : Devices)
-      → AllByRecursion (LifeSpares (acknowledged_change line.outcome known)) lives
-      → AreLives life.left lives last
-      → Promises (acknowledged_change line.outcome known).deed
-      (get last (acknowledged_change line.outcome known).sender)
-  pub in_range : AreInRange life.found → AllByRecursion IsOfBytes life.items → IsDeviceInRange known
-  pub line_is : AreInRange life.found → AllByRecursion IsOfBytes life.items → HasNumbersInRange line
-      → line ≡ told_of known line.outcome
+      → InterruptedDoesNotOverride (acknowledged_update line.outcome known) session.last session.interrupted
+      → (sessions : List Session) (last : Devices)
+      → AllByRecursion (SessionDoesNotOverride (acknowledged_update line.outcome known)) sessions
+      → AreSessions session.left sessions last
+      → Promises (acknowledged_update line.outcome known).operation
+      (get last (acknowledged_update line.outcome known).sender)
+  pub in_range : AreInRange session.found → AllByRecursion IsOfBytes session.items → IsDeviceInRange known
+  pub line_is : AreInRange session.found → AllByRecursion IsOfBytes session.items → HasNumbersInRange line
+      → line ≡ device_teach_line known line.outcome
 
 abbrev pub AcknowledgedIsDurable : Type 0
-AcknowledgedIsDurable = (life : Life) (line : TeachLine) → IsLife life → (answered : Acknowledges life line)
-    → (line.outcome ≡ Accepted) ⊎ (line.outcome ≡ Deleted) → IsDurable life line answered
+AcknowledgedIsDurable =
+    (session : Session) (line : TeachLine) → IsSession session → (answered : Acknowledges session line)
+    → (line.outcome ≡ Accepted) ⊎ (line.outcome ≡ Deleted) → IsDurable session line answered

@@ -4,13 +4,13 @@ use Rattle.std.specs.Prelude.{Ok, Err}
 use Rattle.std.specs.Option.{option_or}
 use Rattle.esp3_frames.specs.Packet.{Packet}
 use Rattle.erp1_telegrams.specs.declared.eep.Eep.{Eep}
-use Rattle.erp1_telegrams.specs.Address.{is_own, is_passed_over}
+use Rattle.erp1_telegrams.specs.Address.{is_own, is_filtered_out}
 use Rattle.erp1_telegrams.specs.Telegram.{Telegram, telegram_of}
 use Rattle.profile_rows.specs.Reading.{Entry}
 use Rattle.profile_rows.specs.declared.unreadable.Unreadable.{Unreadable}
 use Rattle.profile_rows.specs.declared.unreadable.Unreadable.TheVariants as unreadable
 use Rattle.learned_devices.specs.declared.Device.{Device}
-use Rattle.learned_devices.specs.Devices.{device_of, forgotten, is_full, learned}
+use Rattle.learned_devices.specs.Devices.{device_of, forget_update, is_full, learn_update}
 use Rattle.teach_in.specs.declared.mode.Mode.TheVariants.{Closed, LearnAs}
 use Rattle.teach_in.specs.declared.outcome.Outcome.TheVariants.{Accepted, Deleted, Unsupported, Full, General}
 use Rattle.teach_in.specs.declared.outcome.Outcome.TheVariants.{NoProfile}
@@ -26,19 +26,19 @@ use Rattle.teach_in.specs.Ute.{request_in, deletion, not_used}
 use Rattle.teach_in.specs.declared.why.Why.{Why}
 use Rattle.teach_in.specs.declared.why.Why.TheVariants as why
 use Rattle.json_lines.specs.PacketLines.{packet_text}
-use Rattle.json_lines.specs.ToldTelegram.{ToldTelegram}
+use Rattle.json_lines.specs.ShownTelegram.{ShownTelegram}
 use Rattle.json_lines.specs.declared.packet.PacketLine.{PacketLine}
-use Rattle.json_lines.specs.declared.packet.ToldPacket.{ToldPacket}
-use Rattle.json_lines.specs.declared.packet.ToldPacket.TheVariants as shown_as
-use Rattle.gateway_core.specs.declared.account.Account.{Account}
-use Rattle.gateway_core.specs.Accounts.{eep_told, maker_told}
+use Rattle.json_lines.specs.declared.packet.ShownPacket.{ShownPacket}
+use Rattle.json_lines.specs.declared.packet.ShownPacket.TheVariants as shown_as
+use Rattle.gateway_core.specs.declared.disposition.Disposition.{Disposition}
+use Rattle.gateway_core.specs.Dispositions.{query_eep, query_maker}
 use Rattle.gateway_core.specs.Profiles.{read_by}
-use Rattle.gateway_core.specs.Step.{State, Received, answer_to, change_of, is_learned}
+use Rattle.gateway_core.specs.Step.{State, Received, answer_to, update_of, is_learned}
 
 -- the packet carries this telegram, which is addressed to us
-pub record IsHeard (state : State) (packet : Packet) (t : Telegram) : Type 0 where
+pub record IsAddressedToUs (state : State) (packet : Packet) (t : Telegram) : Type 0 where
   pub carried : telegram_of packet ≡ Ok t
-  pub heard : is_passed_over state.base t ≡ false
+  pub heard : is_filtered_out state.base t ≡ false
 
 -- a teach-in telegram that is not a reply
 abbrev pub IsTeachIn : Teach → Type 0
@@ -50,14 +50,14 @@ IsTeachIn kind = ⊥
 
 -- data of a learned device
 pub record IsDataOf (state : State) (packet : Packet) (t : Telegram) (known : Device) : Type 0 where
-  pub hears : IsHeard state packet t
+  pub hears : IsAddressedToUs state packet t
   pub data_alone : teach_in_of t ≡ Plain
   pub is_known : device_of state.devices t.sender ≡ Some known
 
 -- the disposition has the profile and maker of this device, or of none
-abbrev pub NamesDevice : Account → Option Device → Type 0
-NamesDevice account None = (account.eep ≡ None) × (account.maker ≡ None)
-NamesDevice account (Some known) = (account.eep ≡ Some known.eep) × (account.maker ≡ known.maker)
+abbrev pub NamesDevice : Disposition → Option Device → Type 0
+NamesDevice disposition None = (disposition.eep ≡ None) × (disposition.maker ≡ None)
+NamesDevice disposition (Some known) = (disposition.eep ≡ Some known.eep) × (disposition.maker ≡ known.maker)
 
 -- the table of plans has this plan for the sender of the telegram, by the mode and by whether it is learned
 abbrev pub IsPlanned : State → Telegram → Plan → Type 0
@@ -72,94 +72,101 @@ DoesNotFit eep (Ute query) = ⊤
 DoesNotFit eep kind = ⊥
 
 -- data of a learned device that its profile cannot read, for one of these faults
-abbrev pub IsUnreadable : State → Packet → Account → (Unreadable → Type 0) → Type 0
-IsUnreadable state packet account Why =
+abbrev pub IsUnreadable : State → Packet → Disposition → (Unreadable → Type 0) → Type 0
+IsUnreadable state packet disposition Why =
     (t : Telegram) × (known : Device) × (fault : Unreadable) × IsDataOf state packet t known
-    × (read_by known.eep t ≡ Err fault) × Why fault × NamesDevice account (Some known)
+    × (read_by known.eep t ≡ Err fault) × Why fault × NamesDevice disposition (Some known)
 
 -- the meaning of the word, and whose profile and maker the disposition has
-abbrev pub Means : State → Packet → Account → Why → Type 0
-Means state packet account why.Refused = ⊥
-Means state packet account why.Response =
-    (packet.kind ≡ 2) × (0 < length packet.body) × NamesDevice account None
-Means state packet account why.EmptyResponse = (packet.kind ≡ 2) × (packet.body ≡ []) × NamesDevice account None
-Means state packet account why.OtherType = (packet.kind ≢ 1) × (packet.kind ≢ 2) × NamesDevice account None
-Means state packet account why.NoTelegram =
-    (packet.kind ≡ 1) × IsErr (telegram_of packet) × NamesDevice account None
-Means state packet account why.FromBroadcast =
-    (t : Telegram) × (telegram_of packet ≡ Ok t) × (t.sender ≡ 0xFFFF_FFFF) × NamesDevice account None
-Means state packet account why.ForOthers =
+abbrev pub Means : State → Packet → Disposition → Why → Type 0
+Means state packet disposition why.Refused = ⊥
+Means state packet disposition why.Response =
+    (packet.kind ≡ 2) × (0 < length packet.body) × NamesDevice disposition None
+Means state packet disposition why.EmptyResponse = (packet.kind ≡ 2) × (packet.body ≡ []) × NamesDevice disposition None
+Means state packet disposition why.OtherType = (packet.kind ≢ 1) × (packet.kind ≢ 2) × NamesDevice disposition None
+Means state packet disposition why.NoTelegram =
+    (packet.kind ≡ 1) × IsErr (telegram_of packet) × NamesDevice disposition None
+Means state packet disposition why.FromBroadcast =
+    (t : Telegram) × (telegram_of packet ≡ Ok t) × (t.sender ≡ 0xFFFF_FFFF) × NamesDevice disposition None
+Means state packet disposition why.ForOthers =
     (t : Telegram) × (telegram_of packet ≡ Ok t) × (t.sender ≢ 0xFFFF_FFFF) × (t.dest ≢ 0xFFFF_FFFF)
-    × (is_own state.base t.dest ≡ false) × NamesDevice account None
-Means state packet account why.TeachInReply =
-    (t : Telegram) × IsHeard state packet t × (teach_in_of t ≡ Answer) × NamesDevice account None
-Means state packet account why.WindowClosed =
-    (t : Telegram) × IsHeard state packet t × IsTeachIn (teach_in_of t) × (state.mode ≡ Closed)
-    × NamesDevice account None
-Means state packet account why.OtherMode =
-    (t : Telegram) × IsHeard state packet t × IsTeachIn (teach_in_of t)
-    × ((eep : Eep) × (state.mode ≡ LearnAs eep) × DoesNotFit eep (teach_in_of t)) × NamesDevice account None
-Means state packet account why.UnknownSender =
-    (t : Telegram) × IsHeard state packet t × (teach_in_of t ≡ Plain) × (device_of state.devices t.sender ≡ None)
-    × (change_of state (Received packet) ≡ None) × NamesDevice account None
-Means state packet account why.Read =
+    × (is_own state.base t.dest ≡ false) × NamesDevice disposition None
+Means state packet disposition why.TeachInReply =
+    (t : Telegram) × IsAddressedToUs state packet t × (teach_in_of t ≡ Answer) × NamesDevice disposition None
+Means state packet disposition why.WindowClosed =
+    (t : Telegram) × IsAddressedToUs state packet t × IsTeachIn (teach_in_of t) × (state.mode ≡ Closed)
+    × NamesDevice disposition None
+Means state packet disposition why.OtherMode =
+    (t : Telegram) × IsAddressedToUs state packet t × IsTeachIn (teach_in_of t)
+    × ((eep : Eep) × (state.mode ≡ LearnAs eep) × DoesNotFit eep (teach_in_of t)) × NamesDevice disposition None
+Means state packet disposition why.UnknownSender =
+    (t : Telegram) × IsAddressedToUs state packet t × (teach_in_of t ≡ Plain)
+    × (device_of state.devices t.sender ≡ None)
+    × (update_of state (Received packet) ≡ None) × NamesDevice disposition None
+Means state packet disposition why.Read =
     (t : Telegram) × (known : Device) × (readings : List Entry) × IsDataOf state packet t known
-    × (read_by known.eep t ≡ Ok readings) × NamesDevice account (Some known)
-Means state packet account why.WrongKind = IsUnreadable state packet account (λ fault. fault ≡ unreadable.WrongKind)
-Means state packet account why.WrongLength = IsUnreadable state packet account (λ fault. fault ≡ unreadable.WrongLength)
-Means state packet account why.OtherMessage =
-    IsUnreadable state packet account (λ fault. (fault ≡ unreadable.OtherMessage) ⊎ (fault ≡ unreadable.NotSupported))
-Means state packet account (why.Told Accepted) =
-    (t : Telegram) × (known : Device) × IsHeard state packet t × (known.id ≡ t.sender) × (state.mode ≢ Closed)
-    × IsPlanned state t (Add known) × (change_of state (Received packet) ≡ Some (learned known))
-    × NamesDevice account (Some known)
-Means state packet account (why.Told Deleted) =
-    (t : Telegram) × (query : UteQuery) × IsHeard state packet t × (state.mode ≢ Closed) × (teach_in_of t ≡ Ute query)
+    × (read_by known.eep t ≡ Ok readings) × NamesDevice disposition (Some known)
+Means state packet disposition why.WrongKind =
+    IsUnreadable state packet disposition (λ fault. fault ≡ unreadable.WrongKind)
+Means state packet disposition why.WrongLength =
+    IsUnreadable state packet disposition (λ fault. fault ≡ unreadable.WrongLength)
+Means state packet disposition why.OtherMessage =
+    IsUnreadable state packet disposition (λ fault. (fault ≡ unreadable.OtherMessage)
+    ⊎ (fault ≡ unreadable.NotSupported))
+Means state packet disposition (why.TeachIn Accepted) =
+    (t : Telegram) × (known : Device) × IsAddressedToUs state packet t × (known.id ≡ t.sender) × (state.mode ≢ Closed)
+    × IsPlanned state t (Add known) × (update_of state (Received packet) ≡ Some (learn_update known))
+    × NamesDevice disposition (Some known)
+Means state packet disposition (why.TeachIn Deleted) =
+    (t : Telegram) × (query : UteQuery) × IsAddressedToUs state packet t × (state.mode ≢ Closed)
+    × (teach_in_of t ≡ Ute query)
     × (request_in query ≡ deletion) × IsPlanned state t (Forget t.sender)
-    × (change_of state (Received packet) ≡ Some (forgotten t.sender))
-    × NamesDevice account None
-Means state packet account (why.Told Full) =
-    (t : Telegram) × (known : Device) × IsHeard state packet t × (known.id ≡ t.sender) × (state.mode ≢ Closed)
+    × (update_of state (Received packet) ≡ Some (forget_update t.sender))
+    × NamesDevice disposition None
+Means state packet disposition (why.TeachIn Full) =
+    (t : Telegram) × (known : Device) × IsAddressedToUs state packet t × (known.id ≡ t.sender) × (state.mode ≢ Closed)
     × IsPlanned state t (Add known) × (is_full state.devices t.sender ≡ true)
-    × (change_of state (Received packet) ≡ None) × NamesDevice account None
-Means state packet account (why.Told Unsupported) =
-    (t : Telegram) × (eep : Eep) × IsHeard state packet t × (state.mode ≢ Closed)
-    × (eep_told (teach_in_of t) ≡ Some eep) × (supported eep ≡ false) × IsPlanned state t (Refuse Unsupported)
-    × (change_of state (Received packet) ≡ None) × NamesDevice account None
-Means state packet account (why.Told General) =
-    (t : Telegram) × (query : UteQuery) × IsHeard state packet t × (state.mode ≢ Closed) × (teach_in_of t ≡ Ute query)
+    × (update_of state (Received packet) ≡ None) × NamesDevice disposition None
+Means state packet disposition (why.TeachIn Unsupported) =
+    (t : Telegram) × (eep : Eep) × IsAddressedToUs state packet t × (state.mode ≢ Closed)
+    × (query_eep (teach_in_of t) ≡ Some eep) × (supported eep ≡ false) × IsPlanned state t (Refuse Unsupported)
+    × (update_of state (Received packet) ≡ None) × NamesDevice disposition None
+Means state packet disposition (why.TeachIn General) =
+    (t : Telegram) × (query : UteQuery) × IsAddressedToUs state packet t × (state.mode ≢ Closed)
+    × (teach_in_of t ≡ Ute query)
     × (request_in query ≡ not_used) × IsPlanned state t (Refuse General)
-    × (change_of state (Received packet) ≡ None) × NamesDevice account None
-Means state packet account (why.Told NoProfile) =
-    (t : Telegram) × IsHeard state packet t × (state.mode ≢ Closed) × (teach_in_of t ≡ Bare)
-    × IsPlanned state t (Refuse NoProfile) × (change_of state (Received packet) ≡ None) × NamesDevice account None
+    × (update_of state (Received packet) ≡ None) × NamesDevice disposition None
+Means state packet disposition (why.TeachIn NoProfile) =
+    (t : Telegram) × IsAddressedToUs state packet t × (state.mode ≢ Closed) × (teach_in_of t ≡ Bare)
+    × IsPlanned state t (Refuse NoProfile) × (update_of state (Received packet) ≡ None) × NamesDevice disposition None
 
 -- A telegram is shown with its parts, and with the profile and maker of its query, if it is one, otherwise with those
 -- of the disposition.
-pub record IsShown (t : Telegram) (account : Account) (shown : ToldTelegram) : Type 0 where
+pub record IsShown (t : Telegram) (disposition : Disposition) (shown : ShownTelegram) : Type 0 where
   pub id : shown.id ≡ t.sender
   pub dest : ((t.dest ≡ 0xFFFF_FFFF) × (shown.dest ≡ None)) ⊎ ((t.dest ≢ 0xFFFF_FFFF) × (shown.dest ≡ Some t.dest))
   pub dbm : shown.dbm ≡ t.dbm
   pub rorg : shown.rorg ≡ t.rorg
   pub payload : shown.payload ≡ t.payload
   pub status : shown.status ≡ t.status
-  pub eep : shown.eep ≡ option_or (eep_told (teach_in_of t)) account.eep
-  pub maker : shown.maker ≡ option_or (maker_told (teach_in_of t)) account.maker
+  pub eep : shown.eep ≡ option_or (query_eep (teach_in_of t)) disposition.eep
+  pub maker : shown.maker ≡ option_or (query_maker (teach_in_of t)) disposition.maker
 
 -- the line shows the telegram that the packet carries, or the packet's type and the length of its data
-abbrev pub Shows : Packet → Account → ToldPacket → Type 0
-Shows packet account (shown_as.Telegram shown) = (t : Telegram) × (telegram_of packet ≡ Ok t) × IsShown t account shown
-Shows packet account (shown_as.Other kind size) =
+abbrev pub Shows : Packet → Disposition → ShownPacket → Type 0
+Shows packet disposition (shown_as.Telegram shown) =
+    (t : Telegram) × (telegram_of packet ≡ Ok t) × IsShown t disposition shown
+Shows packet disposition (shown_as.Other kind size) =
     IsErr (telegram_of packet) × (kind ≡ packet.kind) × (size ≡ length packet.body)
 
 -- the line that explains an applied packet shows the packet, and its word is true
 pub record IsTrulyExplained (state : State) (packet : Packet) : Type 0 where
-  pub account : Account
+  pub disposition : Disposition
   pub line : PacketLine
   pub explained : (answer_to state (Received packet)).explained ≡ packet_text line
-  pub word : line.why ≡ account.why
-  pub shows : Shows packet account line.packet
-  pub means : Means state packet account account.why
+  pub word : line.why ≡ disposition.why
+  pub shows : Shows packet disposition line.packet
+  pub means : Means state packet disposition disposition.why
 
 abbrev pub ExplanationsAreTrue : Type 0
 ExplanationsAreTrue = (state : State) (packet : Packet) → IsTrulyExplained state packet

@@ -1,13 +1,13 @@
 -- How the gateway handles inputs over its device store: its answers, what it then knows, and what a crash may leave.
 -- The only premise is about the device store: so far its medium has returned what was written.
 use Rattle.std.specs.Prelude.{◌≡◌, ℕ, List}
-use Rattle.learned_devices.specs.Kept.{Kept}
+use Rattle.learned_devices.specs.StoreState.{StoreState}
 use Rattle.learned_devices.specs.Devices.{Devices}
 use Rattle.teach_in.specs.declared.mode.Mode.{Mode}
 use Rattle.json_lines.specs.declared.counts.Counts.{Counts}
-use Rattle.gateway_core.specs.Step.{State, Item, Answer}
-use Rattle.gateway_core.specs.Run.{Fate, Run}
-use Rattle.gateway_core.specs.Stops.{nothing_left, left_by, Safe}
+use Rattle.gateway_core.specs.Step.{State, Input, Answer}
+use Rattle.gateway_core.specs.Run.{InputResult, Run}
+use Rattle.gateway_core.specs.CrashStates.{no_updates, crash_states, IsCrashConsistent}
 
 -- the base ID of the radio module, the mode, the counters, and the device store
 pub record HandlerValue (S : Type 0) : Type 0 where
@@ -17,33 +17,33 @@ pub record HandlerValue (S : Type 0) : Type 0 where
   pub registry : S
 
 -- the gateway knows this state
-abbrev pub IsAt : {S : Type 0} → (S → Kept) → HandlerValue S → State → Type 0
-IsAt stored v s =
+abbrev pub HasState : {S : Type 0} → (S → StoreState) → HandlerValue S → State → Type 0
+HasState stored v s =
     (v.base ≡ s.base) × (v.mode ≡ s.mode) × (stored v.registry).holds s.devices × (v.counts ≡ s.counts)
 
 -- while the medium has returned what was written and the device store is open, the gateway knows some state
-abbrev pub KnowsState : {S : Type 0} → (S → Kept) → HandlerValue S → Type 0
-KnowsState stored v = (stored v.registry).honest → (start : State) × IsAt stored v start
+abbrev pub HasSomeState : {S : Type 0} → (S → StoreState) → HandlerValue S → Type 0
+HasSomeState stored v = (stored v.registry).honest → (start : State) × HasState stored v start
 
-module _ {S : Type 0} (stored : S → Kept) where
+module _ {S : Type 0} (stored : S → StoreState) where
   -- From the first state, the inputs are handled with these answers and some results. The gateway then knows the last
   -- state of that run, and what a crash leaves is crash-consistent with it.
-  pub record Went (old : HandlerValue S) (start : State) (items : List Item) (answers : List Answer)
+  pub record HandlesFrom (old : HandlerValue S) (start : State) (inputs : List Input) (answers : List Answer)
       (new : HandlerValue S) : Type 0 where
-    pub fates : List Fate
+    pub results : List InputResult
     pub last : State
-    pub run : Run start items fates answers last
-    pub at : IsAt stored new last
-    pub stop : (left : Devices) → (stored new.registry).may_recover left
-        → Safe (stored old.registry).may_recover (left_by nothing_left start items fates) left
+    pub run : Run start inputs results answers last
+    pub at : HasState stored new last
+    pub crash : (left : Devices) → (stored new.registry).may_recover left
+        → IsCrashConsistent (stored old.registry).may_recover (crash_states no_updates start inputs results) left
 
   -- the inputs are handled with these answers, whatever the gateway knew
-  pub record Handles (old : HandlerValue S) (items : List Item) (answers : List Answer)
+  pub record Handles (old : HandlerValue S) (inputs : List Input) (answers : List Answer)
       (new : HandlerValue S) : Type 0 where
     pub base : new.base ≡ old.base
     pub clean : (stored new.registry).honest → (stored old.registry).honest
     -- the device store stays sound
     pub registries : (stored new.registry).honest → (stored old.registry).sound
         → (stored new.registry).sound
-    pub went : (stored new.registry).honest → (start : State) → IsAt stored old start
-        → Went old start items answers new
+    pub went : (stored new.registry).honest → (start : State) → HasState stored old start
+        → HandlesFrom old start inputs answers new

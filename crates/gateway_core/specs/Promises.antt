@@ -1,20 +1,20 @@
 -- What an acknowledged operation guarantees about its sender, and which operations keep that guarantee. Own choice.
 use Rattle.std.specs.Prelude.{◌≡◌, Option, Some, None}
-use Rattle.learned_devices.specs.Devices.{Learned, Deed, Learn, Forget, Relabel}
+use Rattle.learned_devices.specs.Devices.{DeviceData, Operation, Learn, Forget, Relabel}
 
 -- the guarantee: the profile and maker that the sender was learned with, that it is not learned, or its label
-abbrev pub Promises : Deed → Option Learned → Type 0
-Promises (Learn eep maker) known = (it : Learned) × (known ≡ Some it) × (it.eep ≡ eep) × (it.maker ≡ maker)
+abbrev pub Promises : Operation → Option DeviceData → Type 0
+Promises (Learn eep maker) known = (it : DeviceData) × (known ≡ Some it) × (it.eep ≡ eep) × (it.maker ≡ maker)
 Promises Forget known = known ≡ None
-Promises (Relabel label) known = (it : Learned) × (known ≡ Some it) × (it.label ≡ label)
+Promises (Relabel label) known = (it : DeviceData) × (known ≡ Some it) × (it.label ≡ label)
 
 -- The second operation on the same sender keeps the guarantee of the first: an equal one does, a label keeps what was
 -- learned or forgotten, and learning again keeps the label.
-abbrev pub Leaves : Deed → Deed → Type 0
-Leaves (Learn eep maker) (Learn other by) = (other ≡ eep) × (by ≡ maker)
-Leaves (Learn eep maker) (Relabel label) = Unit {0}
-Leaves Forget Forget = Unit {0}
-Leaves Forget (Relabel label) = Unit {0}
-Leaves (Relabel label) (Relabel other) = other ≡ label
-Leaves (Relabel label) (Learn eep maker) = Unit {0}
-Leaves deed other = ⊥
+abbrev pub Preserves : Operation → Operation → Type 0
+Preserves (Learn eep maker) (Learn other by) = (other ≡ eep) × (by ≡ maker)
+Preserves (Learn eep maker) (Relabel label) = Unit {0}
+Preserves Forget Forget = Unit {0}
+Preserves Forget (Relabel label) = Unit {0}
+Preserves (Relabel label) (Relabel other) = other ≡ label
+Preserves (Relabel label) (Learn eep maker) = Unit {0}
+Preserves operation other = ⊥

@@ -3,7 +3,7 @@ use Rattle.std.specs.Prelude.{[]}
 use Rattle.std.specs.Option.{option_map}
 use Rattle.gateway_core.specs.Desks.{desk_bytes}
 use Rattle.json_lines.specs.PacketLines.{packet_text}
-use Rattle.gateway_core.specs.Step.{Answer, explained_by}
+use Rattle.gateway_core.specs.Step.{Answer, with_explanation}
 use Rattle.gateway_core.specs.declared.handled.HandledPacket.{HandledPacket}
 use Rattle.gateway_core.specs.declared.reply.Reply.{Reply}
 
@@ -13,4 +13,4 @@ answer_of reply =
 
 -- the answer to a packet, with the line that explains it
 abbrev pub packet_answer : HandledPacket → Answer
-packet_answer handled = explained_by (packet_text handled.line) (answer_of handled.reply)
+packet_answer handled = with_explanation (packet_text handled.line) (answer_of handled.reply)

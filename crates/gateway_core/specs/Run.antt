@@ -3,81 +3,85 @@ use Rattle.std.specs.Prelude.{◌≡◌, IsSome, ℕ, ◌+◌, ◌^◌, ◌<◌,
 use Rattle.json_lines.specs.declared.counts.Count.TheVariants as count
 use Rattle.json_lines.specs.declared.error_lines.ErrorName.TheVariants as error
 use Rattle.teach_in.specs.declared.why.Why.TheVariants as why
-use Rattle.json_lines.specs.Counts.{counted, count_with}
+use Rattle.json_lines.specs.Counts.{increment, saturated_sum}
 use Rattle.json_lines.specs.Lines.{Error, text}
-use Rattle.gateway_core.specs.Accounts.{because}
-use Rattle.gateway_core.specs.Step.{State, Item, Answer, explaining, line_for, said, answer_to, change_of, needs}
+use Rattle.gateway_core.specs.Dispositions.{without_device}
+use Rattle.gateway_core.specs.Step.{State, Input, Answer, with_packet_line, packet_line_for, text_answer, answer_to}
+use Rattle.gateway_core.specs.Step.{update_of, need_of}
 use Rattle.gateway_core.specs.Step.{state_after}
-use Rattle.gateway_core.specs.Step.{Cause, Memory, Store, Permits}
+use Rattle.gateway_core.specs.Step.{Cause, Memory, Store, MayFailFor}
 
 -- an input is applied, or it fails before its write to the registry or at that write
-pub data Fate : Type 0 where
-  Taken : Fate
-  Refused : (cause : Cause) → Fate
-  RefusedAtWrite : (cause : Cause) → Fate
+pub data InputResult : Type 0 where
+  Applied : InputResult
+  Failed : (cause : Cause) → InputResult
+  FailedAtCommit : (cause : Cause) → InputResult
 
 -- the results that an input may have
-abbrev pub Allows : State → Item → Fate → Type 0
-Allows state item Taken = Unit {0}
-Allows state item (Refused cause) = Permits (needs state item) cause
-Allows state item (RefusedAtWrite cause) = IsSome (change_of state item)
+abbrev pub MayHaveResult : State → Input → InputResult → Type 0
+MayHaveResult state input Applied = Unit {0}
+MayHaveResult state input (Failed cause) = MayFailFor (need_of state input) cause
+MayHaveResult state input (FailedAtCommit cause) = IsSome (update_of state input)
 
 abbrev pub cause_text : Cause → List ℕ
 cause_text Memory = text (Error error.Memory)
 cause_text Store = text (Error error.Store)
 
 -- the answer to a failed input: about its sender it shows only what the telegram contains
-abbrev pub refusal_of : Item → Cause → Answer
-refusal_of item cause = explaining (line_for item (Some (because why.Refused))) (said (cause_text cause))
+abbrev pub failure_answer : Input → Cause → Answer
+failure_answer input cause =
+    with_packet_line (packet_line_for input (Some (without_device why.Refused))) (text_answer (cause_text cause))
 
 -- the answer to an input with this result
-abbrev pub answer_with : State → Item → Fate → Answer
-answer_with state item Taken = answer_to state item
-answer_with state item (Refused cause) = refusal_of item cause
-answer_with state item (RefusedAtWrite cause) = refusal_of item cause
+abbrev pub answer_with : State → Input → InputResult → Answer
+answer_with state input Applied = answer_to state input
+answer_with state input (Failed cause) = failure_answer input cause
+answer_with state input (FailedAtCommit cause) = failure_answer input cause
 
 -- the state after a failed input: only the counter of failed inputs changes
-abbrev pub refused : State → State
-refused state = record state { counts = counted state.counts count.Refused }
+abbrev pub state_after_failure : State → State
+state_after_failure state = record state { counts = increment state.counts count.Refused }
 
 -- the state after an input with this result
-abbrev pub state_with : State → Item → Fate → State
-state_with state item Taken = state_after state item
-state_with state item (Refused cause) = refused state
-state_with state item (RefusedAtWrite cause) = refused state
+abbrev pub state_with : State → Input → InputResult → State
+state_with state input Applied = state_after state input
+state_with state input (Failed cause) = state_after_failure state
+state_with state input (FailedAtCommit cause) = state_after_failure state
 
 -- the inputs are handled one after another, with these results and answers
-abbrev pub Run : State → List Item → List Fate → List Answer → State → Type 0
+abbrev pub Run : State → List Input → List InputResult → List Answer → State → Type 0
 Run old [] [] [] new = new ≡ old
-Run old (item ∷ items) (fate ∷ fates) (answer ∷ answers) new =
-    Allows old item fate × (answer ≡ answer_with old item fate) × Run (state_with old item fate) items fates answers new
-Run old items fates answers new = ⊥
+Run old (input ∷ inputs) (result ∷ results) (answer ∷ answers) new =
+    MayHaveResult old input result × (answer ≡ answer_with old input result)
+    × Run (state_with old input result) inputs results answers new
+Run old inputs results answers new = ⊥
 
 -- why an input failed, if it did
-abbrev pub refused_for : Fate → Option Cause
-refused_for Taken = None
-refused_for (Refused cause) = Some cause
-refused_for (RefusedAtWrite cause) = Some cause
+abbrev pub failure_cause : InputResult → Option Cause
+failure_cause Applied = None
+failure_cause (Failed cause) = Some cause
+failure_cause (FailedAtCommit cause) = Some cause
 
 -- the same inputs fail, each for the same cause, whether before its write or at it
-abbrev pub RefuseAlike : List Fate → List Fate → Type 0
-RefuseAlike fates others = map refused_for fates ≡ map refused_for others
+abbrev pub FailAlike : List InputResult → List InputResult → Type 0
+FailAlike results others = map failure_cause results ≡ map failure_cause others
 
 -- if the same inputs fail for the same causes, the answers and the last state are the same
-abbrev pub SameRefusals : Type 0
-SameRefusals = (old left right : State) (items : List Item) (fates others : List Fate) (answers more : List Answer)
-    → RefuseAlike fates others
-    → Run old items fates answers left → Run old items others more right → (answers ≡ more) × (left ≡ right)
+abbrev pub SameFailures : Type 0
+SameFailures =
+    (old left right : State) (inputs : List Input) (results others : List InputResult) (answers more : List Answer)
+    → FailAlike results others
+    → Run old inputs results answers left → Run old inputs others more right → (answers ≡ more) × (left ≡ right)
 
 -- how many of the results are failures
-abbrev pub refusals : List Fate → ℕ
-refusals [] = 0
-refusals (Taken ∷ fates) = refusals fates
-refusals (Refused cause ∷ fates) = 1 + refusals fates
-refusals (RefusedAtWrite cause ∷ fates) = 1 + refusals fates
+abbrev pub failure_count : List InputResult → ℕ
+failure_count [] = 0
+failure_count (Applied ∷ results) = failure_count results
+failure_count (Failed cause ∷ results) = 1 + failure_count results
+failure_count (FailedAtCommit cause ∷ results) = 1 + failure_count results
 
 -- the counter of failed inputs is incremented once for each of them, and by nothing else
-abbrev pub RefusalsAreCounted : Type 0
-RefusalsAreCounted = (old new : State) (items : List Item) (fates : List Fate) (answers : List Answer) →
-    Run old items fates answers new → old.counts.refused < 2 ^ 64
-    → new.counts.refused ≡ count_with old.counts.refused (refusals fates)
+abbrev pub FailuresAreCounted : Type 0
+FailuresAreCounted = (old new : State) (inputs : List Input) (results : List InputResult) (answers : List Answer) →
+    Run old inputs results answers new → old.counts.refused < 2 ^ 64
+    → new.counts.refused ≡ saturated_sum old.counts.refused (failure_count results)

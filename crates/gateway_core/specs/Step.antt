@@ -5,13 +5,13 @@ use Rattle.std.specs.Prelude.{Result, Ok, Err}
 use Rattle.esp3_frames.specs.Packet.{Packet, spelling}
 use Rattle.erp1_telegrams.specs.declared.eep.Eep.{Eep}
 use Rattle.erp1_telegrams.specs.declared.telegram.TelegramFault.{TelegramFault}
-use Rattle.erp1_telegrams.specs.Address.{filter_reason, is_passed_over}
-use Rattle.erp1_telegrams.specs.Telegram.{Telegram, telegram_of, sent}
+use Rattle.erp1_telegrams.specs.Address.{filter_reason, is_filtered_out}
+use Rattle.erp1_telegrams.specs.Telegram.{Telegram, telegram_of, radio_packet}
 use Rattle.profile_rows.specs.Reading.{Entry}
 use Rattle.profile_rows.specs.declared.unreadable.Unreadable.{Unreadable}
 use Rattle.learned_devices.specs.declared.Device.{Device}
-use Rattle.learned_devices.specs.Devices.{Devices, device_of, all_of, is_full, Change, changed}
-use Rattle.learned_devices.specs.Devices.{learned, forgotten, relabelled}
+use Rattle.learned_devices.specs.Devices.{Devices, device_of, all_of, is_full, DeviceUpdate, apply_update}
+use Rattle.learned_devices.specs.Devices.{learn_update, forget_update, relabel_update}
 use Rattle.teach_in.specs.declared.mode.Mode.{Mode}
 use Rattle.teach_in.specs.declared.mode.Mode.TheVariants.{Closed, Learn, LearnAnswer, LearnAs}
 use Rattle.teach_in.specs.declared.outcome.Outcome.{Outcome}
@@ -39,15 +39,16 @@ use Rattle.json_lines.specs.declared.counts.Count.{Count}
 use Rattle.json_lines.specs.declared.counts.Counts.{Counts}
 use Rattle.json_lines.specs.declared.error_lines.ErrorName.{ErrorName}
 use Rattle.json_lines.specs.declared.error_lines.ErrorName.TheVariants as error
-use Rattle.json_lines.specs.Counts.{raised}
+use Rattle.json_lines.specs.Counts.{increment_if_any}
 use Rattle.json_lines.specs.declared.packet.PacketLine.{PacketLine}
 use Rattle.teach_in.specs.declared.why.Why.{Why}
 use Rattle.teach_in.specs.declared.why.Why.TheVariants as why
 use Rattle.json_lines.specs.Lines.{DeskLine, Reading, Teach as TeachOf, StatusLine, ResponseLine, Done, Error}
-use Rattle.json_lines.specs.Lines.{TeachLine, Response, listing, texts}
-use Rattle.gateway_core.specs.declared.account.Account.{Account}
-use Rattle.gateway_core.specs.Accounts.{because, counted_as, eep_told, explanation, line_of, maker_told, of_device}
-use Rattle.gateway_core.specs.Accounts.{why_filtered, why_silent, why_other, why_unread}
+use Rattle.json_lines.specs.Lines.{TeachLine, Response, list_lines, texts}
+use Rattle.gateway_core.specs.declared.disposition.Disposition.{Disposition}
+use Rattle.gateway_core.specs.Dispositions.{without_device, count_for, query_eep, explanation, packet_line_of}
+use Rattle.gateway_core.specs.Dispositions.{query_maker, for_device}
+use Rattle.gateway_core.specs.Dispositions.{why_filtered, why_silent, why_other, why_unread}
 use Rattle.gateway_core.specs.Profiles.{read_by}
 use Rattle.gateway_core.specs.Responses.{response_in}
 
@@ -60,9 +61,9 @@ pub record State : Type 0 where
   pub devices : Devices
 
 -- an input: a packet of the serial line, or a line of the desk
-pub data Item : Type 0 where
-  Received : (packet : Packet) → Item
-  Ordered : (line : List ℕ) → Item
+pub data Input : Type 0 where
+  Received : (packet : Packet) → Input
+  Ordered : (line : List ℕ) → Input
 
 -- why an input fails: out of memory, or an error of the device store
 pub data Cause : Type 0 where
@@ -76,33 +77,33 @@ pub data Need : Type 0 where
   NeedsStore : Need
 
 -- the causes for which such an input may fail
-abbrev pub Permits : Need → Cause → Type 0
-Permits NeedsStore cause = Unit {0}
-Permits NeedsMemory Memory = Unit {0}
-Permits need cause = ⊥
+abbrev pub MayFailFor : Need → Cause → Type 0
+MayFailFor NeedsStore cause = Unit {0}
+MayFailFor NeedsMemory Memory = Unit {0}
+MayFailFor need cause = ⊥
 
 -- what an applied input does: the bytes to send by radio, the lines for the desk, the disposition of a packet, the
 -- update of the devices, the mode that it sets, and what it needs
 pub record Effect : Type 0 where
   pub radio : Option (List ℕ)
   pub desk : List DeskLine
-  pub account : Option Account
-  pub change : Option Change
+  pub disposition : Option Disposition
+  pub update : Option DeviceUpdate
   pub mode : Option Mode
   pub need : Need
 
 -- no effect
-abbrev pub nothing : Effect
-nothing = record { radio = None; desk = []; account = None; change = None; mode = None; need = NeedsNothing }
+abbrev pub no_effect : Effect
+no_effect = record { radio = None; desk = []; disposition = None; update = None; mode = None; need = NeedsNothing }
 
 -- the effect of a device that is to be learned: the first if the maximum number of others is learned, otherwise the
 -- second
-abbrev pub addition : Devices → Device → Effect → Effect → Effect
-addition devices known full done = if is_full devices known.id then full else done
+abbrev pub effect_unless_full : Devices → Device → Effect → Effect → Effect
+effect_unless_full devices known full done = if is_full devices known.id then full else done
 
 -- the line that reports the outcome for a device
-abbrev pub told_of : Device → Outcome → TeachLine
-told_of known outcome = record { eep = Some known.eep; id = known.id; maker = known.maker; outcome = outcome }
+abbrev pub device_teach_line : Device → Outcome → TeachLine
+device_teach_line known outcome = record { eep = Some known.eep; id = known.id; maker = known.maker; outcome = outcome }
 
 -- ---- a packet
 
@@ -111,51 +112,52 @@ abbrev pub need_if : Bool → Need
 need_if asked = if asked then NeedsStore else NeedsNothing
 
 -- A packet without a line for the desk. The device store was asked for its sender, or not.
-abbrev pub unsaid : Bool → Account → Effect
-unsaid asked account = record nothing { account = Some account; need = need_if asked }
+abbrev pub silent_effect : Bool → Disposition → Effect
+silent_effect asked disposition = record no_effect { disposition = Some disposition; need = need_if asked }
 
 -- it is ignored, for this reason
-abbrev pub ignored : Why → Effect
-ignored why = unsaid false (because why)
+abbrev pub ignored_effect : Why → Effect
+ignored_effect why = silent_effect false (without_device why)
 
 -- one line for the desk about a packet
-abbrev pub tells_of_packet : Need → Account → DeskLine → Effect
-tells_of_packet need account line = record nothing { desk = line ∷ []; account = Some account; need = need }
+abbrev pub packet_line_effect : Need → Disposition → DeskLine → Effect
+packet_line_effect need disposition line =
+    record no_effect { desk = line ∷ []; disposition = Some disposition; need = need }
 
 -- the kind of a telegram: the first of these five cases. Own choice
-pub data Case : Type 0 where
+pub data TelegramCase : Type 0 where
   -- its sender or destination is filtered out
-  PassedOver : Case
+  FilteredOut : TelegramCase
   -- it is a teach-in reply
-  Replies : Case
+  TeachInAnswer : TelegramCase
   -- it is a teach-in telegram
-  Teaches : Case
+  TeachInTelegram : TelegramCase
   -- it is data of a learned sender
-  OfLearned : (known : Device) → Case
+  LearnedData : (known : Device) → TelegramCase
   -- it is data of another sender
-  OfOther : Case
+  UnknownData : TelegramCase
 
-abbrev pub data_case : Option Device → Case
-data_case (Some known) = OfLearned known
-data_case None = OfOther
+abbrev pub data_case : Option Device → TelegramCase
+data_case (Some known) = LearnedData known
+data_case None = UnknownData
 
-abbrev pub kind_case : Teach → Option Device → Case
-kind_case teach.Answer known = Replies
-kind_case teach.Contact known = Teaches
-kind_case teach.Bare known = Teaches
-kind_case (teach.FourByte query) known = Teaches
-kind_case (teach.Ute query) known = Teaches
-kind_case teach.Plain known = data_case known
+abbrev pub teach_case : Teach → Option Device → TelegramCase
+teach_case teach.Answer known = TeachInAnswer
+teach_case teach.Contact known = TeachInTelegram
+teach_case teach.Bare known = TeachInTelegram
+teach_case (teach.FourByte query) known = TeachInTelegram
+teach_case (teach.Ute query) known = TeachInTelegram
+teach_case teach.Plain known = data_case known
 
-abbrev pub case_of : State → Telegram → Case
+abbrev pub case_of : State → Telegram → TelegramCase
 case_of state t =
-    if is_passed_over state.base t then PassedOver else kind_case (teach_in_of t) (device_of state.devices t.sender)
+    if is_filtered_out state.base t then FilteredOut else teach_case (teach_in_of t) (device_of state.devices t.sender)
 
 -- the reading line for a telegram of this device, if its profile can read it
 abbrev pub reading_effect : Telegram → Device → Result (List Entry) Unreadable → Effect
-reading_effect t known (Err fault) = unsaid true (of_device known (why_unread fault))
+reading_effect t known (Err fault) = silent_effect true (for_device known (why_unread fault))
 reading_effect t known (Ok readings) =
-    tells_of_packet NeedsStore (of_device known why.Read)
+    packet_line_effect NeedsStore (for_device known why.Read)
     (Reading (record { dbm = t.dbm; eep = known.eep; id = t.sender; readings = readings }))
 
 -- the reply by radio for this outcome of a telegram's sender: to a UTE query that waits for one, and to a 4BS query in
@@ -167,49 +169,49 @@ reply_of base mode kind outcome = None
 
 -- the bytes of the packet in which a telegram is sent, if there is one
 abbrev pub radio_of : Option Telegram → Option (List ℕ)
-radio_of = option_map (λ t. spelling (sent t))
+radio_of = option_map (λ t. spelling (radio_packet t))
 
 -- the outcome for a telegram's sender, for which the device store was asked: reported to the desk, and replied to the
 -- sender
-abbrev pub tells_sender : State → Teach → TeachLine → Effect
-tells_sender state kind line =
-    record (tells_of_packet NeedsStore (because (why.Told line.outcome)) (TeachOf line)) {
+abbrev pub teach_effect : State → Teach → TeachLine → Effect
+teach_effect state kind line =
+    record (packet_line_effect NeedsStore (without_device (why.TeachIn line.outcome)) (TeachOf line)) {
       radio = radio_of (reply_of state.base state.mode kind line.outcome);
     }
 
 -- the mode that learns with the desk's profile is for one sender. Own choice
-abbrev pub mode_after_one : Mode → Option Mode
-mode_after_one (LearnAs eep) = Some Closed
-mode_after_one mode = None
+abbrev pub mode_after_learning : Mode → Option Mode
+mode_after_learning (LearnAs eep) = Some Closed
+mode_after_learning mode = None
 
 -- the sender is learned
-abbrev pub accepts : State → Teach → Device → Effect
-accepts state kind known =
-    record (tells_sender state kind (told_of known Accepted)) {
-      account = Some (of_device known (why.Told Accepted));
-      change = Some (learned known);
-      mode = mode_after_one state.mode;
+abbrev pub accept_effect : State → Teach → Device → Effect
+accept_effect state kind known =
+    record (teach_effect state kind (device_teach_line known Accepted)) {
+      disposition = Some (for_device known (why.TeachIn Accepted));
+      update = Some (learn_update known);
+      mode = mode_after_learning state.mode;
     }
 
 -- the line with the outcome for a sender that this telegram does not teach in, with the profile and maker of its query,
 -- if any
-abbrev pub line_with : ℕ → Teach → Outcome → TeachLine
-line_with id kind outcome = record { eep = eep_told kind; id = id; maker = maker_told kind; outcome = outcome }
+abbrev pub query_teach_line : ℕ → Teach → Outcome → TeachLine
+query_teach_line id kind outcome = record { eep = query_eep kind; id = id; maker = query_maker kind; outcome = outcome }
 
 -- the sender is forgotten, whether it is learned or not
-abbrev pub deletes : State → Teach → ℕ → Effect
-deletes state kind id =
-    record (tells_sender state kind (line_with id kind Deleted)) { change = Some (forgotten id) }
+abbrev pub delete_effect : State → Teach → ℕ → Effect
+delete_effect state kind id =
+    record (teach_effect state kind (query_teach_line id kind Deleted)) { update = Some (forget_update id) }
 
 -- the effect of the plan for the sender of a telegram, for which the device store was asked or not
 abbrev pub plan_effect : State → Telegram → Bool → Plan → Effect
-plan_effect state t asked Silent = unsaid asked (because (why_silent asked state.mode))
+plan_effect state t asked Silent = silent_effect asked (without_device (why_silent asked state.mode))
 plan_effect state t asked (Add known) =
-    addition state.devices known (tells_sender state (teach_in_of t) (told_of known outcome.Full))
-    (accepts state (teach_in_of t) known)
-plan_effect state t asked (Forget id) = deletes state (teach_in_of t) id
+    effect_unless_full state.devices known (teach_effect state (teach_in_of t) (device_teach_line known outcome.Full))
+    (accept_effect state (teach_in_of t) known)
+plan_effect state t asked (Forget id) = delete_effect state (teach_in_of t) id
 plan_effect state t asked (Refuse outcome) =
-    record (tells_sender state (teach_in_of t) (line_with t.sender (teach_in_of t) outcome)) {
+    record (teach_effect state (teach_in_of t) (query_teach_line t.sender (teach_in_of t) outcome)) {
       need = if asked then NeedsStore else NeedsMemory;
     }
 
@@ -217,64 +219,68 @@ plan_effect state t asked (Refuse outcome) =
 abbrev pub is_learned : Devices → ℕ → Bool
 is_learned devices id = is_some (device_of devices id)
 
-abbrev pub case_effect : State → Telegram → Case → Effect
-case_effect state t PassedOver = ignored (why_filtered (filter_reason t))
-case_effect state t Replies = ignored why.TeachInReply
-case_effect state t Teaches = plan_effect state t false (plan_of t state.mode (is_learned state.devices t.sender))
-case_effect state t (OfLearned known) = reading_effect t known (read_by known.eep t)
-case_effect state t OfOther = plan_effect state t true (plan_of t state.mode false)
+abbrev pub case_effect : State → Telegram → TelegramCase → Effect
+case_effect state t FilteredOut = ignored_effect (why_filtered (filter_reason t))
+case_effect state t TeachInAnswer = ignored_effect why.TeachInReply
+case_effect state t TeachInTelegram =
+    plan_effect state t false (plan_of t state.mode (is_learned state.devices t.sender))
+case_effect state t (LearnedData known) = reading_effect t known (read_by known.eep t)
+case_effect state t UnknownData = plan_effect state t true (plan_of t state.mode false)
 
 abbrev pub telegram_effect : State → Telegram → Effect
 telegram_effect state t = case_effect state t (case_of state t)
 
 -- a packet without a telegram is a response, or is ignored. Own choice
-abbrev pub other_effect : Packet → Option Response → Effect
-other_effect packet None = ignored (why_other packet)
-other_effect packet (Some response) = tells_of_packet NeedsMemory (because why.Response) (ResponseLine response)
+abbrev pub non_telegram_effect : Packet → Option Response → Effect
+non_telegram_effect packet None = ignored_effect (why_other packet)
+non_telegram_effect packet (Some response) =
+    packet_line_effect NeedsMemory (without_device why.Response) (ResponseLine response)
 
-abbrev pub packet_by : State → Packet → Result Telegram TelegramFault → Effect
-packet_by state packet (Ok t) = telegram_effect state t
-packet_by state packet (Err fault) = other_effect packet (response_in packet)
+abbrev pub packet_effect_from : State → Packet → Result Telegram TelegramFault → Effect
+packet_effect_from state packet (Ok t) = telegram_effect state t
+packet_effect_from state packet (Err fault) = non_telegram_effect packet (response_in packet)
 
 abbrev pub packet_effect : State → Packet → Effect
-packet_effect state packet = packet_by state packet (telegram_of packet)
+packet_effect state packet = packet_effect_from state packet (telegram_of packet)
 
 -- ---- a line
 
 -- the only effect is an error line
-abbrev pub denied : ErrorName → Effect
-denied name = record nothing { desk = Error name ∷ [] }
+abbrev pub error_effect : ErrorName → Effect
+error_effect name = record no_effect { desk = Error name ∷ [] }
 
 -- a packet is sent; the device store was asked for a device, or not
-abbrev pub sends_packet : Bool → List ℕ → Effect
-sends_packet asked bytes = record nothing { radio = Some bytes; desk = Done ∷ []; need = need_if asked }
+abbrev pub send_effect : Bool → List ℕ → Effect
+send_effect asked bytes = record no_effect { radio = Some bytes; desk = Done ∷ []; need = need_if asked }
 
 -- the mode is set
-abbrev pub sets : Mode → Effect
-sets mode = record nothing { desk = Done ∷ []; mode = Some mode }
+abbrev pub mode_effect : Mode → Effect
+mode_effect mode = record no_effect { desk = Done ∷ []; mode = Some mode }
 
 -- the only effect is some lines for the desk
-abbrev pub tells : Need → List DeskLine → Effect
-tells need lines = record nothing { desk = lines; need = need }
+abbrev pub lines_effect : Need → List DeskLine → Effect
+lines_effect need lines = record no_effect { desk = lines; need = need }
 
 -- a device that the desk names is learned, forgotten or labelled
-abbrev pub learns : Device → Effect
-learns known = record (tells NeedsStore (TeachOf (told_of known Accepted) ∷ [])) { change = Some (learned known) }
+abbrev pub learn_effect : Device → Effect
+learn_effect known = record (lines_effect NeedsStore (TeachOf (device_teach_line known Accepted) ∷ []))
+    { update = Some (learn_update known) }
 
-abbrev pub forgets : Device → Effect
-forgets known = record (tells NeedsStore (TeachOf (told_of known Deleted) ∷ [])) { change = Some (forgotten known.id) }
+abbrev pub forget_effect : Device → Effect
+forget_effect known = record (lines_effect NeedsStore (TeachOf (device_teach_line known Deleted) ∷ []))
+    { update = Some (forget_update known.id) }
 
-abbrev pub labels : ℕ → List ℕ → Effect
-labels id label = record (tells NeedsStore (Done ∷ [])) { change = Some (relabelled id label) }
+abbrev pub relabel_effect : ℕ → List ℕ → Effect
+relabel_effect id label = record (lines_effect NeedsStore (Done ∷ [])) { update = Some (relabel_update id label) }
 
 -- the effect of an order about a device that has to be learned
 abbrev pub if_known : Option Device → (Device → Effect) → Effect
-if_known None effect_of = tells NeedsStore (Error error.UnknownDevice ∷ [])
+if_known None effect_of = lines_effect NeedsStore (Error error.UnknownDevice ∷ [])
 if_known (Some known) effect_of = effect_of known
 
 -- the effect of an order with a profile, if that is supported
 abbrev pub if_supported : Eep → Effect → Effect
-if_supported eep effect = if supported eep then effect else denied error.UnsupportedProfile
+if_supported eep effect = if supported eep then effect else error_effect error.UnsupportedProfile
 
 abbrev pub error_of : OrderFault → ErrorName
 error_of Syntax = error.Syntax
@@ -284,20 +290,20 @@ error_of WrongProfile = error.WrongProfile
 
 -- The effect of an order to devices: its telegram is sent, or an error reports why there is none. The last case is that
 -- of no order to devices, since each of these has a telegram or a fault.
-abbrev pub telegram_sent : Bool → Option (Result Telegram OrderFault) → Effect
-telegram_sent asked (Some (Ok t)) = sends_packet asked (spelling (sent t))
-telegram_sent asked (Some (Err fault)) = record (denied (error_of fault)) { need = need_if asked }
-telegram_sent asked None = record nothing { need = need_if asked }
+abbrev pub send_result_effect : Bool → Option (Result Telegram OrderFault) → Effect
+send_result_effect asked (Some (Ok t)) = send_effect asked (spelling (radio_packet t))
+send_result_effect asked (Some (Err fault)) = record (error_effect (error_of fault)) { need = need_if asked }
+send_result_effect asked None = record no_effect { need = need_if asked }
 
 -- the stored device of an order
-abbrev pub known_of : Devices → Option ℕ → Option Device
-known_of devices None = None
-known_of devices (Some id) = device_of devices id
+abbrev pub recipient_device : Devices → Option ℕ → Option Device
+recipient_device devices None = None
+recipient_device devices (Some id) = device_of devices id
 
-abbrev pub sending_effect : State → Order → Effect
-sending_effect state order =
-    telegram_sent (is_some (recipient order))
-    (order_telegram order (known_of state.devices (recipient order)) state.base)
+abbrev pub device_order_effect : State → Order → Effect
+device_order_effect state order =
+    send_result_effect (is_some (recipient order))
+    (order_telegram order (recipient_device state.devices (recipient order)) state.base)
 
 -- the packet that asks the radio module for its base ID (EnOcean Serial Protocol 3, "CO_RD_IDBASE")
 abbrev pub base_query : Packet
@@ -306,28 +312,29 @@ base_query = record { kind = 5; body = 0x08 ∷ []; opt = [] }
 -- Own choice: the first error of these is reported: too long, syntax and range, which `order_of` finds, an unsupported
 -- profile, an unknown device, a wrong profile, a full registry.
 abbrev pub order_effect : State → Result Order OrderFault → Effect
-order_effect state (Err fault) = denied (error_of fault)
-order_effect state (Ok LearnOn) = sets Learn
-order_effect state (Ok LearnOnAnswer) = sets LearnAnswer
-order_effect state (Ok (order.LearnAs eep)) = if_supported eep (sets (LearnAs eep))
-order_effect state (Ok LearnOff) = sets Closed
+order_effect state (Err fault) = error_effect (error_of fault)
+order_effect state (Ok LearnOn) = mode_effect Learn
+order_effect state (Ok LearnOnAnswer) = mode_effect LearnAnswer
+order_effect state (Ok (order.LearnAs eep)) = if_supported eep (mode_effect (LearnAs eep))
+order_effect state (Ok LearnOff) = mode_effect Closed
 order_effect state (Ok (order.Add id eep)) =
     let known : Device = record { id = id; eep = eep; maker = None; label = [] } in
-    if_supported eep (addition state.devices known (tells NeedsStore (Error error.Full ∷ [])) (learns known))
-order_effect state (Ok (Remove id)) = if_known (device_of state.devices id) forgets
-order_effect state (Ok (Label id label)) = if_known (device_of state.devices id) (λ known. labels id label)
-order_effect state (Ok ListAll) = tells NeedsStore (listing (all_of state.devices))
-order_effect state (Ok Status) = tells NeedsMemory (StatusLine state.counts state.mode ∷ [])
-order_effect state (Ok Base) = sends_packet false (spelling base_query)
-order_effect state (Ok order) = sending_effect state order
+    if_supported eep (effect_unless_full state.devices known (lines_effect NeedsStore (Error error.Full ∷ []))
+    (learn_effect known))
+order_effect state (Ok (Remove id)) = if_known (device_of state.devices id) forget_effect
+order_effect state (Ok (Label id label)) = if_known (device_of state.devices id) (λ known. relabel_effect id label)
+order_effect state (Ok ListAll) = lines_effect NeedsStore (list_lines (all_of state.devices))
+order_effect state (Ok Status) = lines_effect NeedsMemory (StatusLine state.counts state.mode ∷ [])
+order_effect state (Ok Base) = send_effect false (spelling base_query)
+order_effect state (Ok order) = device_order_effect state order
 
 abbrev pub line_effect : State → List ℕ → Effect
 line_effect state line =
-    if nat_lt max_line (length line) then denied error.TooLong else order_effect state (order_of line)
+    if nat_lt max_line (length line) then error_effect error.TooLong else order_effect state (order_of line)
 
 -- ---- an input
 
-abbrev pub effect : State → Item → Effect
+abbrev pub effect : State → Input → Effect
 effect state (Received packet) = packet_effect state packet
 effect state (Ordered line) = line_effect state line
 
@@ -338,63 +345,63 @@ pub record Answer : Type 0 where
   pub desk : List ℕ
 
 -- the answer to an input that is no packet, or to a packet before it is explained
-abbrev pub said : List ℕ → Answer
-said text = record { radio = None; explained = []; desk = text }
+abbrev pub text_answer : List ℕ → Answer
+text_answer text = record { radio = None; explained = []; desk = text }
 
-abbrev pub answer_by : Effect → Answer
-answer_by effect = record { radio = effect.radio; explained = []; desk = texts effect.desk }
+abbrev pub answer_from_effect : Effect → Answer
+answer_from_effect effect = record { radio = effect.radio; explained = []; desk = texts effect.desk }
 
 -- the line that explains an input, by its disposition: a packet has one, an order has none
-abbrev pub line_for : Item → Option Account → Option PacketLine
-line_for (Received packet) account = option_map (line_of packet) account
-line_for (Ordered line) account = None
+abbrev pub packet_line_for : Input → Option Disposition → Option PacketLine
+packet_line_for (Received packet) disposition = option_map (packet_line_of packet) disposition
+packet_line_for (Ordered line) disposition = None
 
 -- the answer with this text, or with this line, as its explanation
-abbrev pub explained_by : List ℕ → Answer → Answer
-explained_by text answer = record answer { explained = text }
+abbrev pub with_explanation : List ℕ → Answer → Answer
+with_explanation text answer = record answer { explained = text }
 
-abbrev pub explaining : Option PacketLine → Answer → Answer
-explaining line = explained_by (explanation line)
+abbrev pub with_packet_line : Option PacketLine → Answer → Answer
+with_packet_line line = with_explanation (explanation line)
 
 -- the answer to an applied input
-abbrev pub answer_to : State → Item → Answer
-answer_to state item =
-    explaining (line_for item (effect state item).account) (answer_by (effect state item))
+abbrev pub answer_to : State → Input → Answer
+answer_to state input =
+    with_packet_line (packet_line_for input (effect state input).disposition) (answer_from_effect (effect state input))
 
 -- the counter that a disposition increments
-abbrev pub count_in : Option Account → Option Count
-count_in = option_map (λ account. counted_as account.why)
+abbrev pub count_in : Option Disposition → Option Count
+count_in = option_map (λ disposition. count_for disposition.why)
 
 -- the counter that an applied input increments: each packet increments one, an order none. Own choice
-abbrev pub count_of : State → Item → Option Count
-count_of state item = count_in (effect state item).account
+abbrev pub count_of : State → Input → Option Count
+count_of state input = count_in (effect state input).disposition
 
 -- the update that an input asks for: of one sender
-abbrev pub change_of : State → Item → Option Change
-change_of state item = (effect state item).change
+abbrev pub update_of : State → Input → Option DeviceUpdate
+update_of state input = (effect state input).update
 
 -- the mode that an input sets, if it sets one
-abbrev pub mode_set : State → Item → Option Mode
-mode_set state item = (effect state item).mode
+abbrev pub new_mode_of : State → Input → Option Mode
+new_mode_of state input = (effect state input).mode
 
 -- what an input needs that can fail
-abbrev pub needs : State → Item → Need
-needs state item = (effect state item).need
+abbrev pub need_of : State → Input → Need
+need_of state input = (effect state input).need
 
-abbrev pub with_change : Devices → Option Change → Devices
-with_change devices None = devices
-with_change devices (Some change) = changed devices change
+abbrev pub with_update : Devices → Option DeviceUpdate → Devices
+with_update devices None = devices
+with_update devices (Some update) = apply_update devices update
 
 -- the mode after an input that may set one
 abbrev pub with_mode : Mode → Option Mode → Mode
 with_mode mode set = unwrap_or set mode
 
 -- the state after an applied input
-abbrev pub state_after : State → Item → State
-state_after state item =
+abbrev pub state_after : State → Input → State
+state_after state input =
     record {
       base = state.base;
-      mode = with_mode state.mode (mode_set state item);
-      counts = raised state.counts (count_of state item);
-      devices = with_change state.devices (change_of state item);
+      mode = with_mode state.mode (new_mode_of state input);
+      counts = increment_if_any state.counts (count_of state input);
+      devices = with_update state.devices (update_of state input);
     }

@@ -4,14 +4,14 @@ use Rattle.esp3_frames.specs.Packet.{Packet}
 use Rattle.erp1_telegrams.specs.declared.eep.Eep.{Eep}
 use Rattle.erp1_telegrams.specs.Telegram.{Telegram, telegram_of}
 use Rattle.learned_devices.specs.declared.Device.{Device}
-use Rattle.learned_devices.specs.Devices.{learned, forgotten}
+use Rattle.learned_devices.specs.Devices.{learn_update, forget_update}
 use Rattle.teach_in.specs.declared.mode.Mode.{Mode}
 use Rattle.teach_in.specs.declared.mode.Mode.TheVariants.{Closed, Learn, LearnAnswer, LearnAs}
 use Rattle.teach_in.specs.declared.telegrams.Teach.TheVariants.{Ute}
 use Rattle.teach_in.specs.declared.ute.UteQuery.{UteQuery}
 use Rattle.teach_in.specs.Telegrams.{teach_in_of}
 use Rattle.teach_in.specs.Ute.{request_in, deletion}
-use Rattle.gateway_core.specs.Step.{State, Received, change_of, mode_set}
+use Rattle.gateway_core.specs.Step.{State, Received, update_of, new_mode_of}
 
 -- the packet carries a telegram whose sender is learned in an open window; by a UTE query only in a window for all
 -- senders. A window for one sender then closes, and any other stays open
@@ -20,12 +20,12 @@ pub record LearnsSender (state : State) (packet : Packet) : Type 0 where
   pub carried : telegram_of packet ≡ Ok telegram
   pub known : Device
   pub is_sender : known.id ≡ telegram.sender
-  pub change : change_of state (Received packet) ≡ Some (learned known)
+  pub update : update_of state (Received packet) ≡ Some (learn_update known)
   pub learning : state.mode ≢ Closed
   pub heard : (query : UteQuery) → teach_in_of telegram ≡ Ute query
       → (state.mode ≡ Learn) ⊎ (state.mode ≡ LearnAnswer)
-  pub closes : (eep : Eep) → state.mode ≡ LearnAs eep → mode_set state (Received packet) ≡ Some Closed
-  pub stays : (mode : Mode) → mode_set state (Received packet) ≡ Some mode
+  pub closes : (eep : Eep) → state.mode ≡ LearnAs eep → new_mode_of state (Received packet) ≡ Some Closed
+  pub stays : (mode : Mode) → new_mode_of state (Received packet) ≡ Some mode
       → (eep : Eep) × (state.mode ≡ LearnAs eep)
 
 -- the packet carries a query for that, and its sender is forgotten in a window for all senders, which stays open
@@ -35,13 +35,13 @@ pub record ForgetsSender (state : State) (packet : Packet) : Type 0 where
   pub query : UteQuery
   pub asked : teach_in_of telegram ≡ Ute query
   pub deletes : request_in query ≡ deletion
-  pub change : change_of state (Received packet) ≡ Some (forgotten telegram.sender)
+  pub update : update_of state (Received packet) ≡ Some (forget_update telegram.sender)
   pub learning : (state.mode ≡ Learn) ⊎ (state.mode ≡ LearnAnswer)
-  pub stays : mode_set state (Received packet) ≡ None
+  pub stays : new_mode_of state (Received packet) ≡ None
 
 -- a packet does one of these, or it changes neither the devices nor the mode
 abbrev pub PacketsChangeInWindows : Type 0
 PacketsChangeInWindows = (state : State) (packet : Packet)
     → LearnsSender state packet
     ⊎ (ForgetsSender state packet
-    ⊎ ((change_of state (Received packet) ≡ None) × (mode_set state (Received packet) ≡ None)))
+    ⊎ ((update_of state (Received packet) ≡ None) × (new_mode_of state (Received packet) ≡ None)))

@@ -1,4 +1,4 @@
 -- For private postconditions: no public contract depends on these.
 pub mod Codes
-pub mod Refusals
-pub mod Tries
+pub mod Failures
+pub mod Attempts

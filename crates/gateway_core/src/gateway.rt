@@ -8,9 +8,9 @@ ghost use Rattle.esp3_frames.specs.Packet.{Packet};
 ghost use Rattle.esp3_frames.specs.Framing.{MayBecomePacket};
 ghost use Rattle.erp1_telegrams.specs.Address;
 ghost use Rattle.gateway_core.specs.Calls.{Bytes as BytesCall, Next as NextCall, Order as OrderCall};
-ghost use Rattle.gateway_core.specs.Calls.{Moves, Value, new_value};
+ghost use Rattle.gateway_core.specs.Calls.{Transition, GatewayValue, new_gateway_value};
 ghost use Rattle.gateway_core.specs.Replies.{answer_of, packet_answer};
-ghost use Rattle.gateway_core.specs.Step.{explained_by};
+ghost use Rattle.gateway_core.specs.Step.{with_explanation};
 
 use crate::handled::HandledPacket;
 use crate::handler::Handler;
@@ -53,7 +53,7 @@ pub struct GatewayOver<S> {
 }
 
 impl<S> Model for GatewayOver<S> {
-    ghost use Rattle.gateway_core.specs.Calls.{Value as GatewayValue};
+    ghost use Rattle.gateway_core.specs.Calls.{GatewayValue};
     ghost use Rattle.gateway_core.specs.private.Codes.{value_code};
 
     ghost Value = { GatewayValue S };
@@ -73,7 +73,7 @@ impl<S: DeviceStore + Drop> GatewayOver<S> {
     /// `BadBase`, `Memory`.
     pub fn new(alloc: Global, registry: S, base: u32) -> Result<GatewayOver<S>, StartFault>
         ensures bad_base { (result ≡ Err StartFault.BadBase) ↔ (Address.is_base base ≡ false) }
-        ensures ok { IfOk result (λ gateway. gateway ≡ new_value base registry) }
+        ensures ok { IfOk result (λ gateway. gateway ≡ new_gateway_value base registry) }
     {
         if !is_base(base) {
             return Err(StartFault::BadBase);
@@ -98,7 +98,7 @@ impl<S: DeviceStore> GatewayOver<S> {
     /// Takes the next byte of the serial line. One byte can make several packets ready. Needs no memory.
     pub fn byte(&mut self, b: u8)
         requires { self.old.ready ≡ [] }
-        ensures { Moves S.kept self.old (BytesCall (b ∷ [])) self.new }
+        ensures { Transition S.store_state self.old (BytesCall (b ∷ [])) self.new }
     {
         self.framer.push(b);
     }
@@ -109,7 +109,7 @@ impl<S: DeviceStore> GatewayOver<S> {
         requires { self.old.ready ≡ [] }
         ensures within { result ≤ length bytes.now }
         ensures some { 0 < length bytes.now → 0 < result }
-        ensures taken { Moves S.kept self.old (BytesCall (take result bytes.now)) self.new }
+        ensures taken { Transition S.store_state self.old (BytesCall (take result bytes.now)) self.new }
         ensures up_to { self.new.ready ≡ [] → result ≡ length bytes.now }
         ensures before { (k : ℕ) → k < result → packets_in (self.old.rest ++ take k bytes.now) ≡ [] }
     {
@@ -122,22 +122,22 @@ impl<S: DeviceStore> GatewayOver<S> {
     pub fn handle_first(&mut self, bytes: &[u8]) -> Option<(HandledPacket, usize)>
         requires { self.old.ready ≡ [] }
         ensures within { IfSome result (λ r. (0 < r.1) × (r.1 ≤ length bytes.now)) }
-        ensures taken { IfSome result (λ r. (mid : Value S)
-            × Moves S.kept self.old (BytesCall (take r.1 bytes.now)) mid
-            × Moves S.kept mid (NextCall (Some (packet_answer r.0))) self.new) }
+        ensures taken { IfSome result (λ r. (mid : GatewayValue S)
+            × Transition S.store_state self.old (BytesCall (take r.1 bytes.now)) mid
+            × Transition S.store_state mid (NextCall (Some (packet_answer r.0))) self.new) }
         ensures before { IfSome result (λ r. (k : ℕ) → k < r.1 →
             packets_in (self.old.rest ++ take k bytes.now) ≡ []) }
         ensures ready { IfSome result (λ r. self.new.ready ≡ []) }
         ensures none { IfNone result ((self.new ≡ self.old)
             × (self.old.rest ≡ [] → (p : Packet) → front_of bytes.now ≢ Whole p)) }
     {
-        let (packet, count) = self.framer.lend(bytes)?;
+        let (packet, count) = self.framer.borrow_packet(bytes)?;
         Some((self.handler.packet(&packet), count))
     }
 
     /// Handles the first ready packet and returns it, or `None` if none is ready.
     pub fn handle_next(&mut self) -> Option<HandledPacket>
-        ensures { Moves S.kept self.old (NextCall (option_map packet_answer result)) self.new }
+        ensures { Transition S.store_state self.old (NextCall (option_map packet_answer result)) self.new }
     {
         if !self.framer.take(&mut self.packet) {
             return None;
@@ -148,8 +148,8 @@ impl<S: DeviceStore> GatewayOver<S> {
 
     /// Handles the first ready packet and returns the reply to it, or `None` if none is ready.
     pub fn next(&mut self) -> Option<Reply>
-        ensures { (line : List ℕ) × Moves S.kept self.old
-            (NextCall (option_map (λ reply. explained_by line (answer_of reply)) result)) self.new }
+        ensures { (line : List ℕ) × Transition S.store_state self.old
+            (NextCall (option_map (λ reply. with_explanation line (answer_of reply)) result)) self.new }
     {
         let handled = self.handle_next()?;
         Some(handled.reply)
@@ -157,7 +157,7 @@ impl<S: DeviceStore> GatewayOver<S> {
 
     /// Handles a line of the desk, without its line end.
     pub fn order(&mut self, line: &[u8]) -> Reply
-        ensures { Moves S.kept self.old (OrderCall line.now (answer_of result)) self.new }
+        ensures { Transition S.store_state self.old (OrderCall line.now (answer_of result)) self.new }
     {
         self.handler.line(line)
     }

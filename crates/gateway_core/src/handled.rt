@@ -5,13 +5,13 @@ ghost use Rattle.esp3_frames.specs.Packet.{Packet, max_data};
 ghost use Rattle.erp1_telegrams.specs.Telegram.{telegram_of};
 ghost use Rattle.erp1_telegrams.specs.declared.telegram.TelegramFault.{TelegramFault};
 ghost use Rattle.teach_in.specs.Telegrams.{teach_in_of};
-ghost use Rattle.gateway_core.specs.Accounts.{line_of};
+ghost use Rattle.gateway_core.specs.Dispositions.{packet_line_of};
 
-use crate::account::{Account, told_by};
+use crate::disposition::{Disposition, query_device};
 use crate::reply::Reply;
 use erp1_telegrams::Telegram;
 use esp3_frames::PacketRef;
-use json_lines::{PacketLine, ToldPacket, ToldTelegram};
+use json_lines::{PacketLine, ShownPacket, ShownTelegram};
 use teach_in::Teach;
 
 /// A packet that was handled.
@@ -24,32 +24,36 @@ pub struct HandledPacket {
 }
 
 // The line that explains a packet with this telegram, whose role in teach-in is `teach`.
-pub(crate) fn line_of_telegram(telegram: Telegram, teach: &Teach, account: Account) -> PacketLine
+pub(crate) fn line_of_telegram(
+    telegram: Telegram,
+    teach: &Teach,
+    disposition: Disposition,
+) -> PacketLine
     requires { teach.now ≡ teach_in_of telegram }
-    ensures { (packet : Packet) → telegram_of packet ≡ Ok telegram → result ≡ line_of packet account }
+    ensures { (packet : Packet) → telegram_of packet ≡ Ok telegram → result ≡ packet_line_of packet disposition }
 {
-    let (eep, maker) = told_by(teach);
+    let (eep, maker) = query_device(teach);
     PacketLine {
-        packet: ToldPacket::Telegram(ToldTelegram {
+        packet: ShownPacket::Telegram(ShownTelegram {
             telegram,
-            eep: eep.or(account.eep),
-            maker: maker.or(account.maker),
+            eep: eep.or(disposition.eep),
+            maker: maker.or(disposition.maker),
         }),
-        why: account.why,
+        why: disposition.why,
     }
 }
 
 // The line that explains a packet without a telegram.
-pub(crate) fn line_of_other(packet: &PacketRef<'_>, account: Account) -> PacketLine
+pub(crate) fn line_of_other(packet: &PacketRef<'_>, disposition: Disposition) -> PacketLine
     requires { length packet.now.body.now ≤ max_data }
     ensures { (fault : TelegramFault) → telegram_of (packet_of packet.now) ≡ Err fault
-        → result ≡ line_of (packet_of packet.now) account }
+        → result ≡ packet_line_of (packet_of packet.now) disposition }
 {
     PacketLine {
-        packet: ToldPacket::Other {
+        packet: ShownPacket::Other {
             kind: packet.kind,
             size: packet.body.len() as u16,
         },
-        why: account.why,
+        why: disposition.why,
     }
 }

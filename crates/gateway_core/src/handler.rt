@@ -7,19 +7,19 @@ ghost use Rattle.gateway_core.specs.Calls.{new_handler};
 ghost use Rattle.gateway_core.specs.Handling.{Handles};
 ghost use Rattle.gateway_core.specs.Replies.{answer_of, packet_answer};
 ghost use Rattle.gateway_core.specs.Step.{Ordered, Received, with_mode};
-ghost use Rattle.gateway_core.specs.private.Tries.{account_from, answer_from, counts_from, mode_from};
+ghost use Rattle.gateway_core.specs.private.Attempts.{disposition_from, answer_from, counts_from, mode_from};
 
-mod changes;
-mod done;
+mod effect;
+mod learn_forget;
 pub mod orders;
 mod packets;
-mod sending;
-mod teaching;
+mod send;
+mod teach;
 
-use crate::account::Account;
+use crate::disposition::Disposition;
+use crate::failure::Failure;
 use crate::handled::{HandledPacket, line_of_other, line_of_telegram};
-use crate::handler::done::{OrderDone, PacketDone, refused};
-use crate::refusal::Refusal;
+use crate::handler::effect::{OrderEffect, PacketEffect, error_reply};
 use crate::reply::Reply;
 use erp1_telegrams::read;
 use esp3_frames::PacketRef;
@@ -83,31 +83,35 @@ impl<S: DeviceStore> Handler<S> {
     }
 
     // Counts a packet, handled or failed, sets the mode, and returns the reply and the disposition.
-    fn packet_reply(&mut self, tried: Result<PacketDone, Refusal>) -> (Reply, Account)
+    fn packet_reply(&mut self, tried: Result<PacketEffect, Failure>) -> (Reply, Disposition)
         ensures answer { answer_of result.0 ≡ answer_from tried }
-        ensures account { Some result.1 ≡ account_from tried }
+        ensures disposition { Some result.1 ≡ disposition_from tried }
         ensures base { self.new.base ≡ self.old.base }
         ensures mode { self.new.mode ≡ mode_from self.old.mode tried }
         ensures counts { self.new.counts ≡ counts_from self.old.counts tried }
         ensures registry { self.new.registry ≡ self.old.registry }
     {
-        let (account, mode, reply) = match tried {
+        let (disposition, mode, reply) = match tried {
             Ok(
-                PacketDone {
-                    account,
+                PacketEffect {
+                    disposition,
                     mode,
                     reply,
                 },
-            ) => (account, mode, reply),
-            Err(refusal) => (Account::because(Why::Refused), None, refused(refusal)),
+            ) => (disposition, mode, reply),
+            Err(failure) => (
+                Disposition::without_device(Why::Refused),
+                None,
+                error_reply(failure),
+            ),
         };
-        self.counts.raise(account.count());
+        self.counts.raise(disposition.count());
         self.set_mode(mode);
-        (reply, account)
+        (reply, disposition)
     }
 
     // Counts an order that failed, sets the mode, and returns the reply.
-    fn order_reply(&mut self, tried: Result<OrderDone, Refusal>) -> Reply
+    fn order_reply(&mut self, tried: Result<OrderEffect, Failure>) -> Reply
         ensures answer { answer_of result ≡ answer_from tried }
         ensures base { self.new.base ≡ self.old.base }
         ensures mode { self.new.mode ≡ mode_from self.old.mode tried }
@@ -115,13 +119,13 @@ impl<S: DeviceStore> Handler<S> {
         ensures registry { self.new.registry ≡ self.old.registry }
     {
         match tried {
-            Ok(OrderDone { mode, reply }) => {
+            Ok(OrderEffect { mode, reply }) => {
                 self.set_mode(mode);
                 reply
             }
-            Err(refusal) => {
+            Err(failure) => {
                 self.counts.raise(Count::Refused);
-                refused(refusal)
+                error_reply(failure)
             }
         }
     }
@@ -137,24 +141,25 @@ impl<S: DeviceStore> Handler<S> {
     /// Handles a packet of the serial line.
     pub fn packet(&mut self, packet: &PacketRef<'_>) -> HandledPacket
         requires { length packet.now.body.now ≤ max_data }
-        ensures { Handles S.kept self.old (Received (packet_of packet.now) ∷ []) (packet_answer result ∷ []) self.new }
+        ensures { Handles S.store_state self.old (Received (packet_of packet.now) ∷ []) (packet_answer result ∷ [])
+            self.new }
     {
         let Ok(telegram) = read(packet) else {
             let tried = self.try_other(packet);
-            let (reply, account) = self.packet_reply(tried);
-            let line = line_of_other(packet, account);
+            let (reply, disposition) = self.packet_reply(tried);
+            let line = line_of_other(packet, disposition);
             return HandledPacket { reply, line };
         };
         let teach = classify(&telegram);
         let tried = self.try_telegram(&telegram, &teach);
-        let (reply, account) = self.packet_reply(tried);
-        let line = line_of_telegram(telegram, &teach, account);
+        let (reply, disposition) = self.packet_reply(tried);
+        let line = line_of_telegram(telegram, &teach, disposition);
         HandledPacket { reply, line }
     }
 
     /// Handles a line of the desk.
     pub fn line(&mut self, line: &[u8]) -> Reply
-        ensures { Handles S.kept self.old (Ordered line.now ∷ []) (answer_of result ∷ []) self.new }
+        ensures { Handles S.store_state self.old (Ordered line.now ∷ []) (answer_of result ∷ []) self.new }
     {
         let tried = self.try_line(line);
         self.order_reply(tried)

@@ -2,20 +2,22 @@
 ghost use Rattle.std.specs.Prelude.{◌≡◌, ℕ, List, [], ◌++◌};
 ghost use Rattle.esp3_frames.specs.Frames.{packets_in, rest_of};
 ghost use Rattle.learned_devices.specs.Devices.{Devices};
-ghost use Rattle.gateway_core.specs.Beginnings.{CallsLeaveALife, EndsLeaveALife, StopsLeaveALife};
-ghost use Rattle.gateway_core.specs.Calls.{CallsAreARun, RunsAreBytes};
-ghost use Rattle.gateway_core.specs.Counting.{ExplanationsAreCounted, TakenAreCounted};
-ghost use Rattle.gateway_core.specs.Events.{CutsAreAnsweredAlike, CutsDoNotMatter, Event, brought, bytes_in, items_of};
+ghost use Rattle.gateway_core.specs.SessionCalls.{CallsAreSessions, ClosesEndSessions, CrashesEndSessions};
+ghost use Rattle.gateway_core.specs.Calls.{CallsAreARun, BytesOneByOne};
+ghost use Rattle.gateway_core.specs.Counting.{ExplanationsAreCounted, AppliedAreCounted};
+ghost use Rattle.gateway_core.specs.Events.{AnswersDoNotDependOnChunks, InputsDoNotDependOnChunks, Event, new_packets};
+ghost use Rattle.gateway_core.specs.Events.{bytes_in, inputs_of};
 ghost use Rattle.gateway_core.specs.Explaining.{ExplanationsAreTrue};
 ghost use Rattle.gateway_core.specs.Handling.{Handles, HandlerValue};
-ghost use Rattle.gateway_core.specs.Lives.{LivesKeep};
-ghost use Rattle.gateway_core.specs.Prefixes.{LeftIsPrefix, SafeIsPrefix, ToldStandBefore};
-ghost use Rattle.gateway_core.specs.Ranges.{ItemsAreOfBytes, LeavesInRange, StaysInRange};
-ghost use Rattle.gateway_core.specs.Ranges.{TellsInRange};
-ghost use Rattle.gateway_core.specs.Run.{RefusalsAreCounted, SameRefusals};
-ghost use Rattle.gateway_core.specs.Step.{Answer, Item};
-ghost use Rattle.gateway_core.specs.Stops.{IsOneOf, SafeJoins};
-ghost use Rattle.gateway_core.specs.Telling.{ChangesAreTold, LabelsAreTold, RadioIsTold, TeachLinesAreTold};
+ghost use Rattle.gateway_core.specs.Sessions.{UpdatesSurviveRestarts};
+ghost use Rattle.gateway_core.specs.Prefixes.{SessionsLeavePrefixes, CrashStatesArePrefixes, AcknowledgedAreInPrefix};
+ghost use Rattle.gateway_core.specs.Ranges.{InputsAreOfBytes, LeavesInRange, StaysInRange};
+ghost use Rattle.gateway_core.specs.Ranges.{ReportsInRange};
+ghost use Rattle.gateway_core.specs.Run.{FailuresAreCounted, SameFailures};
+ghost use Rattle.gateway_core.specs.Step.{Answer, Input};
+ghost use Rattle.gateway_core.specs.CrashStates.{IsOneOf, CrashConsistencyComposes};
+ghost use Rattle.gateway_core.specs.Reporting.{UpdatesAreReported, LabelsAreAcknowledged, RadioIsReported};
+ghost use Rattle.gateway_core.specs.Reporting.{TeachLinesAreTrue};
 ghost use Rattle.gateway_core.specs.Acknowledgements.{AcknowledgedIsDurable};
 ghost use Rattle.gateway_core.specs.Windows.{PacketsChangeInWindows};
 
@@ -23,45 +25,45 @@ use learned_devices::DeviceStore;
 
 /// The inputs do not depend on how the bytes between two lines are split into chunks.
 pub fn independent_of_cuts()
-    ensures { CutsDoNotMatter }
+    ensures { InputsDoNotDependOnChunks }
 {}
 
 /// The inputs of two consecutive lists of events are those of the first, and then those of the second after the bytes
 /// of the first. The packets that a chunk completes depend only on the rest of the stream.
-pub fn items_in_parts()
+pub fn inputs_in_parts()
     ensures items { (stream : List ℕ) (events more : List Event) →
-        items_of stream (events ++ more) ≡ items_of stream events ++ items_of (stream ++ bytes_in events) more }
-    ensures rest { (stream bytes : List ℕ) → brought stream bytes ≡ packets_in (rest_of stream ++ bytes) }
+        inputs_of stream (events ++ more) ≡ inputs_of stream events ++ inputs_of (stream ++ bytes_in events) more }
+    ensures rest { (stream bytes : List ℕ) → new_packets stream bytes ≡ packets_in (rest_of stream ++ bytes) }
 {}
 
 /// Two handled lists of inputs, one after the other, are handled as their concatenation.
 pub fn handles_join<S: DeviceStore>()
-    ensures nothing { (handler : HandlerValue S) → Handles S.kept handler [] [] handler }
-    ensures join { (old mid new : HandlerValue S) (items more : List Item) (answers after : List Answer) →
-        Handles S.kept old items answers mid → Handles S.kept mid more after new
-        → Handles S.kept old (items ++ more) (answers ++ after) new }
+    ensures nothing { (handler : HandlerValue S) → Handles S.store_state handler [] [] handler }
+    ensures join { (old mid new : HandlerValue S) (inputs more : List Input) (answers after : List Answer) →
+        Handles S.store_state old inputs answers mid → Handles S.store_state mid more after new
+        → Handles S.store_state old (inputs ++ more) (answers ++ after) new }
 {}
 
 /// If the same inputs fail for the same causes, before their writes or at them, the answers are the same.
-pub fn same_refusals()
-    ensures { SameRefusals }
+pub fn same_failures()
+    ensures { SameFailures }
 {}
 
 /// If the same inputs fail for the same causes, the answers do not depend on how the bytes between two lines are split
 /// into chunks.
-pub fn cuts_are_answered_alike()
-    ensures { CutsAreAnsweredAlike }
+pub fn answers_do_not_depend_on_chunks()
+    ensures { AnswersDoNotDependOnChunks }
 {}
 
 /// The counter of failed inputs is incremented once for each of them, and by nothing else.
-pub fn refusals_are_counted()
-    ensures { RefusalsAreCounted }
+pub fn failures_are_counted()
+    ensures { FailuresAreCounted }
 {}
 
 /// An applied packet increments one counter, that of teach-in exactly when it is answered with a teach line. A line
 /// increments none, even if it is answered with a teach line.
-pub fn taken_are_counted()
-    ensures { TakenAreCounted }
+pub fn applied_are_counted()
+    ensures { AppliedAreCounted }
 {}
 
 /// One line explains each packet, applied or failed, and gives the reason in one word: `read` exactly when the desk
@@ -82,98 +84,98 @@ pub fn explanations_are_true()
 /// Any calls of a new gateway, in any order, are a run on packets and lines in the order of the calls. The handled
 /// packets, followed by the ready ones, are the packets of the bytes given.
 pub fn calls_are_a_run<S: DeviceStore>()
-    ensures { CallsAreARun S.kept }
+    ensures { CallsAreARun S.store_state }
 {}
 
 /// A call with several bytes does what one call for each of them does, if none before the last makes a packet ready. So
 /// `GatewayOver::bytes` does what `GatewayOver::byte` does for each byte that it takes.
-pub fn runs_are_bytes<S: DeviceStore>()
-    ensures { RunsAreBytes S.kept }
+pub fn bytes_one_by_one<S: DeviceStore>()
+    ensures { BytesOneByOne S.store_state }
 {}
 
 /// Crash consistency composes: if each of two consecutive lists of inputs is crash-consistent, so is their
 /// concatenation.
-pub fn safe_joins<S: DeviceStore>()
-    ensures { (registry : S) → SafeJoins (S.kept registry).may_recover }
+pub fn crash_consistency_composes<S: DeviceStore>()
+    ensures { (registry : S) → CrashConsistencyComposes (S.store_state registry).may_recover }
 {}
 
-/// The same from the devices that an execution found, and from any list of maps.
-pub fn safe_joins_in_a_life()
-    ensures found { (found : Devices) → SafeJoins (λ devices. devices ≡ found) }
-    ensures listed { (maps : List Devices) → SafeJoins (IsOneOf maps) }
+/// The same from the devices that a session found, and from any list of maps.
+pub fn crash_consistency_composes_in_a_session()
+    ensures found { (found : Devices) → CrashConsistencyComposes (λ devices. devices ≡ found) }
+    ensures listed { (maps : List Devices) → CrashConsistencyComposes (IsOneOf maps) }
 {}
 
 /// Any maps that a crash may leave.
-pub trait Maps {
+pub trait PriorDevices {
     ghost are: { Devices → Type 0 };
 }
 
 /// The same from any maps.
-pub fn safe_joins_from_any<M: Maps>()
-    ensures { SafeJoins M.are }
+pub fn crash_consistency_composes_from_any<M: PriorDevices>()
+    ensures { CrashConsistencyComposes M.are }
 {}
 
-/// Every later execution finds what an acknowledged update guarantees, until an input overrides it: the learned profile
+/// Every later session finds what an acknowledged update guarantees, until an input overrides it: the learned profile
 /// and maker, until the sender is learned otherwise or forgotten; that it is forgotten, until it is learned; its label,
 /// until it is labelled otherwise or forgotten.
-pub fn lives_keep()
-    ensures { LivesKeep }
+pub fn updates_survive_restarts()
+    ensures { UpdatesSurviveRestarts }
 {}
 
-/// An update acknowledged with `accepted` or `deleted` holds in every later execution, until an input changes that
+/// An update acknowledged with `accepted` or `deleted` holds in every later session, until an input changes that
 /// sender otherwise. If the devices found are in range and the data of packets are bytes, the device is in range, and a
 /// line in range is the line of this device.
 pub fn acknowledged_is_durable()
     ensures { AcknowledgedIsDurable }
 {}
 
-/// The packets of a stream of bytes consist of bytes. Then a state in range stays in range, an execution that found
+/// The packets of a stream of bytes consist of bytes. Then a state in range stays in range, a session that found
 /// devices in range leaves devices in range, and in a state in range, a teach line with `accepted` or `deleted` has the
 /// text of the line of a device in range.
 pub fn numbers_stay_in_range()
-    ensures items { ItemsAreOfBytes }
+    ensures items { InputsAreOfBytes }
     ensures stays { StaysInRange }
     ensures leaves { LeavesInRange }
-    ensures tells { TellsInRange }
+    ensures tells { ReportsInRange }
 {}
 
 /// A crash state is what was known after a prefix of the inputs, perhaps with the update of the next one, whose write
 /// failed. The prefix contains every acknowledged input.
-pub fn safe_is_prefix()
-    ensures safe { SafeIsPrefix }
-    ensures told { ToldStandBefore }
+pub fn crash_states_are_prefixes()
+    ensures safe { CrashStatesArePrefixes }
+    ensures reported { AcknowledgedAreInPrefix }
 {}
 
-/// An execution leaves what was known after a prefix of its inputs that contains every acknowledged one, or after all
+/// A session leaves what was known after a prefix of its inputs that contains every acknowledged one, or after all
 /// of them and the one in progress.
-pub fn left_is_prefix()
-    ensures { LeftIsPrefix }
+pub fn sessions_leave_prefixes()
+    ensures { SessionsLeavePrefixes }
 {}
 
 /// Only an applied input is answered with a teach line. With `accepted` it learns the device in the line. With
 /// `deleted` it forgets that device: a line forgets a learned one; a packet forgets the sender of its telegram, learned
 /// or not, with the profile and maker of its query. With any other outcome it changes neither the devices nor the mode.
-pub fn teach_lines_are_told()
-    ensures { TeachLinesAreTold }
+pub fn teach_lines_are_true()
+    ensures { TeachLinesAreTrue }
 {}
 
 /// An applied input that changes the devices reports it: with the teach line `accepted` or `deleted` of the device that
 /// it learns or forgets, or, if it is a line that labels a learned device, with `ok`.
-pub fn changes_are_told()
-    ensures { ChangesAreTold }
+pub fn updates_are_reported()
+    ensures { UpdatesAreReported }
 {}
 
 /// A line that spells a label labels a learned device if it is answered `ok`; if it is answered `unknown_device`, no
 /// such device is learned, and nothing changes. If it is applied and not too long, it gets one of these answers.
-pub fn labels_are_told()
-    ensures { LabelsAreTold }
+pub fn labels_are_acknowledged()
+    ensures { LabelsAreAcknowledged }
 {}
 
 /// Only an applied input sends bytes by radio. Those of a packet are the reply to its query, with the outcome of the
 /// teach line, in a window for all senders: to a 4BS query in the mode `LearnAnswer`, or to a UTE query that waits for
 /// a reply. Those of a line are the packet of its order, which is answered `ok`.
-pub fn radio_is_told()
-    ensures { RadioIsTold }
+pub fn radio_is_reported()
+    ensures { RadioIsReported }
 {}
 
 /// A packet changes the devices only in an open window: it learns its sender, or forgets its sender if it is a query
@@ -183,18 +185,18 @@ pub fn packets_change_in_windows()
     ensures { PacketsChangeInWindows }
 {}
 
-/// After the calls of an execution, a crash leaves what an execution may leave.
-pub fn calls_leave_a_life<S: DeviceStore>()
-    ensures { CallsLeaveALife S.kept }
+/// After the calls of a session, a crash leaves what a session may leave.
+pub fn calls_are_sessions<S: DeviceStore>()
+    ensures { CallsAreSessions S.store_state }
 {}
 
-/// From the write of the next input on, also after its commit and before its answer, a crash leaves what an execution
+/// From the write of the next input on, also after its commit and before its answer, a crash leaves what a session
 /// that crashed in that input may leave.
-pub fn stops_leave_a_life<S: DeviceStore>()
-    ensures { StopsLeaveALife S.kept }
+pub fn crashes_end_sessions<S: DeviceStore>()
+    ensures { CrashesEndSessions S.store_state }
 {}
 
-/// An execution leaves what is known at its end, however it is closed.
-pub fn ends_leave_a_life<S: DeviceStore>()
-    ensures { EndsLeaveALife S.kept }
+/// A session leaves what is known at its end, however it is closed.
+pub fn closes_end_sessions<S: DeviceStore>()
+    ensures { ClosesEndSessions S.store_state }
 {}

@@ -3,13 +3,13 @@
 //! reported.
 #![tactic(auto)]
 
-mod account;
+mod disposition;
+mod failure;
 mod gateway;
 mod handled;
 mod handler;
 pub mod laws;
 mod profiles;
-mod refusal;
 mod reply;
 mod response;
 mod sqlite_gateway;

@@ -1,7 +1,7 @@
 //! The readings of a telegram by the profile of its sender.
 ghost use Rattle.std.specs.Prelude.{◌≡◌};
 ghost use Rattle.gateway_core.specs.Profiles;
-ghost use Rattle.profile_rows.specs.Answer.{told};
+ghost use Rattle.profile_rows.specs.Answer.{read_result};
 
 use erp1_telegrams::{Eep, Telegram, rorg};
 use profile_rows::{Readings, Unreadable};
@@ -9,7 +9,7 @@ use profile_rows::{Readings, Unreadable};
 /// Sets `readings` to those of the telegram by this profile, that of its sender, or returns why the profile cannot read
 /// it. Each RORG has its own crate of profiles.
 pub fn read(eep: Eep, telegram: &Telegram, readings: &mut Readings) -> Result<(), Unreadable>
-    ensures { told result readings.new.items ≡ Profiles.read_by eep telegram.now }
+    ensures { read_result result readings.new.items ≡ Profiles.read_by eep telegram.now }
 {
     match eep.rorg {
         rorg::FOUR_BS => profiles_4bs::read(eep, telegram, readings),

@@ -1,29 +1,31 @@
 -- How the counters of calls continue.
 use Rattle.std.proofs.Common.{◌≡◌, ℕ, ◌+◌, ◌<◌, ◌≤◌, arith, inl, inr}
 use Rattle.std.specs.Prelude.{Result, Ok, Err}
-use Rattle.byte_io.specs.Counts.{Counts, HasRoom, Made, NoneFailed, OneMoreFailed, Went, WentWell, one_more}
-use Rattle.gateway_loop.specs.CallCounts.{OneWrong, well_behind, wrong_behind}
+use Rattle.byte_io.specs.Counts.{Counts, HasCountRoom, CallsMade, NoneFailed, OneMoreFailed, CallsMatchResult}
+use Rattle.byte_io.specs.Counts.{NoneFailedOrEmpty, saturated_next}
+use Rattle.gateway_loop.specs.CallCounts.{OneFailedOrEmpty, well_behind, wrong_behind}
 
-pub made_none : (old : Counts) → Made old old 0
+pub made_none : (old : Counts) → CallsMade old old 0
 made_none old fits = omega arith
 
-pub made_at : (old new : Counts) (n m : ℕ) → n ≡ m → Made old new n → Made old new m
+pub made_at : (old new : Counts) (n m : ℕ) → n ≡ m → CallsMade old new n → CallsMade old new m
 made_at old new n m e made = rw (← e) made
 
-pub made_more : (old mid new : Counts) (n : ℕ) → Made old mid n → new.calls ≡ one_more mid.calls → Made old new (n + 1)
+pub made_more : (old mid new : Counts) (n : ℕ) → CallsMade old mid n → new.calls ≡ saturated_next mid.calls
+    → CallsMade old new (n + 1)
 made_more old mid new n before e fits = let h = before fits in omega (arith, h, e)
 
 -- In turns of two sources: the first was called once more, and the second not yet.
-pub made_first : (a am an b bm : Counts) (turn turns : ℕ) → turn < turns → Made a am turn
-    → an.calls ≡ one_more am.calls → Made b bm turn
-    → (n m : ℕ) × (n ≤ turns) × (m ≤ n) × (n ≤ m + 1) × Made a an n × Made b bm m
+pub made_first : (a am an b bm : Counts) (turn turns : ℕ) → turn < turns → CallsMade a am turn
+    → an.calls ≡ saturated_next am.calls → CallsMade b bm turn
+    → (n m : ℕ) × (n ≤ turns) × (m ≤ n) × (n ≤ m + 1) × CallsMade a an n × CallsMade b bm m
 made_first a am an b bm turn turns below made e other =
     (turn + 1, turn, omega arith, omega arith, omega arith, made_more a am an turn made e, other)
 
 -- Both were called once more.
-pub made_both : (a am an b bm bn : Counts) (turn turns : ℕ) → turn < turns → Made a am turn
-    → an.calls ≡ one_more am.calls → Made b bm turn → bn.calls ≡ one_more bm.calls
-    → (n m : ℕ) × (n ≤ turns) × (m ≤ n) × (n ≤ m + 1) × Made a an n × Made b bn m
+pub made_both : (a am an b bm bn : Counts) (turn turns : ℕ) → turn < turns → CallsMade a am turn
+    → an.calls ≡ saturated_next am.calls → CallsMade b bm turn → bn.calls ≡ saturated_next bm.calls
+    → (n m : ℕ) × (n ≤ turns) × (m ≤ n) × (n ≤ m + 1) × CallsMade a an n × CallsMade b bn m
 made_both a am an b bm bn turn turns below made e other f = (
   turn + 1,
   turn + 1,
@@ -35,25 +37,26 @@ made_both a am an b bm bn turn turns below made e other f = (
 )
 
 -- calls that went well, and then a last one
-pub went_behind : {A E : Type 0} (r : Result A E) (old mid new : Counts) → WentWell old mid → Went r mid new
-    → Went r old new
+pub went_behind : {A E : Type 0} (r : Result A E) (old mid new : Counts) → NoneFailedOrEmpty old mid
+    → CallsMatchResult r mid new
+    → CallsMatchResult r old new
 went_behind (Ok done) old mid new first second = well_behind old mid new first second
 went_behind (Err failed) old mid new first second = wrong_behind old mid new first second
 
 -- also after the loan of the writer has ended
 pub wrong_at : {W : Type 0} (counts : W → Counts) (old sink writer : W) → writer ≡ sink
-    → OneWrong (counts old) (counts sink) → OneWrong (counts old) (counts writer)
+    → OneFailedOrEmpty (counts old) (counts sink) → OneFailedOrEmpty (counts old) (counts writer)
 wrong_at counts old sink writer e wrong = rw e wrong
 
-pub not_well : (old new : Counts) → HasRoom old 0 → OneWrong old new → WentWell old new → ⊥
+pub not_well : (old new : Counts) → HasCountRoom old 0 → OneFailedOrEmpty old new → NoneFailedOrEmpty old new → ⊥
 not_well old new room (inl failed) well =
     let space = room.failed in let more = failed.0 in let same = well.0 in omega (arith, space, more, same)
 not_well old new room (inr empty) well =
     let space = room.empty in let more = empty.1 in let same = well.1 in omega (arith, space, more, same)
 
-pub not_failed : (old new : Counts) (n : ℕ) → HasRoom old n → OneMoreFailed old new → NoneFailed old new → ⊥
+pub not_failed : (old new : Counts) (n : ℕ) → HasCountRoom old n → OneMoreFailed old new → NoneFailed old new → ⊥
 not_failed old new n room more same = let space = room.failed in omega (arith, space, more, same)
 
 pub well_at : {W : Type 0} (counts : W → Counts) (old sink writer : W) → writer ≡ sink
-    → WentWell (counts old) (counts sink) → WentWell (counts old) (counts writer)
+    → NoneFailedOrEmpty (counts old) (counts sink) → NoneFailedOrEmpty (counts old) (counts writer)
 well_at counts old sink writer e well = rw e well

@@ -7,15 +7,15 @@ use Rattle.std.specs.Io.KnownBytes.{Appends, Consumes, IsAtEnd}
 use Rattle.std.proofs.lemmas.List.{map-append}
 use Rattle.std.proofs.lemmas.List.Folds.{concat-append}
 use Rattle.std.proofs.lemmas.List.Concat.{flat_map-append}
-use Rattle.learned_devices.specs.Kept.{Kept}
+use Rattle.learned_devices.specs.StoreState.{StoreState}
 use Rattle.learned_devices.specs.Devices.{Devices}
-use Rattle.gateway_core.specs.Step.{Item, Answer, Received, Ordered}
-use Rattle.gateway_core.specs.Stops.{Safe, nothing_left, left_by}
-use Rattle.gateway_core.specs.Lives.{Life, begun}
-use Rattle.gateway_core.specs.Handling.{HandlerValue, Handles, IsAt}
-use Rattle.gateway_core.specs.Calls.{Value}
-use Rattle.gateway_core.specs.Events.{Event, Piece, Line, brought, bytes_in, items_of}
-use Rattle.gateway_core.proofs.ForCallers.{brought-append, items_of-append, left_is_prefix, safe-weaker}
+use Rattle.gateway_core.specs.Step.{Input, Answer, Received, Ordered}
+use Rattle.gateway_core.specs.CrashStates.{IsCrashConsistent, no_updates, crash_states}
+use Rattle.gateway_core.specs.Sessions.{Session, initial_state}
+use Rattle.gateway_core.specs.Handling.{HandlerValue, Handles, HasState}
+use Rattle.gateway_core.specs.Calls.{GatewayValue}
+use Rattle.gateway_core.specs.Events.{Event, Chunk, Line, new_packets, bytes_in, inputs_of}
+use Rattle.gateway_core.proofs.ForCallers.{new_packets-append, inputs_of-append, sessions_leave_prefixes, safe-weaker}
 use Rattle.byte_io.specs.Writes.{AppendsPart}
 use Rattle.byte_io.specs.declared.sink.Sink as sinks
 use Rattle.byte_io.specs.declared.source.Source as sources
@@ -25,15 +25,15 @@ use Rattle.gateway_loop.specs.declared.runs.Summary.{Summary}
 use Rattle.gateway_loop.specs.Headline.{AsSpecified, BrokenOff, IsNew, IsPrefix, ReplaySpecified}
 use Rattle.gateway_loop.specs.Headline.{ReplaysAsSpecified, ServesAsSpecified, lines_of, radio_of}
 use Rattle.gateway_loop.specs.LiveGateway.{BreaksTurn, Serves, ServesUntil, ServesUntilRead, ServesUntilWrite}
-use Rattle.gateway_loop.specs.LiveGateway.{LiveValue, NextReadFails, events_with, live_at, pieces_with}
-use Rattle.gateway_loop.specs.Played.{Breaks, IsBegun}
-use Rattle.gateway_loop.specs.Script.{script, with_end}
+use Rattle.gateway_loop.specs.LiveGateway.{LiveValue, NextReadFails, events_with, live_at, serial_reads_with}
+use Rattle.gateway_loop.specs.Processing.{Breaks, IsEventPrefix}
+use Rattle.gateway_loop.specs.Script.{script, with_lf}
 use Rattle.gateway_loop.specs.ScriptReplay.{Replays, ReplaysEnded, ReplaysUntil, ReplaysUntilWrite, replay_at}
-use Rattle.gateway_loop.specs.Turns.{Turn, desks, events_of_turns, pieces}
-use Rattle.gateway_loop.specs.Wires.{radio_bytes, wires}
+use Rattle.gateway_loop.specs.Turns.{Turn, desk_reads, events_of_turns, serial_reads}
+use Rattle.gateway_loop.specs.LiveOutputs.{radio_bytes, live_output}
 use Rattle.gateway_loop.specs.Written.{WritesPart, desk_text, text_of, written}
 use Rattle.gateway_loop.proofs.LineLemmas.{script-behind}
-use Rattle.gateway_loop.proofs.TurnLemmas.{events_of_piece, pieces-more, desks-more}
+use Rattle.gateway_loop.proofs.TurnLemmas.{events_of_piece, serial_reads-more, desk_reads-more}
 
 -- ---- known bytes
 
@@ -83,92 +83,94 @@ module _ (says : Answer → List ℕ) (answers : List Answer) (last : Answer) wh
 -- a turn in which only the chunk was read
 with_piece : List Turn → Option (List ℕ) → List Turn
 with_piece read None = read
-with_piece read (Some piece) = read ++ record { piece = piece; desk = [] } ∷ []
+with_piece read (Some chunk) = read ++ record { chunk = chunk; desk = [] } ∷ []
 
-events-with_piece : (read : List Turn) (piece : Option (List ℕ))
-    → events_of_turns (with_piece read piece) ≡ events_with read piece
+events-with_piece : (read : List Turn) (chunk : Option (List ℕ))
+    → events_of_turns (with_piece read chunk) ≡ events_with read chunk
 unfolding with_piece
 events-with_piece read None = refl
-events-with_piece read (Some piece) = events_of_piece read piece
+events-with_piece read (Some chunk) = events_of_piece read chunk
 
-pieces-with_piece : (read : List Turn) (piece : Option (List ℕ))
-    → pieces (with_piece read piece) ≡ pieces_with read piece
+serial_reads-with_piece : (read : List Turn) (chunk : Option (List ℕ))
+    → serial_reads (with_piece read chunk) ≡ serial_reads_with read chunk
 unfolding with_piece
-pieces-with_piece read None = refl
-pieces-with_piece read (Some piece) = pieces-more read (record { piece = piece; desk = [] })
+serial_reads-with_piece read None = refl
+serial_reads-with_piece read (Some chunk) = serial_reads-more read (record { chunk = chunk; desk = [] })
 
-desks-with_piece : (read : List Turn) (piece : Option (List ℕ))
-    → concat (desks (with_piece read piece)) ≡ concat (desks read)
+desk_reads-with_piece : (read : List Turn) (chunk : Option (List ℕ))
+    → concat (desk_reads (with_piece read chunk)) ≡ concat (desk_reads read)
 unfolding with_piece
-desks-with_piece read None = refl
-desks-with_piece read (Some piece) =
-    ap (λ (parts : List (List ℕ)). concat parts) (desks-more read (record { piece = piece; desk = [] }))
-    ∙ concat-append (desks read) ([] ∷ []) ∙ append-nil (concat (desks read))
+desk_reads-with_piece read None = refl
+desk_reads-with_piece read (Some chunk) =
+    ap (λ (parts : List (List ℕ)). concat parts) (desk_reads-more read (record { chunk = chunk; desk = [] }))
+    ∙ concat-append (desk_reads read) ([] ∷ []) ∙ append-nil (concat (desk_reads read))
 
 -- ---- inputs
 
 -- an event that was begun brings the first of its inputs
-record BringsMore (items started : List Item) : Type 0 where
-  more : List Item
+record BringsMore (items started : List Input) : Type 0 where
+  more : List Input
   whole : items ≡ started ++ more
 
-begun_brings : (s : List ℕ) (event started : Event) (later : List Event) → IsBegun event started
-    → BringsMore (items_of s (event ∷ later)) (items_of s (started ∷ []))
-begun_brings s (Piece bytes) (Piece some) later (m, is) =
-    let first = map Received (brought s some) in
-    let second = map Received (brought (s ++ some) m) in
-    let rest = items_of (s ++ bytes) later in
+begun_brings : (s : List ℕ) (event started : Event) (later : List Event) → IsEventPrefix event started
+    → BringsMore (inputs_of s (event ∷ later)) (inputs_of s (started ∷ []))
+begun_brings s (Chunk bytes) (Chunk some) later (m, is) =
+    let first = map Received (new_packets s some) in
+    let second = map Received (new_packets (s ++ some) m) in
+    let rest = inputs_of (s ++ bytes) later in
     record {
       more = second ++ rest;
-      whole = ap (λ ps. map Received ps ++ rest) (ap (brought s) is ∙ brought-append s some m)
-          ∙ ap (λ is. is ++ rest) (map-append Received (brought s some) (brought (s ++ some) m))
+      whole = ap (λ ps. map Received ps ++ rest) (ap (new_packets s) is ∙ new_packets-append s some m)
+          ∙ ap (λ is. is ++ rest) (map-append Received (new_packets s some) (new_packets (s ++ some) m))
           ∙ append_assoc first second rest
           ∙ ap (λ is. is ++ (second ++ rest)) (sym (append-nil first));
     }
 begun_brings s (Line line) (Line other) later is =
-    record { more = items_of s later; whole = ap (λ l. Ordered l ∷ items_of s later) (sym is) }
-begun_brings s (Piece bytes) (Line other) later never = absurd never
-begun_brings s (Line line) (Piece some) later never = absurd never
+    record { more = inputs_of s later; whole = ap (λ l. Ordered l ∷ inputs_of s later) (sym is) }
+begun_brings s (Chunk bytes) (Line other) later never = absurd never
+begun_brings s (Line line) (Chunk some) later never = absurd never
 
-module _ {S : Type 0} (state : S → Kept) where
+module _ {S : Type 0} (state : S → StoreState) where
   -- a prefix of the inputs of some events was handled, if an answer to one of them was not written completely
-  broken_brings : {breaks : List Answer → Answer → Type 0} (old new : Value S) (events : List Event) (event : Event)
+  broken_brings : {breaks : List Answer → Answer → Type 0} (old new : GatewayValue S) (events : List Event)
+      (event : Event)
       (later : List Event) → (b : Breaks state old new events event breaks)
-      → BringsMore (items_of old.rest (events ++ event ∷ later)) b.items
+      → BringsMore (inputs_of old.rest (events ++ event ∷ later)) b.items
   broken_brings old new events event later b =
       let s = old.rest ++ bytes_in events in
       let own = begun_brings s event b.begun later b.begins in
       let waits = map Received new.ready in
-      let before = items_of old.rest events in
+      let before = inputs_of old.rest events in
       record {
         more = waits ++ own.more;
-        whole = items_of-append old.rest events (event ∷ later)
+        whole = inputs_of-append old.rest events (event ∷ later)
             ∙ ap (λ is. before ++ is) own.whole
-            ∙ sym (append_assoc before (items_of s (b.begun ∷ [])) own.more)
-            ∙ ap (λ is. is ++ own.more) (sym (items_of-append old.rest events (b.begun ∷ [])))
+            ∙ sym (append_assoc before (inputs_of s (b.begun ∷ [])) own.more)
+            ∙ ap (λ is. is ++ own.more) (sym (inputs_of-append old.rest events (b.begun ∷ [])))
             ∙ ap (λ is. is ++ own.more) b.stand
             ∙ append_assoc b.items waits own.more;
       }
 
   -- ---- a new gateway
 
-  module _ (base : ℕ) (found : Devices) (old : Value S) (new : HandlerValue S) (began : IsNew state base found old)
+  module _ (base : ℕ) (found : Devices) (old : GatewayValue S) (new : HandlerValue S)
+      (began : IsNew state base found old)
       (clean : (state new.registry).honest) where
-    begins_at : IsAt state old.handler (begun base found)
+    begins_at : HasState state old.handler (initial_state base found)
     begins_at = (
-      ap (λ (v : Value S). v.handler.base) began.value,
-      ap (λ (v : Value S). v.handler.mode) began.value,
+      ap (λ (v : GatewayValue S). v.handler.base) began.value,
+      ap (λ (v : GatewayValue S). v.handler.mode) began.value,
       began.known,
-      ap (λ (v : Value S). v.handler.counts) began.value,
+      ap (λ (v : GatewayValue S). v.handler.counts) began.value,
     )
 
-    specified : (items : List Item) (answers : List Answer) (out : List Answer → Type 0)
+    specified : (items : List Input) (answers : List Answer) (out : List Answer → Type 0)
         → Handles state old.handler items answers new → out answers
         → AsSpecified state base found items out new
     specified items answers out handled is_out =
-        let went = handled.went clean (begun base found) begins_at in
+        let went = handled.went clean (initial_state base found) begins_at in
         record {
-          fates = went.fates;
+          results = went.results;
           answers = answers;
           last = went.last;
           run = went.run;
@@ -176,69 +178,70 @@ module _ {S : Type 0} (state : S → Kept) where
           known = went.at;
           registries = handled.registries clean began.registries;
           left = λ left may.
-              let life : Life = record {
+              let session : Session = record {
                 base = base;
                 found = found;
                 items = items;
-                fates = went.fates;
+                results = went.results;
                 answers = answers;
                 last = went.last;
-                stopped = None;
+                interrupted = None;
                 left = left;
               } in
-              let safe : Safe (λ d. d ≡ found) (left_by nothing_left (begun base found) items went.fates) left =
+              let safe : IsCrashConsistent (λ d. d ≡ found)
+              (crash_states no_updates (initial_state base found) items went.results) left =
               safe-weaker (state old.handler.registry).may_recover (λ d. d ≡ found) began.left _ left
-              (went.stop left may) in
-              elim (left_is_prefix life (record { run = went.run; safe = safe })) [
+              (went.crash left may) in
+              elim (sessions_leave_prefixes session (record { run = went.run; safe = safe })) [
                 | inl is ↦ is
                 | inr never ↦ absurd never
               ];
         }
 
     no_rest : old.rest ≡ []
-    no_rest = ap (λ (v : Value S). v.rest) began.value
+    no_rest = ap (λ (v : GatewayValue S). v.rest) began.value
 
     -- the inputs of these events
-    played : (events : List Event) (answers : List Answer) (out : List Answer → Type 0)
-        → Handles state old.handler (items_of old.rest events) answers new → out answers
-        → AsSpecified state base found (items_of [] events) out new
-    played events answers out handled is_out =
-        subst (λ s. AsSpecified state base found (items_of s events) out new) no_rest
-        (specified (items_of old.rest events) answers out handled is_out)
+    processed : (events : List Event) (answers : List Answer) (out : List Answer → Type 0)
+        → Handles state old.handler (inputs_of old.rest events) answers new → out answers
+        → AsSpecified state base found (inputs_of [] events) out new
+    processed events answers out handled is_out =
+        subst (λ s. AsSpecified state base found (inputs_of s events) out new) no_rest
+        (specified (inputs_of old.rest events) answers out handled is_out)
 
     -- and none of more events
     played_first : (events later all : List Event) → all ≡ events ++ later → (answers : List Answer)
         (out : List Answer → Type 0)
-        → Handles state old.handler (items_of old.rest events) answers new → out answers
-        → BrokenOff state base found (items_of [] all) out new
+        → Handles state old.handler (inputs_of old.rest events) answers new → out answers
+        → BrokenOff state base found (inputs_of [] all) out new
     played_first events later all whole answers out handled is_out = record {
-      handled = items_of [] events;
-      later = items_of (bytes_in events) later;
-      whole = ap (items_of []) whole ∙ items_of-append [] events later;
-      specified = played events answers out handled is_out;
+      handled = inputs_of [] events;
+      later = inputs_of (bytes_in events) later;
+      whole = ap (inputs_of []) whole ∙ inputs_of-append [] events later;
+      specified = processed events answers out handled is_out;
     }
 
   -- an answer to one of the inputs of these events was not written completely
-  broken_off : {breaks : List Answer → Answer → Type 0} (base : ℕ) (found : Devices) (old new : Value S)
+  broken_off : {breaks : List Answer → Answer → Type 0} (base : ℕ) (found : Devices) (old new : GatewayValue S)
       (events : List Event) (event : Event) (later all : List Event) → IsNew state base found old
       → (state new.handler.registry).honest → all ≡ events ++ event ∷ later
       → (b : Breaks state old new events event breaks) (out : List Answer → Type 0)
       → out (b.answered.answers ++ b.answered.last ∷ [])
-      → BrokenOff state base found (items_of [] all) out new.handler
+      → BrokenOff state base found (inputs_of [] all) out new.handler
   broken_off base found old new events event later all began clean whole b out is_out =
       let brings = broken_brings old new events event later b in
       record {
         handled = b.items;
         later = brings.more;
-        whole = ap (λ s. items_of s all) (sym (no_rest base found old new.handler began clean))
-            ∙ ap (items_of old.rest) whole ∙ brings.whole;
+        whole = ap (λ s. inputs_of s all) (sym (no_rest base found old new.handler began clean))
+            ∙ ap (inputs_of old.rest) whole ∙ brings.whole;
         specified = specified base found old new.handler began clean b.items _ out b.answered.handled is_out;
       }
 
   -- ---- `replay`
 
   module _ {R W : Type 0} (source : sources.Ghosts R) (sink : sinks.Ghosts W) (explains : Bool)
-      (old new : Value S × R × W) where
+      (old new : GatewayValue S × R × W) where
     pub replayed : (summary : Summary) → Replays state (replay_at source sink) explains old new summary
         → ReplaysAsSpecified state source sink explains (Ok summary) old new
     replayed summary done base found input held began left_is held_is clean =
@@ -246,7 +249,7 @@ module _ {S : Type 0} (state : S → Kept) where
         let ended : gone.rest ≡ [] = subst IsAtEnd gone.is done.at_end in
         let whole : done.input ≡ input =
         sym (gone.whole ∙ ap (λ r. done.input ++ r) ended ∙ append-nil done.input) in
-        let its = done.played.answered in
+        let its = done.processed.answered in
         let text = written explains its.answers in
         let out = λ (answers : List Answer). text ≡ written explains answers in
         record {
@@ -254,8 +257,8 @@ module _ {S : Type 0} (state : S → Kept) where
           is_held = grown held text (sink.held old.2) (sink.held new.2) held_is its.out;
           specified = (
             gone.is ∙ ap Some ended,
-            subst (λ i. AsSpecified state base found (items_of [] (script i)) out new.0.handler) whole
-                (played base found old.0 new.0.handler began clean (script done.input) its.answers out its.handled
+            subst (λ i. AsSpecified state base found (inputs_of [] (script i)) out new.0.handler) whole
+                (processed base found old.0 new.0.handler began clean (script done.input) its.answers out its.handled
                 refl),
           );
         }
@@ -265,13 +268,13 @@ module _ {S : Type 0} (state : S → Kept) where
         → ReplaysAsSpecified state source sink explains (Err fault) old new
     ended_lines_replayed fault done base found input held began left_is held_is clean =
         let gone = lost input done.input (source.left old.1) (source.left new.1) left_is done.read in
-        let its = done.played.played.answered in
+        let its = done.processed.processed.answered in
         let text = written explains its.answers in
-        let ended = done.played.ended in
-        let more = done.played.is.tail ++ gone.rest in
+        let ended = done.processed.ended in
+        let more = done.processed.is.tail ++ gone.rest in
         let whole : script input ≡ script ended ++ script more =
-        ap script (gone.whole ∙ ap (λ s. s ++ gone.rest) done.played.is.whole
-        ∙ append_assoc ended done.played.is.tail gone.rest) ∙ script-behind ended more done.played.is.ends in
+        ap script (gone.whole ∙ ap (λ s. s ++ gone.rest) done.processed.is.whole
+        ∙ append_assoc ended done.processed.is.tail gone.rest) ∙ script-behind ended more done.processed.is.ends in
         record {
           text = text;
           is_held = grown held text (sink.held old.2) (sink.held new.2) held_is its.out;
@@ -310,8 +313,8 @@ module _ {S : Type 0} (state : S → Kept) where
               let more = it.more ++ gone.rest in
               let whole : script input ≡ it.events ++ it.event ∷ script more =
               ap script (gone.whole ∙ ap (λ s. s ++ gone.rest) it.whole
-              ∙ append_assoc (with_end it.part) it.more gone.rest)
-              ∙ script-behind (with_end it.part) more (inr (it.part, refl))
+              ∙ append_assoc (with_lf it.part) it.more gone.rest)
+              ∙ script-behind (with_lf it.part) more (inr (it.part, refl))
               ∙ ap (λ (es : List Event). es ++ script more) it.is
               ∙ append_assoc it.events (it.event ∷ []) (script more) in
               event_broken it.events it.event it.broken base found input held (script more) began held_is clean whole
@@ -333,8 +336,8 @@ module _ {S : Type 0} (state : S → Kept) where
   -- ---- `live`
 
   module _ {P Q R D : Type 0} (serial_in : sources.Ghosts P) (desk_in : sources.Ghosts Q) (serial_out : sinks.Ghosts R)
-      (desk_out : sinks.Ghosts D) (explains : Bool) (old new : Value S × P × Q × R × D) where
-    abbrev at : Value S × P × Q × R × D → LiveValue S
+      (desk_out : sinks.Ghosts D) (explains : Bool) (old new : GatewayValue S × P × Q × R × D) where
+    abbrev at : GatewayValue S × P × Q × R × D → LiveValue S
     at = live_at serial_in desk_in serial_out desk_out
 
     pub served : (count : ℕ) (summary : Summary) → Serves state at explains old new count summary
@@ -342,7 +345,7 @@ module _ {S : Type 0} (state : S → Kept) where
     served count summary done base found serial desk sent printed began serial_is desk_is sent_is printed_is clean =
         let of_serial = lost serial _ (serial_in.left old.1) (serial_in.left new.1) serial_is done.serial.gave.all in
         let of_desk = lost desk _ (desk_in.left old.2) (desk_in.left new.2) desk_is done.desk.gave.all in
-        let its = done.played.answered in
+        let its = done.processed.answered in
         let radio = radio_of its.answers in
         let lines = lines_of explains its.answers in
         record {
@@ -360,7 +363,7 @@ module _ {S : Type 0} (state : S → Kept) where
             done.count,
             done.serial,
             done.desk,
-            played base found old.0 new.0.handler began clean (events_of_turns done.read) its.answers
+            processed base found old.0 new.0.handler began clean (events_of_turns done.read) its.answers
                 (λ answers. (radio ≡ radio_of answers) × (lines ≡ lines_of explains answers)) its.handled (refl, refl),
           );
         }
@@ -374,7 +377,7 @@ module _ {S : Type 0} (state : S → Kept) where
       radio_is : IsPrefix radio (radio_of (answers ++ last ∷ []))
       lines_are : IsPrefix lines (lines_of explains (answers ++ last ∷ []))
 
-    part_is_out : (answers : List Answer) (last : Answer) → (wires explains).breaks (at old).sinks (at new).sinks
+    part_is_out : (answers : List Answer) (last : Answer) → (live_output explains).breaks (at old).sinks (at new).sinks
         answers last
         → PartIsOut answers last
     part_is_out answers last breaks =
@@ -403,22 +406,22 @@ module _ {S : Type 0} (state : S → Kept) where
 
     -- what was read of the two sources before a fault
     abbrev Took : List Turn → Option (List ℕ) → Type 0
-    Took read piece =
-        Consumes (serial_in.left old.1) (serial_in.left new.1) (concat (pieces_with read piece))
-        × Consumes (desk_in.left old.2) (desk_in.left new.2) (concat (desks read))
+    Took read chunk =
+        Consumes (serial_in.left old.1) (serial_in.left new.1) (concat (serial_reads_with read chunk))
+        × Consumes (desk_in.left old.2) (desk_in.left new.2) (concat (desk_reads read))
 
     abbrev Out : List ℕ → List ℕ → List Answer → Type 0
     Out radio lines answers = IsPrefix radio (radio_of answers) × IsPrefix lines (lines_of explains answers)
 
-    until_fault : (fault : RunFault) (count : ℕ) (read : List Turn) (piece : Option (List ℕ)) (radio lines : List ℕ)
-        → Took read piece → Appends (serial_out.held old.3) (serial_out.held new.3) radio
+    until_fault : (fault : RunFault) (count : ℕ) (read : List Turn) (chunk : Option (List ℕ)) (radio lines : List ℕ)
+        → Took read chunk → Appends (serial_out.held old.3) (serial_out.held new.3) radio
         → Appends (desk_out.held old.4) (desk_out.held new.4) lines
         → ((base : ℕ) (found : Devices) → IsNew state base found old.0 → (state new.0.handler.registry).honest
-        → BrokenOff state base found (items_of [] (events_with read piece)) (Out radio lines) new.0.handler)
+        → BrokenOff state base found (inputs_of [] (events_with read chunk)) (Out radio lines) new.0.handler)
         → ServesAsSpecified state serial_in desk_in serial_out desk_out explains (Err fault) old new count
-    until_fault fault count read piece radio lines took radio_out lines_out broken base found serial desk sent printed
+    until_fault fault count read chunk radio lines took radio_out lines_out broken base found serial desk sent printed
         began serial_is desk_is sent_is printed_is clean =
-        let turns = with_piece read piece in
+        let turns = with_piece read chunk in
         let of_serial = lost serial _ (serial_in.left old.1) (serial_in.left new.1) serial_is took.0 in
         let of_desk = lost desk _ (desk_in.left old.2) (desk_in.left new.2) desk_is took.1 in
         record {
@@ -427,8 +430,9 @@ module _ {S : Type 0} (state : S → Kept) where
           desk_rest = of_desk.rest;
           read = record {
             serial_is = of_serial.whole
-                ∙ ap (λ (parts : List (List ℕ)). concat parts ++ of_serial.rest) (sym (pieces-with_piece read piece));
-            desk_is = of_desk.whole ∙ ap (λ s. s ++ of_desk.rest) (sym (desks-with_piece read piece));
+                ∙ ap (λ (parts : List (List ℕ)). concat parts ++ of_serial.rest)
+                (sym (serial_reads-with_piece read chunk));
+            desk_is = of_desk.whole ∙ ap (λ s. s ++ of_desk.rest) (sym (desk_reads-with_piece read chunk));
           };
           serial_left = of_serial.is;
           desk_left = of_desk.is;
@@ -437,54 +441,54 @@ module _ {S : Type 0} (state : S → Kept) where
           radio_held = grown sent radio (serial_out.held old.3) (serial_out.held new.3) sent_is radio_out;
           lines_held = grown printed lines (desk_out.held old.4) (desk_out.held new.4) printed_is lines_out;
           specified =
-              subst (λ events. BrokenOff state base found (items_of [] events) (Out radio lines) new.0.handler)
-              (sym (events-with_piece read piece)) (broken base found began clean);
+              subst (λ events. BrokenOff state base found (inputs_of [] events) (Out radio lines) new.0.handler)
+              (sym (events-with_piece read chunk)) (broken base found began clean);
         }
 
     read_failed : (count : ℕ) → ServesUntilRead state at explains old new
         → ServesAsSpecified state serial_in desk_in serial_out desk_out explains (Err Read) old new count
     read_failed count done =
-        let its = done.played.answered in
-        until_fault Read count done.read done.piece (radio_of its.answers) (lines_of explains its.answers)
-        (took done.read done.piece done.fails) its.out.0.text its.out.1.text
+        let its = done.processed.answered in
+        until_fault Read count done.read done.chunk (radio_of its.answers) (lines_of explains its.answers)
+        (took done.read done.chunk done.fails) its.out.0.text its.out.1.text
         (λ base found began clean. played_first base found old.0 new.0.handler began clean
-        (events_with done.read done.piece) [] (events_with done.read done.piece)
-        (sym (append-nil (events_with done.read done.piece))) its.answers _ its.handled
+        (events_with done.read done.chunk) [] (events_with done.read done.chunk)
+        (sym (append-nil (events_with done.read done.chunk))) its.answers _ its.handled
         (whole_prefix (radio_of its.answers), whole_prefix (lines_of explains its.answers)))
       where
-        took : (read : List Turn) (piece : Option (List ℕ)) → NextReadFails (at old) (at new) read piece → Took read
-            piece
+        took : (read : List Turn) (chunk : Option (List ℕ)) → NextReadFails (at old) (at new) read chunk → Took read
+            chunk
         took read None fails = (fails.0.gave.all, fails.1.gave.all)
-        took read (Some piece) fails = (fails.0.gave.all, fails.1.gave.all)
+        took read (Some chunk) fails = (fails.0.gave.all, fails.1.gave.all)
 
     write_to_failed : (count : ℕ) → ServesUntilWrite state at explains old new
         → ServesAsSpecified state serial_in desk_in serial_out desk_out explains (Err Write) old new count
-    write_to_failed count done = by done.piece done.serial.gave.all done.broken
+    write_to_failed count done = by done.chunk done.serial.gave.all done.broken
       where
         breaks : List Answer → Answer → Type 0
-        breaks = (wires explains).breaks (at old).sinks (at new).sinks
+        breaks = (live_output explains).breaks (at old).sinks (at new).sinks
 
-        at_event : (read : List Turn) (piece : Option (List ℕ)) → Took read piece → (events later : List Event)
+        at_event : (read : List Turn) (chunk : Option (List ℕ)) → Took read chunk → (events later : List Event)
             (event : Event)
-            → events_with read piece ≡ events ++ event ∷ later → Breaks state old.0 new.0 events event breaks
+            → events_with read chunk ≡ events ++ event ∷ later → Breaks state old.0 new.0 events event breaks
             → ServesAsSpecified state serial_in desk_in serial_out desk_out explains (Err Write) old new count
-        at_event read piece took events later event whole b =
+        at_event read chunk took events later event whole b =
             let part = part_is_out b.answered.answers b.answered.last b.answered.out in
-            until_fault Write count read piece part.radio part.lines took part.radio_out part.lines_out
-            (λ base found began clean. broken_off base found old.0 new.0 events event later (events_with read piece)
+            until_fault Write count read chunk part.radio part.lines took part.radio_out part.lines_out
+            (λ base found began clean. broken_off base found old.0 new.0 events event later (events_with read chunk)
             began
             clean whole b (Out part.radio part.lines) (part.radio_is, part.lines_are))
 
-        by : (piece : Option (List ℕ))
-            → Consumes (serial_in.left old.1) (serial_in.left new.1) (concat (pieces_with done.read piece))
-            → BreaksTurn state old.0 new.0 done.read piece breaks
+        by : (chunk : Option (List ℕ))
+            → Consumes (serial_in.left old.1) (serial_in.left new.1) (concat (serial_reads_with done.read chunk))
+            → BreaksTurn state old.0 new.0 done.read chunk breaks
             → ServesAsSpecified state serial_in desk_in serial_out desk_out explains (Err Write) old new count
         by None serial broken =
-            let events = events_with broken.before (Some broken.last.piece) ++ broken.done in
+            let events = events_with broken.before (Some broken.last.chunk) ++ broken.done in
             at_event done.read None (serial, done.desk.gave.all) events broken.later broken.order broken.whole
             broken.broken
-        by (Some piece) serial broken =
-            at_event done.read (Some piece) (serial, done.desk.gave.all) (events_of_turns done.read) [] (Piece piece)
+        by (Some chunk) serial broken =
+            at_event done.read (Some chunk) (serial, done.desk.gave.all) (events_of_turns done.read) [] (Chunk chunk)
             refl
             broken
 

@@ -1,5 +1,5 @@
 -- All lines that are too long are treated alike.
-use Rattle.learned_devices.specs.Kept.{Kept}
+use Rattle.learned_devices.specs.StoreState.{StoreState}
 use Rattle.std.proofs.Common.{◌≡◌, ℕ, ◌+◌, ◌-◌, ◌<◌, ◌≤◌, List, [], ◌∷◌, ◌++◌, length, take, drop, refl}
 use Rattle.std.proofs.Common.{ap, sym, subst, ◌∙◌, arith, true, false, inl, inr, map}
 use Rattle.std.specs.Prelude.{Result, ◌==◌, ◌&&◌, if◌then◌else◌, nat_eq, codes, slice_index}
@@ -10,20 +10,20 @@ use Rattle.std.proofs.lemmas.List.{length-take, take_all}
 use Rattle.std.proofs.lemmas.Result.{MatchResult-weaker}
 use Rattle.hex.specs.Hex.{decode_of}
 use Rattle.actuator_commands.specs.Limits.{max_line}
-use Rattle.gateway_core.specs.Step.{Item, Received, Ordered, Answer}
+use Rattle.gateway_core.specs.Step.{Input, Received, Ordered, Answer}
 use Rattle.gateway_core.proofs.ForCallers.{handles_alike}
 use Rattle.esp3_frames.specs.Packet.{Packet}
-use Rattle.gateway_core.specs.Calls.{Value}
-use Rattle.gateway_core.specs.Events.{Event, Piece, Line, items_of, bytes_in}
+use Rattle.gateway_core.specs.Calls.{GatewayValue}
+use Rattle.gateway_core.specs.Events.{Event, Chunk, Line, inputs_of, bytes_in}
 use Rattle.esp3_frames.specs.Frames.{rest_of}
-use Rattle.gateway_loop.specs.Script.{event_of, spelled}
-use Rattle.gateway_loop.specs.declared.engine.Engine.{Engine}
-use Rattle.gateway_loop.specs.Outlets.{Way}
-use Rattle.gateway_loop.specs.Played.{AnswersPart, Breaks, IsBegun}
-use Rattle.gateway_loop.specs.private.EngineSteps.{Takes, TakesOrBreaks}
-use Rattle.gateway_loop.specs.private.Lines.{max_kept, event_by}
+use Rattle.gateway_loop.specs.Script.{event_of, chunk_or_line}
+use Rattle.gateway_loop.specs.declared.driver.Driver.{Driver}
+use Rattle.gateway_loop.specs.OutputSpecs.{OutputSpec}
+use Rattle.gateway_loop.specs.Processing.{AnswersPart, Breaks, IsEventPrefix}
+use Rattle.gateway_loop.specs.private.DriverSteps.{Takes, TakesOrBreaks}
+use Rattle.gateway_loop.specs.private.Lines.{max_partial_line, event_by}
 use Rattle.gateway_loop.specs.declared.line_loop.Lines.{Lines}
-use Rattle.gateway_loop.specs.declared.line_loop.Lines.TheVariants.{OfScript, OfDesk}
+use Rattle.gateway_loop.specs.declared.line_loop.Lines.TheVariants.{ScriptLines, DeskLines}
 
 -- no packet stands for an order
 no_packets : (line : List ℕ) (packets : List Packet) → (Ordered line ∷ []) ≡ map Received packets → ⊥
@@ -31,26 +31,27 @@ no_packets line [] e = cc
 no_packets line (packet ∷ packets) e = cc
 
 -- and a single input that stands for an order is this order, with no packet after it
-record OneItem (line : List ℕ) (item : Item) (packets : List Packet) : Type 0 where
+record OneItem (line : List ℕ) (item : Input) (packets : List Packet) : Type 0 where
   pub same : item ≡ Ordered line
   pub none : map Received packets ≡ []
 
-one_item : (line : List ℕ) (item : Item) (packets : List Packet) → (Ordered line ∷ []) ≡ item ∷ map Received packets
+one_item : (line : List ℕ) (item : Input) (packets : List Packet) → (Ordered line ∷ []) ≡ item ∷ map Received packets
     → OneItem line item packets
 one_item line item packets e = record { same = cc; none = cc }
 
-two_items : (line : List ℕ) (item other : Item) (items : List Item) → (Ordered line ∷ []) ≡ item ∷ other ∷ items → ⊥
+two_items : (line : List ℕ) (item other : Input) (items : List Input) → (Ordered line ∷ []) ≡ item ∷ other ∷ items → ⊥
 two_items line item other items e = cc
 
 event_of-long : (line : List ℕ) → max_line < length line → event_of line ≡ Line line
 event_of-long line h =
-    ap (λ b. if b && starts_with nat_eq line (codes "S ") then spelled line (decode_of (drop 2 line)) else Line line)
+    ap (λ b. if b && starts_with nat_eq line (codes "S ") then chunk_or_line line (decode_of (drop 2 line)) else Line
+    line)
     (lt-leb (length line) max_line h)
 
 -- for any kind of lines
 event_by-long : (lines : Lines) (line : List ℕ) → max_line < length line → event_by lines line ≡ Line line
-event_by-long OfScript line h = event_of-long line h
-event_by-long OfDesk line h = refl
+event_by-long ScriptLines line h = event_of-long line h
+event_by-long DeskLines line h = refl
 
 length-strip : (line : List ℕ) → length line ≤ length (strip_carriage_return line) + 1
 length-strip line =
@@ -60,29 +61,30 @@ length-strip line =
       | false ↦ omega arith
     ]
 
-module _ {S : Type 0} (stored : S → Kept) where
+module _ {S : Type 0} (stored : S → StoreState) where
   -- a break at one order, in its parts
-  record OneBroken (old new : Value S) (line : List ℕ) (breaks : List Answer → Answer → Type 0) : Type 0 where
+  record OneBroken (old new : GatewayValue S) (line : List ℕ) (breaks : List Answer → Answer → Type 0) : Type 0 where
     pub none : map Received new.ready ≡ []
     pub answered : AnswersPart stored old.handler new.handler (Ordered line ∷ []) breaks
 
-  at_order : (old new : Value S) (line : List ℕ) (items : List Item) (breaks : List Answer → Answer → Type 0)
+  at_order : (old new : GatewayValue S) (line : List ℕ) (items : List Input) (breaks : List Answer → Answer → Type 0)
       → (Ordered line ∷ []) ≡ items ++ map Received new.ready → AnswersPart stored old.handler new.handler items breaks
       → OneBroken old new line breaks
   at_order old new line [] breaks e part = absurd (no_packets line new.ready e)
   at_order old new line (item ∷ []) breaks e part =
       let one = one_item line item new.ready e in
-      let P : Item → Type 0 = λ i. AnswersPart stored old.handler new.handler (i ∷ []) breaks in
+      let P : Input → Type 0 = λ i. AnswersPart stored old.handler new.handler (i ∷ []) breaks in
       record { none = one.none; answered = subst P one.same part }
   at_order old new line (item ∷ other ∷ items) breaks e part =
       absurd (two_items line item other (items ++ map Received new.ready) e)
 
-  breaks_long : (old new : Value S) (short long : List ℕ) (breaks : List Answer → Answer → Type 0) (begun : Event)
-      (items : List Item) → max_line < length short → max_line < length long
-      → IsBegun (Line short) begun → items_of old.rest (begun ∷ []) ≡ items ++ map Received new.ready
+  breaks_long : (old new : GatewayValue S) (short long : List ℕ) (breaks : List Answer → Answer → Type 0)
+      (begun : Event)
+      (items : List Input) → max_line < length short → max_line < length long
+      → IsEventPrefix (Line short) begun → inputs_of old.rest (begun ∷ []) ≡ items ++ map Received new.ready
       → new.rest ≡ rest_of (old.rest ++ bytes_in (begun ∷ [])) → AnswersPart stored old.handler new.handler items breaks
       → Breaks stored old new [] (Line long) breaks
-  breaks_long old new short long breaks (Piece bytes) items a b begins stand rest part = absurd begins
+  breaks_long old new short long breaks (Chunk bytes) items a b begins stand rest part = absurd begins
   breaks_long old new short long breaks (Line line) items a b begins stand rest part =
       let at = at_order old new line items breaks stand part in
       let done = at.answered in
@@ -93,7 +95,7 @@ module _ {S : Type 0} (stored : S → Kept) where
         own = Ordered long ∷ [];
         behind = refl;
         some = omega arith;
-        stand = ap (λ (is : List Item). Ordered long ∷ is) (sym at.none);
+        stand = ap (λ (is : List Input). Ordered long ∷ is) (sym at.none);
         rest = rest;
         answered = record {
           answers = done.answers;
@@ -105,13 +107,14 @@ module _ {S : Type 0} (stored : S → Kept) where
         };
       }
 
-module _ {O S : Type 0} (stored : S → Kept) (way : Way O) {A E : Type 0} (r : Result A E) (old new : Engine O S) where
+module _ {O S : Type 0} (stored : S → StoreState) (output : OutputSpec O) {A E : Type 0} (r : Result A E)
+    (old new : Driver O S) where
   takes_long : (short long : List ℕ) → max_line < length short → max_line < length long
-      → Takes stored way old new (Line short ∷ []) → Takes stored way old new (Line long ∷ [])
+      → Takes stored output old new (Line short ∷ []) → Takes stored output old new (Line long ∷ [])
   takes_long short long a b takes =
-      let done = takes.played.answered in
+      let done = takes.processed.answered in
       record {
-        played = record {
+        processed = record {
           answered = record {
             answers = done.answers;
             handled =
@@ -119,47 +122,48 @@ module _ {O S : Type 0} (stored : S → Kept) (way : Way O) {A E : Type 0} (r : 
                 done.handled;
             out = done.out;
           };
-          rest = takes.played.rest;
-          idle = takes.played.idle;
+          rest = takes.processed.rest;
+          idle = takes.processed.idle;
         };
         counted = takes.counted;
       }
 
   long_lines_alike : (lines : Lines) (short long : List ℕ) → max_line < length short → max_line < length long
-      → TakesOrBreaks stored way r old new (event_by lines short)
-      → TakesOrBreaks stored way r old new (event_by lines long)
+      → TakesOrBreaks stored output r old new (event_by lines short)
+      → TakesOrBreaks stored output r old new (event_by lines long)
   long_lines_alike lines short long a b given =
-      let P : Event → Type 0 = λ e. TakesOrBreaks stored way r old new e in
+      let P : Event → Type 0 = λ e. TakesOrBreaks stored output r old new e in
       subst P (sym (event_by-long lines long b))
       (MatchResult-weaker r (subst P (event_by-long lines short a) given)
       (λ _ takes. takes_long short long a b takes)
-      (λ _ broken. breaks_long stored old.gateway.now new.gateway.now short long (way.breaks old.outlet new.outlet)
+      (λ _ broken. breaks_long stored old.gateway.now new.gateway.now short long
+      (output.breaks old.reply_sink new.reply_sink)
       broken.begun broken.items a b broken.begins broken.stand broken.rest broken.answered))
 
   -- what is kept of a line that LF ends stands for the line
-  pub kept_line_alike : (lines : Lines) (kept line : List ℕ) → kept ≡ take max_kept line
-      → TakesOrBreaks stored way r old new (event_by lines (strip_carriage_return kept))
-      → TakesOrBreaks stored way r old new (event_by lines (strip_carriage_return line))
+  pub kept_line_alike : (lines : Lines) (kept line : List ℕ) → kept ≡ take max_partial_line line
+      → TakesOrBreaks stored output r old new (event_by lines (strip_carriage_return kept))
+      → TakesOrBreaks stored output r old new (event_by lines (strip_carriage_return line))
   kept_line_alike lines kept line e given =
-      elim (cases_lt max_kept (length line)) [
+      elim (cases_lt max_partial_line (length line)) [
         | inl far ↦ long_lines_alike lines (strip_carriage_return kept) (strip_carriage_return line)
-            (omega (arith, far, length-strip kept, ap length e, length-take max_kept line))
+            (omega (arith, far, length-strip kept, ap length e, length-take max_partial_line line))
             (omega (arith, far, length-strip line)) given
         | inr near ↦
             let P : List ℕ → Type 0 =
-            λ l. TakesOrBreaks stored way r old new (event_by lines (strip_carriage_return l)) in
-            subst P (e ∙ take_all max_kept line near) given
+            λ l. TakesOrBreaks stored output r old new (event_by lines (strip_carriage_return l)) in
+            subst P (e ∙ take_all max_partial_line line near) given
       ]
 
   -- and so does what is kept of a line that the end of the input ends
-  pub kept_last_line_alike : (kept line : List ℕ) → kept ≡ take max_kept line
-      → TakesOrBreaks stored way r old new (event_of kept) → TakesOrBreaks stored way r old new (event_of line)
+  pub kept_last_line_alike : (kept line : List ℕ) → kept ≡ take max_partial_line line
+      → TakesOrBreaks stored output r old new (event_of kept) → TakesOrBreaks stored output r old new (event_of line)
   kept_last_line_alike kept line e given =
-      elim (cases_lt max_kept (length line)) [
+      elim (cases_lt max_partial_line (length line)) [
         | inl far ↦
-            long_lines_alike OfScript kept line (omega (arith, far, ap length e, length-take max_kept line))
+            long_lines_alike ScriptLines kept line (omega (arith, far, ap length e, length-take max_partial_line line))
             (omega (arith, far)) given
         | inr near ↦
-            let P : List ℕ → Type 0 = λ l. TakesOrBreaks stored way r old new (event_of l) in
-            subst P (e ∙ take_all max_kept line near) given
+            let P : List ℕ → Type 0 = λ l. TakesOrBreaks stored output r old new (event_of l) in
+            subst P (e ∙ take_all max_partial_line line near) given
       ]

@@ -3,14 +3,14 @@ use Rattle.std.proofs.Common.{◌≡◌, ℕ, Bool, List, [], ◌∷◌, sym, ap
 use Rattle.std.specs.Prelude.{Result, MatchResult}
 use Rattle.std.specs.Io.KnownBytes.{Appends}
 use Rattle.gateway_core.specs.Step.{Answer}
-use Rattle.byte_io.specs.Counts.{Went}
+use Rattle.byte_io.specs.Counts.{CallsMatchResult}
 use Rattle.byte_io.specs.Writes.{Writes}
-use Rattle.gateway_loop.specs.Outlets.{Puts, Way, flagged}
+use Rattle.gateway_loop.specs.OutputSpecs.{Puts, OutputSpec, output_by_flag}
 use Rattle.gateway_loop.specs.Streams.{SinkValue}
-use Rattle.gateway_loop.specs.TextWay.{PutsText, BreaksText}
+use Rattle.gateway_loop.specs.TextOutput.{PutsText, BreaksText}
 
 pub puts_one : {A E : Type 0} (r : Result A E) (says : Answer → List ℕ) (old new : SinkValue) (answer : Answer)
-    → Writes old.held new.held r (says answer) → Went r old.counts new.counts
+    → Writes old.held new.held r (says answer) → CallsMatchResult r old.counts new.counts
     → MatchResult r (λ _. PutsText says old new (answer ∷ [])) (λ _. BreaksText says old new [] answer)
 puts_one (Ok done) says old new answer text went = record {
   text = subst (Appends old.held new.held) (sym (append-nil (says answer))) text;
@@ -19,7 +19,7 @@ puts_one (Ok done) says old new answer text went = record {
 puts_one (Err failed) says old new answer text went = record { text = text; went = went }
 
 -- the flag stays
-pub puts_by : {V A E : Type 0} (way : Bool → Way V) (r : Result A E) (old new : Bool × V) (answer : Answer)
-    → new.0 ≡ old.0 → Puts (way old.0) r old.1 new.1 answer → Puts (flagged way) r old new answer
-puts_by way (Ok done) old new answer same out = (same, out)
-puts_by way (Err failed) old new answer same out = (same, out)
+pub puts_by : {V A E : Type 0} (output : Bool → OutputSpec V) (r : Result A E) (old new : Bool × V) (answer : Answer)
+    → new.0 ≡ old.0 → Puts (output old.0) r old.1 new.1 answer → Puts (output_by_flag output) r old new answer
+puts_by output (Ok done) old new answer same out = (same, out)
+puts_by output (Err failed) old new answer same out = (same, out)

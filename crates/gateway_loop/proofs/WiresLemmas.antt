@@ -1,46 +1,47 @@
--- What an `Engine` wrote to two sinks, also after the loans of the gateway and of the sinks have ended.
+-- What an `Driver` wrote to two sinks, also after the loans of the gateway and of the sinks have ended.
 use Rattle.std.proofs.Common.{◌≡◌, List, inl, inr}
-use Rattle.learned_devices.specs.Kept.{Kept}
+use Rattle.learned_devices.specs.StoreState.{StoreState}
 use Rattle.gateway_core.specs.Step.{Answer}
-use Rattle.gateway_core.specs.Calls.{Value}
+use Rattle.gateway_core.specs.Calls.{GatewayValue}
 use Rattle.gateway_core.specs.Events.{Event}
-use Rattle.byte_io.specs.Counts.{HasRoom, WentWell}
+use Rattle.byte_io.specs.Counts.{HasCountRoom, NoneFailedOrEmpty}
 use Rattle.byte_io.specs.declared.sink.Sink as sinks
-use Rattle.gateway_loop.specs.declared.engine.Engine.{Engine}
-use Rattle.gateway_loop.specs.declared.wires.Wires.{Wires}
-use Rattle.gateway_loop.specs.Outlets.{Way}
-use Rattle.gateway_loop.specs.Played.{Breaks, Plays}
+use Rattle.gateway_loop.specs.declared.driver.Driver.{Driver}
+use Rattle.gateway_loop.specs.declared.live_outputs.LiveOutputs.{LiveOutputs}
+use Rattle.gateway_loop.specs.OutputSpecs.{OutputSpec}
+use Rattle.gateway_loop.specs.Processing.{Breaks, Processes}
 use Rattle.gateway_loop.specs.LiveGateway.{BreaksAtOrder}
 use Rattle.gateway_loop.specs.Streams.{SinkValue, sink_value}
-use Rattle.gateway_loop.specs.private.EngineSteps.{EngineBreaks, EnginePlays}
+use Rattle.gateway_loop.specs.private.DriverSteps.{DriverBreaks, DriverProcesses}
 use Rattle.gateway_loop.specs.Turns.{Turn}
-use Rattle.gateway_loop.specs.Wires.{way_of_wires, wires}
+use Rattle.gateway_loop.specs.LiveOutputs.{live_output_of, live_output}
 use Rattle.gateway_loop.proofs.CallCountLemmas.{not_well}
 
-module _ {R D S : Type 0} (stored : S → Kept) (serial_sinks : sinks.Ghosts R) (desk_sinks : sinks.Ghosts D)
-    (entry now : Engine (Wires R D) S) (gateway : Value S) (serial : R) (desk : D) (e : gateway ≡ now.gateway.now)
-    (f : serial ≡ now.outlet.serial.now) (h : desk ≡ now.outlet.desk.now) where
-  abbrev way : Way (Wires R D)
-  way = way_of_wires serial_sinks desk_sinks
+module _ {R D S : Type 0} (stored : S → StoreState) (serial_sinks : sinks.Ghosts R) (desk_sinks : sinks.Ghosts D)
+    (entry now : Driver (LiveOutputs R D) S) (gateway : GatewayValue S) (serial : R) (desk : D)
+    (e : gateway ≡ now.gateway.now)
+    (f : serial ≡ now.reply_sink.serial.now) (h : desk ≡ now.reply_sink.desk.now) where
+  abbrev output : OutputSpec (LiveOutputs R D)
+  output = live_output_of serial_sinks desk_sinks
 
   abbrev old_sinks : SinkValue × SinkValue
-  old_sinks = (sink_value serial_sinks entry.outlet.serial.now, sink_value desk_sinks entry.outlet.desk.now)
+  old_sinks = (sink_value serial_sinks entry.reply_sink.serial.now, sink_value desk_sinks entry.reply_sink.desk.now)
 
   abbrev new_sinks : SinkValue × SinkValue
   new_sinks = (sink_value serial_sinks serial, sink_value desk_sinks desk)
 
-  abbrev ways : Way (SinkValue × SinkValue)
-  ways = wires entry.outlet.explains
+  abbrev ways : OutputSpec (SinkValue × SinkValue)
+  ways = live_output entry.reply_sink.explains
 
-  pub plays_at : (events : List Event) → EnginePlays stored way entry now events
-      → Plays stored entry.gateway.now gateway events (ways.puts old_sinks new_sinks)
+  pub plays_at : (events : List Event) → DriverProcesses stored output entry now events
+      → Processes stored entry.gateway.now gateway events (ways.puts old_sinks new_sinks)
   plays_at events p = rw (e, f, h) (record {
     answered = record { answers = p.answered.answers; handled = p.answered.handled; out = p.answered.out.1 };
     rest = p.rest;
     idle = p.idle;
   })
 
-  pub breaks_at : (events : List Event) (event : Event) → EngineBreaks stored way entry now events event
+  pub breaks_at : (events : List Event) (event : Event) → DriverBreaks stored output entry now events event
       → Breaks stored entry.gateway.now gateway events event (ways.breaks old_sinks new_sinks)
   breaks_at events event p = rw (e, f, h) (record {
     begun = p.begun;
@@ -60,7 +61,7 @@ module _ {R D S : Type 0} (stored : S → Kept) (serial_sinks : sinks.Ghosts R) 
   })
 
   pub breaks_at_order : (turns : List Turn)
-      → BreaksAtOrder stored entry.gateway.now now.gateway.now turns (way.breaks entry.outlet now.outlet)
+      → BreaksAtOrder stored entry.gateway.now now.gateway.now turns (output.breaks entry.reply_sink now.reply_sink)
       → BreaksAtOrder stored entry.gateway.now gateway turns (ways.breaks old_sinks new_sinks)
   breaks_at_order turns p = record {
     before = p.before;
@@ -74,10 +75,12 @@ module _ {R D S : Type 0} (stored : S → Kept) (serial_sinks : sinks.Ghosts R) 
   }
 
   -- if an answer broke off, not all writes succeeded
-  pub not_all_well : (answers : List Answer) (last : Answer) → way.breaks entry.outlet now.outlet answers last
-      → HasRoom old_sinks.0.counts 0 → HasRoom old_sinks.1.counts 0
-      → WentWell old_sinks.0.counts new_sinks.0.counts → WentWell old_sinks.1.counts new_sinks.1.counts → ⊥
+  pub not_all_well : (answers : List Answer) (last : Answer)
+      → output.breaks entry.reply_sink now.reply_sink answers last
+      → HasCountRoom old_sinks.0.counts 0 → HasCountRoom old_sinks.1.counts 0
+      → NoneFailedOrEmpty old_sinks.0.counts new_sinks.0.counts
+      → NoneFailedOrEmpty old_sinks.1.counts new_sinks.1.counts → ⊥
   not_all_well answers last (same, inl broken) room others well wells =
-      not_well old_sinks.0.counts (serial_sinks.counts now.outlet.serial.now) room broken.0.went (rw f at well)
+      not_well old_sinks.0.counts (serial_sinks.counts now.reply_sink.serial.now) room broken.0.went (rw f at well)
   not_all_well answers last (same, inr broken) room others well wells =
-      not_well old_sinks.1.counts (desk_sinks.counts now.outlet.desk.now) others broken.1.went (rw h at wells)
+      not_well old_sinks.1.counts (desk_sinks.counts now.reply_sink.desk.now) others broken.1.went (rw h at wells)

@@ -2,20 +2,22 @@
 -- them.
 use Rattle.std.specs.Prelude.{◌⊎◌}
 use Rattle.std.proofs.Common.{ap, ◌∙◌, inl, inr}
-use Rattle.byte_io.specs.Counts.{Counts, WentWell, OneFailed, OneEmpty, one_more}
+use Rattle.byte_io.specs.Counts.{Counts, NoneFailedOrEmpty, OneFailed, OneEmpty, saturated_next}
 
 -- one call failed or returned 0 bytes
-abbrev pub OneWrong : Counts → Counts → Type 0
-OneWrong old new = OneFailed old new ⊎ OneEmpty old new
+abbrev pub OneFailedOrEmpty : Counts → Counts → Type 0
+OneFailedOrEmpty old new = OneFailed old new ⊎ OneEmpty old new
 
 -- all calls succeeded, except for one that may have returned 0 bytes
-abbrev pub WellOrEnded : Counts → Counts → Type 0
-WellOrEnded old new = WentWell old new ⊎ OneEmpty old new
+abbrev pub AtMostOneEmpty : Counts → Counts → Type 0
+AtMostOneEmpty old new = NoneFailedOrEmpty old new ⊎ OneEmpty old new
 
-pub well_behind : (old mid new : Counts) → WentWell old mid → WentWell mid new → WentWell old new
+pub well_behind : (old mid new : Counts) → NoneFailedOrEmpty old mid → NoneFailedOrEmpty mid new
+    → NoneFailedOrEmpty old new
 well_behind old mid new first second = (second.0 ∙ first.0, second.1 ∙ first.1)
 
 -- the last call went wrong, and those before it went well
-pub wrong_behind : (old mid new : Counts) → WentWell old mid → OneWrong mid new → OneWrong old new
-wrong_behind old mid new well (inl failed) = inl (failed.0 ∙ ap one_more well.0, failed.1 ∙ well.1)
-wrong_behind old mid new well (inr empty) = inr (empty.0 ∙ well.0, empty.1 ∙ ap one_more well.1)
+pub wrong_behind : (old mid new : Counts) → NoneFailedOrEmpty old mid → OneFailedOrEmpty mid new
+    → OneFailedOrEmpty old new
+wrong_behind old mid new well (inl failed) = inl (failed.0 ∙ ap saturated_next well.0, failed.1 ∙ well.1)
+wrong_behind old mid new well (inr empty) = inr (empty.0 ∙ well.0, empty.1 ∙ ap saturated_next well.1)

@@ -2,7 +2,7 @@
 use Rattle.std.specs.Prelude.{◌≡◌, ℕ, true, false, List, [], ◌∷◌, ◌++◌, Some}
 use Rattle.gateway_core.specs.Step.{Answer}
 use Rattle.gateway_loop.specs.Streams.{SinkValue}
-use Rattle.gateway_loop.specs.Wires.{wires}
+use Rattle.gateway_loop.specs.LiveOutputs.{live_output}
 use Rattle.gateway_loop.specs.Written.{WritesAll, radio_text}
 
 -- Both texts are those of the answers, each with some text before the one for the desk; the second also has the line
@@ -30,9 +30,9 @@ pub record ExplanationsStandApart : Type 0 where
       → WritesAll false (Some held) (Some plain) answers → WritesAll true (Some held) (Some explained) answers
       → IsExplainedBehind (λ answer. radio_text answer.radio) answers held plain explained
   pub desk : (answers : List Answer) (old new other : SinkValue × SinkValue) (held plain explained : List ℕ)
-      → (wires false).puts old new answers → (wires true).puts old other answers
+      → (live_output false).puts old new answers → (live_output true).puts old other answers
       → old.1.held ≡ Some held → new.1.held ≡ Some plain → other.1.held ≡ Some explained
       → IsExplainedBehind (λ answer. []) answers held plain explained
   pub serial : (answers : List Answer) (old new other : SinkValue × SinkValue) (held plain explained : List ℕ)
-      → (wires false).puts old new answers → (wires true).puts old other answers
+      → (live_output false).puts old new answers → (live_output true).puts old other answers
       → old.0.held ≡ Some held → new.0.held ≡ Some plain → other.0.held ≡ Some explained → plain ≡ explained

@@ -2,24 +2,24 @@
 -- it. The contracts of the two functions state it, for every result; that of `start` says how a gateway begins.
 use Rattle.std.specs.Prelude.{◌≡◌, ℕ, Bool, List, [], ◌++◌, length, Some, Result, MatchResult}
 use Rattle.std.specs.List.{concat, flat_map}
-use Rattle.learned_devices.specs.Kept.{Kept}
+use Rattle.learned_devices.specs.StoreState.{StoreState}
 use Rattle.learned_devices.specs.Devices.{Devices}
-use Rattle.gateway_core.specs.Step.{Item, Answer, State}
-use Rattle.gateway_core.specs.Run.{Fate, Run}
-use Rattle.gateway_core.specs.Lives.{begun}
+use Rattle.gateway_core.specs.Step.{Input, Answer, State}
+use Rattle.gateway_core.specs.Run.{InputResult, Run}
+use Rattle.gateway_core.specs.Sessions.{initial_state}
 use Rattle.gateway_core.specs.Prefixes.{AfterPrefix}
-use Rattle.gateway_core.specs.Handling.{HandlerValue, IsAt}
-use Rattle.gateway_core.specs.Calls.{Value, new_value}
-use Rattle.gateway_core.specs.Events.{items_of}
+use Rattle.gateway_core.specs.Handling.{HandlerValue, HasState}
+use Rattle.gateway_core.specs.Calls.{GatewayValue, new_gateway_value}
+use Rattle.gateway_core.specs.Events.{inputs_of}
 use Rattle.byte_io.specs.declared.sink.Sink as sinks
 use Rattle.byte_io.specs.declared.source.Source as sources
 use Rattle.gateway_loop.specs.declared.runs.RunFault.{RunFault}
 use Rattle.gateway_loop.specs.declared.runs.Summary.{Summary}
-use Rattle.gateway_loop.specs.Reads.{ReadsWell}
+use Rattle.gateway_loop.specs.Reads.{ReadsSucceed}
 use Rattle.gateway_loop.specs.Script.{script}
 use Rattle.gateway_loop.specs.Streams.{source_value}
-use Rattle.gateway_loop.specs.Turns.{Turn, desks, events_of_turns, pieces}
-use Rattle.gateway_loop.specs.Wires.{radio_bytes}
+use Rattle.gateway_loop.specs.Turns.{Turn, desk_reads, events_of_turns, serial_reads}
+use Rattle.gateway_loop.specs.LiveOutputs.{radio_bytes}
 use Rattle.gateway_loop.specs.Written.{desk_text, written}
 
 -- the bytes are a prefix of these
@@ -29,8 +29,8 @@ pub record IsPrefix (bytes all : List ℕ) : Type 0 where
 
 -- the turns read these bytes of the two sources, and left the rest
 pub record ReadInTurns (turns : List Turn) (serial serial_rest desk desk_rest : List ℕ) : Type 0 where
-  pub serial_is : serial ≡ concat (pieces turns) ++ serial_rest
-  pub desk_is : desk ≡ concat (desks turns) ++ desk_rest
+  pub serial_is : serial ≡ concat (serial_reads turns) ++ serial_rest
+  pub desk_is : desk ≡ concat (desk_reads turns) ++ desk_rest
 
 -- the radio bytes of the answers, and their lines for the desk
 abbrev pub radio_of : List Answer → List ℕ
@@ -40,11 +40,11 @@ abbrev pub lines_of : Bool → List Answer → List ℕ
 lines_of explains answers = flat_map (desk_text explains) answers
 
 -- `S` is a gateway's device store, and `stored` what it keeps.
-module _ {S : Type 0} (stored : S → Kept) where
+module _ {S : Type 0} (stored : S → StoreState) where
   -- A new gateway over a device store with these devices. The mode is closed, all counters are 0, and no byte has
   -- arrived. A crash leaves only these devices.
-  pub record IsNew (base : ℕ) (found : Devices) (gateway : Value S) : Type 0 where
-    pub value : gateway ≡ new_value base gateway.handler.registry
+  pub record IsNew (base : ℕ) (found : Devices) (gateway : GatewayValue S) : Type 0 where
+    pub value : gateway ≡ new_gateway_value base gateway.handler.registry
     pub known : (stored gateway.handler.registry).holds found
     pub registries : (stored gateway.handler.registry).sound
     pub left : (left : Devices) → (stored gateway.handler.registry).may_recover left → left ≡ found
@@ -54,23 +54,23 @@ module _ {S : Type 0} (stored : S → Kept) where
   -- answers are written. The gateway knows the state after the last step; while the device store is open, it holds the
   -- devices of that state. Any crash state is sound, and is what was known after some prefix of the inputs. The prefix
   -- contains every acknowledged input. The update of the next input may be there too, if its write failed.
-  pub record AsSpecified (base : ℕ) (found : Devices) (items : List Item) (out : List Answer → Type 0)
+  pub record AsSpecified (base : ℕ) (found : Devices) (items : List Input) (out : List Answer → Type 0)
       (new : HandlerValue S) : Type 0 where
-    pub fates : List Fate
+    pub results : List InputResult
     pub answers : List Answer
     pub last : State
-    pub run : Run (begun base found) items fates answers last
+    pub run : Run (initial_state base found) items results answers last
     pub are_out : out answers
-    pub known : IsAt stored new last
+    pub known : HasState stored new last
     pub registries : (stored new.registry).sound
     pub left : (left : Devices) → (stored new.registry).may_recover left
-        → AfterPrefix (begun base found) items fates left
+        → AfterPrefix (initial_state base found) items results left
 
   -- the same for some prefix of the inputs, and no other input was handled
-  pub record BrokenOff (base : ℕ) (found : Devices) (items : List Item) (out : List Answer → Type 0)
+  pub record BrokenOff (base : ℕ) (found : Devices) (items : List Input) (out : List Answer → Type 0)
       (new : HandlerValue S) : Type 0 where
-    pub handled : List Item
-    pub later : List Item
+    pub handled : List Input
+    pub later : List Input
     pub whole : items ≡ handled ++ later
     pub specified : AsSpecified base found handled out new
 
@@ -79,19 +79,20 @@ module _ {S : Type 0} (stored : S → Kept) where
   -- a fault it received a prefix of the text for some prefix of these inputs. (The postconditions `err`, `read`,
   -- `write` and `too_many` of `replay` say which prefix, and when each fault is returned.)
   pub record ReplaySpecified {R W : Type 0} (source : sources.Ghosts R) (sink : sinks.Ghosts W) (explains : Bool)
-      (result : Result Summary RunFault) (base : ℕ) (found : Devices) (input held : List ℕ) (new : Value S × R × W)
+      (result : Result Summary RunFault) (base : ℕ) (found : Devices) (input held : List ℕ)
+      (new : GatewayValue S × R × W)
       : Type 0 where
     pub text : List ℕ
     pub is_held : sink.held new.2 ≡ Some (held ++ text)
     pub specified : MatchResult result
         (λ _. (source.left new.1 ≡ Some [])
-        × AsSpecified base found (items_of [] (script input)) (λ answers. text ≡ written explains answers)
+        × AsSpecified base found (inputs_of [] (script input)) (λ answers. text ≡ written explains answers)
         new.0.handler)
-        (λ _. BrokenOff base found (items_of [] (script input)) (λ answers. IsPrefix text (written explains answers))
+        (λ _. BrokenOff base found (inputs_of [] (script input)) (λ answers. IsPrefix text (written explains answers))
         new.0.handler)
 
   abbrev pub ReplaysAsSpecified : {R W : Type 0} → sources.Ghosts R → sinks.Ghosts W → Bool → Result Summary RunFault
-      → Value S × R × W → Value S × R × W → Type 0
+      → GatewayValue S × R × W → GatewayValue S × R × W → Type 0
   ReplaysAsSpecified source sink explains result old new =
       (base : ℕ) (found : Devices) (input held : List ℕ) → IsNew base found old.0 → source.left old.1 ≡ Some input
       → sink.held old.2 ≡ Some held → (stored new.0.handler.registry).honest
@@ -103,7 +104,7 @@ module _ {S : Type 0} (stored : S → Kept) where
   -- for some prefix of the inputs. (The postconditions `err` and `reads` of `live` say which.)
   pub record LiveSpecified {P Q R D : Type 0} (serial_in : sources.Ghosts P) (desk_in : sources.Ghosts Q)
       (serial_out : sinks.Ghosts R) (desk_out : sinks.Ghosts D) (explains : Bool) (result : Result Summary RunFault)
-      (count base : ℕ) (found : Devices) (serial desk sent printed : List ℕ) (old new : Value S × P × Q × R × D)
+      (count base : ℕ) (found : Devices) (serial desk sent printed : List ℕ) (old new : GatewayValue S × P × Q × R × D)
       : Type 0 where
     pub turns : List Turn
     pub serial_rest : List ℕ
@@ -117,15 +118,16 @@ module _ {S : Type 0} (stored : S → Kept) where
     pub lines_held : desk_out.held new.4 ≡ Some (printed ++ lines)
     pub specified : MatchResult result
         (λ _. (length turns ≡ count)
-        × ReadsWell (source_value serial_in old.1) (source_value serial_in new.1) (pieces turns)
-        × ReadsWell (source_value desk_in old.2) (source_value desk_in new.2) (desks turns)
-        × AsSpecified base found (items_of [] (events_of_turns turns))
+        × ReadsSucceed (source_value serial_in old.1) (source_value serial_in new.1) (serial_reads turns)
+        × ReadsSucceed (source_value desk_in old.2) (source_value desk_in new.2) (desk_reads turns)
+        × AsSpecified base found (inputs_of [] (events_of_turns turns))
         (λ answers. (radio ≡ radio_of answers) × (lines ≡ lines_of explains answers)) new.0.handler)
-        (λ _. BrokenOff base found (items_of [] (events_of_turns turns))
+        (λ _. BrokenOff base found (inputs_of [] (events_of_turns turns))
         (λ answers. IsPrefix radio (radio_of answers) × IsPrefix lines (lines_of explains answers)) new.0.handler)
 
   abbrev pub ServesAsSpecified : {P Q R D : Type 0} → sources.Ghosts P → sources.Ghosts Q → sinks.Ghosts R
-      → sinks.Ghosts D → Bool → Result Summary RunFault → Value S × P × Q × R × D → Value S × P × Q × R × D → ℕ
+      → sinks.Ghosts D → Bool → Result Summary RunFault → GatewayValue S × P × Q × R × D
+      → GatewayValue S × P × Q × R × D → ℕ
       → Type 0
   ServesAsSpecified serial_in desk_in serial_out desk_out explains result old new count =
       (base : ℕ) (found : Devices) (serial desk sent printed : List ℕ) → IsNew base found old.0

@@ -1,12 +1,12 @@
 pub mod Script
-pub mod Outlets
+pub mod OutputSpecs
 pub mod CallCounts
 pub mod Streams
-pub mod TextWay
+pub mod TextOutput
 pub mod Written
-pub mod Wires
+pub mod LiveOutputs
 pub mod Explained
-pub mod Played
+pub mod Processing
 pub mod Reads
 pub mod ScriptReplay
 pub mod Turns

@@ -1,31 +1,31 @@
 -- What a live gateway reads, handles and writes.
 use Rattle.std.specs.Prelude.{◌≡◌, ◌↔◌, ◌+◌, ◌-◌, ◌^◌, min, ℕ, Bool, List, [], ◌∷◌, ◌++◌, length}
 use Rattle.std.specs.Prelude.{Option, None, Some, Result, IsOk}
-use Rattle.learned_devices.specs.Kept.{Kept}
+use Rattle.learned_devices.specs.StoreState.{StoreState}
 use Rattle.gateway_core.specs.Step.{Answer}
-use Rattle.gateway_core.specs.Calls.{Value}
-use Rattle.gateway_core.specs.Events.{Event, Piece, items_of}
-use Rattle.byte_io.specs.Counts.{HasRoom, NoneFailed, WentWell}
+use Rattle.gateway_core.specs.Calls.{GatewayValue}
+use Rattle.gateway_core.specs.Events.{Event, Chunk, inputs_of}
+use Rattle.byte_io.specs.Counts.{HasCountRoom, NoneFailed, NoneFailedOrEmpty}
 use Rattle.byte_io.specs.declared.sink.Sink as sinks
 use Rattle.byte_io.specs.declared.source.Source as sources
 use Rattle.gateway_loop.specs.declared.runs.RunFault.{RunFault}
 use Rattle.gateway_loop.specs.declared.runs.RunFault.TheVariants.{Read, Write, TooManyTurns}
 use Rattle.gateway_loop.specs.declared.runs.Summary.{Summary}
-use Rattle.gateway_loop.specs.Played.{Breaks, Plays}
-use Rattle.gateway_loop.specs.Reads.{ReadsFail, ReadsWell}
+use Rattle.gateway_loop.specs.Processing.{Breaks, Processes}
+use Rattle.gateway_loop.specs.Reads.{ReadsFail, ReadsSucceed}
 use Rattle.gateway_loop.specs.Streams.{SinkValue, SourceValue, sink_value, source_value}
-use Rattle.gateway_loop.specs.Turns.{Turn, desks, events_of_turns, pieces}
-use Rattle.gateway_loop.specs.Wires.{wires}
+use Rattle.gateway_loop.specs.Turns.{Turn, desk_reads, events_of_turns, serial_reads}
+use Rattle.gateway_loop.specs.LiveOutputs.{live_output}
 
 -- The state of a live gateway. The sinks are that of the serial line and that of the desk.
 pub record LiveValue (S : Type 0) : Type 0 where
-  pub gateway : Value S
+  pub gateway : GatewayValue S
   pub serial : SourceValue
   pub desk : SourceValue
   pub sinks : SinkValue × SinkValue
 
 abbrev pub live_at : {P Q R D S : Type 0} → sources.Ghosts P → sources.Ghosts Q → sinks.Ghosts R → sinks.Ghosts D
-    → Value S × P × Q × R × D → LiveValue S
+    → GatewayValue S × P × Q × R × D → LiveValue S
 live_at serial_in desk_in serial_out desk_out now = record {
   gateway = now.0;
   serial = source_value serial_in now.1;
@@ -34,41 +34,43 @@ live_at serial_in desk_in serial_out desk_out now = record {
 }
 
 -- The reads of the serial line, and the events, if a chunk was read after some turns, or nothing yet.
-abbrev pub pieces_with : List Turn → Option (List ℕ) → List (List ℕ)
-pieces_with turns None = pieces turns
-pieces_with turns (Some piece) = pieces turns ++ piece ∷ []
+abbrev pub serial_reads_with : List Turn → Option (List ℕ) → List (List ℕ)
+serial_reads_with turns None = serial_reads turns
+serial_reads_with turns (Some chunk) = serial_reads turns ++ chunk ∷ []
 
 abbrev pub events_with : List Turn → Option (List ℕ) → List Event
 events_with turns None = events_of_turns turns
-events_with turns (Some piece) = events_of_turns turns ++ Piece piece ∷ []
+events_with turns (Some chunk) = events_of_turns turns ++ Chunk chunk ∷ []
 
 module _ {S : Type 0} (old new : LiveValue S) where
   -- After the turns the next read failed: of the serial line, or, after a chunk, of the desk.
   abbrev pub NextReadFails : List Turn → Option (List ℕ) → Type 0
-  NextReadFails turns None = ReadsFail old.serial new.serial (pieces turns) × ReadsWell old.desk new.desk (desks turns)
-  NextReadFails turns (Some piece) =
-      ReadsWell old.serial new.serial (pieces turns ++ piece ∷ []) × ReadsFail old.desk new.desk (desks turns)
+  NextReadFails turns None =
+      ReadsFail old.serial new.serial (serial_reads turns) × ReadsSucceed old.desk new.desk (desk_reads turns)
+  NextReadFails turns (Some chunk) =
+      ReadsSucceed old.serial new.serial (serial_reads turns ++ chunk ∷ [])
+      × ReadsFail old.desk new.desk (desk_reads turns)
 
   -- this many reads of each source were made, no read failed, and all writes succeeded
-  pub record AllWent (turns : ℕ) : Type 0 where
+  pub record AllSucceeded (turns : ℕ) : Type 0 where
     pub serial_read : new.serial.counts.calls ≡ old.serial.counts.calls + turns
     pub desk_read : new.desk.counts.calls ≡ old.desk.counts.calls + turns
-    pub serial_written : WentWell old.sinks.0.counts new.sinks.0.counts
-    pub desk_written : WentWell old.sinks.1.counts new.sinks.1.counts
+    pub serial_written : NoneFailedOrEmpty old.sinks.0.counts new.sinks.0.counts
+    pub desk_written : NoneFailedOrEmpty old.sinks.1.counts new.sinks.1.counts
     pub serial_well : NoneFailed old.serial.counts new.serial.counts
     pub desk_well : NoneFailed old.desk.counts new.desk.counts
 
 -- the counters can count this many more reads of both sources, and, for all four, one more call that fails and one more
 -- that returns 0 bytes
 pub record HasRoomForTurns {S : Type 0} (now : LiveValue S) (turns : ℕ) : Type 0 where
-  pub serial_in : HasRoom now.serial.counts turns
-  pub desk_in : HasRoom now.desk.counts turns
-  pub serial_out : HasRoom now.sinks.0.counts 0
-  pub desk_out : HasRoom now.sinks.1.counts 0
+  pub serial_in : HasCountRoom now.serial.counts turns
+  pub desk_in : HasCountRoom now.desk.counts turns
+  pub serial_out : HasCountRoom now.sinks.0.counts 0
+  pub desk_out : HasCountRoom now.sinks.1.counts 0
 
-module _ {S : Type 0} (stored : S → Kept) where
+module _ {S : Type 0} (stored : S → StoreState) where
   -- an answer to an order of the last turn was not written completely
-  pub record BreaksAtOrder (old new : Value S) (turns : List Turn) (breaks : List Answer → Answer → Type 0)
+  pub record BreaksAtOrder (old new : GatewayValue S) (turns : List Turn) (breaks : List Answer → Answer → Type 0)
       : Type 0 where
     pub before : List Turn
     pub last : Turn
@@ -76,44 +78,45 @@ module _ {S : Type 0} (stored : S → Kept) where
     pub done : List Event
     pub order : Event
     pub later : List Event
-    pub whole : events_of_turns turns ≡ (events_with before (Some last.piece) ++ done) ++ order ∷ later
-    pub broken : Breaks stored old new (events_with before (Some last.piece) ++ done) order breaks
+    pub whole : events_of_turns turns ≡ (events_with before (Some last.chunk) ++ done) ++ order ∷ later
+    pub broken : Breaks stored old new (events_with before (Some last.chunk) ++ done) order breaks
 
   -- An answer was not written completely: to a packet of the chunk after the turns, or otherwise to an order of the
   -- last turn.
-  abbrev pub BreaksTurn : Value S → Value S → List Turn → Option (List ℕ) → (List Answer → Answer → Type 0) → Type 0
-  BreaksTurn old new turns (Some piece) breaks = Breaks stored old new (events_of_turns turns) (Piece piece) breaks
+  abbrev pub BreaksTurn : GatewayValue S → GatewayValue S → List Turn → Option (List ℕ)
+      → (List Answer → Answer → Type 0) → Type 0
+  BreaksTurn old new turns (Some chunk) breaks = Breaks stored old new (events_of_turns turns) (Chunk chunk) breaks
   BreaksTurn old new turns None breaks = BreaksAtOrder old new turns breaks
 
 -- Below, `at` is the state of the live gateway before and after the call, and `explains` whether packets are explained.
-module _ {S T : Type 0} (stored : S → Kept) (at : T → LiveValue S) (explains : Bool) where
+module _ {S T : Type 0} (stored : S → StoreState) (at : T → LiveValue S) (explains : Bool) where
   -- this many turns were read, exactly the inputs of their events were handled and counted, and the radio bytes and
   -- texts of their answers were written
   pub record Serves (old new : T) (turns : ℕ) (summary : Summary) : Type 0 where
     pub read : List Turn
     pub count : length read ≡ turns
-    pub serial : ReadsWell (at old).serial (at new).serial (pieces read)
-    pub desk : ReadsWell (at old).desk (at new).desk (desks read)
-    pub played : Plays stored (at old).gateway (at new).gateway (events_of_turns read)
-        ((wires explains).puts (at old).sinks (at new).sinks)
-    pub counted : summary.items ≡ min (length (items_of (at old).gateway.rest (events_of_turns read))) (2 ^ 64 - 1)
+    pub serial : ReadsSucceed (at old).serial (at new).serial (serial_reads read)
+    pub desk : ReadsSucceed (at old).desk (at new).desk (desk_reads read)
+    pub processed : Processes stored (at old).gateway (at new).gateway (events_of_turns read)
+        ((live_output explains).puts (at old).sinks (at new).sinks)
+    pub counted : summary.items ≡ min (length (inputs_of (at old).gateway.rest (events_of_turns read))) (2 ^ 64 - 1)
 
   -- a read failed, and everything read before it was handled and answered
   pub record ServesUntilRead (old new : T) : Type 0 where
     pub read : List Turn
-    pub piece : Option (List ℕ)
-    pub fails : NextReadFails (at old) (at new) read piece
-    pub played : Plays stored (at old).gateway (at new).gateway (events_with read piece)
-        ((wires explains).puts (at old).sinks (at new).sinks)
+    pub chunk : Option (List ℕ)
+    pub fails : NextReadFails (at old) (at new) read chunk
+    pub processed : Processes stored (at old).gateway (at new).gateway (events_with read chunk)
+        ((live_output explains).puts (at old).sinks (at new).sinks)
 
   -- no read failed, and an answer was not written completely
   pub record ServesUntilWrite (old new : T) : Type 0 where
     pub read : List Turn
-    pub piece : Option (List ℕ)
-    pub serial : ReadsWell (at old).serial (at new).serial (pieces_with read piece)
-    pub desk : ReadsWell (at old).desk (at new).desk (desks read)
-    pub broken : BreaksTurn stored (at old).gateway (at new).gateway read piece
-        ((wires explains).breaks (at old).sinks (at new).sinks)
+    pub chunk : Option (List ℕ)
+    pub serial : ReadsSucceed (at old).serial (at new).serial (serial_reads_with read chunk)
+    pub desk : ReadsSucceed (at old).desk (at new).desk (desk_reads read)
+    pub broken : BreaksTurn stored (at old).gateway (at new).gateway read chunk
+        ((live_output explains).breaks (at old).sinks (at new).sinks)
 
   -- what was done before a fault; `TooManyTurns` is never returned
   abbrev pub ServesUntil : T → T → RunFault → Type 0
@@ -123,6 +126,6 @@ module _ {S T : Type 0} (stored : S → Kept) (at : T → LiveValue S) (explains
 
 module _ {S T : Type 0} (at : T → LiveValue S) where
   -- if the calls can be counted, `Ok` is returned exactly when all turns were made and all calls succeeded
-  abbrev pub TellsAllTurns : {A E : Type 0} → Result A E → T → T → ℕ → Type 0
-  TellsAllTurns result old new turns =
-      HasRoomForTurns (at old) turns → (IsOk result ↔ AllWent (at old) (at new) turns)
+  abbrev pub SucceedsIffAllTurns : {A E : Type 0} → Result A E → T → T → ℕ → Type 0
+  SucceedsIffAllTurns result old new turns =
+      HasRoomForTurns (at old) turns → (IsOk result ↔ AllSucceeded (at old) (at new) turns)

@@ -2,7 +2,7 @@
 use Rattle.std.specs.Prelude.{◌≡◌, ◌≤◌, ◌+◌, ◌⊎◌, ⊤, IfSome, Option, ℕ, List, [], ◌∷◌, ◌++◌, length}
 use Rattle.std.specs.Io.KnownBytes.{Consumes}
 use Rattle.std.specs.List.{concat}
-use Rattle.byte_io.specs.Counts.{Made, NoneFailed, OneMoreFailed}
+use Rattle.byte_io.specs.Counts.{CallsMade, NoneFailed, OneMoreFailed}
 use Rattle.byte_io.specs.Limits.{max_read}
 use Rattle.gateway_loop.specs.Streams.{SourceValue}
 
@@ -18,24 +18,24 @@ AreReads left before [] = ⊤
 AreReads left before (bytes ∷ more) = IsRead left before bytes × AreReads left (before ++ bytes) more
 
 -- each of these is a read, and together they returned exactly what the source lost
-pub record Gave (old new : SourceValue) (reads : List (List ℕ)) : Type 0 where
+pub record GivesBytes (old new : SourceValue) (reads : List (List ℕ)) : Type 0 where
   pub all : Consumes old.left new.left (concat reads)
   pub each : AreReads old.left [] reads
 
 -- exactly this many reads were made, none failed, and they returned these bytes, split in some way
-pub record ReadsWell (old new : SourceValue) (reads : List (List ℕ)) : Type 0 where
-  pub gave : Gave old new reads
-  pub made : Made old.counts new.counts (length reads)
+pub record ReadsSucceed (old new : SourceValue) (reads : List (List ℕ)) : Type 0 where
+  pub gave : GivesBytes old new reads
+  pub made : CallsMade old.counts new.counts (length reads)
   pub well : NoneFailed old.counts new.counts
 
 -- one read more than these was made, and one failed
 pub record ReadsFail (old new : SourceValue) (reads : List (List ℕ)) : Type 0 where
-  pub gave : Gave old new reads
-  pub made : Made old.counts new.counts (length reads + 1)
+  pub gave : GivesBytes old new reads
+  pub made : CallsMade old.counts new.counts (length reads + 1)
   pub failed : OneMoreFailed old.counts new.counts
 
 -- at most this many reads were made; perhaps one failed, and returned nothing
 abbrev pub MakesReads : SourceValue → SourceValue → ℕ → Type 0
 MakesReads old new most =
-    (reads : List (List ℕ)) × ((ReadsWell old new reads × (length reads ≤ most))
+    (reads : List (List ℕ)) × ((ReadsSucceed old new reads × (length reads ≤ most))
     ⊎ (ReadsFail old new reads × (length reads + 1 ≤ most)))

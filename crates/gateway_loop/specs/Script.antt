@@ -7,17 +7,17 @@ use Rattle.std.specs.Str.Lines.{lines}
 use Rattle.hex.specs.Hex.{decode_of}
 use Rattle.hex.specs.declared.error.FromHexError.{FromHexError}
 use Rattle.actuator_commands.specs.Limits.{max_line}
-use Rattle.gateway_core.specs.Events.{Event, Piece, Line}
+use Rattle.gateway_core.specs.Events.{Event, Chunk, Line}
 
 -- the bytes that the digits of a line spell, or otherwise the line
-abbrev pub spelled : List ℕ → Result (List ℕ) FromHexError → Event
-spelled line (Ok bytes) = Piece bytes
-spelled line (Err fault) = Line line
+abbrev pub chunk_or_line : List ℕ → Result (List ℕ) FromHexError → Event
+chunk_or_line line (Ok bytes) = Chunk bytes
+chunk_or_line line (Err fault) = Line line
 
 -- `S`, one space and an even number of hexadecimal digits are a serial chunk, unless the line is too long
 abbrev pub event_of : List ℕ → Event
 event_of line =
-    if nat_le (length line) max_line && starts_with nat_eq line (codes "S ") then spelled line
+    if nat_le (length line) max_line && starts_with nat_eq line (codes "S ") then chunk_or_line line
     (decode_of (drop 2 line))
     else Line line
 
@@ -26,16 +26,16 @@ abbrev pub script : List ℕ → List Event
 script input = map event_of (lines input)
 
 -- it contains no LF
-abbrev pub IsOneLine : List ℕ → Type 0
-IsOneLine bytes = All (λ byte. byte ≢ 10) bytes
+abbrev pub HasNoLf : List ℕ → Type 0
+HasNoLf bytes = All (λ byte. byte ≢ 10) bytes
 
 -- a line, with LF after it
-abbrev pub with_end : List ℕ → List ℕ
-with_end line = line ++ 10 ∷ []
+abbrev pub with_lf : List ℕ → List ℕ
+with_lf line = line ++ 10 ∷ []
 
 -- `ended` is the input up to and including its last LF
-pub record HasEnded (input ended : List ℕ) : Type 0 where
+pub record IsUpToLastLf (input ended : List ℕ) : Type 0 where
   pub tail : List ℕ
   pub whole : input ≡ ended ++ tail
-  pub ends : (ended ≡ []) ⊎ ((front : List ℕ) × (ended ≡ with_end front))
-  pub one : IsOneLine tail
+  pub ends : (ended ≡ []) ⊎ ((front : List ℕ) × (ended ≡ with_lf front))
+  pub one : HasNoLf tail

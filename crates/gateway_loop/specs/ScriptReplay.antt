@@ -1,60 +1,60 @@
 -- What a replay reads, handles and writes.
 use Rattle.std.specs.Prelude.{◌≡◌, ◌↔◌, ◌⊎◌, ◌+◌, ◌-◌, ◌^◌, min, ℕ, Bool, List, length, Result, Err}
 use Rattle.std.specs.Io.KnownBytes.{Consumes, IsAtEnd}
-use Rattle.learned_devices.specs.Kept.{Kept}
-use Rattle.gateway_core.specs.Calls.{Value}
-use Rattle.gateway_core.specs.Events.{items_of}
-use Rattle.byte_io.specs.Counts.{HasRoom, OneEmpty, WentWell}
+use Rattle.learned_devices.specs.StoreState.{StoreState}
+use Rattle.gateway_core.specs.Calls.{GatewayValue}
+use Rattle.gateway_core.specs.Events.{inputs_of}
+use Rattle.byte_io.specs.Counts.{HasCountRoom, OneEmpty, NoneFailedOrEmpty}
 use Rattle.byte_io.specs.declared.sink.Sink as sinks
 use Rattle.byte_io.specs.declared.source.Source as sources
 use Rattle.gateway_loop.specs.declared.runs.RunFault.{RunFault}
 use Rattle.gateway_loop.specs.declared.runs.RunFault.TheVariants.{Read, Write, TooManyTurns}
 use Rattle.gateway_loop.specs.declared.runs.Summary.{Summary}
-use Rattle.gateway_loop.specs.Played.{Plays, PlaysEnded, PlaysPartAtEnd, PlaysPartAtLine}
+use Rattle.gateway_loop.specs.Processing.{Processes, ProcessesEnded, BreaksAtLastEvent, BreaksAtLastLine}
 use Rattle.gateway_loop.specs.Script.{script}
 use Rattle.gateway_loop.specs.Streams.{SinkValue, SourceValue, sink_value, source_value}
 use Rattle.gateway_loop.specs.Written.{WritesAll, WritesPart}
 
 -- the state of a replay
 pub record ReplayValue (S : Type 0) : Type 0 where
-  pub gateway : Value S
+  pub gateway : GatewayValue S
   pub source : SourceValue
   pub sink : SinkValue
 
-abbrev pub replay_at : {R W S : Type 0} → sources.Ghosts R → sinks.Ghosts W → Value S × R × W → ReplayValue S
+abbrev pub replay_at : {R W S : Type 0} → sources.Ghosts R → sinks.Ghosts W → GatewayValue S × R × W → ReplayValue S
 replay_at source sink now =
     record { gateway = now.0; source = source_value source now.1; sink = sink_value sink now.2 }
 
 -- Below, `at` is the state of the replay before and after the call, and `explains` whether packets are explained.
-module _ {S T : Type 0} (stored : S → Kept) (at : T → ReplayValue S) (explains : Bool) where
+module _ {S T : Type 0} (stored : S → StoreState) (at : T → ReplayValue S) (explains : Bool) where
   -- the source was read to its end, exactly the inputs of the script were handled and counted, and the text of their
   -- answers was written
   pub record Replays (old new : T) (summary : Summary) : Type 0 where
     pub input : List ℕ
     pub read : Consumes (at old).source.left (at new).source.left input
     pub at_end : IsAtEnd (at new).source.left
-    pub played : Plays stored (at old).gateway (at new).gateway (script input)
+    pub processed : Processes stored (at old).gateway (at new).gateway (script input)
         (WritesAll explains (at old).sink.held (at new).sink.held)
-    pub counted : summary.items ≡ min (length (items_of (at old).gateway.rest (script input))) (2 ^ 64 - 1)
+    pub counted : summary.items ≡ min (length (inputs_of (at old).gateway.rest (script input))) (2 ^ 64 - 1)
 
   -- the lines that LF ends in what was read were replayed
   pub record ReplaysEnded (old new : T) : Type 0 where
     pub input : List ℕ
     pub read : Consumes (at old).source.left (at new).source.left input
-    pub played : PlaysEnded stored (at old).gateway (at new).gateway input
+    pub processed : ProcessesEnded stored (at old).gateway (at new).gateway input
         (WritesAll explains (at old).sink.held (at new).sink.held)
 
   -- a write failed at a line that LF ends in what was read, and all reads returned something
   pub record BreaksAtLine (old new : T) (input : List ℕ) : Type 0 where
-    pub reads : WentWell (at old).source.counts (at new).source.counts
-    pub broken : PlaysPartAtLine stored (at old).gateway (at new).gateway input
+    pub reads : NoneFailedOrEmpty (at old).source.counts (at new).source.counts
+    pub broken : BreaksAtLastLine stored (at old).gateway (at new).gateway input
         (WritesPart explains (at old).sink.held (at new).sink.held)
 
   -- a write failed at the last event of the script, and one read returned nothing
   pub record BreaksAtEnd (old new : T) (input : List ℕ) : Type 0 where
     pub reads : OneEmpty (at old).source.counts (at new).source.counts
     pub at_end : IsAtEnd (at new).source.left
-    pub broken : PlaysPartAtEnd stored (at old).gateway (at new).gateway (script input)
+    pub broken : BreaksAtLastEvent stored (at old).gateway (at new).gateway (script input)
         (WritesPart explains (at old).sink.held (at new).sink.held)
 
   -- a write failed
@@ -72,8 +72,9 @@ module _ {S T : Type 0} (stored : S → Kept) (at : T → ReplayValue S) (explai
 module _ {S T : Type 0} (at : T → ReplayValue S) where
   -- If the calls can be counted, `TooManyTurns` is returned exactly when this many reads were made and all calls
   -- succeeded.
-  abbrev pub TellsTooManyTurns : {A : Type 0} → Result A RunFault → T → T → ℕ → Type 0
-  TellsTooManyTurns result old new turns =
-      HasRoom (at old).source.counts turns → HasRoom (at old).sink.counts 0
+  abbrev pub FailsIffTooManyTurns : {A : Type 0} → Result A RunFault → T → T → ℕ → Type 0
+  FailsIffTooManyTurns result old new turns =
+      HasCountRoom (at old).source.counts turns → HasCountRoom (at old).sink.counts 0
       → ((result ≡ Err TooManyTurns) ↔ (((at new).source.counts.calls ≡ (at old).source.counts.calls + turns)
-      × WentWell (at old).source.counts (at new).source.counts × WentWell (at old).sink.counts (at new).sink.counts))
+      × NoneFailedOrEmpty (at old).source.counts (at new).source.counts
+      × NoneFailedOrEmpty (at old).sink.counts (at new).sink.counts))

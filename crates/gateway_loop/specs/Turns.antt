@@ -2,19 +2,19 @@
 use Rattle.std.specs.Prelude.{◌-◌, ◌==◌, ℕ, List, [], ◌∷◌, ◌++◌, length, take, drop, map}
 use Rattle.std.specs.List.{slice_split}
 use Rattle.std.specs.Str.Lines.{strip_carriage_return}
-use Rattle.gateway_core.specs.Events.{Event, Piece, Line}
+use Rattle.gateway_core.specs.Events.{Event, Chunk, Line}
 
 -- what one turn read of the serial line, and then of the desk
 pub record Turn : Type 0 where
-  pub piece : List ℕ
+  pub chunk : List ℕ
   pub desk : List ℕ
 
 -- the reads of turns: of the serial line, and of the desk
-abbrev pub pieces : List Turn → List (List ℕ)
-pieces turns = map (λ turn. turn.piece) turns
+abbrev pub serial_reads : List Turn → List (List ℕ)
+serial_reads turns = map (λ turn. turn.chunk) turns
 
-abbrev pub desks : List Turn → List (List ℕ)
-desks turns = map (λ turn. turn.desk) turns
+abbrev pub desk_reads : List Turn → List (List ℕ)
+desk_reads turns = map (λ turn. turn.desk) turns
 
 -- the bytes before each LF, from the LF before it
 abbrev pub ended_lines : List ℕ → List (List ℕ)
@@ -27,11 +27,11 @@ orders bytes = map (λ line. Line (strip_carriage_return line)) (ended_lines byt
 
 -- For each turn its chunk, and then the orders that its desk bytes complete: those in the desk's bytes so far, without
 -- those in the bytes before the turn.
-abbrev pub events_behind : List ℕ → List Turn → List Event
-events_behind before [] = []
-events_behind before (turn ∷ turns) =
+abbrev pub events_after : List ℕ → List Turn → List Event
+events_after before [] = []
+events_after before (turn ∷ turns) =
     let now = before ++ turn.desk in
-    Piece turn.piece ∷ (drop (length (orders before)) (orders now) ++ events_behind now turns)
+    Chunk turn.chunk ∷ (drop (length (orders before)) (orders now) ++ events_after now turns)
 
 abbrev pub events_of_turns : List Turn → List Event
-events_of_turns turns = events_behind [] turns
+events_of_turns turns = events_after [] turns

@@ -7,9 +7,9 @@ use Rattle.gateway_core.specs.Step.{Answer}
 use Rattle.byte_io.specs.Writes.{AppendsPart}
 use Rattle.byte_io.specs.declared.sink.Sink as sinks
 use Rattle.gateway_loop.specs.declared.replay_text.ReplayText.{ReplayText}
-use Rattle.gateway_loop.specs.Outlets.{Way, flagged, way_by}
+use Rattle.gateway_loop.specs.OutputSpecs.{OutputSpec, output_by_flag, output_by_view}
 use Rattle.gateway_loop.specs.Streams.{sink_value}
-use Rattle.gateway_loop.specs.TextWay.{text_way}
+use Rattle.gateway_loop.specs.TextOutput.{text_output}
 
 -- the radio bytes as a serial chunk, if there are any
 abbrev pub radio_text : Option (List ℕ) → List ℕ
@@ -35,7 +35,7 @@ abbrev pub WritesPart : Bool → Option (List ℕ) → Option (List ℕ) → Lis
 WritesPart explains held now answers last = AppendsPart held now (written explains answers) (text_of explains last)
 
 -- the text of each answer goes to the sink
-abbrev pub way_of_text : {W : Type 0} → sinks.Ghosts W → Way (ReplayText W)
-way_of_text {W} sink =
-    way_by {O = ReplayText W} (λ out. (out.explains, sink_value sink out.sink.now))
-    (flagged (λ explains. text_way (text_of explains)))
+abbrev pub replay_output : {W : Type 0} → sinks.Ghosts W → OutputSpec (ReplayText W)
+replay_output {W} sink =
+    output_by_view {O = ReplayText W} (λ out. (out.explains, sink_value sink out.sink.now))
+    (output_by_flag (λ explains. text_output (text_of explains)))

@@ -1,9 +1,9 @@
 //! The text of a reply for the desk.
 ghost use Rattle.std.specs.Option.{option_copied};
-ghost use Rattle.byte_io.specs.Counts.{Went};
+ghost use Rattle.byte_io.specs.Counts.{CallsMatchResult};
 ghost use Rattle.byte_io.specs.Writes.{Writes};
 ghost use Rattle.gateway_core.specs.Replies.{answer_of};
-ghost use Rattle.gateway_core.specs.Step.{explaining};
+ghost use Rattle.gateway_core.specs.Step.{with_packet_line};
 ghost use Rattle.gateway_loop.specs.Written.{desk_text};
 
 use byte_io::{Failed, Sink, write_text};
@@ -19,8 +19,8 @@ pub fn write_desk_text<W: Sink>(
     reply: &Reply,
 ) -> Result<(), Failed>
     ensures written { Writes (W.held writer.old) (W.held writer.new) result
-        (desk_text explains (explaining (option_copied line.entry) (answer_of reply.now))) }
-    ensures told { Went result (W.counts writer.old) (W.counts writer.new) }
+        (desk_text explains (with_packet_line (option_copied line.entry) (answer_of reply.now))) }
+    ensures told { CallsMatchResult result (W.counts writer.old) (W.counts writer.new) }
 {
     if explains {
         if let Some(line) = line {

@@ -3,17 +3,17 @@
 
 mod desk_text;
 mod digits;
-mod engine;
+mod driver;
 pub mod laws;
 mod limits;
 mod line_loop;
 mod live_gateway;
-mod outlet;
+mod live_outputs;
+mod partial_line;
 mod replay_text;
+mod reply_sink;
 mod runs;
 mod script_replay;
-mod unended_line;
-mod wires;
 
 pub use limits::MAX_READ;
 pub use live_gateway::live;

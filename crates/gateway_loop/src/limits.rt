@@ -6,8 +6,8 @@ pub const MAX_READ: usize = 256;
 
 /// The maximum number of bytes that a line of a script spells: two digits each, after `S` and a space. Own choice, like
 /// `MAX_LINE`.
-pub(crate) const MAX_PIECE: usize = (MAX_LINE - 2) / 2;
+pub(crate) const MAX_CHUNK: usize = (MAX_LINE - 2) / 2;
 
 /// The maximum number of bytes kept of a partial line: enough, with CR, to distinguish each line of at most `MAX_LINE`
 /// bytes from all longer ones, which are treated alike. Own choice, like `MAX_LINE`.
-pub(crate) const MAX_KEPT: usize = MAX_LINE + 2;
+pub(crate) const MAX_PARTIAL_LINE: usize = MAX_LINE + 2;

@@ -1,15 +1,15 @@
 //! The loop over the lines of a script or of the desk, as their bytes arrive.
 ghost use Rattle.std.specs.Prelude.{◌≡◌, [], ◌++◌, ℕ, List, OnOk, OnErr};
 ghost use Rattle.std.specs.Str.Lines.{strip_carriage_return};
-ghost use Rattle.gateway_loop.specs.private.EngineSteps.{TakesOrBreaks, TakesOrStops};
+ghost use Rattle.gateway_loop.specs.private.DriverSteps.{TakesOrBreaks, TakesOrStops};
 ghost use Rattle.gateway_loop.specs.private.LineLoop.{StopsAtLine, TakesBytes};
-ghost use Rattle.gateway_loop.specs.private.Lines.{Keeps, event_by};
-ghost use Rattle.gateway_loop.specs.Played.{IsIdle};
+ghost use Rattle.gateway_loop.specs.private.Lines.{KeepsPartialLine, event_by};
+ghost use Rattle.gateway_loop.specs.Processing.{IsDrained};
 ghost use Rattle.gateway_loop.specs.Script.{script};
 
-use crate::engine::Engine;
-use crate::outlet::Outlet;
-use crate::unended_line::UnendedLine;
+use crate::driver::Driver;
+use crate::partial_line::PartialLine;
+use crate::reply_sink::ReplySink;
 use byte_io::Failed;
 use gateway_core::DeviceStore;
 use memchr::memchr;
@@ -18,77 +18,77 @@ use memchr::memchr;
 #[derive(Clone, Copy)]
 pub enum Lines {
     /// Lines of a script: serial chunks and orders.
-    OfScript,
+    ScriptLines,
     /// Lines of the desk: orders.
-    OfDesk,
+    DeskLines,
 }
 
-/// An `Engine`, and the partial line so far.
+/// An `Driver`, and the partial line so far.
 #[derive(Drop)]
-pub struct Player<'g, O, S: DeviceStore> {
-    pub engine: Engine<'g, O, S>,
-    pub unended: UnendedLine,
+pub struct LineDispatcher<'g, O, S: DeviceStore> {
+    pub driver: Driver<'g, O, S>,
+    pub partial: PartialLine,
 }
 
 // In the postconditions below `tail` is everything read so far of the partial line.
-impl<O: Outlet, S: DeviceStore> Player<'_, O, S> {
+impl<O: ReplySink, S: DeviceStore> LineDispatcher<'_, O, S> {
     /// Takes the next bytes, and so each line that ends in them.
     pub fn take_bytes(&mut self, lines: Lines, bytes: &[u8]) -> Result<(), Failed>
-        requires { IsIdle self.old.engine.gateway.now }
-        ensures gateway { self.new.engine.gateway.ghost_name ≡ self.old.engine.gateway.ghost_name }
-        ensures loans { O.loans self.new.engine.outlet ≡ O.loans self.old.engine.outlet }
-        ensures idle { OnOk result (IsIdle self.new.engine.gateway.now) }
-        ensures taken { OnOk result ((tail : List ℕ) → Keeps tail self.old.unended →
-            TakesBytes S.kept O.way lines self.old self.new (tail ++ bytes.now)) }
-        ensures stopped { OnErr result ((tail : List ℕ) → Keeps tail self.old.unended →
-            StopsAtLine S.kept O.way lines self.old self.new (tail ++ bytes.now)) }
+        requires { IsDrained self.old.driver.gateway.now }
+        ensures gateway { self.new.driver.gateway.ghost_name ≡ self.old.driver.gateway.ghost_name }
+        ensures loans { O.loans self.new.driver.reply_sink ≡ O.loans self.old.driver.reply_sink }
+        ensures idle { OnOk result (IsDrained self.new.driver.gateway.now) }
+        ensures taken { OnOk result ((tail : List ℕ) → KeepsPartialLine tail self.old.partial →
+            TakesBytes S.store_state O.output lines self.old self.new (tail ++ bytes.now)) }
+        ensures stopped { OnErr result ((tail : List ℕ) → KeepsPartialLine tail self.old.partial →
+            StopsAtLine S.store_state O.output lines self.old self.new (tail ++ bytes.now)) }
     {
         // The proof needs that the count is a `u64`.
-        let _start = self.engine.items;
+        let _start = self.driver.items;
         let mut rest = bytes;
         while let Some(end) = memchr(b'\n', rest) {
             self.take_ended(lines, &rest[..end])?;
             rest = &rest[end + 1..];
         }
-        self.unended.extend(rest);
+        self.partial.extend(rest);
         Ok(())
     }
 
     /// Takes the line that LF ends after these bytes.
     fn take_ended(&mut self, lines: Lines, bytes: &[u8]) -> Result<(), Failed>
-        requires { IsIdle self.old.engine.gateway.now }
-        ensures gateway { self.new.engine.gateway.ghost_name ≡ self.old.engine.gateway.ghost_name }
-        ensures loans { O.loans self.new.engine.outlet ≡ O.loans self.old.engine.outlet }
-        ensures idle { OnOk result (IsIdle self.new.engine.gateway.now) }
-        ensures emptied { OnOk result (self.new.unended ≡ []) }
-        ensures taken { (tail : List ℕ) → Keeps tail self.old.unended →
-            TakesOrBreaks S.kept O.way result self.old.engine self.new.engine
+        requires { IsDrained self.old.driver.gateway.now }
+        ensures gateway { self.new.driver.gateway.ghost_name ≡ self.old.driver.gateway.ghost_name }
+        ensures loans { O.loans self.new.driver.reply_sink ≡ O.loans self.old.driver.reply_sink }
+        ensures idle { OnOk result (IsDrained self.new.driver.gateway.now) }
+        ensures emptied { OnOk result (self.new.partial ≡ []) }
+        ensures taken { (tail : List ℕ) → KeepsPartialLine tail self.old.partial →
+            TakesOrBreaks S.store_state O.output result self.old.driver self.new.driver
             (event_by lines (strip_carriage_return (tail ++ bytes.now))) }
     {
-        if self.unended.as_slice().is_empty() {
-            return take_line(&mut self.engine, lines, strip(bytes));
+        if self.partial.as_slice().is_empty() {
+            return take_line(&mut self.driver, lines, strip(bytes));
         }
-        self.unended.extend(bytes);
-        take_line(&mut self.engine, lines, strip(self.unended.as_slice()))?;
-        self.unended.clear();
+        self.partial.extend(bytes);
+        take_line(&mut self.driver, lines, strip(self.partial.as_slice()))?;
+        self.partial.clear();
         Ok(())
     }
 
     /// Takes the line that the end of a script ends, if there is one.
     pub fn take_last(&mut self) -> Result<(), Failed>
-        requires { IsIdle self.old.engine.gateway.now }
-        ensures gateway { self.new.engine.gateway.ghost_name ≡ self.old.engine.gateway.ghost_name }
-        ensures loans { O.loans self.new.engine.outlet ≡ O.loans self.old.engine.outlet }
-        ensures taken { (tail : List ℕ) → Keeps tail self.old.unended →
-            TakesOrStops S.kept O.way result self.old.engine self.new.engine (script tail) }
+        requires { IsDrained self.old.driver.gateway.now }
+        ensures gateway { self.new.driver.gateway.ghost_name ≡ self.old.driver.gateway.ghost_name }
+        ensures loans { O.loans self.new.driver.reply_sink ≡ O.loans self.old.driver.reply_sink }
+        ensures taken { (tail : List ℕ) → KeepsPartialLine tail self.old.partial →
+            TakesOrStops S.store_state O.output result self.old.driver self.new.driver (script tail) }
     {
         // The proof needs that the count is a `u64`.
-        let _start = self.engine.items;
-        let line = self.unended.as_slice();
+        let _start = self.driver.items;
+        let line = self.partial.as_slice();
         if line.is_empty() {
             return Ok(());
         }
-        self.engine.take_script_line(line)
+        self.driver.take_script_line(line)
     }
 }
 
@@ -103,18 +103,18 @@ fn strip(line: &[u8]) -> &[u8]
 }
 
 /// Takes a line without its end.
-fn take_line<O: Outlet, S: DeviceStore>(
-    engine: &mut Engine<'_, O, S>,
+fn take_line<O: ReplySink, S: DeviceStore>(
+    driver: &mut Driver<'_, O, S>,
     lines: Lines,
     line: &[u8],
 ) -> Result<(), Failed>
-    requires { IsIdle engine.old.gateway.now }
-    ensures gateway { engine.new.gateway.ghost_name ≡ engine.old.gateway.ghost_name }
-    ensures loans { O.loans engine.new.outlet ≡ O.loans engine.old.outlet }
-    ensures taken { TakesOrBreaks S.kept O.way result engine.old engine.new (event_by lines line.now) }
+    requires { IsDrained driver.old.gateway.now }
+    ensures gateway { driver.new.gateway.ghost_name ≡ driver.old.gateway.ghost_name }
+    ensures loans { O.loans driver.new.reply_sink ≡ O.loans driver.old.reply_sink }
+    ensures taken { TakesOrBreaks S.store_state O.output result driver.old driver.new (event_by lines line.now) }
 {
     match lines {
-        Lines::OfScript => engine.take_script_line(line),
-        Lines::OfDesk => engine.take_order(line),
+        Lines::ScriptLines => driver.take_script_line(line),
+        Lines::DeskLines => driver.take_order(line),
     }
 }

@@ -1,15 +1,15 @@
 //! The loop of a live gateway: serves a serial line and a desk.
 ghost use Rattle.std.specs.Prelude.{◌≡◌, ◌+◌, ◌≤◌, ℕ, [], IfErr, IfOk};
-ghost use Rattle.byte_io.specs.Counts.{Made};
+ghost use Rattle.byte_io.specs.Counts.{CallsMade};
 ghost use Rattle.gateway_loop.specs.Headline.{ServesAsSpecified};
-ghost use Rattle.gateway_loop.specs.LiveGateway.{Serves, ServesUntil, TellsAllTurns, live_at};
+ghost use Rattle.gateway_loop.specs.LiveGateway.{Serves, ServesUntil, SucceedsIffAllTurns, live_at};
 
-use crate::engine::Engine;
+use crate::driver::Driver;
 use crate::limits::MAX_READ;
-use crate::line_loop::{Lines, Player};
+use crate::line_loop::{LineDispatcher, Lines};
+use crate::live_outputs::LiveOutputs;
+use crate::partial_line::PartialLine;
 use crate::runs::{RunFault, Summary};
-use crate::unended_line::UnendedLine;
-use crate::wires::Wires;
 use byte_io::{Sink, Source};
 use gateway_core::{DeviceStore, GatewayOver};
 
@@ -35,31 +35,31 @@ pub fn live<P: Source, Q: Source, R: Sink, D: Sink, S: DeviceStore>(
 ) -> Result<Summary, RunFault>
     requires { gateway.old.ready ≡ [] }
     // The headline, for a new gateway, and for readers and writers whose bytes are known.
-    ensures as_specified { ServesAsSpecified S.kept P.Source Q.Source R.Sink D.Sink explains result
+    ensures as_specified { ServesAsSpecified S.store_state P.Source Q.Source R.Sink D.Sink explains result
         (gateway.old, serial_in.old, desk_in.old, serial_out.old, desk_out.old)
         (gateway.new, serial_in.new, desk_in.new, serial_out.new, desk_out.new) turns }
 
     // What is read, handled and written.
-    ensures ok { IfOk result (Serves S.kept (live_at P.Source Q.Source R.Sink D.Sink) explains
+    ensures ok { IfOk result (Serves S.store_state (live_at P.Source Q.Source R.Sink D.Sink) explains
         (gateway.old, serial_in.old, desk_in.old, serial_out.old, desk_out.old)
         (gateway.new, serial_in.new, desk_in.new, serial_out.new, desk_out.new) turns) }
-    ensures err { IfErr result (ServesUntil S.kept (live_at P.Source Q.Source R.Sink D.Sink) explains
+    ensures err { IfErr result (ServesUntil S.store_state (live_at P.Source Q.Source R.Sink D.Sink) explains
         (gateway.old, serial_in.old, desk_in.old, serial_out.old, desk_out.old)
         (gateway.new, serial_in.new, desk_in.new, serial_out.new, desk_out.new)) }
 
     // How many reads are made, and when all turns are.
     ensures reads { (n m : ℕ) × (n ≤ turns) × (m ≤ n) × (n ≤ m + 1)
-        × Made (P.counts serial_in.old) (P.counts serial_in.new) n
-        × Made (Q.counts desk_in.old) (Q.counts desk_in.new) m }
-    ensures whole { TellsAllTurns (live_at P.Source Q.Source R.Sink D.Sink) result
+        × CallsMade (P.counts serial_in.old) (P.counts serial_in.new) n
+        × CallsMade (Q.counts desk_in.old) (Q.counts desk_in.new) m }
+    ensures whole { SucceedsIffAllTurns (live_at P.Source Q.Source R.Sink D.Sink) result
         (gateway.old, serial_in.old, desk_in.old, serial_out.old, desk_out.old)
         (gateway.new, serial_in.new, desk_in.new, serial_out.new, desk_out.new) turns }
 {
     let is_ready = gateway.is_ready();
     prove!(!is_ready);
-    let mut player = Player {
-        engine: Engine {
-            outlet: Wires {
+    let mut dispatcher = LineDispatcher {
+        driver: Driver {
+            reply_sink: LiveOutputs {
                 serial: serial_out,
                 desk: desk_out,
                 explains,
@@ -67,24 +67,24 @@ pub fn live<P: Source, Q: Source, R: Sink, D: Sink, S: DeviceStore>(
             gateway,
             items: 0,
         },
-        unended: UnendedLine::new(),
+        partial: PartialLine::new(),
     };
     for _turn in 0..turns {
         let mut buffer = [0u8; MAX_READ];
         let Ok(length) = serial_in.read(&mut buffer) else {
             return Err(RunFault::Read);
         };
-        let Ok(()) = player.engine.take_piece(&buffer[..length]) else {
+        let Ok(()) = dispatcher.driver.take_chunk(&buffer[..length]) else {
             return Err(RunFault::Write);
         };
         let Ok(length) = desk_in.read(&mut buffer) else {
             return Err(RunFault::Read);
         };
-        let Ok(()) = player.take_bytes(Lines::OfDesk, &buffer[..length]) else {
+        let Ok(()) = dispatcher.take_bytes(Lines::DeskLines, &buffer[..length]) else {
             return Err(RunFault::Write);
         };
     }
     Ok(Summary {
-        items: player.engine.items,
+        items: dispatcher.driver.items,
     })
 }

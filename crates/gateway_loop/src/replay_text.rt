@@ -1,11 +1,11 @@
 //! The output of a replay: replies as text in one sink.
 ghost use Rattle.std.specs.Prelude.{[], ◌∷◌, ◌≤◌, Some, length};
-ghost use Rattle.byte_io.specs.Counts.{Went};
+ghost use Rattle.byte_io.specs.Counts.{CallsMatchResult};
 ghost use Rattle.byte_io.specs.Writes.{Writes};
-ghost use Rattle.gateway_loop.specs.Written.{radio_text, way_of_text};
+ghost use Rattle.gateway_loop.specs.Written.{radio_text, replay_output};
 
 use crate::desk_text::write_desk_text;
-use crate::outlet::Outlet;
+use crate::reply_sink::ReplySink;
 use byte_io::{Failed, Sink, write_text};
 use gateway_core::Reply;
 use json_lines::PacketLine;
@@ -19,24 +19,24 @@ pub struct ReplayText<'w, W> {
     pub explains: bool,
 }
 
-impl<W: Sink> Outlet for ReplayText<'_, W> {
-    ghost way = { way_of_text W.Sink };
+impl<W: Sink> ReplySink for ReplayText<'_, W> {
+    ghost output = { replay_output W.Sink };
 
     ghost loans = { λ text. text.sink.ghost_name ∷ [] };
 
     fn put(&mut self, line: Option<&PacketLine>, reply: &Reply) -> Result<(), Failed> {
         if let Some(bytes) = &reply.radio {
-            write_piece(self.sink, bytes.as_slice())?;
+            write_chunk(self.sink, bytes.as_slice())?;
         }
         write_desk_text(self.sink, self.explains, line, reply)
     }
 }
 
 /// Writes bytes as a serial chunk: `S` and a space, hexadecimal digits, LF.
-fn write_piece<W: Sink>(writer: &mut W, bytes: &[u8]) -> Result<(), Failed>
+fn write_chunk<W: Sink>(writer: &mut W, bytes: &[u8]) -> Result<(), Failed>
     requires { length bytes.now ≤ 64 }
     ensures written { Writes (W.held writer.old) (W.held writer.new) result (radio_text (Some bytes.now)) }
-    ensures told { Went result (W.counts writer.old) (W.counts writer.new) }
+    ensures told { CallsMatchResult result (W.counts writer.old) (W.counts writer.new) }
 {
     let mut buffer = [0u8; 128];
     let digits = &mut buffer[..2 * bytes.len()];

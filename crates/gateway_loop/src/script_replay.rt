@@ -1,18 +1,18 @@
 //! The loop that replays a script.
 ghost use Rattle.std.specs.Prelude.{◌≡◌, Err, [], IfErr, IfOk, OnOk};
-ghost use Rattle.byte_io.specs.Counts.{OneEmpty, OneFailed, WentWell};
-ghost use Rattle.gateway_loop.specs.CallCounts.{OneWrong, WellOrEnded};
+ghost use Rattle.byte_io.specs.Counts.{OneEmpty, OneFailed, NoneFailedOrEmpty};
+ghost use Rattle.gateway_loop.specs.CallCounts.{OneFailedOrEmpty, AtMostOneEmpty};
 ghost use Rattle.gateway_loop.specs.Headline.{ReplaysAsSpecified};
 ghost use Rattle.gateway_loop.specs.Reads.{MakesReads};
-ghost use Rattle.gateway_loop.specs.ScriptReplay.{Replays, ReplaysUntil, TellsTooManyTurns, replay_at};
+ghost use Rattle.gateway_loop.specs.ScriptReplay.{Replays, ReplaysUntil, FailsIffTooManyTurns, replay_at};
 ghost use Rattle.gateway_loop.specs.Streams.{source_value};
 
-use crate::engine::Engine;
+use crate::driver::Driver;
 use crate::limits::MAX_READ;
-use crate::line_loop::{Lines, Player};
+use crate::line_loop::{LineDispatcher, Lines};
+use crate::partial_line::PartialLine;
 use crate::replay_text::ReplayText;
 use crate::runs::{RunFault, Summary};
-use crate::unended_line::UnendedLine;
 use byte_io::{Sink, Source};
 use gateway_core::{DeviceStore, GatewayOver};
 
@@ -37,38 +37,38 @@ pub fn replay<R: Source, W: Sink, S: DeviceStore>(
 ) -> Result<Summary, RunFault>
     requires { gateway.old.ready ≡ [] }
     // The headline, for a new gateway, and for a reader and a writer whose bytes are known.
-    ensures as_specified { ReplaysAsSpecified S.kept R.Source W.Sink explains result
+    ensures as_specified { ReplaysAsSpecified S.store_state R.Source W.Sink explains result
         (gateway.old, reader.old, writer.old) (gateway.new, reader.new, writer.new) }
 
     // What is read, handled and written.
-    ensures ok { IfOk result (Replays S.kept (replay_at R.Source W.Sink) explains
+    ensures ok { IfOk result (Replays S.store_state (replay_at R.Source W.Sink) explains
         (gateway.old, reader.old, writer.old) (gateway.new, reader.new, writer.new)) }
-    ensures err { IfErr result (ReplaysUntil S.kept (replay_at R.Source W.Sink) explains
+    ensures err { IfErr result (ReplaysUntil S.store_state (replay_at R.Source W.Sink) explains
         (gateway.old, reader.old, writer.old) (gateway.new, reader.new, writer.new)) }
 
     // How the reads and the writes went.
     ensures reads { MakesReads (source_value R.Source reader.old) (source_value R.Source reader.new) turns }
     ensures ended { OnOk result (OneEmpty (R.counts reader.old) (R.counts reader.new)
-        × WentWell (W.counts writer.old) (W.counts writer.new)) }
+        × NoneFailedOrEmpty (W.counts writer.old) (W.counts writer.new)) }
     ensures read { result ≡ Err RunFault.Read → OneFailed (R.counts reader.old) (R.counts reader.new)
-        × WentWell (W.counts writer.old) (W.counts writer.new) }
-    ensures write { result ≡ Err RunFault.Write → WellOrEnded (R.counts reader.old) (R.counts reader.new)
-        × OneWrong (W.counts writer.old) (W.counts writer.new) }
-    ensures too_many { TellsTooManyTurns (replay_at R.Source W.Sink) result (gateway.old, reader.old, writer.old)
+        × NoneFailedOrEmpty (W.counts writer.old) (W.counts writer.new) }
+    ensures write { result ≡ Err RunFault.Write → AtMostOneEmpty (R.counts reader.old) (R.counts reader.new)
+        × OneFailedOrEmpty (W.counts writer.old) (W.counts writer.new) }
+    ensures too_many { FailsIffTooManyTurns (replay_at R.Source W.Sink) result (gateway.old, reader.old, writer.old)
         (gateway.new, reader.new, writer.new) turns }
 {
     let is_ready = gateway.is_ready();
     prove!(!is_ready);
-    let mut player = Player {
-        engine: Engine {
-            outlet: ReplayText {
+    let mut dispatcher = LineDispatcher {
+        driver: Driver {
+            reply_sink: ReplayText {
                 sink: writer,
                 explains,
             },
             gateway,
             items: 0,
         },
-        unended: UnendedLine::new(),
+        partial: PartialLine::new(),
     };
     for _turn in 0..turns {
         let mut buffer = [0u8; MAX_READ];
@@ -77,14 +77,14 @@ pub fn replay<R: Source, W: Sink, S: DeviceStore>(
             Err(_) => return Err(RunFault::Read),
         };
         if length == 0 {
-            let Ok(()) = player.take_last() else {
+            let Ok(()) = dispatcher.take_last() else {
                 return Err(RunFault::Write);
             };
             return Ok(Summary {
-                items: player.engine.items,
+                items: dispatcher.driver.items,
             });
         }
-        let Ok(()) = player.take_bytes(Lines::OfScript, &buffer[..length]) else {
+        let Ok(()) = dispatcher.take_bytes(Lines::ScriptLines, &buffer[..length]) else {
             return Err(RunFault::Write);
         };
     }

@@ -7,10 +7,10 @@ use Rattle.clap.specs.declared.error.Error.{Error}
 use Rattle.clap.specs.declared.error.ErrorKind.{ErrorKind}
 use Rattle.clap.specs.declared.error.ErrorKind.TheVariants.{DisplayHelp, DisplayVersion, OutOfMemory}
 use Rattle.sqlite.specs.declared.error.Error.{Error as StoreError}
-use Rattle.gateway_cli.specs.declared.Refused.{Refused}
-use Rattle.gateway_cli.specs.declared.Refused.TheVariants as refused
+use Rattle.gateway_cli.specs.declared.CommandLineFault.{CommandLineFault}
+use Rattle.gateway_cli.specs.declared.CommandLineFault.TheVariants as refused
 use Rattle.gateway_main.specs.declared.ending.Ending.{Ending}
-use Rattle.gateway_main.specs.declared.ending.Ending.TheVariants.{Failed, NotText, BadBase, Said}
+use Rattle.gateway_main.specs.declared.ending.Ending.TheVariants.{Failed, NotText, BadBase, ClapOutput}
 use Rattle.gateway_main.specs.declared.fault.Fault.{Fault}
 use Rattle.gateway_main.specs.declared.fault.Fault.TheVariants.{Memory}
 use Rattle.gateway_loop.specs.declared.runs.RunFault.{RunFault}
@@ -24,19 +24,19 @@ ending_of_arguments _ = NotText
 
 abbrev pub ending_of_words : ErrorKind → Error → Ending
 ending_of_words OutOfMemory error = Failed Memory
-ending_of_words _ error = Said error
+ending_of_words _ error = ClapOutput error
 
 -- if the command line is rejected
-abbrev pub ending_of_line : Refused → Ending
+abbrev pub ending_of_line : CommandLineFault → Ending
 ending_of_line refused.BadBase = BadBase
 ending_of_line (refused.Words error) = ending_of_words (kind_of error) error
 
 -- the fault for which nothing ran, otherwise that of the run, otherwise that of closing its database
-abbrev pub done_of : {A : Type 0} → Result (Result Summary RunFault) Fault → Result A StoreError → Result A Fault
-done_of (Err fault) closed = Err fault
-done_of (Ok (Err stopped)) closed = Err (fault_of_run stopped)
-done_of (Ok (Ok summary)) (Err error) = Err (fault_of_store error)
-done_of (Ok (Ok summary)) (Ok closed) = Ok closed
+abbrev pub first_fault_of : {A : Type 0} → Result (Result Summary RunFault) Fault → Result A StoreError → Result A Fault
+first_fault_of (Err fault) closed = Err fault
+first_fault_of (Ok (Err stopped)) closed = Err (fault_of_run stopped)
+first_fault_of (Ok (Ok summary)) (Err error) = Err (fault_of_store error)
+first_fault_of (Ok (Ok summary)) (Ok closed) = Ok closed
 
 -- 0 for help and the version; 2 for a command line that is rejected
 abbrev pub status_of_kind : ErrorKind → ℕ
@@ -50,4 +50,4 @@ status_of (Ok done) = 0
 status_of (Err (Failed fault)) = 1
 status_of (Err NotText) = 2
 status_of (Err BadBase) = 2
-status_of (Err (Said error)) = status_of_kind (kind_of error)
+status_of (Err (ClapOutput error)) = status_of_kind (kind_of error)

@@ -1,4 +1,4 @@
 pub mod Faults
 pub mod Endings
 pub mod Started
-pub mod Lived
+pub mod SessionRuns

@@ -1,12 +1,12 @@
--- How a gateway's execution begins, and why a start fails.
+-- How a gateway's session begins, and why a start fails.
 use Rattle.std.specs.Prelude.{◌≡◌, ℕ, ⊤}
 use Rattle.sqlite.specs.State.{State}
 use Rattle.learned_devices.specs.Devices.{Devices}
-use Rattle.device_registry.specs.Holding.{AreRegistries, Finds, kept_by}
+use Rattle.device_registry.specs.Holding.{AreRegistries, Finds, registry_state_of}
 use Rattle.device_registry.specs.Opening.{RefusesToOpen}
 use Rattle.device_registry.specs.declared.fault.OpenFault.TheVariants as opening
 use Rattle.gateway_core.specs.Handling.{HandlerValue}
-use Rattle.gateway_core.specs.Beginnings.{BeginsAt}
+use Rattle.gateway_core.specs.SessionCalls.{BeginsSession}
 use Rattle.gateway_main.specs.declared.fault.Fault.{Fault}
 use Rattle.gateway_main.specs.declared.fault.Fault.TheVariants.{NotARegistry, Store, Memory, CannotOpen}
 use Rattle.gateway_main.specs.declared.fault.Fault.TheVariants.{Read, Write, TooManyTurns}
@@ -16,7 +16,7 @@ pub record Starts {C : Type 0} (state : C → State) (database : C) (base : ℕ)
   pub found : Devices
   pub finds : Finds (state database).committed.trees found
   pub base_is : now.base ≡ base
-  pub begins : BeginsAt (kept_by state) now found
+  pub begins : BeginsSession (registry_state_of state) now found
   pub registries : AreRegistries (state now.registry).may_leave
 
 -- Why a start fails: the database is not a registry, as its open defines it; or the device store fails; or out of

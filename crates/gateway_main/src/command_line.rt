@@ -1,2 +1,4 @@
 //! The parser of the command line, and the plan of a run, re-exported.
-pub use gateway_cli::{Access, LiveOptions, Opened, Options, Plan, Refused, Service, Task, read};
+pub use gateway_cli::{
+    Access, CommandLineFault, FileToOpen, LiveOptions, Options, Plan, Service, Task, read,
+};

@@ -1,11 +1,11 @@
 //! How the program ends, and with which status.
 ghost use Rattle.std.specs.Prelude.{◌≡◌};
 ghost use Rattle.std.specs.IoError.{error_kind};
-ghost use Rattle.gateway_main.specs.Endings.{done_of, ending_of_arguments, status_of};
+ghost use Rattle.gateway_main.specs.Endings.{first_fault_of, ending_of_arguments, status_of};
 
 use crate::fault::Fault;
 use clap::error::ErrorKind;
-use gateway_cli::Refused;
+use gateway_cli::CommandLineFault;
 use gateway_loop::{RunFault, Summary};
 use std::io;
 
@@ -19,7 +19,7 @@ pub enum Ending {
     /// The base ID is invalid.
     BadBase,
     /// A message of `clap`: the command line is rejected, or asks for help or for the version.
-    Said(clap::Error),
+    ClapOutput(clap::Error),
 }
 
 impl From<Fault> for Ending {
@@ -32,18 +32,17 @@ impl From<Fault> for Ending {
     }
 }
 
-impl From<Refused> for Ending {
+impl From<CommandLineFault> for Ending {
     ghost use Rattle.gateway_main.specs.Endings.{ending_of_line};
 
     ghost from_gives = { λ why ending. ending ≡ ending_of_line why };
 
-    fn from(why: Refused) -> Ending {
+    fn from(why: CommandLineFault) -> Ending {
         match why {
-            Refused::BadBase => Ending::BadBase,
-            Refused::Words(error) if error.kind() == ErrorKind::OutOfMemory => Ending::Failed(
-                Fault::Memory,
-            ),
-            Refused::Words(error) => Ending::Said(error),
+            CommandLineFault::BadBase => Ending::BadBase,
+            CommandLineFault::Words(error) if error.kind() == ErrorKind::OutOfMemory =>
+                Ending::Failed(Fault::Memory),
+            CommandLineFault::Words(error) => Ending::ClapOutput(error),
         }
     }
 }
@@ -62,8 +61,8 @@ pub fn without_arguments(error: &io::Error) -> Ending
 pub type Served = Result<Result<Summary, RunFault>, Fault>;
 
 /// The result of the gateway's work and of closing its database: a fault of the work takes precedence.
-pub fn done(served: Served, closed: Result<(), sqlite::Error>) -> Result<(), Fault>
-    ensures { result ≡ done_of served closed }
+pub fn first_fault(served: Served, closed: Result<(), sqlite::Error>) -> Result<(), Fault>
+    ensures { result ≡ first_fault_of served closed }
 {
     served??;
     Ok(closed?)
@@ -77,7 +76,7 @@ pub fn status(ended: &Result<(), Ending>) -> u8
         Ok(()) => 0,
         Err(Ending::Failed(_)) => 1,
         Err(Ending::NotText | Ending::BadBase) => 2,
-        Err(Ending::Said(error)) => match error.kind() {
+        Err(Ending::ClapOutput(error)) => match error.kind() {
             ErrorKind::DisplayHelp | ErrorKind::DisplayVersion => 0,
             _ => 2,
         },

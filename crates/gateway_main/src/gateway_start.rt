@@ -4,10 +4,10 @@ ghost use Rattle.sqlite.specs.State.{HasCleanDisk};
 ghost use Rattle.erp1_telegrams.specs.Address;
 ghost use Rattle.learned_devices.specs.Devices.{Devices};
 ghost use Rattle.device_registry.specs.Opening.{max_cached};
-ghost use Rattle.device_registry.specs.Holding.{Finds, kept_by};
-ghost use Rattle.gateway_core.specs.Calls.{new_value};
+ghost use Rattle.device_registry.specs.Holding.{Finds, registry_state_of};
+ghost use Rattle.gateway_core.specs.Calls.{new_gateway_value};
 ghost use Rattle.gateway_loop.specs.Headline.{IsNew};
-ghost use Rattle.gateway_loop.specs.Played.{IsIdle};
+ghost use Rattle.gateway_loop.specs.Processing.{IsDrained};
 ghost use Rattle.gateway_main.specs.Started.{RefusesToStart, Starts};
 
 use crate::fault::Fault;
@@ -32,10 +32,10 @@ pub fn start<C: SqlConnection + Drop>(
     requires idle { (C.state conn).in_transaction ≡ false }
     // How the headline begins: with the devices that were committed last, over an open connection.
     ensures begins { IfOk result (λ gateway. HasCleanDisk (C.state gateway.handler.registry) → (found : Devices)
-        × Finds (C.state conn).committed.trees found × IsNew (kept_by C.state) base found gateway
+        × Finds (C.state conn).committed.trees found × IsNew (registry_state_of C.state) base found gateway
         × IsTrue (C.state gateway.handler.registry).is_open) }
-    ensures new { IfOk result (λ gateway. gateway ≡ new_value base gateway.handler.registry) }
-    ensures idle { IfOk result IsIdle }
+    ensures new { IfOk result (λ gateway. gateway ≡ new_gateway_value base gateway.handler.registry) }
+    ensures idle { IfOk result IsDrained }
     ensures starts { IfOk result (λ gateway. HasCleanDisk (C.state gateway.handler.registry) →
         Starts C.state conn base gateway.handler) }
     ensures refused { IfErr result (RefusesToStart C.state conn) }
@@ -51,7 +51,7 @@ fn gateway_over<C: SqlConnection + Drop>(
     base: u32,
 ) -> Result<GatewayOver<RegistryOver<C>>, AllocError>
     requires { Address.is_base base ≡ true }
-    ensures { IfOk result (λ gateway. gateway ≡ new_value base registry) }
+    ensures { IfOk result (λ gateway. gateway ≡ new_gateway_value base registry) }
 {
     match GatewayOver::new(alloc, registry, base) {
         Ok(gateway) => Ok(gateway),

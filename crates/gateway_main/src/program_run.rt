@@ -1,16 +1,16 @@
 //! The program's run.
 ghost use Rattle.std.specs.Prelude.{◌≡◌, false, true};
 ghost use Rattle.erp1_telegrams.specs.Address;
-ghost use Rattle.gateway_loop.specs.Played.{IsIdle};
+ghost use Rattle.gateway_loop.specs.Processing.{IsDrained};
 
 use crate::command_line;
-use crate::ending::{Ending, Served, done, status, without_arguments};
+use crate::ending::{Ending, Served, first_fault, status, without_arguments};
 use crate::fault::Fault;
 use crate::gateway_start::start;
 use crate::registry_gateway::{live, replay};
 use byte_io::{OverRead, OverWrite};
 use device_registry::{MAX_CACHED, RegistryOver, SqlConnection};
-use gateway_cli::{Access, Opened, Plan, Service};
+use gateway_cli::{Access, FileToOpen, Plan, Service};
 use gateway_core::GatewayOver;
 use gateway_loop::{RunFault, Summary};
 use sqlite::Connection;
@@ -25,7 +25,7 @@ use std::{env, io};
 pub fn program(rt: &HostRuntime) -> ExitCode {
     let ended = work(rt);
     if let Err(ending) = &ended {
-        tell(rt, ending);
+        print_ending(rt, ending);
     }
     ExitCode::from(status(&ended))
 }
@@ -48,11 +48,11 @@ fn run(rt: &HostRuntime, plan: Plan<'_>) -> Result<(), Fault>
     match plan.db {
         None => {
             let (_, served) = serve(rt, Connection::open_in_memory(rt.alloc())?, plan)?;
-            done(served, Ok(()))
+            first_fault(served, Ok(()))
         }
         Some(path) => {
             let (conn, served) = serve(rt, Connection::open(rt, path)?, plan)?;
-            done(served, conn.close())
+            first_fault(served, conn.close())
         }
     }
 }
@@ -89,7 +89,7 @@ fn replay_standard<C: SqlConnection>(
     explains: bool,
     reads: u64,
 ) -> Result<Summary, RunFault>
-    requires { IsIdle gateway.old }
+    requires { IsDrained gateway.old }
 {
     let mut reader = OverRead::new(rt.stdin());
     let mut writer = OverWrite::new(rt.stdout());
@@ -99,12 +99,12 @@ fn replay_standard<C: SqlConnection>(
 /// Opens the serial line, then the desk's file and then the file of the answers, and serves them.
 fn live_on_files<C: SqlConnection>(
     rt: &HostRuntime,
-    files: (Opened<'_>, Opened<'_>, Opened<'_>),
+    files: (FileToOpen<'_>, FileToOpen<'_>, FileToOpen<'_>),
     gateway: &mut GatewayOver<RegistryOver<C>>,
     explains: bool,
     turns: u64,
 ) -> Served
-    requires { IsIdle gateway.old }
+    requires { IsDrained gateway.old }
 {
     let (serial, desk, out) = files;
     let serial = open(rt, serial)?;
@@ -121,7 +121,7 @@ fn live_on_files<C: SqlConnection>(
     ))
 }
 
-fn open(rt: &HostRuntime, file: Opened<'_>) -> Result<File, Fault> {
+fn open(rt: &HostRuntime, file: FileToOpen<'_>) -> Result<File, Fault> {
     let opened = match file.access {
         Access::Read => File::open(rt, file.path),
         Access::ReadAndWrite => OpenOptions::new()
@@ -134,11 +134,11 @@ fn open(rt: &HostRuntime, file: Opened<'_>) -> Result<File, Fault> {
 }
 
 /// Prints a fault or a mistake to standard error, or help and the version to standard output.
-fn tell(rt: &HostRuntime, ending: &Ending) {
+fn print_ending(rt: &HostRuntime, ending: &Ending) {
     let _ = match ending {
         Ending::Failed(fault) => eprintln!(rt; "enogate: {fault}"),
         Ending::NotText => eprintln!(rt; "enogate: an argument is not text"),
         Ending::BadBase => eprintln!(rt; "enogate: bad base"),
-        Ending::Said(error) => error.print(rt),
+        Ending::ClapOutput(error) => error.print(rt),
     };
 }

@@ -1,6 +1,6 @@
 //! The loops that run a gateway over a registry in SQLite, with the headline stated for the registry.
 ghost use Rattle.std.specs.Prelude.{◌≡◌, []};
-ghost use Rattle.device_registry.specs.Holding.{kept_by};
+ghost use Rattle.device_registry.specs.Holding.{registry_state_of};
 ghost use Rattle.gateway_loop.specs.Headline.{ReplaysAsSpecified, ServesAsSpecified};
 
 use byte_io::{Sink, Source};
@@ -17,7 +17,7 @@ pub fn replay<R: Source, W: Sink, C: SqlConnection>(
     turns: u64,
 ) -> Result<Summary, RunFault>
     requires { gateway.old.ready ≡ [] }
-    ensures as_specified { ReplaysAsSpecified (kept_by C.state) R.Source W.Sink explains result
+    ensures as_specified { ReplaysAsSpecified (registry_state_of C.state) R.Source W.Sink explains result
         (gateway.old, reader.old, writer.old) (gateway.new, reader.new, writer.new) }
 {
     gateway_loop::replay(reader, writer, gateway, explains, turns)
@@ -34,7 +34,7 @@ pub fn live<P: Source, Q: Source, R: Sink, D: Sink, C: SqlConnection>(
     turns: u64,
 ) -> Result<Summary, RunFault>
     requires { gateway.old.ready ≡ [] }
-    ensures as_specified { ServesAsSpecified (kept_by C.state) P.Source Q.Source R.Sink D.Sink explains result
+    ensures as_specified { ServesAsSpecified (registry_state_of C.state) P.Source Q.Source R.Sink D.Sink explains result
         (gateway.old, serial_in.old, desk_in.old, serial_out.old, desk_out.old)
         (gateway.new, serial_in.new, desk_in.new, serial_out.new, desk_out.new) turns }
 {

@@ -13,7 +13,7 @@ use Rattle.json.proofs.Printed.Strings.{escape_byte_plain}
 use Rattle.hex.specs.Hex.{upper_digits, encode_with, encode_upper, IsBytes}
 use Rattle.hex.proofs.HexLemmas.{IsAscii-encode_with}
 use Rattle.erp1_telegrams.specs.declared.eep.Eep.{Eep}
-use Rattle.json_lines.specs.Lines.{byte_text, id_text, eep_text, as_text}
+use Rattle.json_lines.specs.Lines.{byte_text, id_text, eep_text, learn_as_text}
 use Rattle.json_lines.specs.private.LineData.{IsPlain}
 
 -- ---- one digit
@@ -130,8 +130,8 @@ plain-as = refl
 pub plain-eep : (eep : Eep) → IsPlain (eep_text eep)
 plain-eep eep = on_eep IsPlain plain-append plain-dash plain-byte eep
 
-pub plain-as_text : (eep : Eep) → IsPlain (as_text eep)
-plain-as_text eep = plain-append (codes "as ") (eep_text eep) plain-as (plain-eep eep)
+pub plain-learn_as_text : (eep : Eep) → IsPlain (learn_as_text eep)
+plain-learn_as_text eep = plain-append (codes "as ") (eep_text eep) plain-as (plain-eep eep)
 
 ascii-dash : IsAscii (codes "-")
 ascii-dash = all_below 128 (codes "-") (omega arith) (omega arith, tt)
@@ -145,5 +145,5 @@ ascii-byte byte = ascii-encode_upper _
 pub ascii-eep : (eep : Eep) → IsAscii (eep_text eep)
 ascii-eep eep = on_eep IsAscii IsAscii-append ascii-dash ascii-byte eep
 
-pub ascii-as_text : (eep : Eep) → IsAscii (as_text eep)
-ascii-as_text eep = IsAscii-append (codes "as ") (eep_text eep) ascii-as (ascii-eep eep)
+pub ascii-learn_as_text : (eep : Eep) → IsAscii (learn_as_text eep)
+ascii-learn_as_text eep = IsAscii-append (codes "as ") (eep_text eep) ascii-as (ascii-eep eep)

@@ -27,7 +27,7 @@ use Rattle.json_lines.specs.private.LineData.{number_data}
 use Rattle.json_lines.specs.private.LineData.{profile_data}
 use Rattle.json_lines.specs.private.LineData.{teach_members, device_members, list_members, status_members}
 use Rattle.json_lines.specs.private.LineData.{response_members}
-use Rattle.json_lines.proofs.HexTexts.{plain-id, plain-eep, plain-as_text, plain_bytes}
+use Rattle.json_lines.proofs.HexTexts.{plain-id, plain-eep, plain-learn_as_text, plain_bytes}
 
 -- ---- an object
 
@@ -113,7 +113,7 @@ unfolding serde_json_on_literals
 plain-mode Closed = refl
 plain-mode Learn = refl
 plain-mode LearnAnswer = refl
-plain-mode (LearnAs eep) = plain-as_text eep
+plain-mode (LearnAs eep) = plain-learn_as_text eep
 
 text-name : (code : ℕ)
     → compact_text (data_or_null string (slice_get code_names code)) ≡ or_null in_quotes (slice_get code_names code)

@@ -15,10 +15,10 @@ use Rattle.erp1_telegrams.specs.declared.eep.Eep.{Eep}
 use Rattle.json_lines.specs.Lines.{byte_text, dbm_text, eep_text, id_text, in_quotes, or_null, profile_text}
 use Rattle.json_lines.specs.PacketLines.{id_string, members_text, packet_text, why_word}
 use Rattle.json_lines.specs.PacketLines.{HasPacketNumbersInRange, HasFieldsInRange}
-use Rattle.json_lines.specs.ToldTelegram.{ToldTelegram}
+use Rattle.json_lines.specs.ShownTelegram.{ShownTelegram}
 use Rattle.json_lines.specs.declared.packet.PacketLine.{PacketLine}
-use Rattle.json_lines.specs.declared.packet.ToldPacket.{ToldPacket}
-use Rattle.json_lines.specs.declared.packet.ToldPacket.TheVariants.{Telegram, Other}
+use Rattle.json_lines.specs.declared.packet.ShownPacket.{ShownPacket}
+use Rattle.json_lines.specs.declared.packet.ShownPacket.TheVariants.{Telegram, Other}
 use Rattle.teach_in.specs.declared.why.Why.{Why}
 use Rattle.json_lines.proofs.CommaTexts.{NoComma, no-decimal, no-maker, no-null, peel}
 use Rattle.json_lines.proofs.HexTexts.{byte_bytes, holds_below-at, id_bytes, on_eep}
@@ -121,7 +121,7 @@ pub record Values : Type 0 where
   pub rorg : List ℕ
   pub status : List ℕ
 
-abbrev values : ToldTelegram → Values
+abbrev values : ShownTelegram → Values
 values shown = record {
   dbm = or_null dbm_text shown.dbm;
   dest = or_null id_string shown.dest;
@@ -155,7 +155,7 @@ eep-alone : (known : Option Eep) → NoComma (or_null profile_text known)
 eep-alone None = no-null
 eep-alone (Some eep) = no-quotes (eep_text eep) (no-eep eep)
 
-no-commas : (shown : ToldTelegram) → HasFieldsInRange shown → NoCommas (values shown)
+no-commas : (shown : ShownTelegram) → HasFieldsInRange shown → NoCommas (values shown)
 no-commas shown range = record {
   dbm = strength-alone shown.dbm;
   dest = dest-alone shown.dest;
@@ -210,7 +210,7 @@ telegram-pieces dbm dest eep id maker payload rorg status word =
     simp (append_assoc, append-nil) (ap (λ t. codes "{\"dbm\":" ++ t)
     (append_assoc _ (codes "}") (codes "\n") ∙ push dbm (codes ",\"dest\":") _ _ dests))
 
-telegram-line : (shown : ToldTelegram) (why : Why)
+telegram-line : (shown : ShownTelegram) (why : Why)
     → packet_text (record { packet = Telegram shown; why = why }) ≡ line_of_values (values shown) (why_word why)
 telegram-line shown why =
     telegram-pieces (or_null dbm_text shown.dbm) (or_null id_string shown.dest) (or_null profile_text shown.eep)
@@ -265,7 +265,7 @@ same-values v w one other in_v in_w e =
 
 -- ---- one line shows a telegram
 
-same-shown : (shown said : ToldTelegram) (one other : Why) → HasFieldsInRange shown → HasFieldsInRange said
+same-shown : (shown said : ShownTelegram) (one other : Why) → HasFieldsInRange shown → HasFieldsInRange said
     → SameValues (values shown) (values said) one other → shown ≡ said
 same-shown shown said one other in_shown in_said same =
     of-fields shown said
@@ -286,7 +286,7 @@ same-shown shown said one other in_shown in_said same =
     (same-byte shown.status said.status in_shown.status in_said.status
     (same-quoted (byte_text shown.status) (byte_text said.status) same.status))
   where
-    of-fields : (a b : ToldTelegram) → a.dbm ≡ b.dbm → a.dest ≡ b.dest → a.eep ≡ b.eep → a.id ≡ b.id
+    of-fields : (a b : ShownTelegram) → a.dbm ≡ b.dbm → a.dest ≡ b.dest → a.eep ≡ b.eep → a.id ≡ b.id
         → a.maker ≡ b.maker → a.payload ≡ b.payload → a.rorg ≡ b.rorg → a.status ≡ b.status → a ≡ b
     of-fields a b dbm dest eep id maker payload rorg status =
         ap (λ x. record a { dbm = x }) dbm
@@ -321,7 +321,7 @@ pub one_packet_line : (line other : PacketLine) → HasPacketNumbersInRange line
     → HasPacketNumbersInRange other.packet → packet_text line ≡ packet_text other → line ≡ other
 one_packet_line line other = one line.packet other.packet line.why other.why
   where
-    one : (a b : ToldPacket) (why by : Why) → HasPacketNumbersInRange a → HasPacketNumbersInRange b
+    one : (a b : ShownPacket) (why by : Why) → HasPacketNumbersInRange a → HasPacketNumbersInRange b
         → packet_text (record { packet = a; why = why }) ≡ packet_text (record { packet = b; why = by })
         → (let x : PacketLine = record { packet = a; why = why } in x)
         ≡ (let y : PacketLine = record { packet = b; why = by } in y)

@@ -56,7 +56,8 @@ same-eep a b in_a in_b e =
 -- a number is not null: none of its digits is an n
 pub not-null : (n : ℕ) → decimal n ≢ codes "null"
 not-null n e =
-    (subst (AllByRecursion (λ c. c ≢ 110)) e (all-decimal (λ c. c ≢ 110) (λ digit below i. absurd (omega (arith, i))) n)).0
+    (subst (AllByRecursion (λ c. c ≢ 110)) e (all-decimal (λ c. c ≢ 110) (λ digit below i. absurd (omega (arith, i)))
+    n)).0
     refl
 
 pub same-maker : (a b : Option ℕ) → IfSome a (λ maker. maker < 2 ^ 16) → IfSome b (λ maker. maker < 2 ^ 16)

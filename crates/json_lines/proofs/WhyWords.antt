@@ -7,7 +7,7 @@ use Rattle.teach_in.specs.declared.outcome.Outcome.TheVariants.{NoProfile}
 use Rattle.json_lines.specs.PacketLines.{why_word}
 use Rattle.teach_in.specs.declared.why.Why.{Why}
 use Rattle.teach_in.specs.declared.why.Why.TheVariants.{Refused, Response, EmptyResponse, OtherType, NoTelegram}
-use Rattle.teach_in.specs.declared.why.Why.TheVariants.{FromBroadcast, ForOthers, TeachInReply, Told}
+use Rattle.teach_in.specs.declared.why.Why.TheVariants.{FromBroadcast, ForOthers, TeachInReply, TeachIn}
 use Rattle.teach_in.specs.declared.why.Why.TheVariants.{WindowClosed, OtherMode, Read, UnknownSender, WrongKind}
 use Rattle.teach_in.specs.declared.why.Why.TheVariants.{WrongLength, OtherMessage}
 
@@ -19,7 +19,8 @@ with-word word (why ∷ others) = if bytes_eq word (why_word why) then why else 
 every : List Why
 every =
     Refused ∷ Response ∷ EmptyResponse ∷ OtherType ∷ NoTelegram ∷ FromBroadcast ∷ ForOthers ∷ TeachInReply
-    ∷ Told Accepted ∷ Told Deleted ∷ Told Unsupported ∷ Told Full ∷ Told General ∷ Told NoProfile ∷ WindowClosed
+    ∷ TeachIn Accepted ∷ TeachIn Deleted ∷ TeachIn Unsupported ∷ TeachIn Full ∷ TeachIn General ∷ TeachIn NoProfile
+    ∷ WindowClosed
     ∷ OtherMode ∷ Read ∷ UnknownSender ∷ WrongKind ∷ WrongLength ∷ []
 
 back : (why : Why) → with-word (why_word why) every ≡ why
@@ -32,12 +33,12 @@ back NoTelegram = refl
 back FromBroadcast = refl
 back ForOthers = refl
 back TeachInReply = refl
-back (Told Accepted) = refl
-back (Told Deleted) = refl
-back (Told Unsupported) = refl
-back (Told Full) = refl
-back (Told General) = refl
-back (Told NoProfile) = refl
+back (TeachIn Accepted) = refl
+back (TeachIn Deleted) = refl
+back (TeachIn Unsupported) = refl
+back (TeachIn Full) = refl
+back (TeachIn General) = refl
+back (TeachIn NoProfile) = refl
 back WindowClosed = refl
 back OtherMode = refl
 back Read = refl

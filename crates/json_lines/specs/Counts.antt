@@ -5,26 +5,26 @@ use Rattle.json_lines.specs.declared.counts.Count.TheVariants.{Ignored, Reading,
 use Rattle.json_lines.specs.declared.counts.Counts.{Counts}
 
 -- all counters are 0
-abbrev pub none_counted : Counts
-none_counted = record { ignored = 0; readings = 0; refused = 0; responses = 0; teach = 0 }
+abbrev pub zero_counts : Counts
+zero_counts = record { ignored = 0; readings = 0; refused = 0; responses = 0; teach = 0 }
 
 -- a counter, plus n, up to its maximum
-abbrev pub count_with : ℕ → ℕ → ℕ
-count_with count n = min (count + n) (2 ^ 64 - 1)
+abbrev pub saturated_sum : ℕ → ℕ → ℕ
+saturated_sum count n = min (count + n) (2 ^ 64 - 1)
 
 -- a counter, plus one
-abbrev pub one_more : ℕ → ℕ
-one_more count = count_with count 1
+abbrev pub saturated_next : ℕ → ℕ
+saturated_next count = saturated_sum count 1
 
 -- one counter is incremented, and the others stay
-abbrev pub counted : Counts → Count → Counts
-counted counts Ignored = record counts { ignored = one_more counts.ignored }
-counted counts Reading = record counts { readings = one_more counts.readings }
-counted counts Refused = record counts { refused = one_more counts.refused }
-counted counts Response = record counts { responses = one_more counts.responses }
-counted counts Teach = record counts { teach = one_more counts.teach }
+abbrev pub increment : Counts → Count → Counts
+increment counts Ignored = record counts { ignored = saturated_next counts.ignored }
+increment counts Reading = record counts { readings = saturated_next counts.readings }
+increment counts Refused = record counts { refused = saturated_next counts.refused }
+increment counts Response = record counts { responses = saturated_next counts.responses }
+increment counts Teach = record counts { teach = saturated_next counts.teach }
 
 -- one counter is incremented, or none
-abbrev pub raised : Counts → Option Count → Counts
-raised counts None = counts
-raised counts (Some count) = counted counts count
+abbrev pub increment_if_any : Counts → Option Count → Counts
+increment_if_any counts None = counts
+increment_if_any counts (Some count) = increment counts count

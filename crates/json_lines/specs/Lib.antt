@@ -1,5 +1,5 @@
 pub mod Lines
 pub mod Counts
-pub mod ToldTelegram
+pub mod ShownTelegram
 pub mod PacketLines
 pub mod private

@@ -104,23 +104,23 @@ dbm_text byte = signed_decimal (pos 0 -ℤ pos byte)
 
 -- a reading as an object: a value in a unit, a word, a number, or a number out of range. Own choice. `quoted` writes
 -- the shortest escapes (RFC 8259, "Strings")
-abbrev pub named_text : List ℕ → Meaning → List ℕ
-named_text name (value ratio unit) = object_text (
+abbrev pub reading_text : List ℕ → Meaning → List ℕ
+reading_text name (value ratio unit) = object_text (
     (codes "den", decimal ratio.den)
     ∷ (codes "name", quoted name)
     ∷ (codes "num", signed_decimal ratio.num)
     ∷ (codes "unit", quoted unit) ∷ [])
-named_text name (word text) = object_text ((codes "name", quoted name) ∷ (codes "word", quoted text) ∷ [])
-named_text name (raw n) = object_text ((codes "name", quoted name) ∷ (codes "raw", decimal n) ∷ [])
-named_text name (out_of_range n) = object_text ((codes "name", quoted name) ∷ (codes "out_of_range", decimal n) ∷ [])
+reading_text name (word text) = object_text ((codes "name", quoted name) ∷ (codes "word", quoted text) ∷ [])
+reading_text name (raw n) = object_text ((codes "name", quoted name) ∷ (codes "raw", decimal n) ∷ [])
+reading_text name (out_of_range n) = object_text ((codes "name", quoted name) ∷ (codes "out_of_range", decimal n) ∷ [])
 
 -- an entry: a reading under a name. Own choice
 abbrev pub entry_text : Entry → List ℕ
-entry_text entry = named_text entry.name entry.meaning
+entry_text entry = reading_text entry.name entry.meaning
 
 -- the entries in their order, with a comma between each two (RFC 8259, "Arrays")
-abbrev pub list_text : List Entry → List ℕ
-list_text list = codes "[" ++ join_by entry_text (codes ",") list ++ codes "]"
+abbrev pub readings_text : List Entry → List ℕ
+readings_text list = codes "[" ++ join_by entry_text (codes ",") list ++ codes "]"
 
 -- the outcome's word. Own choice
 abbrev pub outcome_word : Outcome → List ℕ
@@ -132,15 +132,15 @@ outcome_word General = codes "general"
 outcome_word NoProfile = codes "no_profile"
 
 -- the word of the mode that learns with this profile. Own choice
-abbrev pub as_text : Eep → List ℕ
-as_text eep = codes "as " ++ eep_text eep
+abbrev pub learn_as_text : Eep → List ℕ
+learn_as_text eep = codes "as " ++ eep_text eep
 
 -- the mode's word. Own choice
 abbrev pub mode_word : Mode → List ℕ
 mode_word Closed = codes "closed"
 mode_word Learn = codes "on"
 mode_word LearnAnswer = codes "answer"
-mode_word (LearnAs eep) = as_text eep
+mode_word (LearnAs eep) = learn_as_text eep
 
 -- the names of the return codes from 0 on (EnOcean Serial Protocol 3, "Packet type 2: RESPONSE"). Own choice: other
 -- codes have none
@@ -167,7 +167,7 @@ members_of (Reading line) =
     (codes "dbm", or_null dbm_text line.dbm)
     ∷ (codes "eep", profile_text line.eep)
     ∷ (codes "id", in_quotes (id_text line.id))
-    ∷ (codes "readings", list_text line.readings)
+    ∷ (codes "readings", readings_text line.readings)
     ∷ (codes "type", in_quotes (codes "reading")) ∷ []
 members_of (Teach line) =
     (codes "eep", or_null profile_text line.eep)
@@ -208,5 +208,5 @@ abbrev pub texts : List DeskLine → List ℕ
 texts = flat_map text
 
 -- a line for each device, and then a line with their count. Own choice
-abbrev pub listing : List Device → List DeskLine
-listing known = map DeviceLine known ++ ListEnd (length known) ∷ []
+abbrev pub list_lines : List Device → List DeskLine
+list_lines known = map DeviceLine known ++ ListEnd (length known) ∷ []

@@ -5,13 +5,13 @@ use Rattle.std.specs.List.{join_by}
 use Rattle.hex.specs.Hex.{IsBytes, encode_upper}
 use Rattle.json_lines.specs.Lines.{or_null, dbm_text, id_text, profile_text, byte_text, in_quotes, outcome_word}
 use Rattle.json_lines.specs.Lines.{member_text, object_text}
-use Rattle.json_lines.specs.ToldTelegram.{ToldTelegram}
+use Rattle.json_lines.specs.ShownTelegram.{ShownTelegram}
 use Rattle.json_lines.specs.declared.packet.PacketLine.{PacketLine}
-use Rattle.json_lines.specs.declared.packet.ToldPacket.{ToldPacket}
-use Rattle.json_lines.specs.declared.packet.ToldPacket.TheVariants.{Telegram, Other}
+use Rattle.json_lines.specs.declared.packet.ShownPacket.{ShownPacket}
+use Rattle.json_lines.specs.declared.packet.ShownPacket.TheVariants.{Telegram, Other}
 use Rattle.teach_in.specs.declared.why.Why.{Why}
 use Rattle.teach_in.specs.declared.why.Why.TheVariants.{Refused, Response, EmptyResponse, OtherType, NoTelegram}
-use Rattle.teach_in.specs.declared.why.Why.TheVariants.{FromBroadcast, ForOthers, TeachInReply, Told}
+use Rattle.teach_in.specs.declared.why.Why.TheVariants.{FromBroadcast, ForOthers, TeachInReply, TeachIn}
 use Rattle.teach_in.specs.declared.why.Why.TheVariants.{WindowClosed, OtherMode, Read, UnknownSender, WrongKind}
 use Rattle.teach_in.specs.declared.why.Why.TheVariants.{WrongLength, OtherMessage}
 
@@ -25,7 +25,7 @@ why_word NoTelegram = codes "no_telegram"
 why_word FromBroadcast = codes "from_broadcast"
 why_word ForOthers = codes "for_others"
 why_word TeachInReply = codes "teach_in_reply"
-why_word (Told outcome) = outcome_word outcome
+why_word (TeachIn outcome) = outcome_word outcome
 why_word WindowClosed = codes "window_closed"
 why_word OtherMode = codes "other_mode"
 why_word Read = codes "read"
@@ -41,7 +41,7 @@ id_string id = in_quotes (id_text id)
 -- ---- the members of a line, in the byte order of their names
 
 -- how a telegram was received, and its sender. Own choice
-abbrev pub sender_members : ToldTelegram → List (List ℕ × List ℕ)
+abbrev pub sender_members : ShownTelegram → List (List ℕ × List ℕ)
 sender_members telegram =
     (codes "dbm", or_null dbm_text telegram.dbm)
     ∷ (codes "dest", or_null id_string telegram.dest)
@@ -50,7 +50,7 @@ sender_members telegram =
     ∷ (codes "maker", or_null decimal telegram.maker) ∷ []
 
 -- the content of a telegram. Own choice
-abbrev pub content_members : ToldTelegram → List (List ℕ × List ℕ)
+abbrev pub content_members : ShownTelegram → List (List ℕ × List ℕ)
 content_members telegram =
     (codes "payload", in_quotes (encode_upper telegram.payload))
     ∷ (codes "rorg", in_quotes (byte_text telegram.rorg))
@@ -61,19 +61,19 @@ abbrev pub other_members : ℕ → ℕ → List (List ℕ × List ℕ)
 other_members kind size = (codes "kind", decimal kind) ∷ (codes "size", decimal size) ∷ []
 
 -- what the packet was. Own choice
-abbrev pub packet_members : ToldPacket → List (List ℕ × List ℕ)
+abbrev pub packet_members : ShownPacket → List (List ℕ × List ℕ)
 packet_members (Telegram telegram) = sender_members telegram ++ content_members telegram
 packet_members (Other kind size) = other_members kind size
 
 -- the type of the line, and the reason. Own choice
-abbrev pub end_members : Why → List (List ℕ × List ℕ)
-end_members why = (codes "type", in_quotes (codes "packet")) ∷ (codes "why", in_quotes (why_word why)) ∷ []
+abbrev pub why_members : Why → List (List ℕ × List ℕ)
+why_members why = (codes "type", in_quotes (codes "packet")) ∷ (codes "why", in_quotes (why_word why)) ∷ []
 
 -- ---- the lines
 
 -- the text of a line: one object, and a line feed. Own choice
 abbrev pub packet_text : PacketLine → List ℕ
-packet_text line = object_text (packet_members line.packet ++ end_members line.why) ++ codes "\n"
+packet_text line = object_text (packet_members line.packet ++ why_members line.why) ++ codes "\n"
 
 -- members in their order, with a comma between each two (RFC 8259, "Objects")
 abbrev pub members_text : List (List ℕ × List ℕ) → List ℕ
@@ -81,22 +81,22 @@ members_text = join_by member_text (codes ",")
 
 -- the length of the longest text of the members of a sender, of a content, and of an end, and of the longest line: with
 -- both braces, a comma after the sender's members and one after the content's, and the line feed
-abbrev pub longest_sender : ℕ
-longest_sender = 75
+abbrev pub max_sender_members : ℕ
+max_sender_members = 75
 
-abbrev pub longest_content : ℕ
-longest_content = 66
+abbrev pub max_content_members : ℕ
+max_content_members = 66
 
-abbrev pub longest_end : ℕ
-longest_end = 38
+abbrev pub max_end_members : ℕ
+max_end_members = 38
 
 abbrev pub max_packet_line : ℕ
-max_packet_line = longest_sender + longest_content + longest_end + 5
+max_packet_line = max_sender_members + max_content_members + max_end_members + 5
 
 -- ---- the numbers of a packet line are in the ranges of those of a packet
 
 -- a telegram has bytes, IDs of four bytes, and a manufacturer ID of at most two
-pub record HasFieldsInRange (shown : ToldTelegram) : Type 0 where
+pub record HasFieldsInRange (shown : ShownTelegram) : Type 0 where
   pub dbm : IfSome shown.dbm (λ byte. byte < 256)
   pub dest : IfSome shown.dest (λ id. id < 2 ^ 32)
   pub eep : IfSome shown.eep (λ eep. (eep.rorg < 256) × (eep.func < 256) × (eep.typ < 256))
@@ -106,6 +106,6 @@ pub record HasFieldsInRange (shown : ToldTelegram) : Type 0 where
   pub rorg : shown.rorg < 256
   pub status : shown.status < 256
 
-abbrev pub HasPacketNumbersInRange : ToldPacket → Type 0
+abbrev pub HasPacketNumbersInRange : ShownPacket → Type 0
 HasPacketNumbersInRange (Telegram shown) = HasFieldsInRange shown
 HasPacketNumbersInRange (Other kind size) = (kind < 256) × (size < 2 ^ 16)

@@ -1,6 +1,6 @@
 //! The counters of the gateway.
 ghost use Rattle.std.specs.Prelude.{◌≡◌};
-ghost use Rattle.json_lines.specs.Counts.{counted, none_counted};
+ghost use Rattle.json_lines.specs.Counts.{increment, zero_counts};
 
 /// The counter that an input increments.
 #[derive(Clone, Copy, Debug, PartialEq, Eq)]
@@ -36,7 +36,7 @@ pub struct Counts {
 impl Counts {
     /// All counters are 0.
     pub fn none() -> Counts
-        ensures { result ≡ none_counted }
+        ensures { result ≡ zero_counts }
     {
         Counts {
             ignored: 0,
@@ -49,7 +49,7 @@ impl Counts {
 
     /// Increments one counter.
     pub fn raise(&mut self, count: Count)
-        ensures { self.new ≡ counted self.old count }
+        ensures { self.new ≡ increment self.old count }
     {
         match count {
             Count::Ignored => self.ignored = self.ignored.saturating_add(1),

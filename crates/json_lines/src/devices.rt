@@ -2,7 +2,7 @@
 
 ghost use Rattle.std.specs.Prelude.{◌≡◌, IfOk};
 ghost use Rattle.serde_json.specs.Events.{SendsValue};
-ghost use Rattle.json_lines.specs.Lines.{DeviceLine, ListEnd, listing, text, texts};
+ghost use Rattle.json_lines.specs.Lines.{DeviceLine, ListEnd, list_lines, text, texts};
 ghost use Rattle.json_lines.specs.private.LineData.{device_members, list_members, object_of};
 
 use crate::line::{Line, line_of};
@@ -79,7 +79,7 @@ fn list_end(alloc: Global, count: usize) -> Result<Line, AllocError>
 ///
 /// Any error is returned as out of memory.
 pub fn device_lines(alloc: Global, devices: &[Device]) -> Result<Line, AllocError>
-    ensures { IfOk result (λ lines. lines ≡ texts (listing devices.now)) }
+    ensures { IfOk result (λ lines. lines ≡ texts (list_lines devices.now)) }
 {
     let mut lines = Line::empty(alloc);
     for device in devices {

@@ -1,7 +1,7 @@
 //! The digits of IDs and profiles, in arrays, which need no memory.
 
 ghost use Rattle.std.specs.Prelude.{◌≡◌, IsAscii};
-ghost use Rattle.json_lines.specs.Lines.{as_text, byte_text, eep_text, id_text};
+ghost use Rattle.json_lines.specs.Lines.{learn_as_text, byte_text, eep_text, id_text};
 
 use erp1_telegrams::Eep;
 
@@ -52,8 +52,8 @@ pub(crate) fn eep_digits(eep: Eep) -> [u8; 8]
 }
 
 // The digits of a profile, after `as `.
-pub(crate) fn as_digits(eep: Eep) -> [u8; 11]
-    ensures text { result ≡ as_text eep }
+pub(crate) fn learn_as_digits(eep: Eep) -> [u8; 11]
+    ensures text { result ≡ learn_as_text eep }
     ensures ascii { IsAscii result }
 {
     let [a, b, c, d, e, f, g, h] = eep_digits(eep);

@@ -13,13 +13,13 @@ pub fn teach_texts_are_of_teach_lines()
 {}
 
 /// Teach lines with the same text have the same profile, ID, maker and outcome.
-pub fn teach_texts_tell_one_line()
+pub fn teach_texts_are_injective()
     ensures { (line told : TeachLine) → HasNumbersInRange line → HasNumbersInRange told
         → text (Teach line) ≡ text (Teach told) → line ≡ told }
 {}
 
 /// Each word for a reason stands for one reason.
-pub fn words_tell_why()
+pub fn why_words_are_injective()
     ensures { (why other : Why) → why_word why ≡ why_word other → why ≡ other }
 {}
 

@@ -2,25 +2,26 @@
 
 ghost use Rattle.std.specs.Prelude.{◌≡◌, ◌+◌, ◌≤◌, ◌++◌, length};
 ghost use Rattle.arrayvec.specs.ArrayVec.{array_vec_len};
-ghost use Rattle.json_lines.specs.PacketLines.{content_members, end_members, members_text, other_members};
+ghost use Rattle.json_lines.specs.PacketLines.{content_members, why_members, members_text, other_members};
 ghost use Rattle.json_lines.specs.PacketLines.{packet_members, packet_text, sender_members, why_word};
-ghost use Rattle.json_lines.specs.PacketLines.{longest_content, longest_end, max_packet_line, longest_sender};
+ghost use Rattle.json_lines.specs.PacketLines.{max_content_members, max_end_members, max_packet_line};
+ghost use Rattle.json_lines.specs.PacketLines.{max_sender_members};
 
 use crate::limits::MAX_PACKET_LINE;
-use crate::pieces::{
+use crate::teach::word_of;
+use crate::text_parts::{
     Text, put, put_byte, put_dbm, put_dest, put_id, put_known_profile, put_maker, put_number,
     put_payload, put_string,
 };
-use crate::teach::word_of;
 use arrayvec::ArrayVec;
 use erp1_telegrams::{Eep, Telegram};
 use std::marker::Model;
 use teach_in::Why;
 
 /// A telegram, and what is known about its sender. In contracts its value is what the line shows of it, the record
-/// `ToldTelegram` of `specs/ToldTelegram.antt`.
+/// `ShownTelegram` of `specs/ShownTelegram.antt`.
 #[derive(Clone, Debug, Drop)]
-pub struct ToldTelegram {
+pub struct ShownTelegram {
     /// The telegram.
     pub telegram: Telegram,
     /// The profile of its sender, if it is known.
@@ -29,8 +30,8 @@ pub struct ToldTelegram {
     pub maker: Option<u16>,
 }
 
-impl Model for ToldTelegram {
-    ghost use Rattle.json_lines.specs.ToldTelegram.{ToldTelegram as Said, shown_of};
+impl Model for ShownTelegram {
+    ghost use Rattle.json_lines.specs.ShownTelegram.{ShownTelegram as Said, shown_of};
 
     ghost Value = { Said };
 
@@ -39,9 +40,9 @@ impl Model for ToldTelegram {
 
 /// What a packet was.
 #[derive(Clone, Debug, Drop)]
-pub enum ToldPacket {
+pub enum ShownPacket {
     /// A packet that carries this telegram.
-    Telegram(ToldTelegram),
+    Telegram(ShownTelegram),
     /// Any other packet.
     Other {
         /// The packet type.
@@ -55,7 +56,7 @@ pub enum ToldPacket {
 #[derive(Clone, Debug, Drop)]
 pub struct PacketLine {
     /// What it was.
-    pub packet: ToldPacket,
+    pub packet: ShownPacket,
     /// Why it was handled the way it was.
     pub why: Why,
 }
@@ -73,7 +74,7 @@ fn why_word(why: Why) -> &'static str
         Why::FromBroadcast => "from_broadcast",
         Why::ForOthers => "for_others",
         Why::TeachInReply => "teach_in_reply",
-        Why::Told(outcome) => word_of(outcome),
+        Why::TeachIn(outcome) => word_of(outcome),
         Why::WindowClosed => "window_closed",
         Why::OtherMode => "other_mode",
         Why::Read => "read",
@@ -85,10 +86,10 @@ fn why_word(why: Why) -> &'static str
 }
 
 // How a telegram was received, and its sender.
-fn put_sender(shown: &ToldTelegram, out: &mut Text)
-    requires { array_vec_len out.old + longest_sender ≤ max_packet_line }
+fn put_sender(shown: &ShownTelegram, out: &mut Text)
+    requires { array_vec_len out.old + max_sender_members ≤ max_packet_line }
     ensures items { out.new.items ≡ out.old.items ++ members_text (sender_members shown.now) }
-    ensures len { array_vec_len out.new ≤ array_vec_len out.old + longest_sender }
+    ensures len { array_vec_len out.new ≤ array_vec_len out.old + max_sender_members }
 {
     put(b"\"dbm\":", out);
     put_dbm(shown.telegram.dbm(), out);
@@ -103,10 +104,10 @@ fn put_sender(shown: &ToldTelegram, out: &mut Text)
 }
 
 // The content of a telegram.
-fn put_content(shown: &ToldTelegram, out: &mut Text)
-    requires { array_vec_len out.old + longest_content ≤ max_packet_line }
+fn put_content(shown: &ShownTelegram, out: &mut Text)
+    requires { array_vec_len out.old + max_content_members ≤ max_packet_line }
     ensures items { out.new.items ≡ out.old.items ++ members_text (content_members shown.now) }
-    ensures len { array_vec_len out.new ≤ array_vec_len out.old + longest_content }
+    ensures len { array_vec_len out.new ≤ array_vec_len out.old + max_content_members }
 {
     put(b"\"payload\":", out);
     put_payload(shown.telegram.payload(), out);
@@ -128,26 +129,26 @@ fn put_other(kind: u8, size: u16, out: &mut Text)
     put_number(size, out);
 }
 
-fn put_packet(packet: &ToldPacket, out: &mut Text)
-    requires { array_vec_len out.old + longest_sender + longest_content + 1 ≤ max_packet_line }
+fn put_packet(packet: &ShownPacket, out: &mut Text)
+    requires { array_vec_len out.old + max_sender_members + max_content_members + 1 ≤ max_packet_line }
     ensures items { out.new.items ≡ out.old.items ++ members_text (packet_members packet.now) }
-    ensures len { array_vec_len out.new ≤ array_vec_len out.old + longest_sender + longest_content + 1 }
+    ensures len { array_vec_len out.new ≤ array_vec_len out.old + max_sender_members + max_content_members + 1 }
 {
     match packet {
-        ToldPacket::Telegram(shown) => {
+        ShownPacket::Telegram(shown) => {
             put_sender(shown, out);
             put(b",", out);
             put_content(shown, out);
         }
-        ToldPacket::Other { kind, size } => put_other(*kind, *size, out),
+        ShownPacket::Other { kind, size } => put_other(*kind, *size, out),
     }
 }
 
 // The type of the line, and the reason.
 fn put_end(why: Why, out: &mut Text)
-    requires { array_vec_len out.old + longest_end ≤ max_packet_line }
-    ensures items { out.new.items ≡ out.old.items ++ members_text (end_members why) }
-    ensures len { array_vec_len out.new ≤ array_vec_len out.old + longest_end }
+    requires { array_vec_len out.old + max_end_members ≤ max_packet_line }
+    ensures items { out.new.items ≡ out.old.items ++ members_text (why_members why) }
+    ensures len { array_vec_len out.new ≤ array_vec_len out.old + max_end_members }
 {
     put(b"\"type\":\"packet\",\"why\":", out);
     put_string(why_word(why).as_bytes(), out);

@@ -8,7 +8,7 @@ ghost use Rattle.json.specs.Print.{escape, quoted};
 ghost use Rattle.profile_rows.specs.Reading.{entries, entry_of, value, word};
 ghost use Rattle.exact_values.specs.Fraction.{ratio};
 ghost use Rattle.json_lines.specs.Lines as lines;
-ghost use Rattle.json_lines.specs.Lines.{dbm_text, entry_text, id_text, in_quotes, member_text, named_text, or_null};
+ghost use Rattle.json_lines.specs.Lines.{dbm_text, entry_text, id_text, in_quotes, member_text, reading_text, or_null};
 ghost use Rattle.json_lines.specs.Lines.{profile_text};
 ghost use Rattle.json_lines.specs.private.LineData.{IsPlain};
 
@@ -40,7 +40,7 @@ fn put_dbm(dbm: Option<u8>, out: &mut Vec<u8>) -> Result<(), AllocError>
 }
 
 // The profile and the ID of the sender: the text from the signal strength to the first reading.
-fn sender_piece(eep: Eep, id: u32) -> [u8; 46]
+fn sender_part(eep: Eep, id: u32) -> [u8; 46]
     ensures { result ≡ codes "," ++ member_text (codes "eep", profile_text eep)
         ++ codes "," ++ member_text (codes "id", in_quotes (id_text id)) ++ codes ",\"readings\":[" }
 {
@@ -99,7 +99,7 @@ fn put_value(
     unit: &str,
     out: &mut Vec<u8>,
 ) -> Result<(), AllocError>
-    ensures { OnOk result (out.new.items ≡ out.old.items ++ named_text name.now (value (ratio fraction) unit.now)) }
+    ensures { OnOk result (out.new.items ≡ out.old.items ++ reading_text name.now (value (ratio fraction) unit.now)) }
 {
     out.extend_from_slice(b"{\"den\":")?;
     put_integer(fraction.den(), out)?;
@@ -113,7 +113,7 @@ fn put_value(
 }
 
 fn put_word(name: &str, text: &str, out: &mut Vec<u8>) -> Result<(), AllocError>
-    ensures { OnOk result (out.new.items ≡ out.old.items ++ named_text name.now (word text.now)) }
+    ensures { OnOk result (out.new.items ≡ out.old.items ++ reading_text name.now (word text.now)) }
 {
     out.extend_from_slice(b"{\"name\":\"")?;
     put_text(name, out)?;
@@ -184,7 +184,7 @@ pub fn reading_line(
     let mut line = Vec::with_capacity(alloc, MAX_USUAL_LINE)?;
     line.extend_from_slice(b"{\"dbm\":")?;
     put_dbm(telegram.dbm(), &mut line)?;
-    line.extend_from_slice(&sender_piece(eep, telegram.sender()))?;
+    line.extend_from_slice(&sender_part(eep, telegram.sender()))?;
     put_readings(readings.as_slice(), &mut line)?;
     line.extend_from_slice(b"],\"type\":\"reading\"}\n")?;
     Ok(Line::new(line))

@@ -3,7 +3,7 @@ use actuator_commands::OrderFault;
 use byte_io::Failed;
 use erp1_telegrams::TelegramFault;
 use esp3_frames::{HeaderFault, PacketFault};
-use gateway_cli::Refused;
+use gateway_cli::CommandLineFault;
 use profile_rows::Unreadable;
 use std::error::Error;
 use std::test::Fail;
@@ -70,5 +70,5 @@ fn texts(rt: HostRuntime) -> Result<(), Fail> {
     say(&rt, &OF_READINGS)?;
     say(&rt, &OF_ORDERS)?;
     say(&rt, &[(Failed, "a read or a write failed")])?;
-    say(&rt, &[(Refused::BadBase, "not a base ID")])
+    say(&rt, &[(CommandLineFault::BadBase, "not a base ID")])
 }

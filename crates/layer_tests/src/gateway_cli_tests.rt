@@ -1,6 +1,8 @@
 //! Command lines that are accepted and that are rejected, and the texts of help and version.
 use clap::error::ErrorKind;
-use gateway_cli::{Access, LiveOptions, Opened, Options, Plan, Refused, Service, Task, read};
+use gateway_cli::{
+    Access, CommandLineFault, FileToOpen, LiveOptions, Options, Plan, Service, Task, read,
+};
 use std::test::Fail;
 
 fn words_of(rt: &HostRuntime, line: &str) -> Result<Vec<String>, Fail> {
@@ -15,7 +17,7 @@ fn words_of(rt: &HostRuntime, line: &str) -> Result<Vec<String>, Fail> {
 fn refused(rt: &HostRuntime, line: &str, wanted: ErrorKind) -> Result<(), Fail> {
     let words = words_of(rt, line)?;
     match read(rt.alloc(), words.as_slice()) {
-        Err(Refused::Words(error)) if error.kind() == wanted => Ok(()),
+        Err(CommandLineFault::Words(error)) if error.kind() == wanted => Ok(()),
         _ => Err(Fail::from(line)),
     }
 }
@@ -221,7 +223,7 @@ fn bad_bases(rt: HostRuntime) -> Result<(), Fail> {
             let line = format!(in rt.alloc(); "enogate {command} --base={base}")?;
             let words = words_of(&rt, line.as_str())?;
             match read(rt.alloc(), words.as_slice()) {
-                Err(Refused::BadBase) => {}
+                Err(CommandLineFault::BadBase) => {}
                 _ => return Err(Fail::from(base)),
             }
         }
@@ -465,15 +467,15 @@ const PLANNED: [Planned; 2] = [
             base: 0xFF80_0000,
             explain: false,
             service: Service::Live {
-                serial: Opened {
+                serial: FileToOpen {
                     path: "/dev/s",
                     access: Access::ReadAndWrite,
                 },
-                desk: Opened {
+                desk: FileToOpen {
                     path: "in/d",
                     access: Access::Read,
                 },
-                out: Opened {
+                out: FileToOpen {
                     path: "o",
                     access: Access::WriteAnew,
                 },

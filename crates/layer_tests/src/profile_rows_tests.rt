@@ -3,7 +3,7 @@ use crate::readings::Wanted::{OutOfRange, Raw, Value, Word};
 use crate::readings::{is_said, telegram};
 use erp1_telegrams::Eep;
 use profile_rows::profile::is_one_of;
-use profile_rows::rows::{number, over, over_power, parted, percent_or, range, reserved, words};
+use profile_rows::rows::{number, over, over_power, percent_or, range, reserved, threshold, words};
 use profile_rows::{Reading, Readings, Unreadable, What, payload_of, read_rows};
 use std::test::Fail;
 
@@ -23,8 +23,8 @@ fn numbers(rt: HostRuntime) {
         (words(2, &contact), OutOfRange(2)),
         (percent_or(127, "unknown"), Word("unknown")),
         // parts of ranges
-        (parted(127, 128, "off", "on"), Word("off")),
-        (parted(128, 128, "off", "on"), Word("on")),
+        (threshold(127, 128, "off", "on"), Word("off")),
+        (threshold(128, 128, "off", "on"), Word("on")),
         (range(251, 0, 250, 0, 1000, "%"), OutOfRange(251)),
         // numbers as they are
         (percent_or(101, "unknown"), OutOfRange(101)),

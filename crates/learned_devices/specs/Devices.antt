@@ -7,21 +7,22 @@ use Rattle.erp1_telegrams.specs.declared.eep.Eep.{Eep}
 use Rattle.learned_devices.specs.declared.Device.{Device}
 
 -- the stored data of a sender: its profile, its maker if it had one, and its label, which may be empty
-pub record Learned : Type 0 where
+pub record DeviceData : Type 0 where
   pub eep : Eep
   pub maker : Option ℕ
   pub label : List ℕ
 
 -- the stored data of each learned sender
 abbrev pub Devices : Type 0
-Devices = FinMap nat_cmp Learned
+Devices = FinMap nat_cmp DeviceData
 
-abbrev pub device : ℕ → Learned → Device
-device id learned = record { id = id; eep = learned.eep; maker = learned.maker; label = learned.label }
+abbrev pub device : ℕ → DeviceData → Device
+device id learn_update =
+    record { id = id; eep = learn_update.eep; maker = learn_update.maker; label = learn_update.label }
 
 -- the stored data of a device's sender
-abbrev pub known_of : Device → Learned
-known_of it = record { eep = it.eep; maker = it.maker; label = it.label }
+abbrev pub device_data : Device → DeviceData
+device_data it = record { eep = it.eep; maker = it.maker; label = it.label }
 
 -- the device of a sender, if it is learned
 abbrev pub device_of : Devices → ℕ → Option Device
@@ -40,40 +41,40 @@ abbrev pub is_full : Devices → ℕ → Bool
 is_full devices id = nat_le max_devices (len (remove devices id))
 
 -- an operation on a sender: learn it with a profile and a maker, forget it, or give it a label
-pub data Deed : Type 0 where
-  Learn : (eep : Eep) (maker : Option ℕ) → Deed
-  Forget : Deed
-  Relabel : (label : List ℕ) → Deed
+pub data Operation : Type 0 where
+  Learn : (eep : Eep) (maker : Option ℕ) → Operation
+  Forget : Operation
+  Relabel : (label : List ℕ) → Operation
 
-pub record Change : Type 0 where
+pub record DeviceUpdate : Type 0 where
   pub sender : ℕ
-  pub deed : Deed
+  pub operation : Operation
 
-abbrev pub learned : Device → Change
-learned it = record { sender = it.id; deed = Learn it.eep it.maker }
+abbrev pub learn_update : Device → DeviceUpdate
+learn_update it = record { sender = it.id; operation = Learn it.eep it.maker }
 
-abbrev pub forgotten : ℕ → Change
-forgotten id = record { sender = id; deed = Forget }
+abbrev pub forget_update : ℕ → DeviceUpdate
+forget_update id = record { sender = id; operation = Forget }
 
-abbrev pub relabelled : ℕ → List ℕ → Change
-relabelled id label = record { sender = id; deed = Relabel label }
+abbrev pub relabel_update : ℕ → List ℕ → DeviceUpdate
+relabel_update id label = record { sender = id; operation = Relabel label }
 
 -- the label of a sender once it is learned: a known one keeps its own, another gets the empty one
-abbrev pub kept_label : Option Learned → List ℕ
+abbrev pub kept_label : Option DeviceData → List ℕ
 kept_label (Some it) = it.label
 kept_label None = []
 
 -- the data of a sender after an operation; a label changes nothing about an unknown one
-abbrev pub after : Option Learned → Deed → Option Learned
-after known (Learn eep maker) = Some (record { eep = eep; maker = maker; label = kept_label known })
-after known Forget = None
-after (Some it) (Relabel label) = Some (record { eep = it.eep; maker = it.maker; label = label })
-after None (Relabel label) = None
+abbrev pub data_after : Option DeviceData → Operation → Option DeviceData
+data_after known (Learn eep maker) = Some (record { eep = eep; maker = maker; label = kept_label known })
+data_after known Forget = None
+data_after (Some it) (Relabel label) = Some (record { eep = it.eep; maker = it.maker; label = label })
+data_after None (Relabel label) = None
 
-abbrev pub entered : Devices → ℕ → Option Learned → Devices
-entered devices id (Some it) = insert devices id it
-entered devices id None = remove devices id
+abbrev pub with_entry : Devices → ℕ → Option DeviceData → Devices
+with_entry devices id (Some it) = insert devices id it
+with_entry devices id None = remove devices id
 
 -- the devices with the update, which changes only its sender
-abbrev pub changed : Devices → Change → Devices
-changed devices change = entered devices change.sender (after (get devices change.sender) change.deed)
+abbrev pub apply_update : Devices → DeviceUpdate → Devices
+apply_update devices update = with_entry devices update.sender (data_after (get devices update.sender) update.operation)

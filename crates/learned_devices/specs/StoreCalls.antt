@@ -6,11 +6,12 @@ use Rattle.std.specs.FinMap.{get}
 use Rattle.learned_devices.specs.declared.Device.{Device}
 use Rattle.learned_devices.specs.declared.fault.LearnFault.{LearnFault}
 use Rattle.learned_devices.specs.declared.fault.LearnFault.TheVariants.{Full, Refused}
-use Rattle.learned_devices.specs.Devices.{Devices, Change, device_of, all_of, is_full, learned, forgotten, relabelled}
-use Rattle.learned_devices.specs.Kept.{Kept, Keeps, Commits, Pends}
+use Rattle.learned_devices.specs.Devices.{Devices, DeviceUpdate, device_of, all_of, is_full, learn_update}
+use Rattle.learned_devices.specs.Devices.{forget_update, relabel_update}
+use Rattle.learned_devices.specs.StoreState.{StoreState, Keeps, Commits, LeavesPending}
 
 -- a sender is looked up
-pub record LooksUp {E : Type 0} (old new : Kept) (id : ℕ) (result : Result (Option Device) E) : Type 0 where
+pub record LooksUp {E : Type 0} (old new : StoreState) (id : ℕ) (result : Result (Option Device) E) : Type 0 where
   pub clean : new.honest → old.honest
   pub registries : new.honest → new.sound
   pub devices : new.honest → (devices : Devices) → old.holds devices
@@ -18,41 +19,43 @@ pub record LooksUp {E : Type 0} (old new : Kept) (id : ℕ) (result : Result (Op
       (λ _. Keeps old new devices)
 
 -- an update is committed, or the call failed, at its write or before
-pub record Updates {A E : Type 0} (old new : Kept) (change : Change) (result : Result A E) : Type 0 where
+pub record Updates {A E : Type 0} (old new : StoreState) (update : DeviceUpdate) (result : Result A E) : Type 0 where
   pub clean : new.honest → old.honest
   pub registries : new.honest → new.sound
   pub devices : new.honest → (devices : Devices) → old.holds devices
-      → MatchResult result (λ _. Commits new change devices) (λ _. Pends old new change devices)
+      → MatchResult result (λ _. Commits new update devices) (λ _. LeavesPending old new update devices)
 
 -- A device is not learned. If 1,000 others are, nothing is written; otherwise the call failed, at its write or before.
-abbrev pub RefusesToLearn : Kept → Kept → Device → Devices → LearnFault → Type 0
+abbrev pub RefusesToLearn : StoreState → StoreState → Device → Devices → LearnFault → Type 0
 RefusesToLearn old new it devices Full = IsTrue (is_full devices it.id) × Keeps old new devices
 RefusesToLearn old new it devices (Refused fault) =
-    MatchBool (is_full devices it.id) (Keeps old new devices) (Pends old new (learned it) devices)
+    MatchBool (is_full devices it.id) (Keeps old new devices) (LeavesPending old new (learn_update it) devices)
 
 -- a device is learned and replaces the data of its sender, except for the label
-pub record Learns {A : Type 0} (old new : Kept) (it : Device) (result : Result A LearnFault) : Type 0 where
+pub record Learns {A : Type 0} (old new : StoreState) (it : Device) (result : Result A LearnFault) : Type 0 where
   pub clean : new.honest → old.honest
   pub registries : new.honest → new.sound
   pub devices : new.honest → (devices : Devices) → old.holds devices
-      → MatchResult result (λ _. (is_full devices it.id ≡ false) × Commits new (learned it) devices)
+      → MatchResult result (λ _. (is_full devices it.id ≡ false) × Commits new (learn_update it) devices)
       (RefusesToLearn old new it devices)
 
 -- a sender is forgotten, even if it was not learned
-abbrev pub Forgets : {A E : Type 0} → Kept → Kept → ℕ → Result A E → Type 0
-Forgets old new id result = Updates old new (forgotten id) result
+abbrev pub Forgets : {A E : Type 0} → StoreState → StoreState → ℕ → Result A E → Type 0
+Forgets old new id result = Updates old new (forget_update id) result
 
 -- A sender gets a label, if it is learned: the result is whether it is. If it is not, nothing is written.
-pub record Relabels {E : Type 0} (old new : Kept) (id : ℕ) (label : List ℕ) (result : Result Bool E) : Type 0 where
-  pub clean : new.honest → old.honest
-  pub registries : new.honest → new.sound
-  pub devices : new.honest → (devices : Devices) → old.holds devices
-      → MatchResult result (λ known. (known ≡ is_some (get devices id))
-      × MatchBool known (Commits new (relabelled id label) devices) (Keeps old new devices))
-      (λ _. MatchBool (is_some (get devices id)) (Pends old new (relabelled id label) devices) (Keeps old new devices))
+pub record Relabels {E : Type 0} (old new : StoreState) (id : ℕ) (label : List ℕ) (result : Result Bool E) : Type 0
+  where
+    pub clean : new.honest → old.honest
+    pub registries : new.honest → new.sound
+    pub devices : new.honest → (devices : Devices) → old.holds devices
+        → MatchResult result (λ known. (known ≡ is_some (get devices id))
+        × MatchBool known (Commits new (relabel_update id label) devices) (Keeps old new devices))
+        (λ _. MatchBool (is_some (get devices id)) (LeavesPending old new (relabel_update id label) devices)
+        (Keeps old new devices))
 
 -- all devices are listed
-pub record ListsAll {E : Type 0} (old new : Kept) (result : Result (Vec Device Global) E) : Type 0 where
+pub record ListsAll {E : Type 0} (old new : StoreState) (result : Result (Vec Device Global) E) : Type 0 where
   pub clean : new.honest → old.honest
   pub registries : new.honest → new.sound
   pub devices : new.honest → (devices : Devices) → old.holds devices

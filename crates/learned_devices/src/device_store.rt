@@ -1,7 +1,7 @@
 //! A device store, and the receipts for its updates.
 ghost use Rattle.std.specs.Prelude.{◌≡◌, [], false, IfOk, IsTrue, OnOk};
-ghost use Rattle.learned_devices.specs.Devices.{Devices, Change, forgotten, learned, relabelled};
-ghost use Rattle.learned_devices.specs.Kept.{Kept};
+ghost use Rattle.learned_devices.specs.Devices.{Devices, DeviceUpdate, forget_update, learn_update, relabel_update};
+ghost use Rattle.learned_devices.specs.StoreState.{StoreState};
 ghost use Rattle.learned_devices.specs.StoreCalls.{LooksUp, Learns, Forgets, Relabels, ListsAll};
 
 use crate::fault::{LearnFault, StoreFault};
@@ -28,46 +28,46 @@ impl Receipt {
 /// Stores at most 1,000 devices, each under the ID of its sender.
 pub trait DeviceStore {
     /// What it keeps.
-    ghost kept: { Self → Kept };
+    ghost store_state: { Self → StoreState };
 
     /// What the call between these two values wrote for this update of these devices, even if it changed none of them.
-    ghost wrote: { Self → Self → Change → Devices → Type 0 };
+    ghost wrote: { Self → Self → DeviceUpdate → Devices → Type 0 };
 
     /// The device of a sender, if it is learned.
     fn find(&mut self, id: u32) -> Result<Option<Device>, StoreFault>
-        ensures { LooksUp (kept self.old) (kept self.new) id result };
+        ensures { LooksUp (store_state self.old) (store_state self.new) id result };
 
     /// Stores a device, in place of the known data of its sender. A known sender keeps its label. Returns `Ok` after
     /// the commit.
     fn put(&mut self, device: Device) -> Result<(), LearnFault>
         requires { device.label ≡ [] }
-        ensures learns { Learns (kept self.old) (kept self.new) device result }
-        ensures written { (kept self.new).honest → (devices : Devices) → (kept self.old).holds devices →
-            OnOk result (wrote self.old self.new (learned device) devices) };
+        ensures learns { Learns (store_state self.old) (store_state self.new) device result }
+        ensures written { (store_state self.new).honest → (devices : Devices) → (store_state self.old).holds devices →
+            OnOk result (wrote self.old self.new (learn_update device) devices) };
 
     /// Deletes the device of a sender, if there is one. Returns `Ok` after the commit.
     fn delete(&mut self, id: u32) -> Result<(), StoreFault>
-        ensures forgets { Forgets (kept self.old) (kept self.new) id result }
-        ensures written { (kept self.new).honest → (devices : Devices) → (kept self.old).holds devices →
-            OnOk result (wrote self.old self.new (forgotten id) devices) };
+        ensures forgets { Forgets (store_state self.old) (store_state self.new) id result }
+        ensures written { (store_state self.new).honest → (devices : Devices) → (store_state self.old).holds devices →
+            OnOk result (wrote self.old self.new (forget_update id) devices) };
 
     /// Labels a sender, if it is learned. Returns whether it is learned.
     fn relabel(&mut self, id: u32, label: Label) -> Result<bool, StoreFault>
-        ensures relabels { Relabels (kept self.old) (kept self.new) id label result }
-        ensures written { (kept self.new).honest → (devices : Devices) → (kept self.old).holds devices →
-            IfOk result (λ known. IsTrue known → wrote self.old self.new (relabelled id label) devices) };
+        ensures relabels { Relabels (store_state self.old) (store_state self.new) id label result }
+        ensures written { (store_state self.new).honest → (devices : Devices) → (store_state self.old).holds devices →
+            IfOk result (λ known. IsTrue known → wrote self.old self.new (relabel_update id label) devices) };
 
     /// All devices, by rising ID.
     fn all(&mut self) -> Result<Vec<Device>, StoreFault>
-        ensures { ListsAll (kept self.old) (kept self.new) result };
+        ensures { ListsAll (store_state self.old) (store_state self.new) result };
 
     /// Learns a device, like `put`, and returns the receipt for it.
     fn learn(&mut self, device: Device) -> Result<Receipt, LearnFault>
         requires { device.label ≡ [] }
-        ensures learns { Learns (kept self.old) (kept self.new) device result }
+        ensures learns { Learns (store_state self.old) (store_state self.new) device result }
         ensures receipt { IfOk result (λ receipt. (receipt.id ≡ device.id) × IsTrue receipt.is_learned) }
-        ensures written { (kept self.new).honest → (devices : Devices) → (kept self.old).holds devices →
-            OnOk result (wrote self.old self.new (learned device) devices) }
+        ensures written { (store_state self.new).honest → (devices : Devices) → (store_state self.old).holds devices →
+            OnOk result (wrote self.old self.new (learn_update device) devices) }
     {
         let id = device.id;
         self.put(device)?;
@@ -79,10 +79,10 @@ pub trait DeviceStore {
 
     /// Forgets a sender, like `delete`, and returns the receipt for it.
     fn forget(&mut self, id: u32) -> Result<Receipt, StoreFault>
-        ensures forgets { Forgets (kept self.old) (kept self.new) id result }
+        ensures forgets { Forgets (store_state self.old) (store_state self.new) id result }
         ensures receipt { IfOk result (λ receipt. (receipt.id ≡ id) × (receipt.is_learned ≡ false)) }
-        ensures written { (kept self.new).honest → (devices : Devices) → (kept self.old).holds devices →
-            OnOk result (wrote self.old self.new (forgotten id) devices) }
+        ensures written { (store_state self.new).honest → (devices : Devices) → (store_state self.old).holds devices →
+            OnOk result (wrote self.old self.new (forget_update id) devices) }
     {
         self.delete(id)?;
         Ok(Receipt {

@@ -4,7 +4,7 @@ ghost use Rattle.std.specs.Prelude.{◌≡◌, ◌↔◌, [], true, IsSome, IfSo
 ghost use Rattle.std.specs.Cmp.{on_equiv, on_per, partial_equiv_from_equiv};
 ghost use Rattle.std.specs.Cmp.Lexicographic.{nat_list_eq_equiv, pointwise};
 ghost use Rattle.std.specs.List.{list_all};
-ghost use Rattle.learned_devices.specs.Labels.{is_label, is_name, is_shown};
+ghost use Rattle.learned_devices.specs.Labels.{is_label, has_label_form, is_label_byte};
 
 use crate::limits::MAX_LABEL;
 use arrayvec::ArrayString;
@@ -30,24 +30,24 @@ impl Model for Label {
     ghost invariant = { λ label. is_label label.text.bytes ≡ true };
 }
 
-fn is_shown(byte: &u8) -> bool
-    ensures { result ≡ is_shown byte.now }
+fn is_label_byte(byte: &u8) -> bool
+    ensures { result ≡ is_label_byte byte.now }
 {
     (b' '..=b'~').contains(byte)
 }
 
-fn are_shown(text: &[u8]) -> bool
-    ensures { result ≡ list_all is_shown text.now }
+fn are_label_bytes(text: &[u8]) -> bool
+    ensures { result ≡ list_all is_label_byte text.now }
 {
-    text.iter().all(is_shown)
+    text.iter().all(is_label_byte)
 }
 
 /// Whether a text is a valid label, ignoring its length: bytes from space to `~` of ASCII, neither beginning nor ending
 /// with a space. The empty text is one.
-pub fn is_name(text: &[u8]) -> bool
-    ensures { result ≡ is_name text.now }
+pub fn has_label_form(text: &[u8]) -> bool
+    ensures { result ≡ has_label_form text.now }
 {
-    are_shown(text) && !text.starts_with(b" ") && !text.ends_with(b" ")
+    are_label_bytes(text) && !text.starts_with(b" ") && !text.ends_with(b" ")
 }
 
 impl Label {
@@ -65,15 +65,15 @@ impl Label {
         ensures some { IfSome result (λ label. label ≡ text.now) }
         ensures variant { IsSome result ↔ (is_label text.now ≡ true) }
     {
-        if !is_name(text.as_bytes()) {
+        if !has_label_form(text.as_bytes()) {
             return None;
         }
         Label::of_name(text)
     }
 
-    /// The label with this name, which `is_name` accepts, or `None` if it is longer than `MAX_LABEL`.
+    /// The label with this name, which `has_label_form` accepts, or `None` if it is longer than `MAX_LABEL`.
     pub fn of_name(name: &str) -> Option<Label>
-        requires { is_name name.now ≡ true }
+        requires { has_label_form name.now ≡ true }
         ensures some { IfSome result (λ label. label ≡ name.now) }
         ensures variant { IsSome result ↔ (is_label name.now ≡ true) }
     {

@@ -1,5 +1,5 @@
 //! Tests of labels, of copies of devices, and of the texts of faults.
-use crate::{Device, Label, LearnFault, MAX_DEVICES, MAX_LABEL, StoreFault, is_name};
+use crate::{Device, Label, LearnFault, MAX_DEVICES, MAX_LABEL, StoreFault, has_label_form};
 use erp1_telegrams::Eep;
 use std::alloc::AllocError;
 use std::test::Fail;
@@ -47,11 +47,11 @@ fn no_labels(rt: HostRuntime) -> Result<(), Fail> {
 fn names(rt: HostRuntime) -> Result<(), Fail> {
     let names: [&[u8]; 4] = [b"", b"~", b"a  b", b"123456789012345678901234567890123"];
     for text in names {
-        assert!(rt; is_name(text));
+        assert!(rt; has_label_form(text));
     }
     let others: [&[u8]; 6] = [b" ", b" x", b"x ", b"a\tb", b"a\x7Fb", b"a\x80b"];
     for text in others {
-        assert!(rt; !is_name(text));
+        assert!(rt; !has_label_form(text));
     }
     Ok(())
 }

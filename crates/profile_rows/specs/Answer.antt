@@ -5,10 +5,10 @@ use Rattle.profile_rows.specs.declared.reading.Reading.{Reading}
 use Rattle.profile_rows.specs.declared.unreadable.Unreadable.{Unreadable}
 
 -- an error, or the readings that the call leaves
-abbrev pub told : Result (Unit {0}) Unreadable → List Reading → Result (List Entry) Unreadable
-told (Ok done) readings = Ok (entries readings)
-told (Err refusal) readings = Err refusal
+abbrev pub read_result : Result (Unit {0}) Unreadable → List Reading → Result (List Entry) Unreadable
+read_result (Ok done) readings = Ok (entries readings)
+read_result (Err refusal) readings = Err refusal
 
 -- the readings that the call leaves, if it has read some
-abbrev pub told_if : Bool → List Reading → Option (List Entry)
-told_if has_read readings = if has_read then Some (entries readings) else None
+abbrev pub entries_if : Bool → List Reading → Option (List Entry)
+entries_if has_read readings = if has_read then Some (entries readings) else None

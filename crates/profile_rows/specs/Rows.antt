@@ -16,7 +16,7 @@ pub data Kind : Type 0 where
   -- the word listed with the number
   words : List (ℕ × List ℕ) → Kind
   -- one word below a number, another from that number on
-  parted : ℕ → List ℕ → List ℕ → Kind
+  threshold : ℕ → List ℕ → List ℕ → Kind
   -- 0 to 100 percent, and a word for 127
   percent_or : List ℕ → Kind
   -- a value with a unit: the number divided by a divisor
@@ -90,21 +90,21 @@ abbrev pub quotient : ℕ → List ℕ → ℕ → Meaning
 quotient divisor unit n = value (lowest (pos n) divisor) unit
 
 -- the meaning of the number n in a field of this payload
-abbrev pub meant : Kind → List ℕ → ℕ → Meaning
-meant (range a b x y unit) payload n = value_in_range a b x y unit n
-meant (words list) payload n = word_beside list n
-meant (parted bound below from) payload n = word_by bound below from n
-meant (percent_or text) payload n = percentage_or text n
-meant (over divisor unit) payload n = quotient divisor unit n
-meant (over_power offset len unit) payload n = quotient (10 ^ field payload offset len) unit n
-meant number payload n = raw n
-meant reserved payload n = out_of_range n
+abbrev pub row_meaning : Kind → List ℕ → ℕ → Meaning
+row_meaning (range a b x y unit) payload n = value_in_range a b x y unit n
+row_meaning (words list) payload n = word_beside list n
+row_meaning (threshold bound below from) payload n = word_by bound below from n
+row_meaning (percent_or text) payload n = percentage_or text n
+row_meaning (over divisor unit) payload n = quotient divisor unit n
+row_meaning (over_power offset len unit) payload n = quotient (10 ^ field payload offset len) unit n
+row_meaning number payload n = raw n
+row_meaning reserved payload n = out_of_range n
 
 -- the readings of a row in a telegram with this status and this payload: none if its condition does not hold
 abbrev pub row_entries : ℕ → List ℕ → Row → List Entry
 row_entries status payload row =
     if holds row.condition status payload
-    then record { name = row.name; meaning = meant row.kind payload (field payload row.offset row.len) } ∷ []
+    then record { name = row.name; meaning = row_meaning row.kind payload (field payload row.offset row.len) } ∷ []
     else []
 
 -- the readings of a list of rows, in their order

@@ -44,7 +44,7 @@ pub fn words(raw: u32, list: &[(u32, &'static str)]) -> What
 }
 
 /// The word `below` for numbers below the bound, and the word `from` from the bound on.
-pub fn parted(raw: u32, bound: u32, below: &'static str, from: &'static str) -> What
+pub fn threshold(raw: u32, bound: u32, below: &'static str, from: &'static str) -> What
     ensures { meaning_of result ≡ word_by bound below.now from.now raw }
 {
     What::Word(if raw < bound { below } else { from })

@@ -1,6 +1,6 @@
 -- The occupancy sensor (EnOcean Equipment Profiles 2.6, "A5-07: Occupancy Sensor").
 use Rattle.std.specs.Prelude.{pos, List, [], ◌∷◌, codes}
-use Rattle.profile_rows.specs.Rows.{Row, range, parted, always, where_field}
+use Rattle.profile_rows.specs.Rows.{Row, range, threshold, always, where_field}
 use Rattle.profile_rows.specs.Profile.{Profiles}
 
 -- the supply voltage if it is available, and whether there is motion
@@ -18,7 +18,7 @@ voltage_and_motion =
       offset = 16;
       len = 8;
       condition = always;
-      kind = parted 128 (codes "off") (codes "on");
+      kind = threshold 128 (codes "off") (codes "on");
     }
     ∷ []
 

@@ -2,7 +2,7 @@
 
 ghost use Rattle.std.specs.Prelude.{◌≡◌, option_map};
 ghost use Rattle.std.specs.Bool.{OnFalse};
-ghost use Rattle.profile_rows.specs.Answer.{told_if};
+ghost use Rattle.profile_rows.specs.Answer.{entries_if};
 ghost use Rattle.profile_rows.specs.Profile.{rows_in};
 ghost use Rattle.profile_rows.specs.Rows.{entries_of};
 ghost use Rattle.profiles_4bs.specs.LightTemperatureOccupancy.{light_temperature_occupancy};
@@ -16,7 +16,7 @@ const ON_OR_OFF: [(u32, &str); 2] = [(0, "on"), (1, "off")];
 
 /// Sets `readings` to what the rows of a profile A5-08 read in a payload, and returns whether the profile has rows.
 pub(crate) fn read_into(eep: Eep, bytes: &[u8; 4], readings: &mut Readings) -> bool
-    ensures exact { told_if result readings.new.items
+    ensures exact { entries_if result readings.new.items
         ≡ option_map (entries_of bytes.now) (rows_in light_temperature_occupancy eep) }
     ensures none { OnFalse result (readings.new ≡ readings.old) }
 {

@@ -2,7 +2,7 @@
 
 ghost use Rattle.std.specs.Prelude.{◌≡◌, option_map, OnErr};
 ghost use Rattle.std.specs.Bool.{OnFalse};
-ghost use Rattle.profile_rows.specs.Answer.{told, told_if};
+ghost use Rattle.profile_rows.specs.Answer.{read_result, entries_if};
 ghost use Rattle.profile_rows.specs.Rows.{entries_of};
 ghost use Rattle.profiles_4bs.specs.Profiles.{rows_of, supported, readings_of};
 
@@ -17,7 +17,7 @@ use profile_rows::{Readings, Unreadable, payload_of};
 /// function has the profiles of one FUNC.
 #[tactic(auto, unfolding(crate::specs::Profiles::rows_of, profile_rows::specs::Profile::is_one_of))]
 fn read_into(eep: Eep, bytes: &[u8; 4], readings: &mut Readings) -> bool
-    ensures exact { told_if result readings.new.items ≡ option_map (entries_of bytes.now) (rows_of eep) }
+    ensures exact { entries_if result readings.new.items ≡ option_map (entries_of bytes.now) (rows_of eep) }
     ensures none { OnFalse result (readings.new ≡ readings.old) }
 {
     match eep.func {
@@ -48,7 +48,7 @@ pub fn supports(eep: Eep) -> bool
 /// profile, `WrongLength` if the payload does not have four bytes, and `OtherMessage` if the telegram is a 4BS
 /// teach-in.
 pub fn read(eep: Eep, telegram: &Telegram, readings: &mut Readings) -> Result<(), Unreadable>
-    ensures exact { told result readings.new.items ≡ readings_of eep telegram.now }
+    ensures exact { read_result result readings.new.items ≡ readings_of eep telegram.now }
     ensures err { OnErr result (readings.new ≡ readings.old) }
 {
     match payload_of(eep.rorg, telegram) {

@@ -2,7 +2,7 @@
 
 ghost use Rattle.std.specs.Prelude.{◌≡◌, option_map};
 ghost use Rattle.std.specs.Bool.{OnFalse};
-ghost use Rattle.profile_rows.specs.Answer.{told_if};
+ghost use Rattle.profile_rows.specs.Answer.{entries_if};
 ghost use Rattle.profile_rows.specs.Profile.{rows_in};
 ghost use Rattle.profile_rows.specs.Rows.{entries_of};
 ghost use Rattle.profiles_4bs.specs.Temperature.{of_10_bits_each, spans_of_40_degrees};
@@ -14,7 +14,7 @@ use profile_rows::{Readings, read_profiles};
 /// Sets `readings` to what the rows of a profile A5-02 read in a payload, and returns whether the profile has rows.
 /// Each of the three functions has a part of the profiles: a single function would cost more to prove.
 pub(crate) fn read_into(eep: Eep, bytes: &[u8; 4], readings: &mut Readings) -> bool
-    ensures exact { told_if result readings.new.items ≡ option_map (entries_of bytes.now) (rows_in temperature eep) }
+    ensures exact { entries_if result readings.new.items ≡ option_map (entries_of bytes.now) (rows_in temperature eep) }
     ensures none { OnFalse result (readings.new ≡ readings.old) }
 {
     over_40_degrees(eep, bytes, readings)
@@ -24,7 +24,7 @@ pub(crate) fn read_into(eep: Eep, bytes: &[u8; 4], readings: &mut Readings) -> b
 
 /// A5-02-01 to A5-02-0B.
 fn over_40_degrees(eep: Eep, bytes: &[u8; 4], readings: &mut Readings) -> bool
-    ensures exact { told_if result readings.new.items
+    ensures exact { entries_if result readings.new.items
         ≡ option_map (entries_of bytes.now) (rows_in spans_of_40_degrees eep) }
     ensures none { OnFalse result (readings.new ≡ readings.old) }
 {
@@ -45,7 +45,7 @@ fn over_40_degrees(eep: Eep, bytes: &[u8; 4], readings: &mut Readings) -> bool
 
 /// A5-02-10 to A5-02-1B.
 fn over_80_degrees(eep: Eep, bytes: &[u8; 4], readings: &mut Readings) -> bool
-    ensures exact { told_if result readings.new.items
+    ensures exact { entries_if result readings.new.items
         ≡ option_map (entries_of bytes.now) (rows_in spans_of_80_degrees eep) }
     ensures none { OnFalse result (readings.new ≡ readings.old) }
 {
@@ -67,7 +67,7 @@ fn over_80_degrees(eep: Eep, bytes: &[u8; 4], readings: &mut Readings) -> bool
 
 /// A5-02-20 and A5-02-30.
 fn by_10_bits(eep: Eep, bytes: &[u8; 4], readings: &mut Readings) -> bool
-    ensures exact { told_if result readings.new.items
+    ensures exact { entries_if result readings.new.items
         ≡ option_map (entries_of bytes.now) (rows_in of_10_bits_each eep) }
     ensures none { OnFalse result (readings.new ≡ readings.old) }
 {

@@ -2,7 +2,7 @@
 
 ghost use Rattle.std.specs.Prelude.{◌≡◌, option_map, OnErr};
 ghost use Rattle.std.specs.Bool.{OnFalse};
-ghost use Rattle.profile_rows.specs.Answer.{told, told_if};
+ghost use Rattle.profile_rows.specs.Answer.{read_result, entries_if};
 ghost use Rattle.profile_rows.specs.Rows.{rows_entries};
 ghost use Rattle.profiles_rps.specs.Profiles.{rows_of, supported, readings_of};
 
@@ -28,7 +28,7 @@ const ROCKERS_ABCD: [(u32, &str); 8] = [
 /// Sets `readings` to what the rows of a profile read in a payload, and returns whether the profile has rows.
 #[tactic(auto, unfolding(crate::specs::Profiles::rows_of))]
 fn read_into(eep: Eep, status: u8, bytes: &[u8; 1], readings: &mut Readings) -> bool
-    ensures exact { told_if result readings.new.items ≡ option_map (rows_entries status bytes.now) (rows_of eep) }
+    ensures exact { entries_if result readings.new.items ≡ option_map (rows_entries status bytes.now) (rows_of eep) }
     ensures none { OnFalse result (readings.new ≡ readings.old) }
 {
     let nu = get::<1, 3, 1>(&[status]);
@@ -68,7 +68,7 @@ pub fn supports(eep: Eep) -> bool
 /// order: `NotSupported` if the profile is not supported, `WrongKind` if the telegram does not have the RORG of the
 /// profile, `WrongLength` if the payload does not have one byte, and `OtherMessage` if the telegram is a 1BS teach-in.
 pub fn read(eep: Eep, telegram: &Telegram, readings: &mut Readings) -> Result<(), Unreadable>
-    ensures exact { told result readings.new.items ≡ readings_of eep telegram.now }
+    ensures exact { read_result result readings.new.items ≡ readings_of eep telegram.now }
     ensures err { OnErr result (readings.new ≡ readings.old) }
 {
     match payload_of(eep.rorg, telegram) {

@@ -1,7 +1,7 @@
 //! Blinds control for position and angle: the profile D2-05-00.
 
 ghost use Rattle.std.specs.Prelude.{◌≡◌, OnErr};
-ghost use Rattle.profile_rows.specs.Answer.{told};
+ghost use Rattle.profile_rows.specs.Answer.{read_result};
 ghost use Rattle.profiles_vld.specs.Profiles.{blinds_control_says};
 
 use bit_fields::get;
@@ -10,7 +10,7 @@ use profile_rows::{Readings, Unreadable, read_rows};
 /// Sets `readings` to the readings of a payload, or returns the first error: `WrongLength` if it does not have four
 /// bytes, and `OtherMessage` if its command is not 4.
 pub(crate) fn read_into(payload: &[u8], readings: &mut Readings) -> Result<(), Unreadable>
-    ensures exact { told result readings.new.items ≡ blinds_control_says payload.now }
+    ensures exact { read_result result readings.new.items ≡ blinds_control_says payload.now }
     ensures err { OnErr result (readings.new ≡ readings.old) }
 {
     let Ok(bytes) = <&[u8; 4]>::try_from(payload) else {

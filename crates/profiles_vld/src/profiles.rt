@@ -1,7 +1,7 @@
 //! The VLD profiles, and decoding telegrams by them.
 
 ghost use Rattle.std.specs.Prelude.{◌≡◌, option_map, IfNone, IfSome, OnErr};
-ghost use Rattle.profile_rows.specs.Answer.{told};
+ghost use Rattle.profile_rows.specs.Answer.{read_result};
 ghost use Rattle.profiles_vld.specs.Profiles.{profile_says, supported, readings_of};
 
 use crate::{blinds_control, electronic_switches};
@@ -11,7 +11,7 @@ use profile_rows::{Readings, Unreadable};
 /// Sets `readings` to the readings of a payload by a profile, or returns the first error; `None` if the profile is not
 /// supported.
 fn read_into(eep: Eep, payload: &[u8], readings: &mut Readings) -> Option<Result<(), Unreadable>>
-    ensures exact { option_map (λ answer. told answer readings.new.items) result
+    ensures exact { option_map (λ answer. read_result answer readings.new.items) result
         ≡ option_map (λ says. says payload.now) (profile_says eep) }
     ensures none { IfNone result (readings.new ≡ readings.old) }
     ensures err { IfSome result (λ answer. OnErr answer (readings.new ≡ readings.old)) }
@@ -39,7 +39,7 @@ pub fn supports(eep: Eep) -> bool
 /// not have three bytes (command 4) or six bytes (command 7). For D2-05-00, `WrongLength` if the payload does not have
 /// four bytes, and `OtherMessage` if the command is not 4.
 pub fn read(eep: Eep, telegram: &Telegram, readings: &mut Readings) -> Result<(), Unreadable>
-    ensures exact { told result readings.new.items ≡ readings_of eep telegram.now }
+    ensures exact { read_result result readings.new.items ≡ readings_of eep telegram.now }
     ensures err { OnErr result (readings.new ≡ readings.old) }
 {
     if telegram.rorg() == eep.rorg {

@@ -2,8 +2,8 @@
 use crate::telling::Telling;
 use anyhow::Result;
 use gateway_core::StartFault;
-use gateway_main::command_line::{Refused, read};
-use gateway_main::ending::{Ending, done, status, without_arguments};
+use gateway_main::command_line::{CommandLineFault, read};
+use gateway_main::ending::{Ending, first_fault, status, without_arguments};
 use gateway_main::fault::Fault;
 use gateway_main::{RunFault, Summary};
 use std::alloc::{AllocError, Global};
@@ -65,10 +65,14 @@ fn tell_statuses(rt: &HostRuntime, telling: &mut Telling) -> Result<()> {
     let no_memory = io::Error::from(AllocError);
     for (name, ended, wanted) in [
         ("an end with no fault", Ok(()), 0),
-        ("a bad base", Err(Ending::from(Refused::BadBase)), 2),
+        (
+            "a bad base",
+            Err(Ending::from(CommandLineFault::BadBase)),
+            2,
+        ),
         (
             "no memory for the line",
-            Err(Ending::from(Refused::from(AllocError))),
+            Err(Ending::from(CommandLineFault::from(AllocError))),
             1,
         ),
         (
@@ -173,7 +177,7 @@ fn tell_closes(rt: &HostRuntime, telling: &mut Telling) -> Result<()> {
             Err(Fault::CannotOpen),
         ),
     ] {
-        telling.tell(rt, name, done(served, closed) == wanted)?;
+        telling.tell(rt, name, first_fault(served, closed) == wanted)?;
     }
     Ok(())
 }

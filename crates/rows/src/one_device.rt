@@ -32,7 +32,7 @@ impl OneDevice {
 }
 
 impl DeviceStore for OneDevice {
-    ghost kept = { λ _. record { honest = ⊥; holds = λ _. ⊥; may_recover = λ _. ⊥; sound = ⊥ } };
+    ghost store_state = { λ _. record { honest = ⊥; holds = λ _. ⊥; may_recover = λ _. ⊥; sound = ⊥ } };
 
     ghost wrote = { λ _ _ _ _. ⊥ };
 

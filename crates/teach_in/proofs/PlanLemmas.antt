@@ -19,7 +19,7 @@ use Rattle.teach_in.specs.Profiles.{supported}
 use Rattle.teach_in.specs.Telegrams.{teach_in_of, one_byte_kind, four_byte_kind, ute_kind}
 use Rattle.teach_in.specs.Ute as ute
 use Rattle.teach_in.specs.Ute.{request_in, deletion, not_used}
-use Rattle.teach_in.specs.Plans.{add, plan_asked, is_learned_by, row_of, in_mode, plan_of}
+use Rattle.teach_in.specs.Plans.{add, ute_plan, can_teach, row_of, in_mode, plan_of}
 
 -- what holds for both holds for the one that is chosen
 pub either : {A : Type 0} (P : A → Type 0) (b : Bool) (one other : A) → P one → P other
@@ -73,7 +73,7 @@ pub record OfPlans (P : Plan → Type 0) (t : Telegram) (kind : Teach) (mode : M
 
 module _ (P : Plan → Type 0) (t : Telegram) where
   of-asked : (query : UteQuery) (mode : Mode) → LearnsByTold mode → OfPlans P t (Ute query) mode
-      → P (plan_asked t query)
+      → P (ute_plan t query)
   of-asked query mode told each =
       by_request P (request_in query == deletion) _ _
       (λ is. each.forgets told (query, refl, eqb-true (request_in query) deletion is))
@@ -102,7 +102,7 @@ module _ (P : Plan → Type 0) (t : Telegram) where
   of-row known Plain Learn each = each.silent
   of-row known Plain LearnAnswer each = each.silent
   of-row known Plain (LearnAs eep) each =
-      either P (not known && is_learned_by t) _ _ (either P (eep.rorg == t.rorg) _ _ (each.adds tt _ _) each.silent)
+      either P (not known && can_teach t) _ _ (either P (eep.rorg == t.rorg) _ _ (each.adds tt _ _) each.silent)
       each.silent
   of-row known (Ute query) Learn each = of-asked query Learn (inl refl) each
   of-row known (Ute query) LearnAnswer each = of-asked query LearnAnswer (inr refl) each

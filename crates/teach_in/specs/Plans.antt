@@ -22,55 +22,55 @@ abbrev pub add : Telegram → Eep → Option ℕ → Plan
 add t eep maker = Add (record { id = t.sender; eep = eep; maker = maker; label = [] })
 
 -- the same if the profile has this RORG, and nothing if it has another
-abbrev pub add_kind : ℕ → Telegram → Eep → Option ℕ → Plan
-add_kind rorg t eep maker = if eep.rorg == rorg then add t eep maker else Silent
+abbrev pub add_if_rorg : ℕ → Telegram → Eep → Option ℕ → Plan
+add_if_rorg rorg t eep maker = if eep.rorg == rorg then add t eep maker else Silent
 
 -- the profile of contacts (EnOcean Equipment Profiles 2.6, D5-00-01)
 abbrev pub contact : Eep
 contact = record { rorg = 0xD5; func = 0x00; typ = 0x01 }
 
 -- the same with the profile and maker of a query, if the profile is supported
-abbrev pub add_told : Telegram → Eep → ℕ → Plan
-add_told t eep maker = if supported eep then add t eep (Some maker) else Refuse Unsupported
+abbrev pub add_supported : Telegram → Eep → ℕ → Plan
+add_supported t eep maker = if supported eep then add t eep (Some maker) else Refuse Unsupported
 
 -- the plan for a UTE query; its sender is also learned if it is already known
-abbrev pub plan_asked : Telegram → UteQuery → Plan
-plan_asked t query =
+abbrev pub ute_plan : Telegram → UteQuery → Plan
+ute_plan t query =
     if request_in query == deletion then Forget t.sender
     else if request_in query == not_used then Refuse General
-    else add_told t (ute.eep_in query) (ute.maker_in query)
+    else add_supported t (ute.eep_in query) (ute.maker_in query)
 
 -- whether a sender can be learned by this data telegram: of RPS if a button is pressed (the bit at offset 3), and any
 -- of VLD
-abbrev pub is_learned_by : Telegram → Bool
-is_learned_by t = (t.rorg == 0xF6 && field t.payload 3 1 == 1) || t.rorg == 0xD2
+abbrev pub can_teach : Telegram → Bool
+can_teach t = (t.rorg == 0xF6 && field t.payload 3 1 == 1) || t.rorg == 0xD2
 
 -- a row of the table: the plan by the telegram's own profile, in the modes Learn and LearnAnswer, and by the profile
 -- that the desk has given, in the mode LearnAs
 pub record Row : Type 0 where
-  pub told : Plan
+  pub reported : Plan
   pub given : Eep → Plan
 
 -- The table: a row for each role of a telegram in teach-in; for data it depends on whether the sender is already known.
 abbrev pub row_of : Telegram → Bool → Teach → Row
-row_of t known Contact = record { told = add t contact None; given = λ eep. add_kind 0xD5 t eep None }
-row_of t known Bare = record { told = Refuse NoProfile; given = λ eep. add_kind 0xA5 t eep None }
+row_of t known Contact = record { reported = add t contact None; given = λ eep. add_if_rorg 0xD5 t eep None }
+row_of t known Bare = record { reported = Refuse NoProfile; given = λ eep. add_if_rorg 0xA5 t eep None }
 row_of t known (FourByte query) = record {
-  told = add_told t (eep_in query) (maker_in query);
-  given = λ eep. add_kind 0xA5 t eep (Some (maker_in query));
+  reported = add_supported t (eep_in query) (maker_in query);
+  given = λ eep. add_if_rorg 0xA5 t eep (Some (maker_in query));
 }
 row_of t known Plain = record {
-  told = Silent;
-  given = λ eep. if not known && is_learned_by t then add_kind t.rorg t eep None else Silent;
+  reported = Silent;
+  given = λ eep. if not known && can_teach t then add_if_rorg t.rorg t eep None else Silent;
 }
-row_of t known (Ute query) = record { told = plan_asked t query; given = λ eep. Silent }
-row_of t known Answer = record { told = Silent; given = λ eep. Silent }
+row_of t known (Ute query) = record { reported = ute_plan t query; given = λ eep. Silent }
+row_of t known Answer = record { reported = Silent; given = λ eep. Silent }
 
 -- the plan of a row in each mode
 abbrev pub in_mode : Row → Mode → Plan
 in_mode row Closed = Silent
-in_mode row Learn = row.told
-in_mode row LearnAnswer = row.told
+in_mode row Learn = row.reported
+in_mode row LearnAnswer = row.reported
 in_mode row (LearnAs eep) = row.given eep
 
 -- the plan for the sender of a telegram, by the mode and by whether it is known

@@ -1,7 +1,7 @@
 //! The plan for the sender of a telegram, by the table of plans.
 ghost use Rattle.std.specs.Prelude.{◌≡◌, Bool};
 ghost use Rattle.teach_in.specs.Telegrams.{teach_in_of};
-ghost use Rattle.teach_in.specs.Plans.{add, add_told, plan_asked, is_learned_by, plan_of, row_of};
+ghost use Rattle.teach_in.specs.Plans.{add, add_supported, ute_plan, can_teach, plan_of, row_of};
 
 use crate::mode::Mode;
 use crate::outcome::Outcome;
@@ -34,8 +34,8 @@ fn add(telegram: &Telegram, eep: Eep, maker: Option<u16>) -> Plan
 }
 
 // The same with the profile and maker of a query, if that profile is supported.
-fn add_told(telegram: &Telegram, eep: Eep, maker: u16) -> Plan
-    ensures { result ≡ add_told telegram.now eep maker }
+fn add_supported(telegram: &Telegram, eep: Eep, maker: u16) -> Plan
+    ensures { result ≡ add_supported telegram.now eep maker }
 {
     if supported(eep) {
         add(telegram, eep, Some(maker))
@@ -45,32 +45,32 @@ fn add_told(telegram: &Telegram, eep: Eep, maker: u16) -> Plan
 }
 
 // The plan for a UTE query.
-fn plan_asked(telegram: &Telegram, query: &UteQuery) -> Plan
-    ensures { result ≡ plan_asked telegram.now query.now }
+fn ute_plan(telegram: &Telegram, query: &UteQuery) -> Plan
+    ensures { result ≡ ute_plan telegram.now query.now }
 {
     match query.request() {
         DELETION => Plan::Forget(telegram.sender()),
         NOT_USED => Plan::Refuse(Outcome::General),
-        _ => add_told(telegram, query.eep(), query.maker()),
+        _ => add_supported(telegram, query.eep(), query.maker()),
     }
 }
 
 // The plan in the modes that learn by a telegram's own profile.
-fn plan_told(telegram: &Telegram, teach: &Teach) -> Plan
-    ensures { (known : Bool) → result ≡ (row_of telegram.now known teach.now).told }
+fn plan_by_query(telegram: &Telegram, teach: &Teach) -> Plan
+    ensures { (known : Bool) → result ≡ (row_of telegram.now known teach.now).reported }
 {
     match teach {
         Teach::Contact => add(telegram, CONTACT, None),
         Teach::Bare => Plan::Refuse(Outcome::NoProfile),
-        Teach::FourByte(query) => add_told(telegram, query.eep(), query.maker()),
-        Teach::Ute(query) => plan_asked(telegram, query),
+        Teach::FourByte(query) => add_supported(telegram, query.eep(), query.maker()),
+        Teach::Ute(query) => ute_plan(telegram, query),
         Teach::Plain | Teach::Answer => Plan::Silent,
     }
 }
 
 // Whether a sender can be learned by this data telegram.
-fn is_learned_by(telegram: &Telegram) -> bool
-    ensures { result ≡ is_learned_by telegram.now }
+fn can_teach(telegram: &Telegram) -> bool
+    ensures { result ≡ can_teach telegram.now }
 {
     match telegram.rorg() {
         rorg::RPS => get::<1, 3, 1>(bytes_of(telegram.payload())) == 1,
@@ -80,13 +80,13 @@ fn is_learned_by(telegram: &Telegram) -> bool
 }
 
 // The plan in the mode that learns with this profile.
-fn plan_as(telegram: &Telegram, teach: &Teach, eep: Eep, known: bool) -> Plan
+fn plan_by_desk(telegram: &Telegram, teach: &Teach, eep: Eep, known: bool) -> Plan
     ensures { result ≡ (row_of telegram.now known teach.now).given eep }
 {
     match (teach, eep.rorg) {
         (Teach::Contact, rorg::ONE_BS) | (Teach::Bare, rorg::FOUR_BS) => add(telegram, eep, None),
         (Teach::FourByte(query), rorg::FOUR_BS) => add(telegram, eep, Some(query.maker())),
-        (Teach::Plain, rorg) if !known && rorg == telegram.rorg() && is_learned_by(telegram) => {
+        (Teach::Plain, rorg) if !known && rorg == telegram.rorg() && can_teach(telegram) => {
             add(telegram, eep, None)
         }
         _ => Plan::Silent,
@@ -101,8 +101,8 @@ pub fn plan_for(telegram: &Telegram, teach: &Teach, mode: Mode, known: bool) -> 
 {
     match mode {
         Mode::Closed => Plan::Silent,
-        Mode::Learn | Mode::LearnAnswer => plan_told(telegram, teach),
-        Mode::LearnAs(eep) => plan_as(telegram, teach, eep, known),
+        Mode::Learn | Mode::LearnAnswer => plan_by_query(telegram, teach),
+        Mode::LearnAs(eep) => plan_by_desk(telegram, teach, eep, known),
     }
 }
 

@@ -1,14 +1,14 @@
 //! Replies to teach-in telegrams.
 ghost use Rattle.std.specs.Prelude.{◌≡◌, IsTrue, length};
-ghost use Rattle.erp1_telegrams.specs.Telegram.{fits, is_kind};
+ghost use Rattle.erp1_telegrams.specs.Telegram.{payload_fits, is_known_rorg};
 ghost use Rattle.teach_in.specs.Replies;
 
 use erp1_telegrams::Telegram;
 
 // A telegram from the base ID, addressed to one sender.
 pub(crate) fn reply(rorg: u8, payload: &[u8], id: u32, base: u32) -> Telegram
-    requires kind { IsTrue (is_kind rorg) }
-    requires fits { IsTrue (fits rorg (length payload.now)) }
+    requires kind { IsTrue (is_known_rorg rorg) }
+    requires fits { IsTrue (payload_fits rorg (length payload.now)) }
     ensures { result ≡ Replies.reply rorg payload.now id base }
 {
     match Telegram::new(rorg, payload, base, 0, id, None) {

@@ -21,7 +21,7 @@ pub enum Why {
     /// The telegram is a teach-in reply.
     TeachInReply,
     /// The telegram's sender was to be learned or forgotten, with this outcome.
-    Told(Outcome),
+    TeachIn(Outcome),
     /// It is a teach-in telegram, and the mode is closed.
     WindowClosed,
     /// It is a teach-in telegram that the open mode does not accept.

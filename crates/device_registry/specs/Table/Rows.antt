@@ -12,7 +12,7 @@ use Rattle.learned_devices.specs.declared.Device.{Device}
 use Rattle.learned_devices.specs.Labels.{is_label}
 use Rattle.device_registry.specs.declared.table.Version.{Version}
 use Rattle.device_registry.specs.declared.table.Version.TheVariants.{First, Second}
-use Rattle.learned_devices.specs.Devices.{Learned, Devices, device}
+use Rattle.learned_devices.specs.Devices.{DeviceData, Devices, device}
 use Rattle.device_registry.specs.Table.{number_of, max_sender, max_profile, max_maker}
 
 -- ---- the values
@@ -29,13 +29,13 @@ abbrev pub maker_number : Option ℕ → ℤ
 maker_number (Some maker) = pos maker
 maker_number None = negsuc 0
 
-abbrev pub natural : Value → ℕ
-natural (Int (pos n)) = n
-natural (Int (negsuc n)) = 0
-natural Null = 0
-natural (Real x) = 0
-natural (Text t) = 0
-natural (Blob b) = 0
+abbrev pub natural_in : Value → ℕ
+natural_in (Int (pos n)) = n
+natural_in (Int (negsuc n)) = 0
+natural_in Null = 0
+natural_in (Real x) = 0
+natural_in (Text t) = 0
+natural_in (Blob b) = 0
 
 abbrev pub maker_in : Value → Option ℕ
 maker_in (Int (pos n)) = Some n
@@ -55,10 +55,10 @@ label_in (Blob b) = []
 -- ---- the rows of the tables
 
 -- a row of the device table has its rowid, which is the sender, and then the columns
-abbrev pub entry_of : Row → ℕ × Learned
+abbrev pub entry_of : Row → ℕ × DeviceData
 entry_of row = (
-  natural (column row 0),
-  record { eep = eep_of (natural (column row 2)); maker = maker_in (column row 3); label = label_in (column row 4) },
+  natural_in (column row 0),
+  record { eep = eep_of (natural_in (column row 2)); maker = maker_in (column row 3); label = label_in (column row 4) },
 )
 
 abbrev pub devices_in : List Row → Devices
@@ -93,13 +93,13 @@ pub record IsDevice (row : Row) : Type 0 where
   pub is_label : is_label label ≡ true
 
 -- the row of a device
-abbrev pub stored : ℕ → Learned → Row
-stored id it =
+abbrev pub device_row : ℕ → DeviceData → Row
+device_row id it =
     Int (pos id) ∷ Null ∷ Int (pos (eep_number it.eep)) ∷ Int (maker_number it.maker) ∷ Text it.label ∷ []
 
 -- the parameters of the statement that upserts that row
-abbrev pub put_params : ℕ → Learned → Row
-put_params id it =
+abbrev pub upsert_params : ℕ → DeviceData → Row
+upsert_params id it =
     Int (pos id) ∷ Int (pos (eep_number it.eep)) ∷ Int (maker_number it.maker) ∷ Text it.label ∷ []
 
 -- the version row
@@ -110,17 +110,17 @@ pub record IsVersion (version : Version) (row : Row) : Type 0 where
 -- ---- the rows that queries show
 
 -- the device that a query shows by its sender, its profile, its manufacturer ID and its label
-abbrev pub listed : Row → Device
-listed row = device (natural (column row 0)) (record {
-  eep = eep_of (natural (column row 1));
+abbrev pub device_in_row : Row → Device
+device_in_row row = device (natural_in (column row 0)) (record {
+  eep = eep_of (natural_in (column row 1));
   maker = maker_in (column row 2);
   label = label_in (column row 3);
 })
 
 -- the row of this device is shown, or none if there is no device
-abbrev pub AreFound : Option Device → List Row → Type 0
-AreFound None rows = rows ≡ []
-AreFound (Some it) rows = (row : Row) × (rows ≡ row ∷ []) × (listed row ≡ it)
+abbrev pub IsDeviceOrNone : Option Device → List Row → Type 0
+IsDeviceOrNone None rows = rows ≡ []
+IsDeviceOrNone (Some it) rows = (row : Row) × (rows ≡ row ∷ []) × (device_in_row row ≡ it)
 
 -- the rows show the version row
 pub record ShowsVersion (version : Version) (rows : List Row) : Type 0 where
@@ -156,13 +156,14 @@ is_label_text (Real x) = false
 is_label_text (Blob b) = false
 
 -- the row shows a device: each number in its range, and a label
-abbrev pub shows_device : Row → Bool
-shows_device row =
+abbrev pub is_device_row : Row → Bool
+is_device_row row =
     is_number max_sender (column row 0) && is_number max_profile (column row 1) && is_maker (column row 2)
     && is_label_text (column row 3)
 
 -- the rows show devices, by ascending sender from this one on
-abbrev pub devices_rise : ℕ → List Row → Bool
-devices_rise least [] = true
-devices_rise least (row ∷ rows) =
-    shows_device row && nat_le least (natural (column row 0)) && devices_rise (natural (column row 0) + 1) rows
+abbrev pub are_ascending_devices : ℕ → List Row → Bool
+are_ascending_devices least [] = true
+are_ascending_devices least (row ∷ rows) =
+    is_device_row row && nat_le least (natural_in (column row 0))
+    && are_ascending_devices (natural_in (column row 0) + 1) rows

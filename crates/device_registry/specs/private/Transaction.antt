@@ -10,21 +10,21 @@ use Rattle.device_registry.specs.Stored.{AreListed}
 -- Nothing was committed since the first state: a crash leaves what it could leave then, and a rollback what was
 -- committed then.
 pub record IsUncommitted (old new : State) : Type 0 where
-  pub stop : Survives old new (λ _. ⊥)
+  pub crash : Survives old new (λ _. ⊥)
   pub kept : HasCleanDisk new → KeepsCommit old new
 
 -- these texts were run in turn inside a transaction, and each changed the database as its text means
-abbrev pub Ran : {S : Type 0} → Ghosts S → List (List ℕ) → Held S → Held S → Type 0
-Ran g [] old new = old ≡ new
-Ran g (text ∷ texts) old new =
+abbrev pub RanTexts : {S : Type 0} → Ghosts S → List (List ℕ) → Held S → Held S → Type 0
+RanTexts g [] old new = old ≡ new
+RanTexts g (text ∷ texts) old new =
     (mid : Held _) × (count : ℕ) × ExecutesInside 0 text [] (state g old) (state g mid) (Ok count)
-    × Ran g texts mid new
+    × RanTexts g texts mid new
 
 -- the transaction is open, and shows the result of these texts on what it showed first
 pub record IsInside {S : Type 0} (g : Ghosts S) (texts : List (List ℕ)) (old new : Held S) : Type 0 where
   pub uncommitted : IsUncommitted (state g old) (state g new)
   pub inside : HasCleanDisk (state g new) → IsTrue (state g new).in_transaction
-  pub ran : HasCleanDisk (state g new) → Ran g texts old new
+  pub ran : HasCleanDisk (state g new) → RanTexts g texts old new
 
 -- the same, and the two tables of this version were seen in its list of objects
 pub record IsListedInside {S : Type 0} (g : Ghosts S) (version : Version) (texts : List (List ℕ)) (old new : Held S)

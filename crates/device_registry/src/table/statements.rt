@@ -23,7 +23,7 @@ pub const WRITE_VERSION: &str = "INSERT INTO enogate_meta (k, version) VALUES (1
 pub const READ_VERSION: &str = "SELECT k, version FROM enogate_meta";
 
 /// Writes version 2; in a registry of version 2 the row does not change.
-pub const RENEW: &str = "UPDATE enogate_meta SET version = 2";
+pub const REWRITE_VERSION: &str = "UPDATE enogate_meta SET version = 2";
 
 /// Shows the device of a sender.
 pub const FIND: &str = "SELECT id, eep, maker, label FROM enogate_device_v2 WHERE id = ?1";
@@ -38,11 +38,11 @@ pub const FIND_ALL_FIRST: &str = "SELECT id, eep, maker, '' FROM enogate_device 
 pub const COUNT_OTHERS: &str = "SELECT count(*) FROM enogate_device_v2 WHERE id <> ?1";
 
 /// Upserts a device.
-pub const PUT: &str =
+pub const UPSERT: &str =
     "INSERT OR REPLACE INTO enogate_device_v2 (id, eep, maker, label) VALUES (?1, ?2, ?3, ?4)";
 
 /// Deletes the device of a sender.
-pub const FORGET: &str = "DELETE FROM enogate_device_v2 WHERE id = ?1";
+pub const DELETE: &str = "DELETE FROM enogate_device_v2 WHERE id = ?1";
 
 /// Copies all devices of version 1, each with the empty label.
 pub const COPY: &str =

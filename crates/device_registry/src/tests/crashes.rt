@@ -37,7 +37,7 @@ fn end_of(
     rt: &impl Abort,
     files: Disks,
     trial: Trial,
-    stop: Stop,
+    crash: Stop,
 ) -> Result<End, Fail> {
     let Some(conn) = connected(alloc, files, pages(trial))? else {
         return Ok(End::Early);
@@ -45,7 +45,7 @@ fn end_of(
     let mut end = End::Early;
     match before_stop(alloc, rt, conn, trial, &mut end)? {
         Some(conn) => {
-            let files = stopped(alloc, conn, stop)?.files;
+            let files = stopped(alloc, conn, crash)?.files;
             end_behind(alloc, rt, files, trial, end)
         }
         None => Ok(end),
@@ -83,12 +83,12 @@ fn each_refused(
     files: &Disks,
     which: Which,
     trial: Trial,
-    stop: Stop,
+    crash: Stop,
 ) -> Result<Vec<End>, Fail> {
     let mut ends = Vec::new(alloc);
     for turn in 0..5000 {
         let refusing = refusing(alloc, files, which, refusal(trial, turn))?;
-        match end_of(alloc, rt, refusing, trial, stop)? {
+        match end_of(alloc, rt, refusing, trial, crash)? {
             End::NoRefusal => return Ok(ends),
             end => ends.push(end)?,
         }
@@ -155,10 +155,10 @@ fn what_is_remembered_asks_nothing_of_the_disk(rt: HostRuntime) -> Result<(), Fa
 #[test]
 fn what_was_told_is_found_behind_a_stop(rt: HostRuntime) -> Result<(), Fail> {
     let files = made(rt.alloc(), FEW)?;
-    for stop in [Stop::OfProcess, Stop::OfMachine] {
+    for crash in [Stop::OfProcess, Stop::OfMachine] {
         let files = refusing(rt.alloc(), &files, Which::Log, Refusal::Nothing)?;
         assert_eq!(rt;
-            end_of(rt.alloc(), &rt, files, Trial::Changing, stop)?,
+            end_of(rt.alloc(), &rt, files, Trial::Changing, crash)?,
             End::Kept
         );
     }
@@ -195,9 +195,9 @@ fn an_open_ends_what_a_refused_write_left(rt: HostRuntime) -> Result<(), Fail> {
     let ends = each_refused(rt.alloc(), &rt, &files, Which::Log, trial, DEATH)?;
     assert!(rt; ends.contains(&End::Found));
     assert!(rt; ends.contains(&End::NotFound));
-    for stop in [Stop::OfProcess, Stop::OfMachine] {
+    for crash in [Stop::OfProcess, Stop::OfMachine] {
         let trial = Trial::Learning(true);
-        let ends = each_refused(rt.alloc(), &rt, &files, Which::Log, trial, stop)?;
+        let ends = each_refused(rt.alloc(), &rt, &files, Which::Log, trial, crash)?;
         assert!(rt; ends.contains(&End::NotFound));
         assert!(rt; ends.contains(&End::Shut));
         assert!(rt; !ends.contains(&End::Found));
@@ -209,8 +209,8 @@ fn an_open_ends_what_a_refused_write_left(rt: HostRuntime) -> Result<(), Fail> {
 fn an_empty_database_is_prepared_behind_each_stop(rt: HostRuntime) -> Result<(), Fail> {
     let files = empty_files(rt.alloc());
     for which in [Which::Log, Which::Database] {
-        for stop in [Stop::OfProcess, Stop::OfMachine] {
-            let ends = each_refused(rt.alloc(), &rt, &files, which, Trial::Preparing, stop)?;
+        for crash in [Stop::OfProcess, Stop::OfMachine] {
+            let ends = each_refused(rt.alloc(), &rt, &files, which, Trial::Preparing, crash)?;
             assert!(rt; !ends.is_empty(), "{which:?}, {stop:?}");
             // `prepare` does not use the database file: its pages stay in the log.
             assert!(rt;
@@ -228,20 +228,20 @@ fn migrates_behind_each_stop(
     rt: &impl Abort,
     devices: u32,
     which: Which,
-    stop: Stop,
+    crash: Stop,
 ) -> Result<Vec<End>, Fail> {
     let files = made_first(alloc, devices)?;
-    each_refused(alloc, rt, &files, which, Trial::Migrating(devices), stop)
+    each_refused(alloc, rt, &files, which, Trial::Migrating(devices), crash)
 }
 
 #[test]
 fn a_thousand_devices_are_migrated_behind_each_stop(rt: HostRuntime) -> Result<(), Fail> {
     for which in [Which::Log, Which::Database] {
-        for stop in [Stop::OfProcess, Stop::OfMachine] {
-            let ends = migrates_behind_each_stop(rt.alloc(), &rt, 1000, which, stop)?;
+        for crash in [Stop::OfProcess, Stop::OfMachine] {
+            let ends = migrates_behind_each_stop(rt.alloc(), &rt, 1000, which, crash)?;
             assert!(rt; ends.contains(&End::Was(1)), "{which:?}, {stop:?}");
             // A write that was reported as failed is in the log, and only the process has died.
-            let is_migrated = which == Which::Log && stop == Stop::OfProcess;
+            let is_migrated = which == Which::Log && crash == Stop::OfProcess;
             assert_eq!(rt;
                 ends.contains(&End::Was(2)),
                 is_migrated,

@@ -3,7 +3,7 @@ use super::given::{Fresh, open_idle, prepare_idle, run};
 use super::looking::{has_objects, in_version, objects, prepares, run_lines, show};
 use crate::OpenFault;
 use crate::table::Version;
-use crate::table::rows::{devices_rise, is_version};
+use crate::table::row_codec::{are_ascending_devices, is_version};
 use sqlite::{Alter, Connection, MemStore};
 use std::alloc::Global;
 use std::process::Abort;
@@ -339,7 +339,7 @@ fn are_devices<S: Fresh>(
     let mut conn = S::fresh(alloc)?;
     for sql in selects.lines() {
         let rows = conn.query_all(sql, &[])?;
-        assert_eq!(rt; devices_rise(rows.as_slice()), wanted, "{sql}");
+        assert_eq!(rt; are_ascending_devices(rows.as_slice()), wanted, "{sql}");
     }
     Ok(())
 }

@@ -238,9 +238,9 @@ pub fn closed(conn: Connection<FileStore<Stumbling<Fuse<Memory>>>>) -> Result<Di
 pub fn stopped(
     alloc: Global,
     conn: Connection<FileStore<Stumbling<Fuse<Memory>>>>,
-    stop: Stop,
+    crash: Stop,
 ) -> Result<Left, Fail> {
-    left_by(alloc, files_of(store_of(conn)), stop)
+    left_by(alloc, files_of(store_of(conn)), crash)
 }
 
 // The store of a connection that nothing uses any more.
@@ -254,21 +254,21 @@ fn files_of<D: Disk + Drop>(store: FileStore<D>) -> Files<D> {
 }
 
 // The disk that a crash leaves; it no longer fails.
-fn left_of(disk: Stumbling<Fuse<Memory>>, stop: Stop) -> Stumbling<Fuse<Memory>> {
+fn left_of(disk: Stumbling<Fuse<Memory>>, crash: Stop) -> Stumbling<Fuse<Memory>> {
     let mut file = disk.into_inner();
-    if stop == Stop::OfMachine {
+    if crash == Stop::OfMachine {
         file.crash();
     }
     Stumbling::new(file, 0)
 }
 
 // The state that a crash leaves of these files.
-fn left_by(alloc: Global, files: Disks, stop: Stop) -> Result<Left, Fail> {
+fn left_by(alloc: Global, files: Disks, crash: Stop) -> Result<Left, Fail> {
     let syncs = files.log.syncs();
     let Files { log, db } = files;
     let left = Files {
-        log: left_of(log, stop),
-        db: left_of(db, stop),
+        log: left_of(log, crash),
+        db: left_of(db, crash),
     };
     let files = refusing(alloc, &left, Which::Log, Refusal::Nothing)?;
     Ok(Left { files, syncs })

@@ -6,9 +6,9 @@ use Rattle.esp3_frames.specs.Frames.{front_of}
 use Rattle.esp3_frames.specs.Frames.Front.{Never}
 use Rattle.esp3_frames.specs.Outcome.{header_of}
 use Rattle.esp3_frames.specs.declared.packet.Header.{Header}
-use Rattle.esp3_resync.specs.Kept.{packet_with}
-use Rattle.esp3_resync.specs.declared.front.Found.{Found}
-use Rattle.esp3_resync.specs.declared.front.Found.TheVariants as found
+use Rattle.esp3_resync.specs.BufferedPacket.{packet_with}
+use Rattle.esp3_resync.specs.declared.front.WindowFront.{WindowFront}
+use Rattle.esp3_resync.specs.declared.front.WindowFront.TheVariants as found
 
 -- the header of the bytes w is not complete yet, or it is h
 abbrev pub HasHeader : List ℕ → Option Header → Type 0
@@ -16,15 +16,15 @@ HasHeader w None = length w < 6
 HasHeader w (Some h) = (6 ≤ length w) × (header_of (take 6 w) ≡ Ok h)
 
 -- a framer's bytes do not begin with a byte to skip, and it keeps their header once that is complete
-pub record Settled (w : List ℕ) (h : Option Header) : Type 0 where
+pub record IsSettled (w : List ℕ) (h : Option Header) : Type 0 where
   pub front : front_of w ≢ Never
   pub header : HasHeader w h
 
 -- the code's result agrees with the beginning of the bytes w
-abbrev pub IsFound : Found → List ℕ → Type 0
-IsFound found.Refused w = front_of w ≡ Never
-IsFound found.Begun w = Settled w None
-IsFound (found.Announced h) w = Settled w (Some h)
+abbrev pub IsWindowFront : WindowFront → List ℕ → Type 0
+IsWindowFront found.NoPacket w = front_of w ≡ Never
+IsWindowFront found.PartialHeader w = IsSettled w None
+IsWindowFront (found.WholeHeader h) w = IsSettled w (Some h)
 
 -- the packet at the front of w, with the header h
 abbrev pub packet_at : Header → List ℕ → Packet

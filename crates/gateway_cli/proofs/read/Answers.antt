@@ -4,21 +4,21 @@ use Rattle.std.specs.String.{string_bytes}
 use Rattle.std.proofs.lemmas.Result.{err_from_is_err_and}
 use Rattle.clap.specs.Words.{App, takes}
 use Rattle.gateway_cli.specs.Bases.{base_in}
-use Rattle.gateway_cli.specs.CommandLine.{Asks, flag_found, text_found}
+use Rattle.gateway_cli.specs.CommandLine.{Asks, option_flag, option_text}
 use Rattle.gateway_cli.proofs.CommandLemmas.{complete_so, found_so, refused_so, taken_so}
 use Rattle.gateway_cli.proofs.read.Goals as goal
 
-pub explain_given-requires : goal.explain_given-requires
-explain_given-requires c =
+pub explain_flag-requires : goal.explain_flag-requires
+explain_flag-requires c =
     complete_so (map string_bytes c.args.words.now) c.in_ok-command.field-0 c.in_ok-matches.matches c.in-Some.base
     c.in_ok-command.ensures c.in_ok-matches.ensures.kinds c.in_ok-matches.ensures.matches
-    (sym c.base_given.ensures ∙ c.in-Some.is)
+    (sym c.base_value.ensures ∙ c.in-Some.is)
 
-pub task_given-requires : goal.task_given-requires
-task_given-requires c =
+pub task_value-requires : goal.task_value-requires
+task_value-requires c =
     complete_so (map string_bytes c.args.words.now) c.in_ok-command.field-0 c.in_ok-matches.matches c.in-Some.base
     c.in_ok-command.ensures c.in_ok-matches.ensures.kinds c.in_ok-matches.ensures.matches
-    (sym c.base_given.ensures ∙ c.in-Some.is)
+    (sym c.base_value.ensures ∙ c.in-Some.is)
 
 pub returns-in_err-matches-clause-passes : goal.returns-in_err-matches-clause-passes
 returns-in_err-matches-clause-passes c =
@@ -43,29 +43,29 @@ pub returns-in-Some-clause-base : goal.returns-in-Some-clause-base
 returns-in-Some-clause-base c =
     let found = found_so (map string_bytes c.args.words.now) c.in_ok-command.field-0 c.in_ok-matches.matches
     c.in_ok-command.ensures c.in_ok-matches.ensures.matches in
-    ap (λ o. option_and_then base_in (text_found (codes "base") o)) (sym found) ∙ sym c.base_given.ensures
+    ap (λ o. option_and_then base_in (option_text (codes "base") o)) (sym found) ∙ sym c.base_value.ensures
     ∙ c.in-Some.is
 
 pub returns-in-Some-clause-db : goal.returns-in-Some-clause-db
 returns-in-Some-clause-db c =
-    c.text_given.ensures
-    ∙ ap (text_found (codes "db"))
+    c.text_value.ensures
+    ∙ ap (option_text (codes "db"))
     (found_so (map string_bytes c.args.words.now) c.in_ok-command.field-0 c.in_ok-matches.matches
     c.in_ok-command.ensures c.in_ok-matches.ensures.matches)
 
 pub returns-in-Some-clause-explain : goal.returns-in-Some-clause-explain
 returns-in-Some-clause-explain c =
-    c.explain_given.ensures
-    ∙ ap (flag_found (codes "explain"))
+    c.explain_flag.ensures
+    ∙ ap (option_flag (codes "explain"))
     (found_so (map string_bytes c.args.words.now) c.in_ok-command.field-0 c.in_ok-matches.matches
     c.in_ok-command.ensures c.in_ok-matches.ensures.matches)
 
 pub returns-in-Some-clause-task : goal.returns-in-Some-clause-task
 returns-in-Some-clause-task c =
-    subst (λ found. Asks found c.task_given.result)
+    subst (λ found. Asks found c.task_value.result)
     (found_so (map string_bytes c.args.words.now) c.in_ok-command.field-0 c.in_ok-matches.matches
     c.in_ok-command.ensures c.in_ok-matches.ensures.matches)
-    c.task_given.ensures
+    c.task_value.ensures
 
 pub returns-clause-refused : goal.returns-clause-refused
 returns-clause-refused c =
@@ -73,6 +73,6 @@ returns-clause-refused c =
     let found = found_so words c.in_ok-command.field-0 c.in_ok-matches.matches c.in_ok-command.ensures
     c.in_ok-matches.ensures.matches in (
       taken_so words c.in_ok-command.field-0 c.in_ok-command.ensures c.in_ok-matches.ensures.kinds,
-      ap (λ o. option_and_then base_in (text_found (codes "base") o)) (sym found) ∙ sym c.base_given.ensures
+      ap (λ o. option_and_then base_in (option_text (codes "base") o)) (sym found) ∙ sym c.base_value.ensures
           ∙ c.in-None.is,
     )

@@ -7,7 +7,7 @@ use Rattle.teach_in.specs.declared.mode.Mode.TheVariants.{Closed, Learn, LearnAn
 use Rattle.json_lines.specs.declared.counts.Counts.{Counts}
 use Rattle.esp3_frames.specs.Packet.{Packet}
 use Rattle.gateway_core.specs.Handling.{HandlerValue}
-use Rattle.gateway_core.specs.Calls.{Value}
+use Rattle.gateway_core.specs.Calls.{GatewayValue}
 
 abbrev counts_code : Coded Counts
 counts_code =
@@ -58,7 +58,7 @@ packet_code =
     (λ p. (p.kind, (p.body, p.opt)))
     (λ p. record { kind = p.0; body = p.1.0; opt = p.1.1 }) (λ _. refl)
 
-abbrev pub value_code : {S : Type 0} → Coded S → Coded (Value S)
+abbrev pub value_code : {S : Type 0} → Coded S → Coded (GatewayValue S)
 value_code {S} devices =
     code_by (HandlerValue S × (List Packet × List ℕ))
     (coded× (handler_code devices) (coded× (coded_list packet_code) (coded_list coded_ℕ)))

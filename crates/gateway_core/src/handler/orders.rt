@@ -2,13 +2,13 @@
 ghost use Rattle.std.specs.Prelude.{Ok};
 ghost use Rattle.teach_in.specs.declared.mode.Mode.TheVariants.{LearnAs};
 ghost use Rattle.actuator_commands.specs.Orders.{IsInRange};
-ghost use Rattle.gateway_core.specs.Step.{if_supported, line_effect, order_effect, sets};
-ghost use Rattle.gateway_core.specs.private.Tries.{Gives, Tries};
+ghost use Rattle.gateway_core.specs.Step.{if_supported, line_effect, order_effect, mode_effect};
+ghost use Rattle.gateway_core.specs.private.Attempts.{MatchesEffect, Attempts};
 
+use crate::failure::Failure;
 use crate::handler::Handler;
-use crate::handler::done::{OrderDone, denied, labelled, sets, told};
-use crate::handler::sending::{ask_base, error_of};
-use crate::refusal::Refusal;
+use crate::handler::effect::{OrderEffect, desk_effect, error_effect, mode_effect, relabel_effect};
+use crate::handler::send::{ask_base, error_of};
 use crate::reply::Desk;
 use actuator_commands::{MAX_LINE, Order, parse};
 use erp1_telegrams::Eep;
@@ -17,22 +17,23 @@ use learned_devices::{Device, DeviceStore, Label};
 use teach_in::{Mode, supported};
 
 // Opens the mode that learns with this profile.
-fn open_as(eep: Eep) -> OrderDone
-    ensures { Gives result (if_supported eep (sets (LearnAs eep))) }
+fn open_as(eep: Eep) -> OrderEffect
+    ensures { MatchesEffect result (if_supported eep (mode_effect (LearnAs eep))) }
 {
     if supported(eep) {
-        sets(Mode::LearnAs(eep))
+        mode_effect(Mode::LearnAs(eep))
     } else {
-        denied(ErrorName::UnsupportedProfile)
+        error_effect(ErrorName::UnsupportedProfile)
     }
 }
 
 impl<S: DeviceStore> Handler<S> {
-    fn try_add(&mut self, id: u32, eep: Eep) -> Result<OrderDone, Refusal>
-        ensures { Tries S.kept self.old (λ state. order_effect state (Ok (Order.Add id eep))) result self.new }
+    fn try_add(&mut self, id: u32, eep: Eep) -> Result<OrderEffect, Failure>
+        ensures { Attempts S.store_state self.old (λ state. order_effect state (Ok (Order.Add id eep))) result
+            self.new }
     {
         if !supported(eep) {
-            return Ok(denied(ErrorName::UnsupportedProfile));
+            return Ok(error_effect(ErrorName::UnsupportedProfile));
         }
         self.learn_named(Device {
             id,
@@ -42,52 +43,53 @@ impl<S: DeviceStore> Handler<S> {
         })
     }
 
-    fn try_remove(&mut self, id: u32) -> Result<OrderDone, Refusal>
-        ensures { Tries S.kept self.old (λ state. order_effect state (Ok (Order.Remove id))) result self.new }
+    fn try_remove(&mut self, id: u32) -> Result<OrderEffect, Failure>
+        ensures { Attempts S.store_state self.old (λ state. order_effect state (Ok (Order.Remove id))) result self.new }
     {
         match self.registry.find(id)? {
             Some(device) => self.forget_named(device),
-            None => Ok(denied(ErrorName::UnknownDevice)),
+            None => Ok(error_effect(ErrorName::UnknownDevice)),
         }
     }
 
     // Labels a device that the desk names, if it is learned. The answer never changes, so nothing can fail after the
     // write.
-    fn try_label(&mut self, id: u32, label: Label) -> Result<OrderDone, Refusal>
-        ensures { Tries S.kept self.old (λ state. order_effect state (Ok (Order.Label id label))) result self.new }
+    fn try_label(&mut self, id: u32, label: Label) -> Result<OrderEffect, Failure>
+        ensures { Attempts S.store_state self.old (λ state. order_effect state (Ok (Order.Label id label))) result
+            self.new }
     {
         match self.registry.relabel(id, label) {
-            Ok(true) => Ok(labelled()),
-            Ok(false) => Ok(denied(ErrorName::UnknownDevice)),
-            Err(fault) => Err(Refusal::AtWrite(fault)),
+            Ok(true) => Ok(relabel_effect()),
+            Ok(false) => Ok(error_effect(ErrorName::UnknownDevice)),
+            Err(fault) => Err(Failure::AtWrite(fault)),
         }
     }
 
-    fn try_list(&mut self) -> Result<OrderDone, Refusal>
-        ensures { Tries S.kept self.old (λ state. order_effect state (Ok Order.List)) result self.new }
+    fn try_list(&mut self) -> Result<OrderEffect, Failure>
+        ensures { Attempts S.store_state self.old (λ state. order_effect state (Ok Order.List)) result self.new }
     {
         let all = self.registry.all()?;
         let lines = device_lines(self.alloc, all.as_slice())?;
-        Ok(told(Desk::Owned(lines)))
+        Ok(desk_effect(Desk::Owned(lines)))
     }
 
     // Reports the counters and the mode.
-    fn try_status(&self) -> Result<OrderDone, Refusal>
-        ensures { Tries S.kept self.now (λ state. order_effect state (Ok Order.Status)) result self.now }
+    fn try_status(&self) -> Result<OrderEffect, Failure>
+        ensures { Attempts S.store_state self.now (λ state. order_effect state (Ok Order.Status)) result self.now }
     {
         let line = status_line(self.alloc, &self.counts, self.mode)?;
-        Ok(told(Desk::Owned(line)))
+        Ok(desk_effect(Desk::Owned(line)))
     }
 
-    fn try_order(&mut self, order: Order) -> Result<OrderDone, Refusal>
+    fn try_order(&mut self, order: Order) -> Result<OrderEffect, Failure>
         requires { IsInRange order }
-        ensures { Tries S.kept self.old (λ state. order_effect state (Ok order)) result self.new }
+        ensures { Attempts S.store_state self.old (λ state. order_effect state (Ok order)) result self.new }
     {
         match order {
-            Order::LearnOn => Ok(sets(Mode::Learn)),
-            Order::LearnOnAnswer => Ok(sets(Mode::LearnAnswer)),
+            Order::LearnOn => Ok(mode_effect(Mode::Learn)),
+            Order::LearnOnAnswer => Ok(mode_effect(Mode::LearnAnswer)),
             Order::LearnAs(eep) => Ok(open_as(eep)),
-            Order::LearnOff => Ok(sets(Mode::Closed)),
+            Order::LearnOff => Ok(mode_effect(Mode::Closed)),
             Order::Add(id, eep) => self.try_add(id, eep),
             Order::Remove(id) => self.try_remove(id),
             Order::Label { id, label } => self.try_label(id, label),
@@ -99,15 +101,15 @@ impl<S: DeviceStore> Handler<S> {
         }
     }
 
-    pub(crate) fn try_line(&mut self, line: &[u8]) -> Result<OrderDone, Refusal>
-        ensures { Tries S.kept self.old (λ state. line_effect state line.now) result self.new }
+    pub(crate) fn try_line(&mut self, line: &[u8]) -> Result<OrderEffect, Failure>
+        ensures { Attempts S.store_state self.old (λ state. line_effect state line.now) result self.new }
     {
         if line.len() > MAX_LINE {
-            return Ok(denied(ErrorName::TooLong));
+            return Ok(error_effect(ErrorName::TooLong));
         }
         match parse(line) {
             Ok(order) => self.try_order(order),
-            Err(fault) => Ok(denied(error_of(fault))),
+            Err(fault) => Ok(error_effect(error_of(fault))),
         }
     }
 }

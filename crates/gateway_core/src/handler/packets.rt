@@ -5,14 +5,14 @@ ghost use Rattle.learned_devices.specs.Devices.{device_of};
 ghost use Rattle.teach_in.specs.Telegrams.{teach_in_of};
 ghost use Rattle.gateway_core.specs.Profiles.{read_by};
 ghost use Rattle.gateway_core.specs.Responses;
-ghost use Rattle.gateway_core.specs.Step.{case_effect, data_case, reading_effect, telegram_effect, other_effect};
-ghost use Rattle.gateway_core.specs.private.Tries.{Gives, Tries};
+ghost use Rattle.gateway_core.specs.Step.{case_effect, data_case, reading_effect, telegram_effect, non_telegram_effect};
+ghost use Rattle.gateway_core.specs.private.Attempts.{MatchesEffect, Attempts};
 
-use crate::account::{Account, why_filtered, why_other, why_unread};
+use crate::disposition::{Disposition, why_filtered, why_other, why_unread};
+use crate::failure::Failure;
 use crate::handler::Handler;
-use crate::handler::done::{PacketDone, accounted, ignored};
+use crate::handler::effect::{PacketEffect, ignored_effect, packet_desk_effect};
 use crate::profiles;
-use crate::refusal::Refusal;
 use crate::reply::Desk;
 use crate::response::response_in;
 use erp1_telegrams::{Telegram, filter_reason};
@@ -24,29 +24,29 @@ use std::alloc::{AllocError, Global};
 use teach_in::{Teach, Why};
 
 // The reading line for a telegram of this device, if its profile can read the telegram.
-fn reading(alloc: Global, telegram: &Telegram, device: &Device) -> Result<PacketDone, AllocError>
-    ensures { IfOk result (λ done. Gives done (reading_effect telegram.now device.now
+fn reading(alloc: Global, telegram: &Telegram, device: &Device) -> Result<PacketEffect, AllocError>
+    ensures { IfOk result (λ done. MatchesEffect done (reading_effect telegram.now device.now
         (read_by device.now.eep telegram.now))) }
 {
     let mut readings = Readings::new();
     match profiles::read(device.eep, telegram, &mut readings) {
         Ok(()) => {
             let line = reading_line(alloc, telegram, device.eep, &readings)?;
-            let account = Account::of_device(device, Why::Read);
-            Ok(accounted(account, Desk::Owned(line)))
+            let disposition = Disposition::for_device(device, Why::Read);
+            Ok(packet_desk_effect(disposition, Desk::Owned(line)))
         }
         Err(fault) => {
-            let account = Account::of_device(device, why_unread(fault));
-            Ok(accounted(account, Desk::Nothing))
+            let disposition = Disposition::for_device(device, why_unread(fault));
+            Ok(packet_desk_effect(disposition, Desk::Nothing))
         }
     }
 }
 
 impl<S: DeviceStore> Handler<S> {
     // Reports the readings of data from a learned sender, and learns another sender if that is planned.
-    fn try_data(&mut self, telegram: &Telegram, teach: &Teach) -> Result<PacketDone, Refusal>
+    fn try_data(&mut self, telegram: &Telegram, teach: &Teach) -> Result<PacketEffect, Failure>
         requires { teach.now ≡ teach_in_of telegram.now }
-        ensures { Tries S.kept self.old (λ state. case_effect state telegram.now
+        ensures { Attempts S.store_state self.old (λ state. case_effect state telegram.now
             (data_case (device_of state.devices telegram.now.sender))) result self.new }
     {
         let Some(device) = self.registry.find(telegram.sender())? else {
@@ -62,15 +62,15 @@ impl<S: DeviceStore> Handler<S> {
         &mut self,
         telegram: &Telegram,
         teach: &Teach,
-    ) -> Result<PacketDone, Refusal>
+    ) -> Result<PacketEffect, Failure>
         requires { teach.now ≡ teach_in_of telegram.now }
-        ensures { Tries S.kept self.old (λ state. telegram_effect state telegram.now) result self.new }
+        ensures { Attempts S.store_state self.old (λ state. telegram_effect state telegram.now) result self.new }
     {
         if let Some(reason) = filter_reason(self.base, telegram) {
-            return Ok(ignored(why_filtered(reason)));
+            return Ok(ignored_effect(why_filtered(reason)));
         }
         match teach {
-            Teach::Answer => Ok(ignored(Why::TeachInReply)),
+            Teach::Answer => Ok(ignored_effect(Why::TeachInReply)),
             Teach::Contact | Teach::Bare | Teach::FourByte(_) | Teach::Ute(_) => {
                 self.try_plan(telegram, teach, false)
             }
@@ -79,15 +79,15 @@ impl<S: DeviceStore> Handler<S> {
     }
 
     // Handles a packet without a telegram, or fails.
-    pub(crate) fn try_other(&self, packet: &PacketRef<'_>) -> Result<PacketDone, Refusal>
-        ensures { Tries S.kept self.now (λ _. other_effect (packet_of packet.now)
+    pub(crate) fn try_other(&self, packet: &PacketRef<'_>) -> Result<PacketEffect, Failure>
+        ensures { Attempts S.store_state self.now (λ _. non_telegram_effect (packet_of packet.now)
             (Responses.response_in (packet_of packet.now))) result self.now }
     {
         let Some(response) = response_in(packet) else {
-            return Ok(ignored(why_other(packet)));
+            return Ok(ignored_effect(why_other(packet)));
         };
         let line = response_line(self.alloc, response.code, response.bytes)?;
-        let account = Account::because(Why::Response);
-        Ok(accounted(account, Desk::Owned(line)))
+        let disposition = Disposition::without_device(Why::Response);
+        Ok(packet_desk_effect(disposition, Desk::Owned(line)))
     }
 }

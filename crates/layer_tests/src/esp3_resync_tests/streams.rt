@@ -284,7 +284,7 @@ fn greatest_packets_in_runs(rt: HostRuntime) -> Result<(), Fail> {
     Ok(())
 }
 
-/// A part of the two packets, and the type and the length of the packet that `lend` returns for it, if any.
+/// A part of the two packets, and the type and the length of the packet that `borrow_packet` returns for it, if any.
 struct Lent {
     start: usize,
     end: usize,
@@ -320,12 +320,14 @@ fn packets_lent(rt: HostRuntime) -> Result<(), Fail> {
     let mut framer = Framer::new(rt.alloc())?;
     for (row, case) in LENT.iter().enumerate() {
         let part = TWO_PACKETS.get(case.start..case.end).ok_or("no such part")?;
-        let lent = framer.lend(part).map(|(packet, len)| (packet.kind, len));
+        let lent = framer
+            .borrow_packet(part)
+            .map(|(packet, len)| (packet.kind, len));
         assert_eq!(rt; lent, case.wanted, "row {row}");
     }
-    let (packet, _len) = framer.lend(&CONTACT).ok_or("no packet")?;
+    let (packet, _len) = framer.borrow_packet(&CONTACT).ok_or("no packet")?;
     assert_eq!(rt; (packet.body, packet.opt), CONTENT.split_at(7));
     framer.push(0x55);
-    assert!(rt; !framer.is_ready() && framer.lend(&CONTACT).is_none());
+    assert!(rt; !framer.is_ready() && framer.borrow_packet(&CONTACT).is_none());
     Ok(())
 }

@@ -1,6 +1,6 @@
 //! Packet lines with known bytes.
 use erp1_telegrams::{BROADCAST, Eep, Telegram};
-use json_lines::{MAX_PACKET_LINE, PacketLine, ToldPacket, ToldTelegram, packet_line};
+use json_lines::{MAX_PACKET_LINE, PacketLine, ShownPacket, ShownTelegram, packet_line};
 use std::test::Fail;
 use teach_in::{Outcome, Why};
 
@@ -60,7 +60,7 @@ const OF_TELEGRAMS: [OfTelegram; 4] = [
         payload: &[0],
         rorg: 0xD2,
         status: 0,
-        why: Why::Told(Outcome::Full),
+        why: Why::TeachIn(Outcome::Full),
         line: "{\"dbm\":0,\"dest\":\"00000000\",\"eep\":null,\"id\":\"00000000\",\"maker\":null,\
             \"payload\":\"00\",\"rorg\":\"D2\",\"status\":\"00\",\"type\":\"packet\",\"why\":\"full\"}\n",
     },
@@ -99,7 +99,7 @@ fn telegrams(rt: HostRuntime) -> Result<(), Fail> {
             case.dest,
             case.dbm,
         )?;
-        let packet = ToldPacket::Telegram(ToldTelegram {
+        let packet = ShownPacket::Telegram(ShownTelegram {
             telegram,
             eep: case.eep,
             maker: case.maker,
@@ -197,31 +197,31 @@ const OF_OTHERS: [OfAnother; 17] = [
     OfAnother {
         kind: 4,
         size: 12,
-        why: Why::Told(Outcome::Accepted),
+        why: Why::TeachIn(Outcome::Accepted),
         line: "{\"kind\":4,\"size\":12,\"type\":\"packet\",\"why\":\"accepted\"}\n",
     },
     OfAnother {
         kind: 4,
         size: 12,
-        why: Why::Told(Outcome::Deleted),
+        why: Why::TeachIn(Outcome::Deleted),
         line: "{\"kind\":4,\"size\":12,\"type\":\"packet\",\"why\":\"deleted\"}\n",
     },
     OfAnother {
         kind: 4,
         size: 12,
-        why: Why::Told(Outcome::Unsupported),
+        why: Why::TeachIn(Outcome::Unsupported),
         line: "{\"kind\":4,\"size\":12,\"type\":\"packet\",\"why\":\"unsupported\"}\n",
     },
     OfAnother {
         kind: 4,
         size: 12,
-        why: Why::Told(Outcome::General),
+        why: Why::TeachIn(Outcome::General),
         line: "{\"kind\":4,\"size\":12,\"type\":\"packet\",\"why\":\"general\"}\n",
     },
     OfAnother {
         kind: 4,
         size: 12,
-        why: Why::Told(Outcome::NoProfile),
+        why: Why::TeachIn(Outcome::NoProfile),
         line: "{\"kind\":4,\"size\":12,\"type\":\"packet\",\"why\":\"no_profile\"}\n",
     },
 ];
@@ -229,7 +229,7 @@ const OF_OTHERS: [OfAnother; 17] = [
 #[test]
 fn other_packets(rt: HostRuntime) {
     for case in &OF_OTHERS {
-        let packet = ToldPacket::Other {
+        let packet = ShownPacket::Other {
             kind: case.kind,
             size: case.size,
         };

@@ -6,5 +6,5 @@ use Rattle.actuator_commands.proofs.words.text_of.Goals as goal
 pub returns : goal.returns
 returns c =
     ap (option_map (λ name. name.now)) c.ok.ensures.value
-    ∙ text-given _ c.args.text.now c.from_utf8.result (sym c.if-is_empty.ensures) (sym c.if-not-is_name.ensures)
+    ∙ text-given _ c.args.text.now c.from_utf8.result (sym c.if-is_empty.ensures) (sym c.if-not-has_label_form.ensures)
     c.from_utf8.ensures.cases (λ e h. h.0)

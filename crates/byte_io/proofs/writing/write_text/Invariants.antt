@@ -1,12 +1,12 @@
 use Rattle.std.proofs.Common.{length}
-use Rattle.byte_io.specs.Counts.{WentWell}
+use Rattle.byte_io.specs.Counts.{NoneFailedOrEmpty}
 use Rattle.byte_io.proofs.WriteLemmas.{Left}
 use Rattle.byte_io.proofs.writing.write_text.Given as goal
 
 abbrev pub invariant-loop-rest : goal.invariant-loop-rest
 invariant-loop-rest g l =
     Left (g.W.Sink.held l.fn.writer) (g.W.Sink.held l.writer) l.text l.rest
-    × WentWell (g.W.Sink.counts l.fn.writer) (g.W.Sink.counts l.writer)
+    × NoneFailedOrEmpty (g.W.Sink.counts l.fn.writer) (g.W.Sink.counts l.writer)
 
 abbrev pub decreases-loop-rest : goal.decreases-loop-rest
 decreases-loop-rest g l = length l.rest

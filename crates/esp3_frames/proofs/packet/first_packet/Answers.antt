@@ -1,11 +1,11 @@
 use Rattle.std.proofs.Common.{ℕ, ◌+◌, ◌<◌, List, length, take, drop, arith, sym, ap, ◌∙◌, length-take}
 use Rattle.std.specs.Prelude.{Option, Some, None, IfNone}
 use Rattle.esp3_frames.specs.Packet.{Packet}
-use Rattle.esp3_frames.specs.Frames.{front_behind}
+use Rattle.esp3_frames.specs.Frames.{front_after_header}
 use Rattle.esp3_frames.specs.Frames.Front.{Whole}
 use Rattle.esp3_frames.specs.Outcome.{header_of}
-use Rattle.esp3_frames.proofs.FrontByHeader.{short-no_whole, front-bad, front-good, front_behind-partial}
-use Rattle.esp3_frames.proofs.FrontByHeader.{front_behind-whole, front_behind-never}
+use Rattle.esp3_frames.proofs.FrontByHeader.{short-no_whole, front-bad, front-good, front_after_header-partial}
+use Rattle.esp3_frames.proofs.FrontByHeader.{front_after_header-whole, front_after_header-never}
 use Rattle.esp3_frames.proofs.packet.first_packet.Goals as goal
 use Rattle.esp3_frames.proofs.packet.first_packet.Goals.{then-rest-len-via-then-rest-len}
 use Rattle.esp3_frames.proofs.packet.first_packet.Goals.{then-rest-len-via-else-rest-len+then-rest-len-2}
@@ -33,15 +33,15 @@ returns-then-rest-len-clause-none c = λ p whole.
     let rest = c.in_ok-front.rest.now in
     let front = front-good c.args.b.now h (omega (arith, cases.2))
     (ap header_of (sym cases.0) ∙ sym c.read_header.ensures ∙ c.in-Ok.is)
-    ∙ ap (front_behind h.data_len h.opt_len h.kind) (sym cases.1) in
+    ∙ ap (front_after_header h.data_len h.opt_len h.kind) (sym cases.1) in
     elim c.then-rest-len.branch [
       | then-rest-len-via-then-rest-len w ↦
-          let partial = front_behind-partial h.data_len h.opt_len h.kind rest w.if-rest-len.true in
+          let partial = front_after_header-partial h.data_len h.opt_len h.kind rest w.if-rest-len.true in
           let e = sym (front ∙ partial) ∙ whole in cc
       | then-rest-len-via-else-rest-len+then-rest-len-2 w ↦
           let long : h.data_len + h.opt_len < length rest = omega (arith, w.if-rest-len.false) in
           let never =
-          front_behind-never h.data_len h.opt_len h.kind rest long
+          front_after_header-never h.data_len h.opt_len h.kind rest long
           (λ right. w.if-rest-len-2.true (right ∙ sym w.check8.ensures)) in
           let e = sym (front ∙ never) ∙ whole in cc
     ]
@@ -57,8 +57,8 @@ returns-clause-some c =
     let sizes = c.split_at.ensures in (
       front-good c.args.b.now h (omega (arith, cases.2))
           (ap header_of (sym cases.0) ∙ sym c.read_header.ensures ∙ c.in-Ok.is)
-          ∙ ap (front_behind d h.opt_len h.kind) (sym cases.1)
-          ∙ front_behind-whole d h.opt_len h.kind rest long (c.if-rest-len-2.false ∙ c.check8.ensures)
+          ∙ ap (front_after_header d h.opt_len h.kind) (sym cases.1)
+          ∙ front_after_header-whole d h.opt_len h.kind rest long (c.if-rest-len-2.false ∙ c.check8.ensures)
           ∙ ap (λ (body : List ℕ). Whole (packet body (drop d (take (d + h.opt_len) rest)))) (sym sizes.front)
           ∙ ap (λ (opt : List ℕ). Whole (packet c.split_at.result.0.now opt)) (sym sizes.back),
       omega (arith, sizes.front_len, sizes.back_len, length-take (d + h.opt_len) rest),

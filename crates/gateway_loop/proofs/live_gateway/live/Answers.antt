@@ -1,22 +1,23 @@
 use Rattle.std.proofs.Common.{rules, [], ◌∷◌, ◌++◌, ◌+◌, refl, take, ap, arith, None, Some, ◌∙◌, length-append}
-use Rattle.byte_io.specs.Counts.{one_more}
-use Rattle.gateway_loop.specs.Played.{IsIdle}
+use Rattle.byte_io.specs.Counts.{saturated_next}
+use Rattle.gateway_loop.specs.Processing.{IsDrained}
 use Rattle.gateway_loop.specs.Streams.{source_value}
-use Rattle.gateway_loop.specs.Turns.{Turn, desks, pieces}
-use Rattle.gateway_loop.specs.Wires.{way_of_wires}
+use Rattle.gateway_loop.specs.Turns.{Turn, desk_reads, serial_reads}
+use Rattle.gateway_loop.specs.LiveOutputs.{live_output_of}
 use Rattle.gateway_loop.proofs.CallCountLemmas.{made_both, made_first, made_more, made_none, not_failed}
 use Rattle.gateway_loop.proofs.CallCountLemmas.{well_at}
 use Rattle.gateway_loop.specs.declared.runs.RunFault.TheVariants.{Read, Write}
 use Rattle.gateway_loop.proofs.HeadlineLemmas.{served, served_until}
 use Rattle.gateway_loop.proofs.ReadLemmas.{reads_fail, reads_more, reads_none}
-use Rattle.gateway_loop.proofs.TurnLemmas.{desks-more, first_player, order_stops, piece_stops, piece_taken, pieces-more}
+use Rattle.gateway_loop.proofs.TurnLemmas.{desk_reads-more, first_player, order_stops, piece_stops, piece_taken}
+use Rattle.gateway_loop.proofs.TurnLemmas.{serial_reads-more}
 use Rattle.gateway_loop.proofs.TurnLemmas.{turn_taken, turns_none}
 use Rattle.gateway_loop.proofs.WiresLemmas.{breaks_at, breaks_at_order, not_all_well, plays_at}
 use Rattle.gateway_loop.proofs.live_gateway.live.Goals as goal
 
 pub loop-turn-init : goal.loop-turn-init
 loop-turn-init g c =
-    let idle : IsIdle c.args.gateway.now = record { ready = c.requires; rest = c.is_ready-is_ready.ensures.rest } in
+    let idle : IsDrained c.args.gateway.now = record { ready = c.requires; rest = c.is_ready-is_ready.ensures.rest } in
     record {
       gateway = refl;
       serial = refl;
@@ -27,33 +28,34 @@ loop-turn-init g c =
         refl,
         reads_none (source_value g.P.Source c.args.serial_in.now),
         reads_none (source_value g.Q.Source c.args.desk_in.now),
-        turns_none g.S.DeviceStore.kept (way_of_wires g.R.Sink g.D.Sink) _ idle (omega arith) c.new.ensures,
+        turns_none g.S.DeviceStore.store_state (live_output_of g.R.Sink g.D.Sink) _ idle (omega arith) c.new.ensures,
       );
       serial_made = made_none (g.P.Source.counts c.args.serial_in.now);
       desk_made = made_none (g.Q.Source.counts c.args.desk_in.now);
     }
 
-pub take_piece-requires : goal.take_piece-requires
-take_piece-requires g c = c.loop-turn.invariant.idle
+pub take_chunk-requires : goal.take_chunk-requires
+take_chunk-requires g c = c.loop-turn.invariant.idle
 
 -- ---- a read of the serial line fails
 
 pub returns-in_default-clause-err : goal.returns-in_default-clause-err
 returns-in_default-clause-err g c =
     let (read, count, serial, desk, taken) = c.loop-turn.invariant.progress in
-    let stored = g.S.DeviceStore.kept in
-    let way = way_of_wires g.R.Sink g.D.Sink in
-    let entry = first_player stored way taken in
+    let stored = g.S.DeviceStore.store_state in
+    let output = live_output_of g.R.Sink g.D.Sink in
+    let entry = first_player stored output taken in
     record {
       read = read;
-      piece = None;
+      chunk = None;
       fails = (
-        reads_fail _ _ _ (pieces read) c.in_default.field-0 serial c.in_default.ensures.bytes c.in_default.ensures.told,
+        reads_fail _ _ _ (serial_reads read) c.in_default.field-0 serial c.in_default.ensures.bytes
+            c.in_default.ensures.told,
         desk,
       );
-      played =
-          plays_at stored g.R.Sink g.D.Sink entry.engine c.loop-turn.player.engine _ _ _ (search rules)
-          (search rules) (search rules) _ taken.taken.played;
+      processed =
+          plays_at stored g.R.Sink g.D.Sink entry.driver c.loop-turn.dispatcher.driver _ _ _ (search rules)
+          (search rules) (search rules) _ taken.taken.processed;
     }
 
 pub returns-in_default-clause-reads : goal.returns-in_default-clause-reads
@@ -72,34 +74,35 @@ returns-in_default-clause-whole g c =
     λ room. (
       λ ok. absurd cc,
       λ all. absurd (not_failed (counts c.args.serial_in.now) (counts c.read.new.self) c.args.turns room.serial_in
-          (ap (λ t. t.failed) c.in_default.ensures.told ∙ ap one_more serial.well) all.serial_well),
+          (ap (λ t. t.failed) c.in_default.ensures.told ∙ ap saturated_next serial.well) all.serial_well),
     )
 
 -- ---- an answer to a packet is not written completely
 
-pub returns-in_default-take_piece-clause-err : goal.returns-in_default-take_piece-clause-err
-returns-in_default-take_piece-clause-err g c =
-    let piece = take c.in-Ok.length c.read.new.buffer in
+pub returns-in_default-take_chunk-clause-err : goal.returns-in_default-take_chunk-clause-err
+returns-in_default-take_chunk-clause-err g c =
+    let chunk = take c.in-Ok.length c.read.new.buffer in
     let (read, count, serial, desk, taken) = c.loop-turn.invariant.progress in
-    let stored = g.S.DeviceStore.kept in
-    let way = way_of_wires g.R.Sink g.D.Sink in
-    let entry = first_player stored way taken in
+    let stored = g.S.DeviceStore.store_state in
+    let output = live_output_of g.R.Sink g.D.Sink in
+    let entry = first_player stored output taken in
     record {
       read = read;
-      piece = Some piece;
+      chunk = Some chunk;
       serial =
-          reads_more _ _ _ (pieces read) c.in-Ok.length c.read.new.buffer serial c.in-Ok.ensures.within (omega arith)
+          reads_more _ _ _ (serial_reads read) c.in-Ok.length c.read.new.buffer serial c.in-Ok.ensures.within
+          (omega arith)
           c.in-Ok.ensures.bytes c.in-Ok.ensures.told;
       desk = desk;
       broken =
-          breaks_at stored g.R.Sink g.D.Sink entry.engine c.take_piece.new.self _ _ _ (search rules)
+          breaks_at stored g.R.Sink g.D.Sink entry.driver c.take_chunk.new.self _ _ _ (search rules)
           (search rules) (search rules) _ _
-          (piece_stops stored way entry c.loop-turn.player read piece taken c.take_piece.new.self
-          c.in_default-take_piece.ensures.taken);
+          (piece_stops stored output entry c.loop-turn.dispatcher read chunk taken c.take_chunk.new.self
+          c.in_default-take_chunk.ensures.taken);
     }
 
-pub returns-in_default-take_piece-clause-reads : goal.returns-in_default-take_piece-clause-reads
-returns-in_default-take_piece-clause-reads g c =
+pub returns-in_default-take_chunk-clause-reads : goal.returns-in_default-take_chunk-clause-reads
+returns-in_default-take_chunk-clause-reads g c =
     let serial = g.P.Source.counts in
     let desk = g.Q.Source.counts in
     let before = c.loop-turn.invariant in
@@ -107,20 +110,20 @@ returns-in_default-take_piece-clause-reads g c =
     (desk c.args.desk_in.now) (desk c.loop-turn.desk_in) c.loop-turn._turn c.args.turns c.loop-turn-test.true
     before.serial_made (ap (λ t. t.calls) c.in-Ok.ensures.told) before.desk_made
 
-pub returns-in_default-take_piece-clause-whole : goal.returns-in_default-take_piece-clause-whole
-returns-in_default-take_piece-clause-whole g c =
-    let new = c.take_piece.new.self in
-    let piece = take c.in-Ok.length c.read.new.buffer in
+pub returns-in_default-take_chunk-clause-whole : goal.returns-in_default-take_chunk-clause-whole
+returns-in_default-take_chunk-clause-whole g c =
+    let new = c.take_chunk.new.self in
+    let chunk = take c.in-Ok.length c.read.new.buffer in
     let (read, count, serial, desk, taken) = c.loop-turn.invariant.progress in
-    let stored = g.S.DeviceStore.kept in
-    let way = way_of_wires g.R.Sink g.D.Sink in
-    let entry = first_player stored way taken in
+    let stored = g.S.DeviceStore.store_state in
+    let output = live_output_of g.R.Sink g.D.Sink in
+    let entry = first_player stored output taken in
     let part =
-    (piece_stops stored way entry c.loop-turn.player read piece taken new
-    c.in_default-take_piece.ensures.taken).answered in
+    (piece_stops stored output entry c.loop-turn.dispatcher read chunk taken new
+    c.in_default-take_chunk.ensures.taken).answered in
     λ room. (
       λ ok. absurd cc,
-      λ all. absurd (not_all_well stored g.R.Sink g.D.Sink entry.engine new new.gateway.now _ _ refl (search rules)
+      λ all. absurd (not_all_well stored g.R.Sink g.D.Sink entry.driver new new.gateway.now _ _ refl (search rules)
           (search rules)
           part.answers part.last part.out room.serial_out room.desk_out all.serial_written all.desk_written),
     )
@@ -129,25 +132,26 @@ returns-in_default-take_piece-clause-whole g c =
 
 pub returns-in_default-read-clause-err : goal.returns-in_default-read-clause-err
 returns-in_default-read-clause-err g c =
-    let new = c.take_piece.new.self in
-    let piece = take c.in-Ok.length c.read.new.buffer in
+    let new = c.take_chunk.new.self in
+    let chunk = take c.in-Ok.length c.read.new.buffer in
     let (read, count, serial, desk, taken) = c.loop-turn.invariant.progress in
-    let stored = g.S.DeviceStore.kept in
-    let way = way_of_wires g.R.Sink g.D.Sink in
-    let entry = first_player stored way taken in
+    let stored = g.S.DeviceStore.store_state in
+    let output = live_output_of g.R.Sink g.D.Sink in
+    let entry = first_player stored output taken in
     record {
       read = read;
-      piece = Some piece;
+      chunk = Some chunk;
       fails = (
-        reads_more _ _ _ (pieces read) c.in-Ok.length c.read.new.buffer serial c.in-Ok.ensures.within (omega arith)
+        reads_more _ _ _ (serial_reads read) c.in-Ok.length c.read.new.buffer serial c.in-Ok.ensures.within
+            (omega arith)
             c.in-Ok.ensures.bytes c.in-Ok.ensures.told,
-        reads_fail _ _ _ (desks read) c.in_default-read.field-0 desk c.in_default-read.ensures.bytes
+        reads_fail _ _ _ (desk_reads read) c.in_default-read.field-0 desk c.in_default-read.ensures.bytes
             c.in_default-read.ensures.told,
       );
-      played =
-          plays_at stored g.R.Sink g.D.Sink entry.engine new _ _ _ (search rules) (search rules) (search rules) _
-          (piece_taken stored way entry c.loop-turn.player read piece taken new
-          c.in-Ok-take_piece.ensures.taken).played;
+      processed =
+          plays_at stored g.R.Sink g.D.Sink entry.driver new _ _ _ (search rules) (search rules) (search rules) _
+          (piece_taken stored output entry c.loop-turn.dispatcher read chunk taken new
+          c.in-Ok-take_chunk.ensures.taken).processed;
     }
 
 pub returns-in_default-read-clause-reads : goal.returns-in_default-read-clause-reads
@@ -167,36 +171,37 @@ returns-in_default-read-clause-whole g c =
     λ room. (
       λ ok. absurd cc,
       λ all. absurd (not_failed (counts c.args.desk_in.now) (counts c.read-in-loop-turn.new.self) c.args.turns
-          room.desk_in (ap (λ t. t.failed) c.in_default-read.ensures.told ∙ ap one_more desk.well) all.desk_well),
+          room.desk_in (ap (λ t. t.failed) c.in_default-read.ensures.told ∙ ap saturated_next desk.well) all.desk_well),
     )
 
 -- ---- an answer to an order is not written completely
 
 pub returns-in_default-take_bytes-clause-err : goal.returns-in_default-take_bytes-clause-err
 returns-in_default-take_bytes-clause-err g c =
-    let mid = record c.loop-turn.player { engine = c.take_piece.new.self } in
+    let mid = record c.loop-turn.dispatcher { driver = c.take_chunk.new.self } in
     let new = c.take_bytes.new.self in
-    let piece = take c.in-Ok.length c.read.new.buffer in
+    let chunk = take c.in-Ok.length c.read.new.buffer in
     let bytes = take c.in-Ok-read.length c.read-in-loop-turn.new.buffer in
-    let turn : Turn = record { piece = piece; desk = bytes } in
+    let turn : Turn = record { chunk = chunk; desk = bytes } in
     let (read, count, serial, desk, taken) = c.loop-turn.invariant.progress in
-    let stored = g.S.DeviceStore.kept in
-    let way = way_of_wires g.R.Sink g.D.Sink in
-    let entry = first_player stored way taken in
+    let stored = g.S.DeviceStore.store_state in
+    let output = live_output_of g.R.Sink g.D.Sink in
+    let entry = first_player stored output taken in
     record {
       read = read ++ turn ∷ [];
-      piece = None;
-      serial = rw (pieces-more read turn)
-          (reads_more _ _ _ (pieces read) c.in-Ok.length c.read.new.buffer serial c.in-Ok.ensures.within (omega arith)
+      chunk = None;
+      serial = rw (serial_reads-more read turn)
+          (reads_more _ _ _ (serial_reads read) c.in-Ok.length c.read.new.buffer serial c.in-Ok.ensures.within
+          (omega arith)
           c.in-Ok.ensures.bytes c.in-Ok.ensures.told);
-      desk = rw (desks-more read turn)
-          (reads_more _ _ _ (desks read) c.in-Ok-read.length c.read-in-loop-turn.new.buffer desk
+      desk = rw (desk_reads-more read turn)
+          (reads_more _ _ _ (desk_reads read) c.in-Ok-read.length c.read-in-loop-turn.new.buffer desk
           c.in-Ok-read.ensures.within (omega arith) c.in-Ok-read.ensures.bytes c.in-Ok-read.ensures.told);
       broken =
-          breaks_at_order stored g.R.Sink g.D.Sink entry.engine new.engine _ _ _ (search rules) (search rules)
+          breaks_at_order stored g.R.Sink g.D.Sink entry.driver new.driver _ _ _ (search rules) (search rules)
           (search rules) _
-          (order_stops stored way entry c.loop-turn.player read piece taken mid new bytes
-          c.in-Ok-take_piece.ensures.taken (c.in_default-take_bytes.ensures.stopped taken.rest taken.keeps));
+          (order_stops stored output entry c.loop-turn.dispatcher read chunk taken mid new bytes
+          c.in-Ok-take_chunk.ensures.taken (c.in_default-take_bytes.ensures.stopped taken.rest taken.keeps));
     }
 
 pub returns-in_default-take_bytes-clause-reads : goal.returns-in_default-take_bytes-clause-reads
@@ -211,20 +216,21 @@ returns-in_default-take_bytes-clause-reads g c =
 
 pub returns-in_default-take_bytes-clause-whole : goal.returns-in_default-take_bytes-clause-whole
 returns-in_default-take_bytes-clause-whole g c =
-    let mid = record c.loop-turn.player { engine = c.take_piece.new.self } in
+    let mid = record c.loop-turn.dispatcher { driver = c.take_chunk.new.self } in
     let new = c.take_bytes.new.self in
-    let piece = take c.in-Ok.length c.read.new.buffer in
+    let chunk = take c.in-Ok.length c.read.new.buffer in
     let bytes = take c.in-Ok-read.length c.read-in-loop-turn.new.buffer in
     let (read, count, serial, desk, taken) = c.loop-turn.invariant.progress in
-    let stored = g.S.DeviceStore.kept in
-    let way = way_of_wires g.R.Sink g.D.Sink in
-    let entry = first_player stored way taken in
+    let stored = g.S.DeviceStore.store_state in
+    let output = live_output_of g.R.Sink g.D.Sink in
+    let entry = first_player stored output taken in
     let part =
-    (order_stops stored way entry c.loop-turn.player read piece taken mid new bytes c.in-Ok-take_piece.ensures.taken
+    (order_stops stored output entry c.loop-turn.dispatcher read chunk taken mid new bytes
+    c.in-Ok-take_chunk.ensures.taken
     (c.in_default-take_bytes.ensures.stopped taken.rest taken.keeps)).broken.answered in
     λ room. (
       λ ok. absurd cc,
-      λ all. absurd (not_all_well stored g.R.Sink g.D.Sink entry.engine new.engine new.engine.gateway.now _ _ refl
+      λ all. absurd (not_all_well stored g.R.Sink g.D.Sink entry.driver new.driver new.driver.gateway.now _ _ refl
           (search rules) (search rules) part.answers part.last part.out room.serial_out room.desk_out
           all.serial_written all.desk_written),
     )
@@ -235,17 +241,17 @@ pub loop-turn-preserved : goal.loop-turn-preserved
 loop-turn-preserved g c =
     let serial_counts = g.P.Source.counts in
     let desk_counts = g.Q.Source.counts in
-    let mid = record c.loop-turn.player { engine = c.take_piece.new.self } in
+    let mid = record c.loop-turn.dispatcher { driver = c.take_chunk.new.self } in
     let new = c.take_bytes.new.self in
     let turn = c.loop-turn._turn in
-    let piece = take c.in-Ok.length c.read.new.buffer in
+    let chunk = take c.in-Ok.length c.read.new.buffer in
     let bytes = take c.in-Ok-read.length c.read-in-loop-turn.new.buffer in
-    let both : Turn = record { piece = piece; desk = bytes } in
+    let both : Turn = record { chunk = chunk; desk = bytes } in
     let before = c.loop-turn.invariant in
     let (read, count, serial, desk, taken) = before.progress in
-    let stored = g.S.DeviceStore.kept in
-    let way = way_of_wires g.R.Sink g.D.Sink in
-    let entry = first_player stored way taken in
+    let stored = g.S.DeviceStore.store_state in
+    let output = live_output_of g.R.Sink g.D.Sink in
+    let entry = first_player stored output taken in
     record {
       gateway = search rules;
       serial = search rules;
@@ -254,13 +260,15 @@ loop-turn-preserved g c =
       progress = (
         read ++ both ∷ [],
         length-append read (both ∷ []) ∙ ap (λ n. n + 1) count,
-        rw (pieces-more read both)
-            (reads_more _ _ _ (pieces read) c.in-Ok.length c.read.new.buffer serial c.in-Ok.ensures.within (omega arith)
+        rw (serial_reads-more read both)
+            (reads_more _ _ _ (serial_reads read) c.in-Ok.length c.read.new.buffer serial c.in-Ok.ensures.within
+            (omega arith)
             c.in-Ok.ensures.bytes c.in-Ok.ensures.told),
-        rw (desks-more read both)
-            (reads_more _ _ _ (desks read) c.in-Ok-read.length c.read-in-loop-turn.new.buffer desk
+        rw (desk_reads-more read both)
+            (reads_more _ _ _ (desk_reads read) c.in-Ok-read.length c.read-in-loop-turn.new.buffer desk
             c.in-Ok-read.ensures.within (omega arith) c.in-Ok-read.ensures.bytes c.in-Ok-read.ensures.told),
-        turn_taken stored way entry c.loop-turn.player read piece taken mid new bytes c.in-Ok-take_piece.ensures.taken
+        turn_taken stored output entry c.loop-turn.dispatcher read chunk taken mid new bytes
+            c.in-Ok-take_chunk.ensures.taken
             (c.in-Ok-take_bytes.ensures.taken taken.rest taken.keeps),
       );
       serial_made =
@@ -277,9 +285,9 @@ loop-turn-preserved g c =
 pub returns-clause-ok : goal.returns-clause-ok
 returns-clause-ok g c =
     let (read, count, serial, desk, taken) = c.loop-turn.invariant.progress in
-    let stored = g.S.DeviceStore.kept in
-    let way = way_of_wires g.R.Sink g.D.Sink in
-    let entry = first_player stored way taken in
+    let stored = g.S.DeviceStore.store_state in
+    let output = live_output_of g.R.Sink g.D.Sink in
+    let entry = first_player stored output taken in
     let done = c.loop-turn-test.false in
     let last = c.loop-turn.auto._turn-end in
     let counted = taken.taken.counted in
@@ -288,9 +296,9 @@ returns-clause-ok g c =
       count = count ∙ omega (arith, done, last);
       serial = serial;
       desk = desk;
-      played =
-          plays_at stored g.R.Sink g.D.Sink entry.engine c.loop-turn.player.engine _ _ _ (search rules)
-          (search rules) (search rules) _ taken.taken.played;
+      processed =
+          plays_at stored g.R.Sink g.D.Sink entry.driver c.loop-turn.dispatcher.driver _ _ _ (search rules)
+          (search rules) (search rules) _ taken.taken.processed;
       counted = omega (arith, counted);
     }
 
@@ -309,10 +317,10 @@ returns-clause-reads g c =
 
 pub returns-clause-whole : goal.returns-clause-whole
 returns-clause-whole g c =
-    let now = c.loop-turn.player.engine.outlet in
+    let now = c.loop-turn.dispatcher.driver.reply_sink in
     let before = c.loop-turn.invariant in
     let (read, count, serial, desk, taken) = before.progress in
-    let out = taken.taken.played.answered.out.1 in
+    let out = taken.taken.processed.answered.out.1 in
     let done = c.loop-turn-test.false in
     let last = c.loop-turn.auto._turn-end in
     λ room. (
@@ -337,25 +345,29 @@ returns-clause-whole g c =
 
 pub returns-in_default-clause-as_specified : goal.returns-in_default-clause-as_specified
 returns-in_default-clause-as_specified g c =
-    served_until g.S.DeviceStore.kept g.P.Source g.Q.Source g.R.Sink g.D.Sink c.args.explains _ _ c.args.turns Read
+    served_until g.S.DeviceStore.store_state g.P.Source g.Q.Source g.R.Sink g.D.Sink c.args.explains _ _ c.args.turns
+    Read
     (returns-in_default-clause-err g c)
 
-pub returns-in_default-take_piece-clause-as_specified : goal.returns-in_default-take_piece-clause-as_specified
-returns-in_default-take_piece-clause-as_specified g c =
-    served_until g.S.DeviceStore.kept g.P.Source g.Q.Source g.R.Sink g.D.Sink c.args.explains _ _ c.args.turns Write
-    (returns-in_default-take_piece-clause-err g c)
+pub returns-in_default-take_chunk-clause-as_specified : goal.returns-in_default-take_chunk-clause-as_specified
+returns-in_default-take_chunk-clause-as_specified g c =
+    served_until g.S.DeviceStore.store_state g.P.Source g.Q.Source g.R.Sink g.D.Sink c.args.explains _ _ c.args.turns
+    Write
+    (returns-in_default-take_chunk-clause-err g c)
 
 pub returns-in_default-read-clause-as_specified : goal.returns-in_default-read-clause-as_specified
 returns-in_default-read-clause-as_specified g c =
-    served_until g.S.DeviceStore.kept g.P.Source g.Q.Source g.R.Sink g.D.Sink c.args.explains _ _ c.args.turns Read
+    served_until g.S.DeviceStore.store_state g.P.Source g.Q.Source g.R.Sink g.D.Sink c.args.explains _ _ c.args.turns
+    Read
     (returns-in_default-read-clause-err g c)
 
 pub returns-in_default-take_bytes-clause-as_specified : goal.returns-in_default-take_bytes-clause-as_specified
 returns-in_default-take_bytes-clause-as_specified g c =
-    served_until g.S.DeviceStore.kept g.P.Source g.Q.Source g.R.Sink g.D.Sink c.args.explains _ _ c.args.turns Write
+    served_until g.S.DeviceStore.store_state g.P.Source g.Q.Source g.R.Sink g.D.Sink c.args.explains _ _ c.args.turns
+    Write
     (returns-in_default-take_bytes-clause-err g c)
 
 pub returns-clause-as_specified : goal.returns-clause-as_specified
 returns-clause-as_specified g c =
-    served g.S.DeviceStore.kept g.P.Source g.Q.Source g.R.Sink g.D.Sink c.args.explains _ _ c.args.turns _
+    served g.S.DeviceStore.store_state g.P.Source g.Q.Source g.R.Sink g.D.Sink c.args.explains _ _ c.args.turns _
     (returns-clause-ok g c)

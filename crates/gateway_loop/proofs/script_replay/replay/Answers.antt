@@ -4,11 +4,11 @@ use Rattle.std.specs.Io.KnownBytes.{Consumes}
 use Rattle.std.proofs.KnownBytes.{Consumes-nil, Consumes-trans, Consumes-kept}
 use Rattle.byte_io.specs.declared.tally.Failed.{Failed}
 use Rattle.byte_io.proofs.ForCallers.{went_well}
-use Rattle.gateway_loop.specs.Played.{IsIdle}
-use Rattle.gateway_loop.specs.CallCounts.{OneWrong, wrong_behind}
-use Rattle.gateway_loop.specs.declared.line_loop.Lines.TheVariants.{OfScript}
+use Rattle.gateway_loop.specs.Processing.{IsDrained}
+use Rattle.gateway_loop.specs.CallCounts.{OneFailedOrEmpty, wrong_behind}
+use Rattle.gateway_loop.specs.declared.line_loop.Lines.TheVariants.{ScriptLines}
 use Rattle.gateway_loop.specs.Streams.{source_value}
-use Rattle.gateway_loop.specs.Written.{way_of_text}
+use Rattle.gateway_loop.specs.Written.{replay_output}
 use Rattle.gateway_loop.specs.declared.runs.RunFault.TheVariants.{Read, TooManyTurns, Write}
 use Rattle.gateway_loop.proofs.HeadlineLemmas.{replayed, replayed_until}
 use Rattle.gateway_loop.proofs.LineLoopLemmas.{bytes_none, bytes_behind, first_player, keeps_none, stops_behind}
@@ -21,7 +21,7 @@ use Rattle.gateway_loop.proofs.script_replay.replay.Goals as goal
 
 pub loop-turn-init : goal.loop-turn-init
 loop-turn-init g c =
-    let idle : IsIdle c.args.gateway.now = record { ready = c.requires; rest = c.is_ready-is_ready.ensures.rest } in
+    let idle : IsDrained c.args.gateway.now = record { ready = c.requires; rest = c.is_ready-is_ready.ensures.rest } in
     record {
       gateway = refl;
       writer = refl;
@@ -29,7 +29,7 @@ loop-turn-init g c =
       progress = (
         [],
         Consumes-nil (g.R.Source.left c.args.reader.now),
-        bytes_none g.S.DeviceStore.kept (way_of_text g.W.Sink) OfScript _ [] idle (omega arith)
+        bytes_none g.S.DeviceStore.store_state (replay_output g.W.Sink) ScriptLines _ [] idle (omega arith)
             (rw c.new.ensures keeps_none),
       );
       writes = (refl, refl);
@@ -41,47 +41,49 @@ pub returns-in-Err-clause-err : goal.returns-in-Err-clause-err
 returns-in-Err-clause-err g c =
     let left = g.R.Source.left in
     let (input, read, taken) = c.loop-turn.invariant.progress in
-    let entry = first_player g.S.DeviceStore.kept (way_of_text g.W.Sink) OfScript taken in
+    let entry = first_player g.S.DeviceStore.store_state (replay_output g.W.Sink) ScriptLines taken in
     record {
       input = input;
       read =
           Consumes-kept (left c.args.reader.now) (left c.loop-turn.reader) (left c.read.new.self) input read
           c.in-Err.ensures.bytes;
-      played =
-          plays_ended g.S.DeviceStore.kept g.W.Sink entry c.loop-turn.player input _ _ (search rules) (search rules)
+      processed =
+          plays_ended g.S.DeviceStore.store_state g.W.Sink entry c.loop-turn.dispatcher input _ _ (search rules)
+          (search rules)
           taken;
     }
 
 pub returns-clause-err : goal.returns-clause-err
 returns-clause-err g c =
     let (input, read, taken) = c.loop-turn.invariant.progress in
-    let entry = first_player g.S.DeviceStore.kept (way_of_text g.W.Sink) OfScript taken in
+    let entry = first_player g.S.DeviceStore.store_state (replay_output g.W.Sink) ScriptLines taken in
     record {
       input = input;
       read = read;
-      played =
-          plays_ended g.S.DeviceStore.kept g.W.Sink entry c.loop-turn.player input _ _ (search rules) (search rules)
+      processed =
+          plays_ended g.S.DeviceStore.store_state g.W.Sink entry c.loop-turn.dispatcher input _ _ (search rules)
+          (search rules)
           taken;
     }
 
 pub returns-then-length-eq0-clause-ok : goal.returns-then-length-eq0-clause-ok
 returns-then-length-eq0-clause-ok g c =
-    let stored = g.S.DeviceStore.kept in
+    let stored = g.S.DeviceStore.store_state in
     let left = g.R.Source.left in
-    let new = c.take_last.new.self.engine in
+    let new = c.take_last.new.self.driver in
     let (input, read, taken) = c.loop-turn.invariant.progress in
-    let entry = first_player g.S.DeviceStore.kept (way_of_text g.W.Sink) OfScript taken in
+    let entry = first_player g.S.DeviceStore.store_state (replay_output g.W.Sink) ScriptLines taken in
     let none : Consumes (left c.loop-turn.reader) (left c.read.new.self) [] =
     rw c.if-length-eq0.true at c.in-Ok.ensures.bytes.0 in
     let done =
-    script_taken stored g.W.Sink _ c.loop-turn.player input new taken
+    script_taken stored g.W.Sink _ c.loop-turn.dispatcher input new taken
     (c.in-Ok-take_last.ensures.taken taken.rest taken.keeps) in
     record {
       input = input;
       read = rw append-nil at (Consumes-trans (left c.args.reader.now) (left c.loop-turn.reader)
           (left c.read.new.self) input [] read none);
       at_end = c.in-Ok.ensures.bytes.1 c.if-length-eq0.true (omega arith);
-      played = plays_written stored g.W.Sink entry.engine new _ _ (search rules) (search rules) _ done.played;
+      processed = plays_written stored g.W.Sink entry.driver new _ _ (search rules) (search rules) _ done.processed;
       counted = let counted = done.counted in omega (arith, counted);
     }
 
@@ -89,17 +91,17 @@ pub returns-then-length-eq0-clause-ended : goal.returns-then-length-eq0-clause-e
 returns-then-length-eq0-clause-ended g c =
     let (input, read, taken) = c.loop-turn.invariant.progress in
     let done =
-    script_taken g.S.DeviceStore.kept g.W.Sink _ c.loop-turn.player input c.take_last.new.self.engine taken
+    script_taken g.S.DeviceStore.store_state g.W.Sink _ c.loop-turn.dispatcher input c.take_last.new.self.driver taken
     (c.in-Ok-take_last.ensures.taken taken.rest taken.keeps) in
-    let went = done.played.answered.out.1.went in
+    let went = done.processed.answered.out.1.went in
     let reads = c.loop-turn.invariant.reads in search rules
 
 pub returns-in_default-clause-err : goal.returns-in_default-clause-err
 returns-in_default-clause-err g c =
-    let stored = g.S.DeviceStore.kept in
+    let stored = g.S.DeviceStore.store_state in
     let left = g.R.Source.left in
     let (input, read, taken) = c.loop-turn.invariant.progress in
-    let entry = first_player g.S.DeviceStore.kept (way_of_text g.W.Sink) OfScript taken in
+    let entry = first_player g.S.DeviceStore.store_state (replay_output g.W.Sink) ScriptLines taken in
     let none : Consumes (left c.loop-turn.reader) (left c.read.new.self) [] =
     rw c.if-length-eq0.true at c.in-Ok.ensures.bytes.0 in
     record {
@@ -110,9 +112,10 @@ returns-in_default-clause-err g c =
         reads = search rules;
         at_end = c.in-Ok.ensures.bytes.1 c.if-length-eq0.true (omega arith);
         broken =
-            part_at_end stored g.W.Sink entry.engine c.take_last.new.self.engine _ _ (search rules) (search rules)
-            c.loop-turn.player.engine input _ _ (script_of_bytes stored g.W.Sink _ c.loop-turn.player input taken)
-            taken.taken.played (c.in_default.ensures.taken taken.rest taken.keeps);
+            part_at_end stored g.W.Sink entry.driver c.take_last.new.self.driver _ _ (search rules) (search rules)
+            c.loop-turn.dispatcher.driver input _ _ (script_of_bytes stored g.W.Sink _ c.loop-turn.dispatcher input
+            taken)
+            taken.taken.processed (c.in_default.ensures.taken taken.rest taken.keeps);
       });
     }
 
@@ -123,22 +126,23 @@ returns-in_default-clause-write g c =
     let last = c.in_default.ensures.taken taken.rest taken.keeps in
     λ _. (
       search rules,
-      wrong_at counts c.args.writer.now c.take_last.new.self.engine.outlet.sink.now _ (search rules)
-          (wrong_behind (counts c.args.writer.now) (counts c.loop-turn.player.engine.outlet.sink.now)
-          (counts c.take_last.new.self.engine.outlet.sink.now) taken.taken.played.answered.out.1.went
+      wrong_at counts c.args.writer.now c.take_last.new.self.driver.reply_sink.sink.now _ (search rules)
+          (wrong_behind (counts c.args.writer.now) (counts c.loop-turn.dispatcher.driver.reply_sink.sink.now)
+          (counts c.take_last.new.self.driver.reply_sink.sink.now) taken.taken.processed.answered.out.1.went
           last.broken.answered.out.1.went),
     )
 
 pub returns-in_default-take_bytes-clause-err : goal.returns-in_default-take_bytes-clause-err
 returns-in_default-take_bytes-clause-err g c =
-    let stored = g.S.DeviceStore.kept in
+    let stored = g.S.DeviceStore.store_state in
     let left = g.R.Source.left in
     let reads = g.R.Source.counts in
     let (input, read, taken) = c.loop-turn.invariant.progress in
-    let entry = first_player g.S.DeviceStore.kept (way_of_text g.W.Sink) OfScript taken in
+    let entry = first_player g.S.DeviceStore.store_state (replay_output g.W.Sink) ScriptLines taken in
     let chunk = take c.in-Ok.length c.read.new.buffer in
-    let stop =
-    stops_behind stored (way_of_text g.W.Sink) OfScript _ c.loop-turn.player c.take_bytes.new.self input chunk taken
+    let crash =
+    stops_behind stored (replay_output g.W.Sink) ScriptLines _ c.loop-turn.dispatcher c.take_bytes.new.self input chunk
+    taken
     (c.in_default-take_bytes.ensures.stopped taken.rest taken.keeps) in
     record {
       input = input ++ chunk;
@@ -151,31 +155,33 @@ returns-in_default-take_bytes-clause-err g c =
             c.in-Ok.length c.loop-turn.invariant.reads c.in-Ok.ensures.told c.if-length-eq0.false;
         broken =
             part_at_line stored g.W.Sink entry c.take_bytes.new.self (input ++ chunk) _ _ (search rules) (search rules)
-            stop;
+            crash;
       });
     }
 
 pub returns-in_default-take_bytes-clause-write : goal.returns-in_default-take_bytes-clause-write
 returns-in_default-take_bytes-clause-write g c =
     let (input, read, taken) = c.loop-turn.invariant.progress in
-    let stop =
-    stops_behind g.S.DeviceStore.kept (way_of_text g.W.Sink) OfScript _ c.loop-turn.player c.take_bytes.new.self input
+    let crash =
+    stops_behind g.S.DeviceStore.store_state (replay_output g.W.Sink) ScriptLines _ c.loop-turn.dispatcher
+    c.take_bytes.new.self input
     _ taken (c.in_default-take_bytes.ensures.stopped taken.rest taken.keeps) in
     λ _. (
       search rules,
-      wrong_at g.W.Sink.counts c.args.writer.now c.take_bytes.new.self.engine.outlet.sink.now _ (search rules)
-          stop.broken.answered.out.1.went,
+      wrong_at g.W.Sink.counts c.args.writer.now c.take_bytes.new.self.driver.reply_sink.sink.now _ (search rules)
+          crash.broken.answered.out.1.went,
     )
 
 pub returns-in_default-take_bytes-clause-too_many : goal.returns-in_default-take_bytes-clause-too_many
 returns-in_default-take_bytes-clause-too_many g c =
     let counts = g.W.Sink.counts in
     let (input, read, taken) = c.loop-turn.invariant.progress in
-    let stop =
-    stops_behind g.S.DeviceStore.kept (way_of_text g.W.Sink) OfScript _ c.loop-turn.player c.take_bytes.new.self input
+    let crash =
+    stops_behind g.S.DeviceStore.store_state (replay_output g.W.Sink) ScriptLines _ c.loop-turn.dispatcher
+    c.take_bytes.new.self input
     _ taken (c.in_default-take_bytes.ensures.stopped taken.rest taken.keeps) in
-    let wrong : OneWrong (counts c.args.writer.now) (counts c.take_bytes.new.self.engine.outlet.sink.now) =
-    stop.broken.answered.out.1.went in search rules
+    let wrong : OneFailedOrEmpty (counts c.args.writer.now) (counts c.take_bytes.new.self.driver.reply_sink.sink.now) =
+    crash.broken.answered.out.1.went in search rules
 
 pub loop-turn-preserved : goal.loop-turn-preserved
 loop-turn-preserved g c =
@@ -186,7 +192,8 @@ loop-turn-preserved g c =
     let chunk = take c.in-Ok.length c.read.new.buffer in
     let after = c.in-Ok-take_bytes.ensures in
     let now =
-    bytes_behind g.S.DeviceStore.kept (way_of_text g.W.Sink) OfScript _ c.loop-turn.player c.take_bytes.new.self input
+    bytes_behind g.S.DeviceStore.store_state (replay_output g.W.Sink) ScriptLines _ c.loop-turn.dispatcher
+    c.take_bytes.new.self input
     chunk taken (after.taken taken.rest taken.keeps) in
     record {
       gateway = search rules;
@@ -198,7 +205,7 @@ loop-turn-preserved g c =
             c.in-Ok.ensures.bytes.0,
         now,
       );
-      writes = now.taken.played.answered.out.1.went;
+      writes = now.taken.processed.answered.out.1.went;
       reads =
           went_well Failed (reads c.args.reader.now) (reads c.loop-turn.reader) (reads c.read.new.self) c.in-Ok.length
           before.reads c.in-Ok.ensures.told c.if-length-eq0.false;
@@ -258,22 +265,25 @@ returns-clause-too_many g c = search rules
 
 pub returns-in-Err-clause-as_specified : goal.returns-in-Err-clause-as_specified
 returns-in-Err-clause-as_specified g c =
-    replayed_until g.S.DeviceStore.kept g.R.Source g.W.Sink c.args.explains _ _ Read (returns-in-Err-clause-err g c)
+    replayed_until g.S.DeviceStore.store_state g.R.Source g.W.Sink c.args.explains _ _ Read
+    (returns-in-Err-clause-err g c)
 
 pub returns-clause-as_specified : goal.returns-clause-as_specified
 returns-clause-as_specified g c =
-    replayed_until g.S.DeviceStore.kept g.R.Source g.W.Sink c.args.explains _ _ TooManyTurns (returns-clause-err g c)
+    replayed_until g.S.DeviceStore.store_state g.R.Source g.W.Sink c.args.explains _ _ TooManyTurns
+    (returns-clause-err g c)
 
 pub returns-in_default-clause-as_specified : goal.returns-in_default-clause-as_specified
 returns-in_default-clause-as_specified g c =
-    replayed_until g.S.DeviceStore.kept g.R.Source g.W.Sink c.args.explains _ _ Write
+    replayed_until g.S.DeviceStore.store_state g.R.Source g.W.Sink c.args.explains _ _ Write
     (returns-in_default-clause-err g c)
 
 pub returns-in_default-take_bytes-clause-as_specified : goal.returns-in_default-take_bytes-clause-as_specified
 returns-in_default-take_bytes-clause-as_specified g c =
-    replayed_until g.S.DeviceStore.kept g.R.Source g.W.Sink c.args.explains _ _ Write
+    replayed_until g.S.DeviceStore.store_state g.R.Source g.W.Sink c.args.explains _ _ Write
     (returns-in_default-take_bytes-clause-err g c)
 
 pub returns-then-length-eq0-clause-as_specified : goal.returns-then-length-eq0-clause-as_specified
 returns-then-length-eq0-clause-as_specified g c =
-    replayed g.S.DeviceStore.kept g.R.Source g.W.Sink c.args.explains _ _ _ (returns-then-length-eq0-clause-ok g c)
+    replayed g.S.DeviceStore.store_state g.R.Source g.W.Sink c.args.explains _ _ _
+    (returns-then-length-eq0-clause-ok g c)

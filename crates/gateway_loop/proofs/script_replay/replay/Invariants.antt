@@ -1,23 +1,24 @@
 use Rattle.std.proofs.Common.{◌≡◌, List, ℕ, length}
 use Rattle.std.specs.Io.KnownBytes.{Consumes}
-use Rattle.byte_io.specs.Counts.{WentWell}
-use Rattle.gateway_loop.specs.Played.{IsIdle}
+use Rattle.byte_io.specs.Counts.{NoneFailedOrEmpty}
+use Rattle.gateway_loop.specs.Processing.{IsDrained}
 use Rattle.gateway_loop.specs.private.LineLoop.{TakesBytes}
-use Rattle.gateway_loop.specs.Reads.{ReadsWell}
-use Rattle.gateway_loop.specs.declared.line_loop.Lines.TheVariants.{OfScript}
+use Rattle.gateway_loop.specs.Reads.{ReadsSucceed}
+use Rattle.gateway_loop.specs.declared.line_loop.Lines.TheVariants.{ScriptLines}
 use Rattle.gateway_loop.specs.Streams.{source_value}
-use Rattle.gateway_loop.specs.Written.{way_of_text}
+use Rattle.gateway_loop.specs.Written.{replay_output}
 use Rattle.gateway_loop.proofs.script_replay.replay.Given as goal
 
 abbrev pub invariant-loop-turn : goal.invariant-loop-turn
 invariant-loop-turn g l = record {
-  gateway : l.player.engine.gateway.ghost_name ≡ l.initial.player.engine.gateway.ghost_name;
-  writer : l.player.engine.outlet.sink.ghost_name ≡ l.initial.player.engine.outlet.sink.ghost_name;
-  idle : IsIdle l.player.engine.gateway.now;
+  gateway : l.dispatcher.driver.gateway.ghost_name ≡ l.initial.dispatcher.driver.gateway.ghost_name;
+  writer : l.dispatcher.driver.reply_sink.sink.ghost_name ≡ l.initial.dispatcher.driver.reply_sink.sink.ghost_name;
+  idle : IsDrained l.dispatcher.driver.gateway.now;
   progress : (input : List ℕ) × Consumes (g.R.Source.left l.fn.reader) (g.R.Source.left l.reader) input
-      × TakesBytes g.S.DeviceStore.kept (way_of_text g.W.Sink) OfScript l.initial.player l.player input;
-  writes : WentWell (g.W.Sink.counts l.fn.writer) (g.W.Sink.counts l.player.engine.outlet.sink.now);
-  reads : WentWell (g.R.Source.counts l.fn.reader) (g.R.Source.counts l.reader);
+      × TakesBytes g.S.DeviceStore.store_state (replay_output g.W.Sink) ScriptLines l.initial.dispatcher l.dispatcher
+      input;
+  writes : NoneFailedOrEmpty (g.W.Sink.counts l.fn.writer) (g.W.Sink.counts l.dispatcher.driver.reply_sink.sink.now);
+  reads : NoneFailedOrEmpty (g.R.Source.counts l.fn.reader) (g.R.Source.counts l.reader);
   gave : (parts : List (List ℕ)) × (length parts ≡ l._turn)
-      × ReadsWell (source_value g.R.Source l.fn.reader) (source_value g.R.Source l.reader) parts;
+      × ReadsSucceed (source_value g.R.Source l.fn.reader) (source_value g.R.Source l.reader) parts;
 }

@@ -1,13 +1,13 @@
 use Rattle.std.proofs.Common.{refl}
-use Rattle.learned_devices.specs.Kept.{Kept}
+use Rattle.learned_devices.specs.StoreState.{StoreState}
 use Rattle.sqlite.specs.State.{State}
-use Rattle.device_registry.specs.Holding.{HoldsSome, kept_by}
-use Rattle.gateway_core.specs.Handling.{HandlerValue, KnowsState}
+use Rattle.device_registry.specs.Holding.{HoldsSome, registry_state_of}
+use Rattle.gateway_core.specs.Handling.{HandlerValue, HasSomeState}
 use Rattle.gateway_main.proofs.laws.a_state_is_known.Goals as goal
 
 -- the base ID, the mode and the counters are known by themselves, and the devices by the registry
 knows_state : {C : Type 0} (state : C → State) (v : HandlerValue C) → HoldsSome (state v.registry)
-    → KnowsState (kept_by state) v
+    → HasSomeState (registry_state_of state) v
 knows_state state v holds clean =
     let some = holds clean in
     (record { base = v.base; mode = v.mode; counts = v.counts; devices = some.0 }, (refl, refl, some.1, refl))

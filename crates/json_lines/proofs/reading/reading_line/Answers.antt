@@ -10,7 +10,7 @@ returns c = rw (
   c.in_ok-put_dbm.ensures,
   c.in_ok-extend_from_slice.ensures.items,
   c.in_ok-line.ensures.items,
-  c.sender_piece.ensures,
+  c.sender_part.ensures,
   c.dbm.ensures,
   c.sender.ensures,
   c.as_slice.ensures.value,

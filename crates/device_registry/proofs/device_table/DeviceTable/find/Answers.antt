@@ -24,9 +24,10 @@ returns g c =
     let well = c.self.invariant in
     let asked = c.in_ok-rows.ensures.found in
     record {
-      looks_up = rw (← c.self.view_is) (looks_up old new stays well c.args.id c.found.result (λ clean devices has.
+      looks_up =
+          rw (← c.self.view_is) (looks_up old new stays well c.args.id c.decode_found.result (λ clean devices has.
           let rows = asked clean in
-          rw c.deref.ensures.value at c.found.ensures.found (device_of devices c.args.id)
+          rw c.deref.ensures.value at c.decode_found.ensures.found (device_of devices c.args.id)
           (rows.1 devices (had old new stays well clean rows.0 devices has))));
-      ready = λ clean. rw (← c.self.view_is) (ready_if c.found.result old new stays well clean (asked clean).0);
+      ready = λ clean. rw (← c.self.view_is) (ready_if c.decode_found.result old new stays well clean (asked clean).0);
     }

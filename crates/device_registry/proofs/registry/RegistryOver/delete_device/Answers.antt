@@ -1,5 +1,5 @@
 use Rattle.std.proofs.Common.{None, refl}
-use Rattle.learned_devices.specs.Devices.{forgotten}
+use Rattle.learned_devices.specs.Devices.{forget_update}
 use Rattle.device_registry.proofs.CacheAgreement.{changed_recalled, cleared_recalled}
 use Rattle.device_registry.proofs.registry.RegistryOver.delete_device.Goals as goal
 
@@ -7,7 +7,7 @@ pub invariant_of-self : goal.invariant_of-self
 invariant_of-self g c = (
   c.forget.ensures.forgets.registries,
   changed_recalled (g.C.SqlConnection.state c.self.inside.table) (g.C.SqlConnection.state c.forget.new.self)
-      (forgotten c.args.id) None
+      (forget_update c.args.id) None
       c.self.inside.cache.entries c.forget_entry.new.cache.entries c.remember.new.cache.entries
       c.forget.ensures.forgets.clean c.in-Ok.ensures.ready c.in-Ok.ensures.forgets.devices
       (λ clean devices has. refl) c.self.invariant.1

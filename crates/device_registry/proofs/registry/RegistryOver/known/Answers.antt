@@ -8,7 +8,7 @@ pub invariant_of-self : goal.invariant_of-self
 invariant_of-self g c = (
   c.self.invariant.0,
   fewer_recalled (g.C.SqlConnection.state c.self.inside.table) c.self.inside.cache.entries
-      c.cached.new.cache.entries c.self.invariant.1 c.cached.ensures.kept,
+      c.look_up_cached.new.cache.entries c.self.invariant.1 c.look_up_cached.ensures.kept,
 )
 
 pub returns-in-Some-clause-looks_up : goal.returns-in-Some-clause-looks_up
@@ -37,11 +37,12 @@ pub invariant_of-self-in-Ok : goal.invariant_of-self-in-Ok
 invariant_of-self-in-Ok g c =
     let old = g.C.SqlConnection.state c.self.inside.table in (
       c.find.ensures.looks_up.registries,
-      found_recalled old (g.C.SqlConnection.state c.find.new.self) c.args.id c.in-Ok.known c.cached.new.cache.entries
+      found_recalled old (g.C.SqlConnection.state c.find.new.self) c.args.id c.in-Ok.known
+          c.look_up_cached.new.cache.entries
           c.remember.new.cache.entries c.find.ensures.looks_up.clean c.in-Ok.ensures.ready
           c.in-Ok.ensures.looks_up.devices
-          (fewer_recalled old c.self.inside.cache.entries c.cached.new.cache.entries c.self.invariant.1
-          c.cached.ensures.kept) (rw c.copied-copy.ensures at c.remember.ensures.kept),
+          (fewer_recalled old c.self.inside.cache.entries c.look_up_cached.new.cache.entries c.self.invariant.1
+          c.look_up_cached.ensures.kept) (rw c.copied-copy.ensures at c.remember.ensures.kept),
     )
 
 pub returns-in-Ok-clause-looks_up : goal.returns-in-Ok-clause-looks_up

@@ -1,8 +1,8 @@
 use Rattle.std.proofs.Common.{◌≡◌, ◌∙◌, Err, OnOk, ap, sym, subst}
 use Rattle.std.proofs.lemmas.Result.{err_from_is_err_and}
-use Rattle.learned_devices.specs.Devices.{Devices, Learned, Learn, learned}
+use Rattle.learned_devices.specs.Devices.{Devices, DeviceData, Learn, learn_update}
 use Rattle.learned_devices.specs.StoreCalls.{Learns}
-use Rattle.device_registry.specs.Holding.{HasDevices, WritesRow, kept}
+use Rattle.device_registry.specs.Holding.{HasDevices, WritesRow, registry_state}
 use Rattle.device_registry.proofs.RegistryCalls.{learns_unlooked, keeps_label, learns_after, learns_alike}
 use Rattle.device_registry.proofs.RegistryCalls.{written_after}
 use Rattle.device_registry.proofs.registry.RegistryOver.put_device.Goals as goal
@@ -12,11 +12,11 @@ returns-in_err-known-clause-learns g c =
     let old = g.C.SqlConnection.state c.args.self.now in
     let mid = g.C.SqlConnection.state c.known.new.self in
     let why = err_from_is_err_and c.from_residual.result c.from_residual.ensures.1 in
-    subst (Learns (kept old) (kept mid) c.args.device) (sym (why.1 ∙ ap Err why.2))
+    subst (Learns (registry_state old) (registry_state mid) c.args.device) (sym (why.1 ∙ ap Err why.2))
     (learns_unlooked old mid c.args.device.id c.args.device _ c.in_err-known.ensures.looks_up)
 
-pub learn_kept-requires : goal.learn_kept-requires
-learn_kept-requires g c =
+pub store_learned-requires : goal.store_learned-requires
+store_learned-requires g c =
     let old = g.C.SqlConnection.state c.args.self.now in
     let mid = g.C.SqlConnection.state c.known.new.self in
     keeps_label old mid c.args.device.id c.in_ok-known.known c.in_ok-known.ensures.looks_up mid
@@ -27,24 +27,25 @@ pub returns : goal.returns
 returns g c =
     let old = g.C.SqlConnection.state c.args.self.now in
     let mid = g.C.SqlConnection.state c.known.new.self in
-    let last = c.learn_kept.new.self in
+    let last = c.store_learned.new.self in
     let new = g.C.SqlConnection.state last in
-    let r = c.learn_kept.result in
+    let r = c.store_learned.result in
     let known = c.in_ok-known.known in
     let looks = c.in_ok-known.ensures.looks_up in
     let at = c.keeping_label.ensures.0 in
     let is = c.keeping_label.ensures.1 in
-    let eep = ap (λ (l : Learned). l.eep) is in
-    let maker = ap (λ (l : Learned). l.maker) is in
-    let same : learned c.keeping_label.result ≡ learned c.args.device =
-    λ i. record { sender = at i; deed = Learn (eep i) (maker i) } in
+    let eep = ap (λ (l : DeviceData). l.eep) is in
+    let maker = ap (λ (l : DeviceData). l.maker) is in
+    let same : learn_update c.keeping_label.result ≡ learn_update c.args.device =
+    λ i. record { sender = at i; operation = Learn (eep i) (maker i) } in
     record {
       learns = learns_alike old new c.args.device c.keeping_label.result r at eep maker
-          (learns_after old mid c.args.device.id known looks new c.keeping_label.result r c.learn_kept.ensures.learns);
+          (learns_after old mid c.args.device.id known looks new c.keeping_label.result r
+          c.store_learned.ensures.learns);
       written = λ clean.
-          subst (λ change. (devices : Devices) → HasDevices old devices → OnOk r (WritesRow
-          g.C.SqlConnection.state last change devices)) same
+          subst (λ update. (devices : Devices) → HasDevices old devices → OnOk r (WritesRow
+          g.C.SqlConnection.state last update devices)) same
           (written_after old mid c.args.device.id known looks new g.C.SqlConnection.state last
-          (learned c.keeping_label.result) r (λ _. c.learn_kept.ensures.written clean)
-          (c.learn_kept.ensures.learns.clean clean));
+          (learn_update c.keeping_label.result) r (λ _. c.store_learned.ensures.written clean)
+          (c.store_learned.ensures.learns.clean clean));
     }

@@ -1,5 +1,5 @@
 use Rattle.std.proofs.Common.{◌∙◌, Some, option_map, ap, sym}
-use Rattle.learned_devices.specs.Devices.{device, relabelled}
+use Rattle.learned_devices.specs.Devices.{device, relabel_update}
 use Rattle.device_registry.proofs.CacheAgreement.{changed_recalled, cleared_recalled}
 use Rattle.device_registry.proofs.registry.RegistryOver.relabel_known.Goals as goal
 
@@ -15,7 +15,7 @@ invariant_of-self g c =
     let new = g.C.SqlConnection.state c.relabel.new.self in
     let known = rw (← c.self.view_is) at c.requires.known in (
       c.relabel.ensures.updates.registries,
-      changed_recalled old new (relabelled c.args.device.id c.args.device.label) (Some c.copied-labelled.result)
+      changed_recalled old new (relabel_update c.args.device.id c.args.device.label) (Some c.copied-labelled.result)
           c.self.inside.cache.entries c.forget_entry.new.cache.entries c.remember.new.cache.entries
           c.relabel.ensures.updates.clean c.in-Ok.ensures.ready
           c.in-Ok.ensures.updates.devices

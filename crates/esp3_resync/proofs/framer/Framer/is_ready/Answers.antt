@@ -12,9 +12,10 @@ pub returns-in-Some-clause-ready : goal.returns-in-Some-clause-ready
 returns-in-Some-clause-ready c =
     let s = c.self.inside.window in
     let h = c.in-Some.header in
-    let r = c.is_whole.result in
+    let r = c.is_complete.result in
     let P : Frames → Type 0 = λ x. IsTrue r ↔ (0 < length x.ready) in
-    subst P c.self.view_is (ready_by_front r s (packet_at h s) c.is_whole.ensures.whole c.is_whole.ensures.partial)
+    subst P c.self.view_is (ready_by_front r s (packet_at h s) c.is_complete.ensures.whole
+    c.is_complete.ensures.partial)
 
 pub returns-in-None-clause-ready : goal.returns-in-None-clause-ready
 returns-in-None-clause-ready c =

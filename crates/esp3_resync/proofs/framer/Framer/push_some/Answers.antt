@@ -13,7 +13,7 @@ pub returns-then-is_refused-clause-taken : goal.returns-then-is_refused-clause-t
 returns-then-is_refused-clause-taken c =
     let t = take c.push_announced-count.result c.args.bytes.now in
     let h = held c.self.inside.window c.args.self.now c.self.invariant.front c.self.view_is c.requires.none in
-    c.settle_behind-self-inside.ensures.frames
+    c.resync_after_first-self-inside.ensures.frames
     ∙ ap frames_of (c.push_announced-count.ensures.taken ∙ ap (λ (y : List ℕ). y ++ t) h.1)
 
 pub returns-then-is_refused-clause-before : goal.returns-then-is_refused-clause-before
@@ -62,7 +62,7 @@ pub returns-clause-taken : goal.returns-clause-taken
 returns-clause-taken c =
     let t = take c.push_first-count.result c.args.bytes.now in
     let h = held c.self.inside.window c.args.self.now c.self.invariant.front c.self.view_is c.requires.none in
-    c.settle-self-inside.ensures.frames
+    c.resync-self-inside.ensures.frames
     ∙ ap frames_of (c.push_first-count.ensures.taken ∙ ap (λ (y : List ℕ). y ++ t) h.1)
 
 pub returns-clause-before : goal.returns-clause-before

@@ -8,13 +8,13 @@ use Rattle.esp3_frames.specs.Frames.{front_of, frames_of, Frames}
 use Rattle.esp3_frames.specs.Frames.Front.{Partial}
 use Rattle.esp3_frames.specs.declared.packet.Header.{Header}
 use Rattle.esp3_frames.proofs.ForCallers.{frames-whole}
-use Rattle.esp3_resync.specs.Kept.{packet_with}
-use Rattle.esp3_resync.specs.private.Settled.{Settled, packet_at}
+use Rattle.esp3_resync.specs.BufferedPacket.{packet_with}
+use Rattle.esp3_resync.specs.private.Settled.{IsSettled, packet_at}
 use Rattle.esp3_resync.proofs.FramesLemmas.{ready_whole, unready_partial}
 use Rattle.esp3_resync.proofs.HeaderLemmas.{short_partial, whole_sum, whole_parts}
 use Rattle.esp3_resync.proofs.framer.Framer.take.Goals as goal
 
-unannounced : (w : List ℕ) (h : Option Header) → Settled w h → ((x : Header) → h ≡ Some x → ⊥) → front_of w ≡ Partial
+unannounced : (w : List ℕ) (h : Option Header) → IsSettled w h → ((x : Header) → h ≡ Some x → ⊥) → front_of w ≡ Partial
 unannounced w None s n = short_partial w s.header s.front
 unannounced w (Some x) s n = absurd (n x refl)
 
@@ -25,10 +25,10 @@ returns-in_default-clause-ready c =
     let e = ap (λ (x : Frames). length x.ready) c.self.view_is in
     (λ t. absurd cc, λ h. absurd (omega (arith, r, e, h)))
 
-pub returns-then-not-is_whole-clause-ready : goal.returns-then-not-is_whole-clause-ready
-returns-then-not-is_whole-clause-ready c =
+pub returns-then-not-is_complete-clause-ready : goal.returns-then-not-is_complete-clause-ready
+returns-then-not-is_complete-clause-ready c =
     let s = c.self.inside.window in
-    let r = unready_partial s c.if-not-is_whole.ensures.partial in
+    let r = unready_partial s c.if-not-is_complete.ensures.partial in
     let e = ap (λ (x : Frames). length x.ready) c.self.view_is in
     (λ t. absurd cc, λ h. absurd (omega (arith, r, e, h)))
 
@@ -40,7 +40,7 @@ moved s h behind to k is items count = items ∙ ap (λ i. take i behind) count 
 pub move_into-requires : goal.move_into-requires
 move_into-requires c =
     let s = c.self.inside.window in
-    let n = whole_parts s c.in-Some.header c.if-not-is_whole.ensures.whole in (
+    let n = whole_parts s c.in-Some.header c.if-not-is_complete.ensures.whole in (
       omega (arith, n.0, c.announced_len.ensures, ap length c.skip.ensures, length-drop 6 s),
       omega (arith, n.1, c.announced_len.ensures, c.out.invariant.room),
     )
@@ -48,7 +48,7 @@ move_into-requires c =
 pub skip-requires-2 : goal.skip-requires-2
 skip-requires-2 c =
     let s = c.self.inside.window in
-    let n = whole_parts s c.in-Some.header c.if-not-is_whole.ensures.whole in
+    let n = whole_parts s c.in-Some.header c.if-not-is_complete.ensures.whole in
     let left = ap length c.move_into.ensures.rest in
     let behind = ap length c.skip.ensures in
     let dropped = length-drop c.announced_len.result c.skip.new.self in
@@ -58,7 +58,7 @@ pub invariant_of-out : goal.invariant_of-out
 invariant_of-out c =
     let s = c.self.inside.window in
     let h = c.in-Some.header in
-    let n = whole_parts s h c.if-not-is_whole.ensures.whole in
+    let n = whole_parts s h c.if-not-is_complete.ensures.whole in
     let items =
     moved s h c.skip.new.self c.move_into.new.to.items c.announced_len.result c.skip.ensures c.move_into.ensures.items
     c.announced_len.ensures in
@@ -70,7 +70,7 @@ invariant_of-out c =
 pub returns-clause-ready : goal.returns-clause-ready
 returns-clause-ready c =
     let s = c.self.inside.window in
-    let r = ready_whole s _ c.if-not-is_whole.ensures.whole in
+    let r = ready_whole s _ c.if-not-is_complete.ensures.whole in
     let e = ap (λ (x : Frames). length x.ready) c.self.view_is in
     (λ _. omega (arith, r, e), λ _. refl)
 
@@ -79,7 +79,7 @@ returns-clause-taken c =
     let s = c.self.inside.window in
     let h = c.in-Some.header in
     let p : Packet = packet_at h s in
-    let whole = c.if-not-is_whole.ensures.whole in
+    let whole = c.if-not-is_complete.ensures.whole in
     let items =
     moved s h c.skip.new.self c.move_into.new.to.items c.announced_len.result c.skip.ensures c.move_into.ensures.items
     c.announced_len.ensures in
@@ -90,8 +90,8 @@ returns-clause-taken c =
     c.skip-2.ensures ∙ ap (drop 1) (c.move_into.ensures.rest ∙ ap (drop k) c.skip.ensures)
     ∙ drop-drop 1 k (drop 6 s) ∙ drop-drop (k + 1) 6 s ∙ ap (λ i. drop i s) count
     in
-    let behind : frames_of c.settle-self-inside.new.window ≡ frames_of (drop n s) =
-    c.settle-self-inside.ensures.frames ∙ ap frames_of left in
+    let behind : frames_of c.resync-self-inside.new.window ≡ frames_of (drop n s) =
+    c.resync-self-inside.ensures.frames ∙ ap frames_of left in
     let here = frames-whole s p whole in
     let ready = λ (x : Frames). x.ready in
     let rest = λ (x : Frames). x.rest in (

@@ -3,7 +3,7 @@ use Rattle.std.proofs.Common.{length-append, length-drop}
 use Rattle.std.proofs.Math.Seq.{take_at}
 use Rattle.std.specs.Result.{is_ok}
 use Rattle.std.proofs.lemmas.Bool.{cond-true}
-use Rattle.esp3_resync.specs.private.Running.{Noted}
+use Rattle.esp3_resync.specs.private.RunningChecks.{HasChecks}
 use Rattle.esp3_resync.proofs.window.Window.extend.Goals as goal
 
 pub invariant_of-self : goal.invariant_of-self
@@ -19,13 +19,13 @@ invariant_of-self c =
     let size : length added.new.self.items ≡ length b + length t = omega (arith, ap length items, length-append b t) in
     let held : length b ≤ made.result + length c.args.self.now =
     omega (arith, r.within.0, ap length (made.ensures.same ∙ c.self.view_is), length-drop made.result b) in
-    let d : List ℕ = c.note_checks.new.checks in
+    let d : List ℕ = c.record_checks.new.checks in
     let before = c.deref_mut.ensures in
-    let places = c.make_places in
+    let places = c.make_check_slots in
     let e = places.new.checks.items in
-    let same : length d ≡ places.new.checks.len = omega (arith, c.note_checks.ensures.len, before.len) in
+    let same : length d ≡ places.new.checks.len = omega (arith, c.record_checks.ensures.len, before.len) in
     let checks = take_at d (drop (length d) e) places.new.checks.len same in
-    let noted : Noted r.gone b e = λ i within. places.ensures.same i (omega (arith, r.places)) ∙ r.noted i within in
+    let noted : HasChecks r.gone b e = λ i within. places.ensures.same i (omega (arith, r.places)) ∙ r.noted i within in
     record {
       memory = (
         omega (arith, r.memory.0, added.ensures.capacity),
@@ -36,14 +36,14 @@ invariant_of-self c =
       places = omega (
         arith,
         ap length checks,
-        c.note_checks.ensures.len,
+        c.record_checks.ensures.len,
         ap length before.value,
         places.ensures.enough,
         c.len.ensures,
       );
       gone = r.gone;
-      noted = subst (Noted r.gone added.new.self.items) (sym checks)
-          (subst (λ (y : List ℕ). Noted r.gone y d) (sym items)
-          (c.note_checks.ensures.noted r.gone b (omega (arith, c.len.ensures))
-          (subst (Noted r.gone b) (sym before.value) noted)));
+      noted = subst (HasChecks r.gone added.new.self.items) (sym checks)
+          (subst (λ (y : List ℕ). HasChecks r.gone y d) (sym items)
+          (c.record_checks.ensures.noted r.gone b (omega (arith, c.len.ensures))
+          (subst (HasChecks r.gone b) (sym before.value) noted)));
     }

@@ -9,29 +9,31 @@ pub returns-in_err-draft : goal.returns-in_err-draft
 returns-in_err-draft g c =
     let error = err_from_is_err_and c.from_residual.result c.from_residual.ensures.1 in
     rw (error.1, error.2) (record {
-      told = tt;
-      alone = alone-unasked g.S.DeviceStore.kept _ _
+      reported = tt;
+      alone = alone-unasked g.S.DeviceStore.store_state _ _
           (λ devices keeps. keeps);
     })
 
 pub returns-in-Err : goal.returns-in-Err
 returns-in-Err g c =
     rw (← c.self.view_is) (record {
-      told = tt;
-      alone = alone g.S.DeviceStore.kept _ _ _ _ _ _ c.forget.ensures.forgets.clean c.forget.ensures.forgets.registries
+      reported = tt;
+      alone = alone g.S.DeviceStore.store_state _ _ _ _ _ _ c.forget.ensures.forgets.clean
+          c.forget.ensures.forgets.registries
           (λ honest devices has. c.in-Err.ensures.forgets.devices honest devices has);
     })
 
 pub returns : goal.returns
 returns g c =
     rw (← c.self.view_is) (record {
-      told = (
+      reported = (
         c.committed-verdict.ensures.id ∙ c.in-Ok.ensures.receipt.0,
         subst (λ b. MatchBool b (c.committed-verdict.result.outcome ≡ Accepted)
             (c.committed-verdict.result.outcome ≡ Deleted)) c.in-Ok.ensures.receipt.1
             c.committed-verdict.ensures.outcome,
         c.tell-line.ensures ∙ c.in_ok-draft.ensures.line,
       );
-      alone = alone g.S.DeviceStore.kept _ _ _ _ _ _ c.forget.ensures.forgets.clean c.forget.ensures.forgets.registries
+      alone = alone g.S.DeviceStore.store_state _ _ _ _ _ _ c.forget.ensures.forgets.clean
+          c.forget.ensures.forgets.registries
           (λ honest devices has. c.in-Ok.ensures.forgets.devices honest devices has);
     })

@@ -1,7 +1,7 @@
 use Rattle.std.proofs.Common.{refl, sym, ap, ◌∙◌, append-nil}
 use Rattle.std.proofs.lemmas.Result.{err_from_is_err_and}
 use Rattle.teach_in.specs.declared.outcome.Outcome.TheVariants.{Deleted}
-use Rattle.gateway_core.specs.Step.{said, told_of, forgets}
+use Rattle.gateway_core.specs.Step.{text_answer, device_teach_line, forget_effect}
 use Rattle.gateway_core.proofs.TryLemmas.{tries-forgotten, tries-unforgotten}
 use Rattle.gateway_core.proofs.handler.Handler.forget_named.Goals as goal
 
@@ -9,15 +9,17 @@ pub returns-in_err-committed : goal.returns-in_err-committed
 returns-in_err-committed g c =
     let error = err_from_is_err_and c.from_residual.result c.from_residual.ensures.1 in
     rw (error.1, error.2)
-    (tries-unforgotten g.S.DeviceStore.kept _ _ (told_of c.args.device Deleted) (λ state. forgets c.args.device)
+    (tries-unforgotten g.S.DeviceStore.store_state _ _ (device_teach_line c.args.device Deleted)
+    (λ state. forget_effect c.args.device)
     (λ devices. record { needs = refl; forgets = refl }) c.in_err-committed.field-0.0 c.in_err-committed.ensures)
 
 pub returns : goal.returns
 returns g c =
-    tries-forgotten g.S.DeviceStore.kept _ _ (told_of c.args.device Deleted) (λ state. forgets c.args.device)
+    tries-forgotten g.S.DeviceStore.store_state _ _ (device_teach_line c.args.device Deleted)
+    (λ state. forget_effect c.args.device)
     (λ devices. record { needs = refl; forgets = refl }) c.in_ok-committed.committed _ c.in_ok-committed.ensures
     (λ devices. (
-      c.told.ensures.answer ∙ ap said (c.in_ok-committed.ensures.told.2 ∙ sym (append-nil _)),
-      c.told.ensures.account,
-      c.told.ensures.mode,
+      c.desk_effect.ensures.answer ∙ ap text_answer (c.in_ok-committed.ensures.reported.2 ∙ sym (append-nil _)),
+      c.desk_effect.ensures.disposition,
+      c.desk_effect.ensures.mode,
     ))

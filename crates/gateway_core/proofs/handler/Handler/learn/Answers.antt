@@ -12,19 +12,20 @@ pub returns-in_err-draft : goal.returns-in_err-draft
 returns-in_err-draft g c =
     let error = err_from_is_err_and c.from_residual.result c.from_residual.ensures.1 in
     rw (error.1, error.2) (record {
-      told = tt;
-      alone = alone-unasked g.S.DeviceStore.kept _ _
+      reported = tt;
+      alone = alone-unasked g.S.DeviceStore.store_state _ _
           (λ devices keeps. keeps);
     })
 
 pub returns-in-Err-Full : goal.returns-in-Err-Full
 returns-in-Err-Full g c =
     rw (← c.self.view_is) (record {
-      told = tt;
-      alone = alone g.S.DeviceStore.kept _ _ _ _ _ _ c.learn.ensures.learns.clean c.learn.ensures.learns.registries
+      reported = tt;
+      alone =
+          alone g.S.DeviceStore.store_state _ _ _ _ _ _ c.learn.ensures.learns.clean c.learn.ensures.learns.registries
           (λ honest devices has.
-          let Why = λ (why : LearnFault). RefusesToLearn (g.S.DeviceStore.kept c.self.inside.registry)
-          (g.S.DeviceStore.kept c.learn.new.self) c.args.device devices why in
+          let Why = λ (why : LearnFault). RefusesToLearn (g.S.DeviceStore.store_state c.self.inside.registry)
+          (g.S.DeviceStore.store_state c.learn.new.self) c.args.device devices why in
           let full : Why fault.Full = subst Why c.in-Err-Full.field-0-is
           (c.in-Err-Full.ensures.learns.devices honest devices has) in full);
     })
@@ -32,11 +33,12 @@ returns-in-Err-Full g c =
 pub returns-in-Err-Refused : goal.returns-in-Err-Refused
 returns-in-Err-Refused g c =
     rw (← c.self.view_is) (record {
-      told = tt;
-      alone = alone g.S.DeviceStore.kept _ _ _ _ _ _ c.learn.ensures.learns.clean c.learn.ensures.learns.registries
+      reported = tt;
+      alone =
+          alone g.S.DeviceStore.store_state _ _ _ _ _ _ c.learn.ensures.learns.clean c.learn.ensures.learns.registries
           (λ honest devices has.
-          let Why = λ (why : LearnFault). RefusesToLearn (g.S.DeviceStore.kept c.self.inside.registry)
-          (g.S.DeviceStore.kept c.learn.new.self) c.args.device devices why in
+          let Why = λ (why : LearnFault). RefusesToLearn (g.S.DeviceStore.store_state c.self.inside.registry)
+          (g.S.DeviceStore.store_state c.learn.new.self) c.args.device devices why in
           let pends : Why (fault.Refused c.in-Err-Refused.fault) = subst Why c.in-Err-Refused.field-0-is
           (c.in-Err-Refused.ensures.learns.devices honest devices has) in pends);
     })
@@ -44,13 +46,14 @@ returns-in-Err-Refused g c =
 pub returns : goal.returns
 returns g c =
     rw (← c.self.view_is) (record {
-      told = (
+      reported = (
         c.committed-verdict.ensures.id ∙ c.in-Ok.ensures.receipt.0,
         subst (λ b. MatchBool b (c.committed-verdict.result.outcome ≡ Accepted)
             (c.committed-verdict.result.outcome ≡ Deleted)) c.in-Ok.ensures.receipt.1
             c.committed-verdict.ensures.outcome,
         c.tell-line.ensures ∙ c.in_ok-draft.ensures.line,
       );
-      alone = alone g.S.DeviceStore.kept _ _ _ _ _ _ c.learn.ensures.learns.clean c.learn.ensures.learns.registries
+      alone =
+          alone g.S.DeviceStore.store_state _ _ _ _ _ _ c.learn.ensures.learns.clean c.learn.ensures.learns.registries
           c.in-Ok.ensures.learns.devices;
     })

@@ -2,8 +2,8 @@ use Rattle.std.proofs.Common.{[], ◌∷◌, Ok, sym, ap, subst, ◌∙◌, appe
 use Rattle.std.proofs.lemmas.Result.{err_from_is_err_and}
 use Rattle.json_lines.specs.Lines.{Error}
 use Rattle.json_lines.specs.declared.error_lines.ErrorName.TheVariants as name
-use Rattle.gateway_core.specs.Step.{said, learns, tells, NeedsStore}
-use Rattle.gateway_core.specs.private.Tries.{Learns}
+use Rattle.gateway_core.specs.Step.{text_answer, learn_effect, lines_effect, NeedsStore}
+use Rattle.gateway_core.specs.private.Attempts.{Learns}
 use Rattle.gateway_core.proofs.TryLemmas.{by-desk, tries-learned, tries-full, tries-refused}
 use Rattle.gateway_core.proofs.handler.Handler.learn_named.Goals as goal
 
@@ -11,32 +11,34 @@ pub returns-in_err-committed : goal.returns-in_err-committed
 returns-in_err-committed g c =
     let error = err_from_is_err_and c.from_residual.result c.from_residual.ensures.1 in
     rw (error.1, error.2)
-    (tries-refused g.S.DeviceStore.kept _ _ c.args.device (λ state. tells NeedsStore (Error name.Full ∷ []))
-    (λ state. learns c.args.device)
+    (tries-refused g.S.DeviceStore.store_state _ _ c.args.device
+    (λ state. lines_effect NeedsStore (Error name.Full ∷ []))
+    (λ state. learn_effect c.args.device)
     (λ devices. by-desk c.args.device)
     c.in_err-committed.field-0.0 c.in_err-committed.ensures)
 
 pub returns-in-Some : goal.returns-in-Some
 returns-in-Some g c =
     let learned =
-    subst (λ o. Learns g.S.DeviceStore.kept c.args.self.now c.args.device (Ok o) c.learn.new.self) c.in-Some.is
+    subst (λ o. Learns g.S.DeviceStore.store_state c.args.self.now c.args.device (Ok o) c.learn.new.self) c.in-Some.is
     c.in_ok-committed.ensures in
-    tries-learned g.S.DeviceStore.kept _ _ c.args.device (λ state. tells NeedsStore (Error name.Full ∷ []))
-    (λ state. learns c.args.device)
+    tries-learned g.S.DeviceStore.store_state _ _ c.args.device
+    (λ state. lines_effect NeedsStore (Error name.Full ∷ []))
+    (λ state. learn_effect c.args.device)
     (λ devices. by-desk c.args.device)
     c.in-Some.committed _ learned
     (λ devices. (
-      c.told.ensures.answer ∙ ap said (learned.told.2 ∙ sym (append-nil _)),
-      c.told.ensures.account,
-      c.told.ensures.mode,
+      c.desk_effect.ensures.answer ∙ ap text_answer (learned.reported.2 ∙ sym (append-nil _)),
+      c.desk_effect.ensures.disposition,
+      c.desk_effect.ensures.mode,
     ))
 
 pub returns-in-None : goal.returns-in-None
 returns-in-None g c =
     let none =
-    subst (λ o. Learns g.S.DeviceStore.kept c.args.self.now c.args.device (Ok o) c.learn.new.self) c.in-None.is
+    subst (λ o. Learns g.S.DeviceStore.store_state c.args.self.now c.args.device (Ok o) c.learn.new.self) c.in-None.is
     c.in_ok-committed.ensures in
-    tries-full g.S.DeviceStore.kept _ _ c.args.device (λ state. tells NeedsStore (Error name.Full ∷ []))
-    (λ state. learns c.args.device)
+    tries-full g.S.DeviceStore.store_state _ _ c.args.device (λ state. lines_effect NeedsStore (Error name.Full ∷ []))
+    (λ state. learn_effect c.args.device)
     (λ devices. by-desk c.args.device) _ none
-    (λ devices. c.denied.ensures)
+    (λ devices. c.error_effect.ensures)

@@ -1,14 +1,14 @@
 use Rattle.std.proofs.Common.{ap, []}
-use Rattle.gateway_core.specs.Step.{Ordered, explained_by}
+use Rattle.gateway_core.specs.Step.{Ordered, with_explanation}
 use Rattle.gateway_core.proofs.TryLemmas.{tries-handles}
 use Rattle.gateway_core.proofs.handler.Handler.line.Goals as goal
 
 pub returns : goal.returns
 returns g c =
     let reply = c.order_reply in
-    tries-handles g.S.DeviceStore.kept _ _ _ (Ordered c.args.line.now) _ _
+    tries-handles g.S.DeviceStore.store_state _ _ _ (Ordered c.args.line.now) _ _
     (record {
-      answer_is = ap (explained_by []) reply.ensures.answer;
+      answer_is = ap (with_explanation []) reply.ensures.answer;
       base = reply.ensures.base;
       mode = reply.ensures.mode;
       counts = reply.ensures.counts;

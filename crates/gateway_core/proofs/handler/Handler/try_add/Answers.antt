@@ -6,9 +6,9 @@ use Rattle.gateway_core.proofs.handler.Handler.try_add.Goals as goal
 pub returns-then-not-supported : goal.returns-then-not-supported
 returns-then-not-supported g c =
     let is : supported c.args.eep ≡ false = cc in
-    tries-alone g.S.DeviceStore.kept _ _ _ (λ devices keeps. rw is (c.denied.ensures, keeps))
+    tries-alone g.S.DeviceStore.store_state _ _ _ (λ devices keeps. rw is (c.error_effect.ensures, keeps))
 
 pub returns : goal.returns
 returns g c =
     let is : supported c.args.eep ≡ true = cc in
-    tries-same g.S.DeviceStore.kept _ _ _ _ _ (λ devices. rw is refl) c.learn_named.ensures
+    tries-same g.S.DeviceStore.store_state _ _ _ _ _ (λ devices. rw is refl) c.learn_named.ensures

@@ -2,8 +2,8 @@ use Rattle.std.proofs.Common.{refl, sym, ap, ◌∙◌, Some}
 use Rattle.std.proofs.lemmas.Result.{err_from_is_err_and}
 use Rattle.teach_in.specs.declared.outcome.Outcome.TheVariants.{Deleted}
 use Rattle.json_lines.specs.Lines.{Teach, TeachLine, text}
-use Rattle.gateway_core.specs.Step.{deletes, line_with}
-use Rattle.gateway_core.specs.private.Tries.{state_of}
+use Rattle.gateway_core.specs.Step.{delete_effect, query_teach_line}
+use Rattle.gateway_core.specs.private.Attempts.{state_of}
 use Rattle.gateway_core.proofs.TryLemmas.{line_told, taught-answer, tries-forgotten, tries-unforgotten}
 use Rattle.gateway_core.proofs.handler.Handler.try_forget.Goals as goal
 
@@ -11,21 +11,22 @@ pub returns-in_err-verdict : goal.returns-in_err-verdict
 returns-in_err-verdict g c =
     let error = err_from_is_err_and c.from_residual.result c.from_residual.ensures.1 in
     rw (error.1, error.2)
-    (tries-unforgotten g.S.DeviceStore.kept _ _ _ (λ state. deletes state c.args.teach.now c.args.id)
+    (tries-unforgotten g.S.DeviceStore.store_state _ _ _ (λ state. delete_effect state c.args.teach.now c.args.id)
     (λ devices. record { needs = refl; forgets = refl }) c.in_err-verdict.field-0.0 c.in_err-verdict.ensures)
 
 pub returns : goal.returns
 returns g c =
     let forgotten = c.in_ok-verdict.ensures in
     let line =
-    sym (line_told c.args.id c.args.teach.now Deleted _ _ c.told_by-eep.ensures.eep c.told_by-eep.ensures.maker) in
-    tries-forgotten g.S.DeviceStore.kept _ _ _ (λ state. deletes state c.args.teach.now c.args.id)
+    sym (line_told c.args.id c.args.teach.now Deleted _ _ c.query_device-eep.ensures.eep
+    c.query_device-eep.ensures.maker) in
+    tries-forgotten g.S.DeviceStore.store_state _ _ _ (λ state. delete_effect state c.args.teach.now c.args.id)
     (λ devices. record { needs = refl; forgets = refl }) _ _ forgotten
     (λ devices. (
       taught-answer (state_of c.forget.new.self devices) c.args.teach.now
-          (line_with c.args.id c.args.teach.now Deleted) _ _ _
-          (forgotten.told.1 ∙ ap (λ (l : TeachLine). l.outcome) line)
-          (forgotten.told.2 ∙ ap (λ l. text (Teach l)) line) c.answer_sender.ensures,
-      ap Some c.because.ensures,
+          (query_teach_line c.args.id c.args.teach.now Deleted) _ _ _
+          (forgotten.reported.1 ∙ ap (λ (l : TeachLine). l.outcome) line)
+          (forgotten.reported.2 ∙ ap (λ l. text (Teach l)) line) c.answer_sender.ensures,
+      ap Some c.without_device.ensures,
       refl,
     ))

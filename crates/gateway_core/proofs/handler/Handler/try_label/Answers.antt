@@ -6,7 +6,7 @@ use Rattle.gateway_core.proofs.handler.Handler.try_label.Goals.{in-Ok-true, in-O
 
 pub returns : goal.returns
 returns g c =
-    let stored = g.S.DeviceStore.kept in
+    let stored = g.S.DeviceStore.store_state in
     let old = c.self.inside.registry in
     let new = c.relabel.new.self in
     let relabels = c.relabel.ensures.relabels in
@@ -17,13 +17,13 @@ returns g c =
       | in-Ok-true w ↦
           let is = w.in-Ok-true.is ∙ ap Ok w.in-Ok-true.field-0-test in
           let was = (subst Was is relabels).devices honest devices has in
-          rw w.result-is (label-comes stored old new devices c.args.id c.args.label _ w.labelled.result was.0
-          (w.labelled.ensures c.args.id c.args.label, was.1))
+          rw w.result-is (label-comes stored old new devices c.args.id c.args.label _ w.relabel_effect.result was.0
+          (w.relabel_effect.ensures c.args.id c.args.label, was.1))
       | in-Ok-false w ↦
           let is = w.in-Ok-false.is ∙ ap Ok w.in-Ok-false.field-0-test in
           let was = (subst Was is relabels).devices honest devices has in
-          rw w.result-is (label-comes stored old new devices c.args.id c.args.label _ w.denied.result was.0
-          (w.denied.ensures, was.1))
+          rw w.result-is (label-comes stored old new devices c.args.id c.args.label _ w.error_effect.result was.0
+          (w.error_effect.ensures, was.1))
       | in-Err w ↦
           let was = (subst Was w.in-Err.is relabels).devices honest devices has in
           rw w.result-is (label-refused stored old new devices c.args.id c.args.label _ was)

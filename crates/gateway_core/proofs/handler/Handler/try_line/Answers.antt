@@ -10,18 +10,18 @@ try_order-requires g c = parsed-in_range c.args.line.now c.in-Ok.order (sym c.pa
 
 pub returns-then-line-gt-MAX_LINE : goal.returns-then-line-gt-MAX_LINE
 returns-then-line-gt-MAX_LINE g c =
-    tries-alone g.S.DeviceStore.kept _ _ _
+    tries-alone g.S.DeviceStore.store_state _ _ _
     (λ devices keeps.
-    rw (lt-ltb max_line _ c.if-line-gt-MAX_LINE.true) (c.denied.ensures, keeps))
+    rw (lt-ltb max_line _ c.if-line-gt-MAX_LINE.true) (c.error_effect.ensures, keeps))
 
 pub returns-in-Ok : goal.returns-in-Ok
 returns-in-Ok g c =
-    tries-order g.S.DeviceStore.kept _ _ c.args.line.now _ (Ok c.in-Ok.order) c.if-line-gt-MAX_LINE.false
+    tries-order g.S.DeviceStore.store_state _ _ c.args.line.now _ (Ok c.in-Ok.order) c.if-line-gt-MAX_LINE.false
     (sym c.parse.ensures ∙ c.in-Ok.is) c.try_order.ensures
 
 pub returns-in-Err : goal.returns-in-Err
 returns-in-Err g c =
-    tries-order g.S.DeviceStore.kept _ _ c.args.line.now _ (Err c.in-Err.fault) c.if-line-gt-MAX_LINE.false
+    tries-order g.S.DeviceStore.store_state _ _ c.args.line.now _ (Err c.in-Err.fault) c.if-line-gt-MAX_LINE.false
     (sym c.parse.ensures ∙ c.in-Err.is)
-    (tries-alone g.S.DeviceStore.kept _ _ _
-    (λ devices keeps. rw (← c.error_of.ensures) (c.denied-in-Err.ensures, keeps)))
+    (tries-alone g.S.DeviceStore.store_state _ _ _
+    (λ devices keeps. rw (← c.error_of.ensures) (c.error_effect-in-Err.ensures, keeps)))

@@ -1,7 +1,7 @@
 use Rattle.std.proofs.Common.{ap, ◌∙◌}
 use Rattle.std.proofs.lemmas.Result.{err_from_is_err_and}
-use Rattle.json_lines.specs.Lines.{listing, texts}
-use Rattle.gateway_core.specs.Step.{said}
+use Rattle.json_lines.specs.Lines.{list_lines, texts}
+use Rattle.gateway_core.specs.Step.{text_answer}
 use Rattle.gateway_core.proofs.TryLemmas.{tries}
 use Rattle.gateway_core.proofs.handler.Handler.try_list.Goals as goal
 
@@ -9,22 +9,26 @@ pub returns-in_err-all : goal.returns-in_err-all
 returns-in_err-all g c =
     let error = err_from_is_err_and c.from_residual.result c.from_residual.ensures.1 in
     rw (← c.self.view_is, error.1, error.2)
-    (tries g.S.DeviceStore.kept _ _ _ _ _ _ _ c.all.ensures.clean c.all.ensures.registries
+    (tries g.S.DeviceStore.store_state _ _ _ _ _ _ _ c.all.ensures.clean c.all.ensures.registries
     (λ honest devices has. (tt, c.in_err-all.ensures.devices honest devices has)))
 
 pub returns-in_err-lines : goal.returns-in_err-lines
 returns-in_err-lines g c =
     let error = err_from_is_err_and c.from_residual-in_err-lines.result c.from_residual-in_err-lines.ensures.1 in
     rw (← c.self.view_is, error.1, error.2)
-    (tries g.S.DeviceStore.kept _ _ _ _ _ _ _ c.all.ensures.clean c.all.ensures.registries
+    (tries g.S.DeviceStore.store_state _ _ _ _ _ _ _ c.all.ensures.clean c.all.ensures.registries
     (λ honest devices has. (tt, (c.in_ok-all.ensures.devices honest devices has).1)))
 
 pub returns : goal.returns
 returns g c =
-    rw (← c.self.view_is) (tries g.S.DeviceStore.kept _ _ _ _ _ _ _ c.all.ensures.clean c.all.ensures.registries
+    rw (← c.self.view_is) (tries g.S.DeviceStore.store_state _ _ _ _ _ _ _ c.all.ensures.clean c.all.ensures.registries
     (λ honest devices has.
     let found = c.in_ok-all.ensures.devices honest devices has in
-    let lines = ap (λ known. texts (listing known)) (c.as_slice.ensures.value ∙ found.0) in (
-      (c.told.ensures.answer ∙ ap said (c.in_ok-lines.ensures ∙ lines), c.told.ensures.account, c.told.ensures.mode),
+    let lines = ap (λ known. texts (list_lines known)) (c.as_slice.ensures.value ∙ found.0) in (
+      (
+        c.desk_effect.ensures.answer ∙ ap text_answer (c.in_ok-lines.ensures ∙ lines),
+        c.desk_effect.ensures.disposition,
+        c.desk_effect.ensures.mode,
+      ),
       found.1,
     )))

@@ -4,25 +4,25 @@ use Rattle.gateway_core.proofs.handler.Handler.try_order.Goals as goal
 
 pub returns-in-LearnOn : goal.returns-in-LearnOn
 returns-in-LearnOn g c =
-    rw c.in-LearnOn.is (tries-alone g.S.DeviceStore.kept _ _ _ (λ devices keeps. (c.sets.ensures, keeps)))
+    rw c.in-LearnOn.is (tries-alone g.S.DeviceStore.store_state _ _ _ (λ devices keeps. (c.mode_effect.ensures, keeps)))
 
 pub returns-in-LearnOnAnswer : goal.returns-in-LearnOnAnswer
 returns-in-LearnOnAnswer g c =
     rw c.in-LearnOnAnswer.is
-    (tries-alone g.S.DeviceStore.kept _ _ _ (λ devices keeps. (c.sets-in-LearnOnAnswer.ensures, keeps)))
+    (tries-alone g.S.DeviceStore.store_state _ _ _ (λ devices keeps. (c.mode_effect-in-LearnOnAnswer.ensures, keeps)))
 
 pub returns-in-LearnAs : goal.returns-in-LearnAs
 returns-in-LearnAs g c =
     rw c.in-LearnAs.is
-    (tries-alone g.S.DeviceStore.kept _ _ _
+    (tries-alone g.S.DeviceStore.store_state _ _ _
     (λ devices keeps.
-    opens-comes g.S.DeviceStore.kept c.args.self.now.registry c.args.self.now.registry devices c.in-LearnAs.eep
+    opens-comes g.S.DeviceStore.store_state c.args.self.now.registry c.args.self.now.registry devices c.in-LearnAs.eep
     c.open_as.result c.open_as.ensures keeps))
 
 pub returns-in-LearnOff : goal.returns-in-LearnOff
 returns-in-LearnOff g c =
     rw c.in-LearnOff.is
-    (tries-alone g.S.DeviceStore.kept _ _ _ (λ devices keeps. (c.sets-in-LearnOff.ensures, keeps)))
+    (tries-alone g.S.DeviceStore.store_state _ _ _ (λ devices keeps. (c.mode_effect-in-LearnOff.ensures, keeps)))
 
 pub returns-in-Add : goal.returns-in-Add
 returns-in-Add g c = rw c.in-Add.is c.try_add.ensures
@@ -41,4 +41,4 @@ returns-in-Status g c = rw c.in-Status.is c.try_status.ensures
 
 pub returns-in-Base : goal.returns-in-Base
 returns-in-Base g c =
-    rw c.in-Base.is (tries-alone g.S.DeviceStore.kept _ _ _ (λ devices keeps. (c.ask_base.ensures false, keeps)))
+    rw c.in-Base.is (tries-alone g.S.DeviceStore.store_state _ _ _ (λ devices keeps. (c.ask_base.ensures false, keeps)))

@@ -2,7 +2,7 @@ use Rattle.std.proofs.Common.{◌≡◌, false, refl, sym, subst, ◌∙◌}
 use Rattle.std.proofs.lemmas.Result.{err_from_is_err_and}
 use Rattle.teach_in.specs.declared.plans.Plan.TheVariants.{Add, Forget, Refuse}
 use Rattle.teach_in.specs.Plans.{plan_of}
-use Rattle.gateway_core.specs.private.Tries.{MayReply, state_of}
+use Rattle.gateway_core.specs.private.Attempts.{MayReply, state_of}
 use Rattle.gateway_core.proofs.QueryLemmas.{can_reply}
 use Rattle.gateway_core.proofs.TryLemmas.{line_told, permits-memory, refused-gives, tries-alone, tries-same}
 use Rattle.gateway_core.proofs.handler.Handler.try_plan.Goals as goal
@@ -34,38 +34,38 @@ returns-in_err-refused-in-Refuse g c =
     err_from_is_err_and c.from_residual.result c.from_residual.ensures.1 in
     let plan = sym c.plan_for.ensures ∙ c.in-Refuse.is in
     rw (← c.self.view_is, error.1, error.2)
-    (tries-alone g.S.DeviceStore.kept _ _ _ (λ devices keeps. rw plan (permits-memory c.args.asked, keeps)))
+    (tries-alone g.S.DeviceStore.store_state _ _ _ (λ devices keeps. rw plan (permits-memory c.args.asked, keeps)))
 
 pub returns-in-Silent : goal.returns-in-Silent
 returns-in-Silent g c =
     let plan = sym c.plan_for.ensures ∙ c.in-Silent.is in
-    rw (← c.self.view_is) (tries-alone g.S.DeviceStore.kept _ _ _
-    (λ devices keeps. rw (plan, ← c.why_silent.ensures) (c.ignored.ensures c.args.asked, keeps)))
+    rw (← c.self.view_is) (tries-alone g.S.DeviceStore.store_state _ _ _
+    (λ devices keeps. rw (plan, ← c.why_silent.ensures) (c.ignored_effect.ensures c.args.asked, keeps)))
 
 pub returns-in-Add : goal.returns-in-Add
 returns-in-Add g c =
     let plan : plan_of c.args.telegram.now c.args.self.now.mode false ≡ Add c.in-Add.device =
     rw (← c.self.view_is) (sym c.plan_for.ensures ∙ c.in-Add.is) in
-    tries-same g.S.DeviceStore.kept _ _ _ _ _ (λ devices. rw (plan, ← c.requires) refl)
+    tries-same g.S.DeviceStore.store_state _ _ _ _ _ (λ devices. rw (plan, ← c.requires) refl)
     c.try_accept.ensures
 
 pub returns-in-Forget : goal.returns-in-Forget
 returns-in-Forget g c =
     let plan : plan_of c.args.telegram.now c.args.self.now.mode false ≡ Forget c.in-Forget.id =
     rw (← c.self.view_is) (sym c.plan_for.ensures ∙ c.in-Forget.is) in
-    tries-same g.S.DeviceStore.kept _ _ _ _ _ (λ devices. rw (plan, ← c.requires) refl)
+    tries-same g.S.DeviceStore.store_state _ _ _ _ _ (λ devices. rw (plan, ← c.requires) refl)
     c.try_forget.ensures
 
 pub returns-in_ok-refused-in-Refuse : goal.returns-in_ok-refused-in-Refuse
 returns-in_ok-refused-in-Refuse g c =
     let plan : plan_of c.args.telegram.now c.args.self.now.mode false ≡ Refuse c.in-Refuse.outcome =
     rw (← c.self.view_is) (sym c.plan_for.ensures ∙ c.in-Refuse.is) in
-    tries-alone g.S.DeviceStore.kept _ _ _
+    tries-alone g.S.DeviceStore.store_state _ _ _
     (λ devices keeps.
     rw plan (
       refused-gives c.in_ok-refused-in-Refuse.refused (state_of c.args.self.now devices) c.args.telegram.now
           c.args.teach.now c.sender.result _ c.in-Refuse.outcome c.requires c.sender.ensures
-          (line_told c.sender.result c.args.teach.now c.in-Refuse.outcome _ _ c.told_by-eep.ensures.eep
-          c.told_by-eep.ensures.maker) (c.in_ok-refused-in-Refuse.ensures devices),
+          (line_told c.sender.result c.args.teach.now c.in-Refuse.outcome _ _ c.query_device-eep.ensures.eep
+          c.query_device-eep.ensures.maker) (c.in_ok-refused-in-Refuse.ensures devices),
       keeps,
     ))

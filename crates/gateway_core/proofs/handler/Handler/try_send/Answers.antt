@@ -4,8 +4,8 @@ use Rattle.std.proofs.lemmas.Result.{err_from_is_err_and}
 use Rattle.actuator_commands.specs.Packets.{order_telegram, recipient}
 use Rattle.std.specs.Option.{option_copied}
 use Rattle.learned_devices.specs.Devices.{device_of}
-use Rattle.gateway_core.specs.Step.{Effect, NeedsStore, known_of, telegram_sent}
-use Rattle.gateway_core.specs.private.Tries.{Comes, Gives, state_of}
+use Rattle.gateway_core.specs.Step.{Effect, NeedsStore, recipient_device, send_result_effect}
+use Rattle.gateway_core.specs.private.Attempts.{AppliesOrFails, MatchesEffect, state_of}
 use Rattle.gateway_core.proofs.EffectLemmas.{sends-effect}
 use Rattle.gateway_core.proofs.TryLemmas.{known_with, permitted, telegram-comes, telegram-need, tries-alone, tries}
 use Rattle.gateway_core.proofs.handler.Handler.try_send.Goals as goal
@@ -13,18 +13,20 @@ use Rattle.gateway_core.proofs.handler.Handler.try_send.Goals as goal
 pub returns-in_default : goal.returns-in_default
 returns-in_default g c =
     let none : recipient c.args.order.now ≡ None = sym c.recipient.ensures ∙ c.in_default.is in
-    let gives : Gives c.send.result (telegram_sent false (order_telegram c.args.order.now None c.args.self.now.base)) =
+    let gives : MatchesEffect c.send.result (send_result_effect false
+    (order_telegram c.args.order.now None c.args.self.now.base)) =
     rw (← c.self.view_is) (c.send.ensures false) in
-    tries-alone g.S.DeviceStore.kept _ _ _
+    tries-alone g.S.DeviceStore.store_state _ _ _
     (λ devices keeps.
     let now = state_of c.args.self.now devices in
     let effect = sends-effect now c.args.order.now c.requires.sends
-    ∙ ap (λ id. telegram_sent (is_some id) (order_telegram c.args.order.now (known_of devices id) now.base)) none in
-    let known = g.S.DeviceStore.kept c.args.self.now.registry in
-    subst (λ e. Comes known known devices e
+    ∙ ap (λ id. send_result_effect (is_some id)
+    (order_telegram c.args.order.now (recipient_device devices id) now.base)) none in
+    let known = g.S.DeviceStore.store_state c.args.self.now.registry in
+    subst (λ e. AppliesOrFails known known devices e
     (Ok c.send.result))
     (sym effect)
-    (telegram-comes g.S.DeviceStore.kept c.args.self.now.registry c.args.self.now.registry devices false
+    (telegram-comes g.S.DeviceStore.store_state c.args.self.now.registry c.args.self.now.registry devices false
     (order_telegram c.args.order.now None now.base) c.send.result gives keeps))
 
 pub returns-in_err-device : goal.returns-in_err-device
@@ -32,11 +34,12 @@ returns-in_err-device g c =
     let error = err_from_is_err_and c.from_residual.result c.from_residual.ensures.1 in
     let some : recipient c.args.order.now ≡ Some c.in-Some.id = sym c.recipient.ensures ∙ c.in-Some.is in
     rw (← c.self.view_is, error.1, error.2)
-    (tries g.S.DeviceStore.kept _ _ _ _ _ _ _ c.find.ensures.clean c.find.ensures.registries
+    (tries g.S.DeviceStore.store_state _ _ _ _ _ _ _ c.find.ensures.clean c.find.ensures.registries
     (λ honest devices has.
     let now = known_with c.self.inside.base c.self.inside.mode c.self.inside.counts devices in
     let effect = sends-effect now c.args.order.now c.requires.sends
-    ∙ ap (λ id. telegram_sent (is_some id) (order_telegram c.args.order.now (known_of devices id) now.base)) some in (
+    ∙ ap (λ id. send_result_effect (is_some id)
+    (order_telegram c.args.order.now (recipient_device devices id) now.base)) some in (
       permitted _ _ (subst (λ (e : Effect). e.need ≡ NeedsStore) (sym effect)
           (telegram-need (order_telegram c.args.order.now (device_of devices c.in-Some.id) now.base))),
       c.in_err-device.ensures.devices honest devices has,
@@ -46,17 +49,18 @@ pub returns : goal.returns
 returns g c =
     let some : recipient c.args.order.now ≡ Some c.in-Some.id = sym c.recipient.ensures ∙ c.in-Some.is in
     rw (← c.self.view_is)
-    (tries g.S.DeviceStore.kept _ _ _ _ _ _ _ c.find.ensures.clean c.find.ensures.registries
+    (tries g.S.DeviceStore.store_state _ _ _ _ _ _ _ c.find.ensures.clean c.find.ensures.registries
     (λ honest devices has.
     let found = c.in_ok-device.ensures.devices honest devices has in
     let now = known_with c.self.inside.base c.self.inside.mode c.self.inside.counts devices in
     let effect = sends-effect now c.args.order.now c.requires.sends
-    ∙ ap (λ id. telegram_sent (is_some id) (order_telegram c.args.order.now (known_of devices id) now.base)) some
-    ∙ ap (λ known. telegram_sent true (order_telegram c.args.order.now known now.base))
+    ∙ ap (λ id. send_result_effect (is_some id)
+    (order_telegram c.args.order.now (recipient_device devices id) now.base)) some
+    ∙ ap (λ known. send_result_effect true (order_telegram c.args.order.now known now.base))
     (sym (c.as_ref.ensures.value ∙ found.0)) in
-    let stored = g.S.DeviceStore.kept in
-    subst (λ e. Comes (stored c.self.inside.registry) (stored c.find.new.self) devices e (Ok c.send-2.result))
+    let stored = g.S.DeviceStore.store_state in
+    subst (λ e. AppliesOrFails (stored c.self.inside.registry) (stored c.find.new.self) devices e (Ok c.send-2.result))
     (sym effect)
-    (telegram-comes g.S.DeviceStore.kept c.self.inside.registry c.find.new.self devices true
+    (telegram-comes g.S.DeviceStore.store_state c.self.inside.registry c.find.new.self devices true
     (order_telegram c.args.order.now (option_copied c.as_ref.result) now.base) c.send-2.result (c.send-2.ensures true)
     found.1)))

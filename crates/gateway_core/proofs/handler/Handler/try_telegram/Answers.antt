@@ -1,11 +1,11 @@
 use Rattle.std.proofs.Common.{◌≡◌, ℕ, true, false, Option, Some, None, refl, sym, ap, subst, ◌∙◌}
 use Rattle.std.specs.Prelude.{MatchOption}
-use Rattle.erp1_telegrams.specs.Address.{filter_reason, is_passed_over}
+use Rattle.erp1_telegrams.specs.Address.{filter_reason, is_filtered_out}
 use Rattle.erp1_telegrams.specs.declared.address.FilterReason.{FilterReason}
 use Rattle.erp1_telegrams.specs.Telegram.{Telegram}
 use Rattle.learned_devices.specs.Devices.{device_of}
-use Rattle.gateway_core.specs.Step.{kind_case, plan_effect}
-use Rattle.gateway_core.specs.private.Tries.{state_of}
+use Rattle.gateway_core.specs.Step.{teach_case, plan_effect}
+use Rattle.gateway_core.specs.private.Attempts.{state_of}
 use Rattle.gateway_core.proofs.EffectLemmas.{not-data, teaches}
 use Rattle.teach_in.proofs.ForCallers.{plan-unasked}
 use Rattle.gateway_core.proofs.TryLemmas.{tries-alone, tries-same}
@@ -14,15 +14,15 @@ use Rattle.gateway_core.proofs.handler.Handler.try_telegram.Goals as goal
 -- the filter's result for a telegram
 abbrev Filters : ℕ → Telegram → Option FilterReason → Type 0
 Filters base t found =
-    MatchOption found (is_passed_over base t ≡ false)
-    (λ reason. (is_passed_over base t ≡ true) × (reason ≡ filter_reason t))
+    MatchOption found (is_filtered_out base t ≡ false)
+    (λ reason. (is_filtered_out base t ≡ true) × (reason ≡ filter_reason t))
 
 filtered : (base : ℕ) (t : Telegram) (found : Option FilterReason) (reason : FilterReason) → Filters base t found
-    → found ≡ Some reason → (is_passed_over base t ≡ true) × (reason ≡ filter_reason t)
+    → found ≡ Some reason → (is_filtered_out base t ≡ true) × (reason ≡ filter_reason t)
 filtered base t found reason filters is = subst (Filters base t) is filters
 
 heard : (base : ℕ) (t : Telegram) (found : Option FilterReason) → Filters base t found → found ≡ None
-    → is_passed_over base t ≡ false
+    → is_filtered_out base t ≡ false
 heard base t found filters is = subst (Filters base t) is filters
 
 pub returns-in-Some : goal.returns-in-Some
@@ -30,26 +30,26 @@ returns-in-Some g c =
     let found = filtered _ c.args.telegram.now c.filter_reason.result c.in-Some.reason c.filter_reason.ensures
     c.in-Some.is in
     rw (← c.self.view_is)
-    (tries-alone g.S.DeviceStore.kept _ _ _
-    (λ devices keeps. rw (found.0, ← found.1, ← c.why_filtered.ensures) (c.ignored.ensures false, keeps)))
+    (tries-alone g.S.DeviceStore.store_state _ _ _
+    (λ devices keeps. rw (found.0, ← found.1, ← c.why_filtered.ensures) (c.ignored_effect.ensures false, keeps)))
 
 pub returns-in-Answer : goal.returns-in-Answer
 returns-in-Answer g c =
     let over = heard _ c.args.telegram.now c.filter_reason.result c.filter_reason.ensures c.in_default.is in
     let kind = sym c.requires ∙ c.in-Answer.is in
     rw (← c.self.view_is)
-    (tries-alone g.S.DeviceStore.kept _ _ _
-    (λ devices keeps. rw (over, kind) (c.ignored-in-Answer.ensures false, keeps)))
+    (tries-alone g.S.DeviceStore.store_state _ _ _
+    (λ devices keeps. rw (over, kind) (c.ignored_effect-in-Answer.ensures false, keeps)))
 
 pub returns-in-Contact : goal.returns-in-Contact
 returns-in-Contact g c =
-    let over : is_passed_over c.args.self.now.base c.args.telegram.now ≡ false =
+    let over : is_filtered_out c.args.self.now.base c.args.telegram.now ≡ false =
     rw (← c.self.view_is)
     (heard _ c.args.telegram.now c.filter_reason.result c.filter_reason.ensures c.in_default.is) in
-    tries-same g.S.DeviceStore.kept _ _ _ _ _
+    tries-same g.S.DeviceStore.store_state _ _ _ _ _
     (λ devices.
     let known = device_of devices c.args.telegram.now.sender in
-    let case = ap (λ kind. kind_case kind known) (sym c.requires)
+    let case = ap (λ kind. teach_case kind known) (sym c.requires)
     ∙ teaches c.args.teach.now known c.in-Contact.is in
     rw (over, case)
     (ap (plan_effect (state_of c.args.self.now devices) c.args.telegram.now false)
@@ -59,8 +59,8 @@ returns-in-Contact g c =
 
 pub returns-in-Plain : goal.returns-in-Plain
 returns-in-Plain g c =
-    let over : is_passed_over c.args.self.now.base c.args.telegram.now ≡ false =
+    let over : is_filtered_out c.args.self.now.base c.args.telegram.now ≡ false =
     rw (← c.self.view_is)
     (heard _ c.args.telegram.now c.filter_reason.result c.filter_reason.ensures c.in_default.is) in
     let kind = sym c.requires ∙ c.in-Plain.is in
-    tries-same g.S.DeviceStore.kept _ _ _ _ _ (λ devices. rw (over, kind) refl) c.try_data.ensures
+    tries-same g.S.DeviceStore.store_state _ _ _ _ _ (λ devices. rw (over, kind) refl) c.try_data.ensures

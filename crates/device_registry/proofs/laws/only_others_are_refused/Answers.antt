@@ -1,5 +1,0 @@
-use Rattle.device_registry.proofs.OpenCalls.{only_others_are_refused}
-use Rattle.device_registry.proofs.laws.only_others_are_refused.Goals as goal
-
-pub returns : goal.returns
-returns g c = only_others_are_refused g.C.SqlConnection.state

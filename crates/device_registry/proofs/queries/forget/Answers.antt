@@ -1,0 +1,11 @@
+use Rattle.std.proofs.Common.{rules, SFits, w64, to_z-of_z}
+use Rattle.device_registry.proofs.WritesTurn.{forget_turns}
+use Rattle.device_registry.proofs.queries.forget.Goals as goal
+
+pub returns : goal.returns
+returns g c =
+    let a : SFits w64 c.from.result = search rules in
+    forget_turns c.args.id (g.C.SqlConnection.state c.args.conn.now)
+    (g.C.SqlConnection.state c.run_delete.new.conn) c.run_delete.result c.requires
+    (rw c.from.ensures at (simp to_z-of_z at c.run_delete.ensures.survives))
+    (λ clean. rw c.from.ensures at (simp to_z-of_z at (c.run_delete.ensures.runs clean)))

@@ -1,0 +1,182 @@
+//! The registry's calls of the database, one statement each. Each call first compiles a statement, which fails on a
+//! closed connection: nothing is known about the writes of a closed connection.
+ghost use Rattle.std.specs.Prelude.{◌≡◌, [], ◌∷◌, map, pos, false, Ok, OnOk, OnErr, IfOk, IfErr};
+ghost use Rattle.std.specs.FinMap.{insert};
+ghost use Rattle.sqlite.specs.declared.types.Value.TheVariants.{Int, Text};
+ghost use Rattle.sqlite.specs.State.{HasCleanDisk, IsUnchanged, Survives, Executes, CommitsBy};
+ghost use Rattle.sqlite.specs.State.{Shown, FailsToQuery, CommitsShowing};
+ghost use Rattle.learned_devices.specs.Devices.{Devices, DeviceUpdate, apply_update, forget_update, device_data};
+ghost use Rattle.learned_devices.specs.Devices.{is_full, all_of};
+ghost use Rattle.learned_devices.specs.Devices.{device_of};
+ghost use Rattle.device_registry.specs.Table.{upsert_text, delete_text, rewrite_version_text};
+ghost use Rattle.device_registry.specs.Stored.{Holds};
+ghost use Rattle.device_registry.specs.Opening.{KeepsDatabase};
+ghost use Rattle.device_registry.specs.Ready.{IsReadyWith, IsReady, StaysReady, WritesNothing, CommitsOrFails};
+ghost use Rattle.device_registry.specs.Ready.{KeepsRows};
+ghost use Rattle.device_registry.specs.Table.Rows.{IsDeviceOrNone, device_in_row, upsert_params};
+
+use crate::sql_connection::SqlConnection;
+use crate::table::row_codec::{number, number_of, number_of_maker};
+use crate::table::statements::{COUNT_OTHERS, DELETE, FIND, FIND_ALL, REWRITE_VERSION, UPSERT};
+use learned_devices::{Device, MAX_DEVICES};
+use sqlite::{Error, Row, Statement, params};
+
+/// Compiles a statement, which writes nothing. Fails on a connection that a failure has closed.
+fn compile<C: SqlConnection>(conn: &mut C, sql: &str) -> Result<Statement, Error>
+    requires { StaysReady (C.state conn.old) }
+    ensures text { HasCleanDisk (C.state conn.new) → IfOk result (λ statement. statement.text ≡ sql.now) }
+    ensures stays { WritesNothing (C.state conn.old) (C.state conn.new) }
+    ensures same { HasCleanDisk (C.state conn.new) → OnOk result (IsUnchanged (C.state conn.old) (C.state conn.new)) }
+    ensures survives { Survives (C.state conn.old) (C.state conn.new) (λ _. ⊥) }
+    ensures ready { HasCleanDisk (C.state conn.new) → OnOk result (IsReady (C.state conn.new)) }
+{
+    conn.prepare(sql)
+}
+
+/// The rows that a query for one sender shows.
+fn query_by_sender<C: SqlConnection>(
+    conn: &mut C,
+    statement: &Statement,
+    id: u32,
+) -> Result<Vec<Row>, Error>
+    ensures shown { HasCleanDisk (C.state conn.new) → IfOk result
+        (λ rows. Shown statement.now.text (Int (pos id) ∷ []) (C.state conn.old)
+        (C.state conn.new) rows.items) }
+    ensures failed { HasCleanDisk (C.state conn.new) →
+        IfErr result (FailsToQuery statement.now.text (Int (pos id) ∷ []) (C.state conn.old)
+        (C.state conn.new)) }
+    ensures survives { Survives (C.state conn.old) (C.state conn.new)
+        (CommitsShowing statement.now.text (Int (pos id) ∷ []) (C.state conn.old)) }
+{
+    conn.query_all_prepared(statement, params![i64::from(id)])
+}
+
+/// The rows of a sender.
+pub(crate) fn look_up<C: SqlConnection>(conn: &mut C, id: u32) -> Result<Vec<Row>, Error>
+    requires { StaysReady (C.state conn.old) }
+    ensures stays { WritesNothing (C.state conn.old) (C.state conn.new) }
+    ensures same { HasCleanDisk (C.state conn.new) → OnOk result (IsUnchanged (C.state conn.old) (C.state conn.new)) }
+    ensures survives { Survives (C.state conn.old) (C.state conn.new) (λ _. ⊥) }
+    ensures found { HasCleanDisk (C.state conn.new) → IfOk result (λ rows. IsReady (C.state conn.new) ×
+        ((devices : Devices) → IsReadyWith (C.state conn.old) devices
+        → IsDeviceOrNone (device_of devices id) rows.items)) }
+{
+    let find = compile(conn, FIND)?;
+    query_by_sender(conn, &find, id)
+}
+
+/// Whether the registry is full for a sender.
+pub(crate) fn is_full_for<C: SqlConnection>(conn: &mut C, id: u32) -> Result<bool, Error>
+    requires { StaysReady (C.state conn.old) }
+    ensures stays { WritesNothing (C.state conn.old) (C.state conn.new) }
+    ensures full { HasCleanDisk (C.state conn.new) → IfOk result (λ full. IsReady (C.state conn.new) ×
+        ((devices : Devices) → IsReadyWith (C.state conn.old) devices → full ≡ is_full devices id)) }
+{
+    let others = compile(conn, COUNT_OTHERS)?;
+    let rows = query_by_sender(conn, &others, id)?;
+    Ok(number(&rows)? >= MAX_DEVICES as u64)
+}
+
+/// The rows of all devices, by ascending ID.
+pub(crate) fn list_devices<C: SqlConnection>(conn: &mut C) -> Result<Vec<Row>, Error>
+    requires { StaysReady (C.state conn.old) }
+    ensures stays { WritesNothing (C.state conn.old) (C.state conn.new) }
+    ensures all { HasCleanDisk (C.state conn.new) → IfOk result (λ rows. IsReady (C.state conn.new) ×
+        ((devices : Devices) → IsReadyWith (C.state conn.old) devices
+            → map device_in_row rows.items ≡ all_of devices)) }
+{
+    let all = compile(conn, FIND_ALL)?;
+    conn.query_all_prepared(&all, &[])
+}
+
+fn run_upsert<C: SqlConnection>(
+    conn: &mut C,
+    id: i64,
+    eep: i64,
+    maker: i64,
+    label: &str,
+) -> Result<usize, Error>
+    ensures runs { HasCleanDisk (C.state conn.new) → Executes upsert_text
+        (Int id ∷ Int eep ∷ Int maker ∷ Text label.now ∷ []) (C.state conn.old) (C.state conn.new) result }
+    ensures survives { Survives (C.state conn.old) (C.state conn.new)
+        (CommitsBy upsert_text (Int id ∷ Int eep ∷ Int maker ∷ Text label.now ∷ []) (C.state conn.old)) }
+{
+    conn.execute(UPSERT, params![id, eep, maker, label])
+}
+
+/// Upserts a device; implements any change whose result is `device`.
+pub(crate) fn upsert<C: SqlConnection>(conn: &mut C, device: Device) -> Result<usize, Error>
+    requires ready { HasCleanDisk (C.state conn.old) → IsReady (C.state conn.old) }
+    requires room { HasCleanDisk (C.state conn.old) → (devices : Devices) → IsReadyWith
+        (C.state conn.old) devices → is_full devices device.id ≡ false }
+    ensures turns { (update : DeviceUpdate) → (HasCleanDisk (C.state conn.old) → (devices : Devices) → IsReadyWith
+        (C.state conn.old) devices → apply_update devices update ≡ insert devices device.id (device_data device))
+        → CommitsOrFails (C.state conn.old) (C.state conn.new) update result }
+    ensures written { HasCleanDisk (C.state conn.new) → IfOk result (λ count. Executes upsert_text
+        (upsert_params device.id (device_data device)) (C.state conn.old) (C.state conn.new) (Ok count)) }
+{
+    run_upsert(
+        conn,
+        i64::from(device.id),
+        number_of(device.eep),
+        number_of_maker(device.maker),
+        device.label.as_str(),
+    )
+}
+
+fn run_delete<C: SqlConnection>(conn: &mut C, id: i64) -> Result<usize, Error>
+    ensures runs { HasCleanDisk (C.state conn.new) → Executes delete_text (Int id ∷ [])
+        (C.state conn.old) (C.state conn.new) result }
+    ensures survives { Survives (C.state conn.old) (C.state conn.new)
+        (CommitsBy delete_text (Int id ∷ []) (C.state conn.old)) }
+{
+    conn.execute(DELETE, params![id])
+}
+
+/// Deletes the device of a sender.
+fn forget<C: SqlConnection>(conn: &mut C, id: u32) -> Result<usize, Error>
+    requires { HasCleanDisk (C.state conn.old) → IsReady (C.state conn.old) }
+    ensures { CommitsOrFails (C.state conn.old) (C.state conn.new) (forget_update id) result }
+{
+    run_delete(conn, i64::from(id))
+}
+
+/// Rewrites the version row unchanged, so that a change without effect commits too.
+pub(crate) fn rewrite_version<C: SqlConnection>(conn: &mut C) -> Result<usize, Error>
+    requires { HasCleanDisk (C.state conn.old) → IsReady (C.state conn.old) }
+    ensures runs { HasCleanDisk (C.state conn.new) → Executes rewrite_version_text [] (C.state conn.old)
+        (C.state conn.new) result }
+    ensures renewed { HasCleanDisk (C.state conn.new) → OnOk result ((devices : Devices) → IsReadyWith
+        (C.state conn.old) devices → IsReadyWith (C.state conn.new) devices) }
+    ensures crash { Survives (C.state conn.old) (C.state conn.new) (λ trees. (devices : Devices) →
+        IsReadyWith (C.state conn.old) devices → Holds trees devices) }
+    ensures rows { HasCleanDisk (C.state conn.new) → OnOk result (IsReady (C.state conn.old) →
+        KeepsRows (C.state conn.old) (C.state conn.new)) }
+    ensures remains { HasCleanDisk (C.state conn.new) → OnErr result (KeepsDatabase (C.state conn.old)
+        (C.state conn.new)) }
+    ensures turns { (update : DeviceUpdate) → (HasCleanDisk (C.state conn.old) → (devices : Devices) → IsReadyWith
+        (C.state conn.old) devices → apply_update devices update ≡ devices)
+        → CommitsOrFails (C.state conn.old) (C.state conn.new) update result }
+{
+    conn.execute(REWRITE_VERSION, &[])
+}
+
+/// Deletes the device of a sender whose rows are `rows`. Commits also if there is none.
+pub(crate) fn delete_or_rewrite_version<C: SqlConnection>(
+    conn: &mut C,
+    id: u32,
+    rows: &[Row],
+) -> Result<usize, Error>
+    requires ready { HasCleanDisk (C.state conn.old) → IsReady (C.state conn.old) }
+    requires found { HasCleanDisk (C.state conn.old) → (devices : Devices) → IsReadyWith
+        (C.state conn.old) devices → IsDeviceOrNone (device_of devices id) rows.now }
+    ensures turns { CommitsOrFails (C.state conn.old) (C.state conn.new) (forget_update id) result }
+    ensures written { HasCleanDisk (C.state conn.new) → rows.now ≡ []
+        → IfOk result (λ count. Executes rewrite_version_text []
+        (C.state conn.old) (C.state conn.new) (Ok count)) }
+{
+    if rows.is_empty() {
+        return rewrite_version(conn);
+    }
+    forget(conn, id)
+}

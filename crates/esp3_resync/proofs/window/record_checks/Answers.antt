@@ -1,0 +1,35 @@
+use Rattle.std.proofs.Common.{◌≡◌, ℕ, ◌+◌, List, ◌++◌, length, refl, sym, subst, ap, ◌∙◌, arith}
+use Rattle.std.proofs.lemmas.List.{append-nil, length-set, take_all}
+use Rattle.esp3_frames.specs.Check.{check}
+use Rattle.esp3_resync.specs.private.RunningChecks.{HasChecks}
+use Rattle.esp3_resync.proofs.RunningLemmas.{noted_last, noted_more}
+use Rattle.esp3_resync.proofs.window.record_checks.Goals as goal
+
+pub loop-i-init : goal.loop-i-init
+loop-i-init c = record {
+  len = refl;
+  noted = λ g w at noted. (
+    subst (λ (y : List ℕ). HasChecks g y c.args.checks.now) (sym (append-nil w)) noted,
+    noted_last g w c.args.checks.now c.args.at at noted ∙ ap (λ (y : List ℕ). check (g ++ y)) (sym (append-nil w)),
+  );
+}
+
+pub loop-i-preserved : goal.loop-i-preserved
+loop-i-preserved c =
+    let b = c.args.bytes.now in
+    let i = c.loop-i.i in
+    let k : ℕ = c.args.at + i + 1 in
+    let n = c.loop-i.all in
+    let size : length c.loop-i.checks ≡ length c.args.checks.now = c.loop-i.invariant.len in
+    record {
+      len = length-set c.loop-i.checks k c.check8_next-all.result ∙ size;
+      noted = λ g w at noted.
+          let so_far = c.loop-i.invariant.noted g w at noted in
+          noted_more g w b c.loop-i.checks c.args.at i k n c.check8_next-all.result at (omega arith) (omega arith)
+          (omega arith) (omega arith) so_far.1 c.check8_next-all.ensures so_far.0;
+    }
+
+pub returns-clause-noted : goal.returns-clause-noted
+returns-clause-noted c = λ g w at noted.
+    subst (λ (y : List ℕ). HasChecks g (w ++ y) c.loop-i.checks) (take_all c.loop-i.i c.args.bytes.now (omega arith))
+    (c.loop-i.invariant.noted g w at noted).0

@@ -1,0 +1,5 @@
+use Rattle.gateway_core.proofs.TellingLemmas.{teach_lines_are_true}
+use Rattle.gateway_core.proofs.laws.teach_lines_are_true.Goals as goal
+
+pub returns : goal.returns
+returns c = teach_lines_are_true

@@ -1,0 +1,5 @@
+use Rattle.gateway_core.proofs.LifeLemmas.{updates_survive_restarts}
+use Rattle.gateway_core.proofs.laws.updates_survive_restarts.Goals as goal
+
+pub returns : goal.returns
+returns c = updates_survive_restarts

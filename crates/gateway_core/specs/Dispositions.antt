@@ -1,0 +1,120 @@
+-- The disposition of a packet, and the line that explains it. Own choice.
+use Rattle.std.specs.Prelude.{ℕ, ◌==◌, Bool, true, false, List, [], length, Option, Some, None, if◌then◌else◌}
+use Rattle.std.specs.Prelude.{Result, Ok, Err}
+use Rattle.std.specs.Option.{option_or}
+use Rattle.esp3_frames.specs.Packet.{Packet}
+use Rattle.erp1_telegrams.specs.declared.address.FilterReason.{FilterReason}
+use Rattle.erp1_telegrams.specs.declared.address.FilterReason.TheVariants as reason
+use Rattle.erp1_telegrams.specs.declared.eep.Eep.{Eep}
+use Rattle.erp1_telegrams.specs.declared.telegram.TelegramFault.{TelegramFault}
+use Rattle.erp1_telegrams.specs.Telegram.{Telegram, telegram_of}
+use Rattle.profile_rows.specs.declared.unreadable.Unreadable.{Unreadable}
+use Rattle.profile_rows.specs.declared.unreadable.Unreadable.TheVariants as unreadable
+use Rattle.learned_devices.specs.declared.Device.{Device}
+use Rattle.teach_in.specs.declared.mode.Mode.{Mode}
+use Rattle.teach_in.specs.declared.mode.Mode.TheVariants.{Closed}
+use Rattle.teach_in.specs.declared.telegrams.Teach.{Teach}
+use Rattle.teach_in.specs.declared.telegrams.Teach.TheVariants.{FourByte, Ute}
+use Rattle.teach_in.specs.FourByte.{eep_in, maker_in}
+use Rattle.teach_in.specs.Telegrams.{teach_in_of}
+use Rattle.teach_in.specs.Ute as ute
+use Rattle.json_lines.specs.declared.counts.Count.{Count}
+use Rattle.json_lines.specs.declared.counts.Count.TheVariants as count
+use Rattle.json_lines.specs.declared.packet.PacketLine.{PacketLine}
+use Rattle.json_lines.specs.declared.packet.ShownPacket.{ShownPacket}
+use Rattle.json_lines.specs.declared.packet.ShownPacket.TheVariants as told
+use Rattle.teach_in.specs.declared.why.Why.{Why}
+use Rattle.teach_in.specs.declared.why.Why.TheVariants.{Refused, Response, EmptyResponse, OtherType, NoTelegram}
+use Rattle.teach_in.specs.declared.why.Why.TheVariants.{FromBroadcast, ForOthers, TeachInReply, TeachIn, Read}
+use Rattle.teach_in.specs.declared.why.Why.TheVariants.{WindowClosed, OtherMode, UnknownSender}
+use Rattle.teach_in.specs.declared.why.Why.TheVariants.{WrongKind, WrongLength, OtherMessage}
+use Rattle.json_lines.specs.PacketLines.{packet_text}
+use Rattle.json_lines.specs.ShownTelegram.{ShownTelegram, shown_of}
+use Rattle.gateway_core.specs.declared.disposition.Disposition.{Disposition}
+
+-- ---- reasons
+
+-- of a packet that carries no telegram and is no response
+abbrev pub why_other : Packet → Why
+why_other packet = if packet.kind == 1 then NoTelegram else if packet.kind == 2 then EmptyResponse else OtherType
+
+-- of a telegram that is filtered out
+abbrev pub why_filtered : FilterReason → Why
+why_filtered reason.FromBroadcast = FromBroadcast
+why_filtered reason.ForOthers = ForOthers
+
+-- Of a telegram whose plan is to do nothing: data, whose sender was looked up and is not learned, or a teach-in
+-- telegram. The mode does not matter for data.
+abbrev pub why_silent : Bool → Mode → Why
+why_silent true mode = UnknownSender
+why_silent false Closed = WindowClosed
+why_silent false mode = OtherMode
+
+-- of data that the profile of its sender cannot read; an unsupported profile reads nothing
+abbrev pub why_unread : Unreadable → Why
+why_unread unreadable.NotSupported = OtherMessage
+why_unread unreadable.WrongKind = WrongKind
+why_unread unreadable.WrongLength = WrongLength
+why_unread unreadable.OtherMessage = OtherMessage
+
+-- the counter that a packet increments
+abbrev pub count_for : Why → Count
+count_for Refused = count.Refused
+count_for Response = count.Response
+count_for (TeachIn outcome) = count.Teach
+count_for Read = count.Reading
+count_for EmptyResponse = count.Ignored
+count_for OtherType = count.Ignored
+count_for NoTelegram = count.Ignored
+count_for FromBroadcast = count.Ignored
+count_for ForOthers = count.Ignored
+count_for TeachInReply = count.Ignored
+count_for WindowClosed = count.Ignored
+count_for OtherMode = count.Ignored
+count_for UnknownSender = count.Ignored
+count_for WrongKind = count.Ignored
+count_for WrongLength = count.Ignored
+count_for OtherMessage = count.Ignored
+
+-- ---- the disposition of a packet: the reason, and what is known about its sender
+
+-- nothing is known about its sender, or it has none
+abbrev pub without_device : Why → Disposition
+without_device why = record { why = why; eep = None; maker = None }
+
+-- its sender is this device
+abbrev pub for_device : Device → Why → Disposition
+for_device known why = record { why = why; eep = Some known.eep; maker = known.maker }
+
+-- ---- the line that explains a packet
+
+-- the profile and maker in a teach-in telegram, if it has them
+abbrev pub query_eep : Teach → Option Eep
+query_eep (FourByte query) = Some (eep_in query)
+query_eep (Ute query) = Some (ute.eep_in query)
+query_eep kind = None
+
+abbrev pub query_maker : Teach → Option ℕ
+query_maker (FourByte query) = Some (maker_in query)
+query_maker (Ute query) = Some (ute.maker_in query)
+query_maker kind = None
+
+-- what is shown of a telegram with this role in teach-in: about its sender the data of its query, otherwise what is
+-- known
+abbrev pub shown_telegram : Telegram → Teach → Disposition → ShownTelegram
+shown_telegram t kind disposition =
+    shown_of t (option_or (query_eep kind) disposition.eep) (option_or (query_maker kind) disposition.maker)
+
+-- what a packet was: its telegram, if it carries one
+abbrev pub shown_packet : Packet → Result Telegram TelegramFault → Disposition → ShownPacket
+shown_packet packet (Ok t) disposition = told.Telegram (shown_telegram t (teach_in_of t) disposition)
+shown_packet packet (Err fault) disposition = told.Other packet.kind (length packet.body)
+
+abbrev pub packet_line_of : Packet → Disposition → PacketLine
+packet_line_of packet disposition =
+    record { packet = shown_packet packet (telegram_of packet) disposition; why = disposition.why }
+
+-- the text of such a line, if there is one
+abbrev pub explanation : Option PacketLine → List ℕ
+explanation None = []
+explanation (Some line) = packet_text line

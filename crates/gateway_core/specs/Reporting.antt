@@ -1,0 +1,140 @@
+-- What a teach line reports, what is reported for a label, and when bytes are sent by radio.
+use Rattle.std.specs.Prelude.{◌≡◌, ◌⊎◌, ◌≤◌, ℕ, true, IsSome, length, List, Some, None, Ok}
+use Rattle.esp3_frames.specs.Packet.{Packet, spelling}
+use Rattle.erp1_telegrams.specs.Telegram.{Telegram, telegram_of, radio_packet}
+use Rattle.learned_devices.specs.declared.Device.{Device}
+use Rattle.learned_devices.specs.Devices.{DeviceUpdate, device_of, learn_update, forget_update, relabel_update}
+use Rattle.teach_in.specs.declared.four_byte.FourByteQuery.{FourByteQuery}
+use Rattle.teach_in.specs.declared.mode.Mode.TheVariants.{Learn, LearnAnswer}
+use Rattle.teach_in.specs.declared.outcome.Outcome.{Outcome}
+use Rattle.teach_in.specs.declared.outcome.Outcome.TheVariants.{Accepted, Deleted}
+use Rattle.teach_in.specs.declared.telegrams.Teach.TheVariants.{FourByte, Ute}
+use Rattle.teach_in.specs.declared.ute.UteQuery.{UteQuery}
+use Rattle.teach_in.specs.FourByte.{four_byte_reply}
+use Rattle.teach_in.specs.Telegrams.{teach_in_of}
+use Rattle.teach_in.specs.Ute.{eep_in, maker_in, wants_reply, request_in, deletion, ute_reply}
+use Rattle.actuator_commands.specs.Limits.{max_line}
+use Rattle.actuator_commands.specs.declared.orders.Order.{Order}
+use Rattle.actuator_commands.specs.declared.orders.Order.TheVariants.{Base, Label}
+use Rattle.actuator_commands.specs.Orders.{order_of}
+use Rattle.actuator_commands.specs.Packets.{order_telegram, recipient}
+use Rattle.json_lines.specs.declared.error_lines.ErrorName.TheVariants.{UnknownDevice}
+use Rattle.json_lines.specs.Lines.{TeachLine, Teach, Done, Error, text}
+use Rattle.gateway_core.specs.Step.{State, Input, Received, Ordered, Effect, effect, device_teach_line, answer_to}
+use Rattle.gateway_core.specs.Step.{update_of}
+use Rattle.gateway_core.specs.Step.{base_query, recipient_device}
+use Rattle.gateway_core.specs.Run.{InputResult, Applied, answer_with}
+
+-- A device that is reported as deleted: as stored if the desk ordered it; over the air with the profile and maker of
+-- its query, learned or not.
+abbrev pub IsDeleted : State → Input → Device → Type 0
+IsDeleted state (Ordered line) known = device_of state.devices known.id ≡ Some known
+IsDeleted state (Received packet) known =
+    (t : Telegram) × (telegram_of packet ≡ Ok t) × (known.id ≡ t.sender)
+    × (query : UteQuery) × (teach_in_of t ≡ Ute query) × (request_in query ≡ deletion)
+    × (known.eep ≡ eep_in query) × (known.maker ≡ Some (maker_in query))
+
+-- What a line with this outcome reports of an effect: it learns a device, forgets one for which this holds, or changes
+-- neither the devices nor the mode.
+abbrev pub ReportsEffect : (Device → Type 0) → Effect → TeachLine → Outcome → Type 0
+ReportsEffect Gone e line Accepted =
+    (known : Device) × (text (Teach line) ≡ text (Teach (device_teach_line known Accepted)))
+    × (e.update ≡ Some (learn_update known))
+ReportsEffect Gone e line Deleted =
+    (known : Device) × (text (Teach line) ≡ text (Teach (device_teach_line known Deleted)))
+    × Gone known × (e.update ≡ Some (forget_update known.id))
+ReportsEffect Gone e line outcome = (e.update ≡ None) × (e.mode ≡ None)
+
+-- the update of this device that a line with `accepted` or `deleted` reports
+abbrev pub acknowledged_update : Outcome → Device → DeviceUpdate
+acknowledged_update Accepted known = learn_update known
+acknowledged_update outcome known = forget_update known.id
+
+-- only an applied input is answered with a teach line, which reports what it does
+abbrev pub TeachLinesAreTrue : Type 0
+TeachLinesAreTrue = (state : State) (input : Input) (result : InputResult) (line : TeachLine)
+    → (answer_with state input result).desk ≡ text (Teach line)
+    → (result ≡ Applied) × ReportsEffect (IsDeleted state input) (effect state input) line line.outcome
+
+-- The input is a line that labels a learned device, this is the update, and the desk receives `ok`.
+pub record AcknowledgesLabel (state : State) (input : Input) (update : DeviceUpdate) : Type 0 where
+  pub line : List ℕ
+  pub ordered : input ≡ Ordered line
+  pub id : ℕ
+  pub label : List ℕ
+  pub spelled : order_of line ≡ Ok (Label id label)
+  pub is_known : IsSome (device_of state.devices id)
+  pub gives : update ≡ relabel_update id label
+  pub reported : (answer_to state input).desk ≡ text Done
+
+-- and an applied input that asks for an update is answered with the line that reports it, or with `ok` if it sets a
+-- label
+abbrev pub UpdatesAreReported : Type 0
+UpdatesAreReported = (state : State) (input : Input) (update : DeviceUpdate) → update_of state input ≡ Some update
+    → ((line : TeachLine) × ((answer_with state input Applied).desk ≡ text (Teach line))
+    × ReportsEffect (IsDeleted state input) (effect state input) line line.outcome)
+    ⊎ AcknowledgesLabel state input update
+
+-- A line that spells a label and is answered `ok` is applied and labels a learned device; one answered `unknown_device`
+-- is applied and changes nothing, and no device with its ID is learned. Each that is applied and not too long gets one
+-- of these answers.
+pub record LabelIsAcknowledged (state : State) (line : List ℕ) (id : ℕ) (label : List ℕ) : Type 0 where
+  pub done : (result : InputResult) → (answer_with state (Ordered line) result).desk ≡ text Done
+      → (result ≡ Applied) × IsSome (device_of state.devices id)
+      × (update_of state (Ordered line) ≡ Some (relabel_update id label))
+  pub unknown : (result : InputResult) → (answer_with state (Ordered line) result).desk ≡ text (Error UnknownDevice)
+      → (result ≡ Applied) × (device_of state.devices id ≡ None) × (update_of state (Ordered line) ≡ None)
+  pub answers : length line ≤ max_line
+      → ((answer_to state (Ordered line)).desk ≡ text Done)
+      ⊎ ((answer_to state (Ordered line)).desk ≡ text (Error UnknownDevice))
+
+abbrev pub LabelsAreAcknowledged : Type 0
+LabelsAreAcknowledged = (state : State) (line : List ℕ) (id : ℕ) (label : List ℕ) → order_of line ≡ Ok (Label id label)
+    → LabelIsAcknowledged state line id label
+
+-- the telegram that replies to a query with this outcome for its sender, in a window for all senders: to a 4BS query in
+-- the mode `LearnAnswer`, and to a UTE query that waits for a reply
+abbrev pub IsReply : State → Telegram → Outcome → Telegram → Type 0
+IsReply state t outcome reply =
+    ((query : FourByteQuery) × (teach_in_of t ≡ FourByte query) × (state.mode ≡ LearnAnswer)
+    × (four_byte_reply query outcome state.base ≡ Some reply))
+    ⊎ ((query : UteQuery) × (teach_in_of t ≡ Ute query) × (wants_reply query ≡ true)
+    × ((state.mode ≡ Learn) ⊎ (state.mode ≡ LearnAnswer))
+    × (ute_reply query outcome state.base ≡ Some reply))
+
+-- The bytes are the reply to the packet's query: the desk receives the query's teach line, and the reply has the
+-- outcome of that line.
+pub record RepliesTo (state : State) (input : Input) (bytes : List ℕ) : Type 0 where
+  pub packet : Packet
+  pub received : input ≡ Received packet
+  pub telegram : Telegram
+  pub carried : telegram_of packet ≡ Ok telegram
+  pub line : TeachLine
+  pub reported : (answer_to state input).desk ≡ text (Teach line)
+  pub reply : Telegram
+  pub says : IsReply state telegram line.outcome reply
+  pub sent_as : bytes ≡ spelling (radio_packet reply)
+
+-- the packet that an order sends: the request for the base ID, or the order's telegram
+abbrev pub IsPacketOf : State → Order → Packet → Type 0
+IsPacketOf state order packet =
+    ((order ≡ Base) × (packet ≡ base_query))
+    ⊎ ((t : Telegram) × (packet ≡ radio_packet t)
+    × (order_telegram order (recipient_device state.devices (recipient order)) state.base ≡ Some (Ok t)))
+
+-- The bytes are the packet of an order that a line spells, and the desk receives `ok`.
+pub record SendsAsOrdered (state : State) (input : Input) (bytes : List ℕ) : Type 0 where
+  pub line : List ℕ
+  pub ordered : input ≡ Ordered line
+  pub order : Order
+  pub spelled : order_of line ≡ Ok order
+  pub reported : (answer_to state input).desk ≡ text Done
+  pub packet : Packet
+  pub is_packet : IsPacketOf state order packet
+  pub sent_as : bytes ≡ spelling packet
+
+-- only an applied input sends bytes by radio, as a reply or as the desk has ordered
+abbrev pub RadioIsReported : Type 0
+RadioIsReported = (state : State) (input : Input) (result : InputResult) (bytes : List ℕ)
+    → (answer_with state input result).radio ≡ Some bytes
+    → (result ≡ Applied) × (RepliesTo state input bytes ⊎ SendsAsOrdered state input bytes)

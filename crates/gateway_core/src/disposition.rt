@@ -1,0 +1,123 @@
+//! The disposition of a packet.
+ghost use Rattle.std.specs.Prelude.{◌≡◌};
+ghost use Rattle.esp3_frames.specs.Outcome.{packet_of};
+ghost use Rattle.gateway_core.specs.Dispositions;
+ghost use Rattle.gateway_core.specs.Dispositions.{without_device, query_eep, query_maker};
+
+use erp1_telegrams::{Eep, FilterReason};
+use esp3_frames::PacketRef;
+use esp3_frames::packet_type::{RADIO_ERP1, RESPONSE};
+use json_lines::Count;
+use learned_devices::Device;
+use profile_rows::Unreadable;
+use teach_in::{Mode, Teach, Why};
+
+/// Why a packet was handled the way it was, and the profile and maker of its sender, if the device is known.
+#[derive(Clone, Copy, Debug, PartialEq, Eq)]
+pub(crate) struct Disposition {
+    pub(crate) why: Why,
+    pub(crate) eep: Option<Eep>,
+    pub(crate) maker: Option<u16>,
+}
+
+impl Disposition {
+    // Nothing is known about the sender, or there is none.
+    pub(crate) fn without_device(why: Why) -> Disposition
+        ensures { result ≡ without_device why }
+    {
+        Disposition {
+            why,
+            eep: None,
+            maker: None,
+        }
+    }
+
+    // The sender is this device.
+    pub(crate) fn for_device(device: &Device, why: Why) -> Disposition
+        ensures { result ≡ Dispositions.for_device device.now why }
+    {
+        Disposition {
+            why,
+            eep: Some(device.eep),
+            maker: device.maker,
+        }
+    }
+
+    // The counter that the packet increments.
+    pub(crate) fn count(&self) -> Count
+        ensures { result ≡ Dispositions.count_for self.now.why }
+    {
+        match self.why {
+            Why::Refused => Count::Refused,
+            Why::Response => Count::Response,
+            Why::TeachIn(_) => Count::Teach,
+            Why::Read => Count::Reading,
+            Why::EmptyResponse
+            | Why::OtherType
+            | Why::NoTelegram
+            | Why::FromBroadcast
+            | Why::ForOthers
+            | Why::TeachInReply
+            | Why::WindowClosed
+            | Why::OtherMode
+            | Why::UnknownSender
+            | Why::WrongKind
+            | Why::WrongLength
+            | Why::OtherMessage => Count::Ignored,
+        }
+    }
+}
+
+// Why a packet that carries no telegram and is no response is ignored.
+pub(crate) fn why_other(packet: &PacketRef<'_>) -> Why
+    ensures { result ≡ Dispositions.why_other (packet_of packet.now) }
+{
+    match packet.kind {
+        RADIO_ERP1 => Why::NoTelegram,
+        RESPONSE => Why::EmptyResponse,
+        _ => Why::OtherType,
+    }
+}
+
+pub(crate) fn why_filtered(reason: FilterReason) -> Why
+    ensures { result ≡ Dispositions.why_filtered reason }
+{
+    match reason {
+        FilterReason::FromBroadcast => Why::FromBroadcast,
+        FilterReason::ForOthers => Why::ForOthers,
+    }
+}
+
+// Why nothing is done about the sender of a data telegram, if `is_data`, or of a teach-in telegram.
+pub(crate) fn why_silent(is_data: bool, mode: Mode) -> Why
+    ensures { result ≡ Dispositions.why_silent is_data mode }
+{
+    match (is_data, mode) {
+        (true, _) => Why::UnknownSender,
+        (false, Mode::Closed) => Why::WindowClosed,
+        (false, Mode::Learn | Mode::LearnAnswer | Mode::LearnAs(_)) => Why::OtherMode,
+    }
+}
+
+// Why a data telegram cannot be read.
+pub(crate) fn why_unread(fault: Unreadable) -> Why
+    ensures { result ≡ Dispositions.why_unread fault }
+{
+    match fault {
+        Unreadable::WrongKind => Why::WrongKind,
+        Unreadable::WrongLength => Why::WrongLength,
+        Unreadable::NotSupported | Unreadable::OtherMessage => Why::OtherMessage,
+    }
+}
+
+// The profile and maker in a teach-in telegram, if it has them.
+pub(crate) fn query_device(teach: &Teach) -> (Option<Eep>, Option<u16>)
+    ensures eep { result.0 ≡ query_eep teach.now }
+    ensures maker { result.1 ≡ query_maker teach.now }
+{
+    match teach {
+        Teach::FourByte(query) => (Some(query.eep()), Some(query.maker())),
+        Teach::Ute(query) => (Some(query.eep()), Some(query.maker())),
+        _ => (None, None),
+    }
+}

@@ -1,0 +1,37 @@
+//! Why an input failed.
+ghost use Rattle.std.specs.Prelude.{◌≡◌};
+
+use learned_devices::StoreFault;
+use std::alloc::AllocError;
+
+/// Whether an input failed before its write to the registry or at it, and for which cause.
+#[derive(Clone, Copy)]
+pub enum Failure {
+    /// Nothing was written.
+    Before(StoreFault),
+    /// The write was tried. After a crash its update may be there.
+    AtWrite(StoreFault),
+}
+
+impl From<StoreFault> for Failure {
+    ghost use Rattle.std.specs.Prelude.{◌≡◌};
+    ghost use Rattle.gateway_core.specs.declared.failure.Failure.TheVariants.{Before};
+
+    ghost from_gives = { λ fault failure. failure ≡ Before fault };
+
+    fn from(fault: StoreFault) -> Failure {
+        Failure::Before(fault)
+    }
+}
+
+impl From<AllocError> for Failure {
+    ghost use Rattle.std.specs.Prelude.{◌≡◌};
+    ghost use Rattle.learned_devices.specs.Faults.{no_memory};
+    ghost use Rattle.gateway_core.specs.declared.failure.Failure.TheVariants.{Before};
+
+    ghost from_gives = { λ _ failure. failure ≡ Before no_memory };
+
+    fn from(error: AllocError) -> Failure {
+        Failure::Before(StoreFault::from(error))
+    }
+}

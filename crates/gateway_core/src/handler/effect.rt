@@ -1,0 +1,142 @@
+//! The result of an applied input.
+ghost use Rattle.std.specs.Prelude.{◌≡◌, ℕ, Bool, List, None, Some};
+ghost use Rattle.gateway_core.specs.Dispositions.{without_device};
+ghost use Rattle.gateway_core.specs.Desks.{desk_bytes};
+ghost use Rattle.gateway_core.specs.private.Failures.{cause_in};
+ghost use Rattle.gateway_core.specs.Replies.{answer_of};
+ghost use Rattle.gateway_core.specs.Run.{cause_text};
+ghost use Rattle.gateway_core.specs.Step;
+ghost use Rattle.gateway_core.specs.Step.{text_answer};
+ghost use Rattle.gateway_core.specs.private.Attempts.{MatchesEffect};
+
+use crate::disposition::Disposition;
+use crate::failure::Failure;
+use crate::reply::{Desk, Reply};
+use arrayvec::ArrayVec;
+use json_lines::{ErrorName, done_line};
+use std::marker::Model;
+use teach_in::{Mode, Why};
+
+// The result of a packet: its disposition, the mode that it sets, if any, and the reply.
+#[derive(Drop)]
+pub(crate) struct PacketEffect {
+    pub(crate) disposition: Disposition,
+    pub(crate) mode: Option<Mode>,
+    pub(crate) reply: Reply,
+}
+
+impl Model for PacketEffect {
+    ghost use Rattle.std.specs.Prelude.{Some};
+    ghost use Rattle.gateway_core.specs.Replies.{answer_of};
+    ghost use Rattle.gateway_core.specs.private.Attempts.{HandlerEffect};
+
+    ghost Value = { HandlerEffect };
+
+    ghost view = { λ done. record {
+      answer = answer_of done.reply;
+      disposition = Some done.disposition;
+      mode = done.mode;
+    } };
+}
+
+// The result of an order: the mode that it sets, if any, and the reply.
+#[derive(Drop)]
+pub(crate) struct OrderEffect {
+    pub(crate) mode: Option<Mode>,
+    pub(crate) reply: Reply,
+}
+
+impl Model for OrderEffect {
+    ghost use Rattle.std.specs.Prelude.{None};
+    ghost use Rattle.gateway_core.specs.Replies.{answer_of};
+    ghost use Rattle.gateway_core.specs.private.Attempts.{HandlerEffect};
+
+    ghost Value = { HandlerEffect };
+
+    ghost view = { λ done. record { answer = answer_of done.reply; disposition = None; mode = done.mode } };
+}
+
+// Sends nothing by radio.
+fn reply_with(desk: Desk) -> Reply
+    ensures { answer_of result ≡ text_answer (desk_bytes desk) }
+{
+    Reply { radio: None, desk }
+}
+
+pub(crate) fn desk_effect(desk: Desk) -> OrderEffect
+    ensures disposition { result.disposition ≡ None }
+    ensures mode { result.mode ≡ None }
+    ensures answer { result.answer ≡ text_answer (desk_bytes desk) }
+{
+    OrderEffect {
+        mode: None,
+        reply: reply_with(desk),
+    }
+}
+
+// A packet with this text for the desk.
+pub(crate) fn packet_desk_effect(disposition: Disposition, desk: Desk) -> PacketEffect
+    ensures disposition { result.disposition ≡ Some disposition }
+    ensures mode { result.mode ≡ None }
+    ensures answer { result.answer ≡ text_answer (desk_bytes desk) }
+{
+    PacketEffect {
+        disposition,
+        mode: None,
+        reply: reply_with(desk),
+    }
+}
+
+// A packet without a text for the desk, whether its sender was looked up or not.
+pub(crate) fn ignored_effect(why: Why) -> PacketEffect
+    ensures { (asked : Bool) → MatchesEffect result (Step.silent_effect asked (without_device why)) }
+{
+    packet_desk_effect(Disposition::without_device(why), Desk::Nothing)
+}
+
+pub(crate) fn error_effect(name: ErrorName) -> OrderEffect
+    ensures { MatchesEffect result (Step.error_effect name) }
+{
+    desk_effect(Desk::Fixed(name.line()))
+}
+
+pub(crate) fn mode_effect(mode: Mode) -> OrderEffect
+    ensures { MatchesEffect result (Step.mode_effect mode) }
+{
+    OrderEffect {
+        mode: Some(mode),
+        reply: reply_with(Desk::Fixed(done_line())),
+    }
+}
+
+// The device has its new label.
+pub(crate) fn relabel_effect() -> OrderEffect
+    ensures { (id : ℕ) (label : List ℕ) → MatchesEffect result (Step.relabel_effect id label) }
+{
+    desk_effect(Desk::Fixed(done_line()))
+}
+
+pub(crate) fn send_effect(packet: ArrayVec<u8, 64>) -> OrderEffect
+    ensures { (asked : Bool) → MatchesEffect result (Step.send_effect asked packet.items) }
+{
+    OrderEffect {
+        mode: None,
+        reply: Reply {
+            radio: Some(packet),
+            desk: Desk::Fixed(done_line()),
+        },
+    }
+}
+
+// The answer to a failed input.
+pub(crate) fn error_reply(failure: Failure) -> Reply
+    ensures { answer_of result ≡ text_answer (cause_text (cause_in failure)) }
+{
+    let (Failure::Before(fault) | Failure::AtWrite(fault)) = failure;
+    let name = if fault.is_memory() {
+        ErrorName::Memory
+    } else {
+        ErrorName::Store
+    };
+    reply_with(Desk::Fixed(name.line()))
+}

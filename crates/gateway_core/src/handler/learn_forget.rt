@@ -1,0 +1,87 @@
+//! Learning and forgetting a device. The line that reports it is built before the write, so nothing can fail after it.
+ghost use Rattle.std.specs.Prelude.{◌≡◌, [], ◌∷◌};
+ghost use Rattle.json_lines.specs.Lines.{Error};
+ghost use Rattle.json_lines.specs.declared.error_lines.ErrorName.{ErrorName};
+ghost use Rattle.gateway_core.specs.Step.{NeedsStore, effect_unless_full, forget_effect, learn_effect, lines_effect};
+ghost use Rattle.gateway_core.specs.private.Attempts.{Learns, Forgets, Attempts};
+
+use crate::failure::Failure;
+use crate::handler::Handler;
+use crate::handler::effect::{OrderEffect, desk_effect, error_effect};
+use crate::reply::Desk;
+use erp1_telegrams::Eep;
+use json_lines::{ErrorName, Line, teach_line};
+use learned_devices::{Device, DeviceStore, LearnFault};
+use teach_in::{Outcome, Verdict};
+
+// The outcome for a device that was learned or forgotten, and the line that reports it.
+#[derive(Drop)]
+pub(crate) struct Committed {
+    pub(crate) verdict: Verdict,
+    pub(crate) line: Line,
+}
+
+impl<S: DeviceStore> Handler<S> {
+    // Learns a device without a label; a known sender keeps its own. Returns `None`, before any write, if the registry
+    // is full.
+    pub(crate) fn learn(&mut self, device: Device) -> Result<Option<Committed>, Failure>
+        requires { device.label ≡ [] }
+        ensures { Learns S.store_state self.old device result self.new }
+    {
+        let draft = teach_line(
+            self.alloc,
+            device.id,
+            Some(device.eep),
+            device.maker,
+            Outcome::Accepted,
+        )?;
+        let receipt = match self.registry.learn(device) {
+            Ok(receipt) => receipt,
+            Err(LearnFault::Full) => return Ok(None),
+            Err(LearnFault::Refused(fault)) => return Err(Failure::AtWrite(fault)),
+        };
+        let verdict = Verdict::committed(receipt);
+        let line = draft.tell(&verdict);
+        Ok(Some(Committed { verdict, line }))
+    }
+
+    // Forgets the device with this ID, learned or not. The line reports this profile and this maker.
+    pub(crate) fn forget(
+        &mut self,
+        id: u32,
+        eep: Option<Eep>,
+        maker: Option<u16>,
+    ) -> Result<Committed, Failure>
+        ensures { Forgets S.store_state self.old
+            (record { eep = eep; id = id; maker = maker; outcome = Outcome.Deleted }) result self.new }
+    {
+        let draft = teach_line(self.alloc, id, eep, maker, Outcome::Deleted)?;
+        let receipt = match self.registry.forget(id) {
+            Ok(receipt) => receipt,
+            Err(fault) => return Err(Failure::AtWrite(fault)),
+        };
+        let verdict = Verdict::committed(receipt);
+        let line = draft.tell(&verdict);
+        Ok(Committed { verdict, line })
+    }
+
+    // Learns a device that the desk names.
+    pub(crate) fn learn_named(&mut self, device: Device) -> Result<OrderEffect, Failure>
+        requires { device.label ≡ [] }
+        ensures { Attempts S.store_state self.old (λ state. effect_unless_full state.devices device
+            (lines_effect NeedsStore (Error ErrorName.Full ∷ [])) (learn_effect device)) result self.new }
+    {
+        match self.learn(device)? {
+            Some(committed) => Ok(desk_effect(Desk::Owned(committed.line))),
+            None => Ok(error_effect(ErrorName::Full)),
+        }
+    }
+
+    // Forgets a device that the desk names.
+    pub(crate) fn forget_named(&mut self, device: Device) -> Result<OrderEffect, Failure>
+        ensures { Attempts S.store_state self.old (λ state. forget_effect device) result self.new }
+    {
+        let committed = self.forget(device.id, Some(device.eep), device.maker)?;
+        Ok(desk_effect(Desk::Owned(committed.line)))
+    }
+}

@@ -1,0 +1,83 @@
+-- What an `Driver` handles and writes, for any output.
+use Rattle.std.specs.Prelude.{◌≡◌, ◌<◌, List, [], ◌∷◌, ◌++◌, length, map, ℕ}
+use Rattle.learned_devices.specs.StoreState.{StoreState}
+use Rattle.esp3_frames.specs.Framing.{MayBecomePacket}
+use Rattle.esp3_frames.specs.Frames.{rest_of}
+use Rattle.gateway_core.specs.Step.{Input, Received, Answer}
+use Rattle.gateway_core.specs.Handling.{HandlerValue, Handles}
+use Rattle.gateway_core.specs.Calls.{GatewayValue}
+use Rattle.gateway_core.specs.Events.{Event, Chunk, Line, inputs_of, bytes_in}
+use Rattle.gateway_loop.specs.Script.{IsUpToLastLf, script, with_lf}
+
+-- no packet is ready, and the rest may become one
+pub record IsDrained {S : Type 0} (gateway : GatewayValue S) : Type 0 where
+  pub ready : gateway.ready ≡ []
+  pub rest : MayBecomePacket gateway.rest
+
+-- a line, or a prefix of a chunk
+abbrev pub IsEventPrefix : Event → Event → Type 0
+IsEventPrefix (Chunk bytes) (Chunk some) = (more : List ℕ) × (bytes ≡ some ++ more)
+IsEventPrefix (Line line) (Line other) = other ≡ line
+IsEventPrefix event other = ⊥
+
+-- Below, `puts` says that exactly these answers were written, and `breaks` that they were, and one more incompletely.
+module _ {S : Type 0} (stored : S → StoreState) where
+  -- the inputs were handled, and their answers written
+  pub record Answers (old new : HandlerValue S) (items : List Input) (puts : List Answer → Type 0) : Type 0 where
+    pub answers : List Answer
+    pub handled : Handles stored old items answers new
+    pub out : puts answers
+
+  -- the inputs were handled, but the last answer was not written completely
+  pub record AnswersPart (old new : HandlerValue S) (items : List Input) (breaks : List Answer → Answer → Type 0)
+      : Type 0 where
+    pub answers : List Answer
+    pub last : Answer
+    pub handled : Handles stored old items (answers ++ last ∷ []) new
+    pub out : breaks answers last
+
+  -- exactly the events' inputs were handled and answered
+  pub record Processes (old new : GatewayValue S) (events : List Event) (puts : List Answer → Type 0) : Type 0 where
+    pub answered : Answers old.handler new.handler (inputs_of old.rest events) puts
+    pub rest : new.rest ≡ rest_of (old.rest ++ bytes_in events)
+    pub idle : IsDrained new
+
+  -- after these events, one event was begun, and an answer to one of its inputs was not written completely: the inputs
+  -- so far were handled, and the packets that the event's bytes completed after them are ready
+  pub record Breaks (old new : GatewayValue S) (events : List Event) (event : Event)
+      (breaks : List Answer → Answer → Type 0)
+      : Type 0 where
+    pub begun : Event
+    pub begins : IsEventPrefix event begun
+    pub items : List Input
+    pub own : List Input
+    pub behind : items ≡ inputs_of old.rest events ++ own
+    pub some : 0 < length own
+    pub stand : inputs_of old.rest (events ++ begun ∷ []) ≡ items ++ map Received new.ready
+    pub rest : new.rest ≡ rest_of (old.rest ++ bytes_in (events ++ begun ∷ []))
+    pub answered : AnswersPart old.handler new.handler items breaks
+
+  -- the lines of the input that LF ends were played
+  pub record ProcessesEnded (old new : GatewayValue S) (input : List ℕ) (puts : List Answer → Type 0) : Type 0 where
+    pub ended : List ℕ
+    pub is : IsUpToLastLf input ended
+    pub processed : Processes old new (script ended) puts
+
+  -- an answer was not written completely, at the last event of a prefix of the input that ends with LF
+  pub record BreaksAtLastLine (old new : GatewayValue S) (input : List ℕ) (breaks : List Answer → Answer → Type 0)
+      : Type 0 where
+    pub part : List ℕ
+    pub more : List ℕ
+    pub whole : input ≡ with_lf part ++ more
+    pub events : List Event
+    pub event : Event
+    pub is : script (with_lf part) ≡ events ++ event ∷ []
+    pub broken : Breaks old new events event breaks
+
+  -- an answer was not written completely, at the last of these events
+  pub record BreaksAtLastEvent (old new : GatewayValue S) (all : List Event) (breaks : List Answer → Answer → Type 0)
+      : Type 0 where
+    pub events : List Event
+    pub event : Event
+    pub whole : all ≡ events ++ event ∷ []
+    pub broken : Breaks old new events event breaks

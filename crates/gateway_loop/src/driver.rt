@@ -1,0 +1,163 @@
+//! The driver of a gateway: takes chunks of the serial stream, orders of the desk and lines of a script, and writes the
+//! gateway's answers.
+ghost use Rattle.std.specs.Prelude.{◌≡◌, ◌<◌, ◌≤◌, [], ◌∷◌, length, take, drop, IfOk, OnOk, OnErr, MatchResult};
+ghost use Rattle.hex.specs.Hex.{decode_of};
+ghost use Rattle.json_lines.specs.Counts.{saturated_next};
+ghost use Rattle.actuator_commands.specs.Limits.{max_line};
+ghost use Rattle.gateway_core.specs.Events.{Line as LineEvent, Chunk as ChunkEvent};
+ghost use Rattle.gateway_core.specs.Replies.{answer_of, packet_answer};
+ghost use Rattle.gateway_loop.specs.private.DriverSteps.{Drains, DrainsPart, DriverBreaks, Takes, TakesOrBreaks};
+ghost use Rattle.gateway_loop.specs.OutputSpecs.{Puts};
+ghost use Rattle.gateway_loop.specs.Processing.{IsDrained};
+ghost use Rattle.gateway_loop.specs.Script.{event_of, chunk_or_line};
+
+use crate::digits::decode;
+use crate::limits::MAX_CHUNK;
+use crate::reply_sink::ReplySink;
+use byte_io::Failed;
+use gateway_core::{DeviceStore, GatewayOver, HandledPacket, MAX_LINE, Reply};
+
+/// A gateway, and the output for its replies.
+#[derive(Drop)]
+pub struct Driver<'g, O, S: DeviceStore> {
+    pub reply_sink: O,
+    pub gateway: &'g mut GatewayOver<S>,
+    /// How many packets and orders were handled. Stays at its maximum once it has reached it.
+    pub items: u64,
+}
+
+impl<O: ReplySink, S: DeviceStore> Driver<'_, O, S> {
+    /// Takes a chunk of the serial stream, and answers each packet that it completes.
+    pub fn take_chunk(&mut self, chunk: &[u8]) -> Result<(), Failed>
+        requires { IsDrained self.old.gateway.now }
+        ensures gateway { self.new.gateway.ghost_name ≡ self.old.gateway.ghost_name }
+        ensures loans { O.loans self.new.reply_sink ≡ O.loans self.old.reply_sink }
+        ensures taken { TakesOrBreaks S.store_state O.output result self.old self.new (ChunkEvent chunk.now) }
+    {
+        // The proof needs that the count is a `u64`.
+        let _start = self.items;
+        let mut count = 0;
+        while count < chunk.len() {
+            count += self.take_run(&chunk[count..])?;
+        }
+        Ok(())
+    }
+
+    /// Takes the whole packet at the front of these bytes, or, if there is none, the bytes up to the one that makes
+    /// packets ready. Answers the packets that they complete, and returns how many bytes it took.
+    fn take_run(&mut self, bytes: &[u8]) -> Result<usize, Failed>
+        requires idle { IsDrained self.old.gateway.now }
+        requires some { 0 < length bytes.now }
+        ensures gateway { self.new.gateway.ghost_name ≡ self.old.gateway.ghost_name }
+        ensures loans { O.loans self.new.reply_sink ≡ O.loans self.old.reply_sink }
+        ensures within { IfOk result (λ count. (0 < count) × (count ≤ length bytes.now)) }
+        ensures taken { MatchResult result
+            (λ count. Takes S.store_state O.output self.old self.new (ChunkEvent (take count bytes.now) ∷ []))
+            (λ _. DriverBreaks S.store_state O.output self.old self.new [] (ChunkEvent bytes.now)) }
+    {
+        // The proof needs that the count is a `u64`.
+        let _start = self.items;
+        if let Some((handled, count)) = self.gateway.handle_first(bytes) {
+            self.answer_packet(&handled)?;
+            return Ok(count);
+        }
+        let count = self.gateway.bytes(bytes);
+        if self.gateway.is_ready() {
+            self.drain()?;
+        }
+        Ok(count)
+    }
+
+    /// Answers the ready packets.
+    fn drain(&mut self) -> Result<(), Failed>
+        ensures gateway { self.new.gateway.ghost_name ≡ self.old.gateway.ghost_name }
+        ensures loans { O.loans self.new.reply_sink ≡ O.loans self.old.reply_sink }
+        ensures ready { OnOk result (self.new.gateway.now.ready ≡ []) }
+        ensures drained { OnOk result (Drains S.store_state self.old.gateway.now self.new.gateway.now
+            (O.output.puts self.old.reply_sink self.new.reply_sink) self.old.items self.new.items) }
+        ensures broken { OnErr result (DrainsPart S.store_state self.old.gateway.now self.new.gateway.now
+            (O.output.breaks self.old.reply_sink self.new.reply_sink)) }
+    {
+        // The proof needs that the count is a `u64`.
+        let _start = self.items;
+        while let Some(handled) = self.gateway.handle_next() {
+            self.answer_packet(&handled)?;
+        }
+        Ok(())
+    }
+
+    /// Takes an order of the desk, without its line end, and answers it.
+    pub fn take_order(&mut self, line: &[u8]) -> Result<(), Failed>
+        requires { IsDrained self.old.gateway.now }
+        ensures gateway { self.new.gateway.ghost_name ≡ self.old.gateway.ghost_name }
+        ensures loans { O.loans self.new.reply_sink ≡ O.loans self.old.reply_sink }
+        ensures taken { TakesOrBreaks S.store_state O.output result self.old self.new (LineEvent line.now) }
+    {
+        let reply = self.gateway.order(line);
+        self.answer_order(&reply)
+    }
+
+    /// Takes a line of a script, without its end.
+    pub fn take_script_line(&mut self, line: &[u8]) -> Result<(), Failed>
+        requires { IsDrained self.old.gateway.now }
+        ensures gateway { self.new.gateway.ghost_name ≡ self.old.gateway.ghost_name }
+        ensures loans { O.loans self.new.reply_sink ≡ O.loans self.old.reply_sink }
+        ensures taken { TakesOrBreaks S.store_state O.output result self.old self.new (event_of line.now) }
+    {
+        if line.starts_with(b"S ".as_slice()) && line.len() <= MAX_LINE {
+            self.take_digits(line)
+        } else {
+            self.take_order(line)
+        }
+    }
+
+    /// Takes a line that begins with `S` and a space: as a chunk if digits follow, otherwise as an order.
+    fn take_digits(&mut self, line: &[u8]) -> Result<(), Failed>
+        requires idle { IsDrained self.old.gateway.now }
+        requires long { 2 ≤ length line.now }
+        requires short { length line.now ≤ max_line }
+        ensures gateway { self.new.gateway.ghost_name ≡ self.old.gateway.ghost_name }
+        ensures loans { O.loans self.new.reply_sink ≡ O.loans self.old.reply_sink }
+        ensures taken { TakesOrBreaks S.store_state O.output result self.old self.new
+            (chunk_or_line line.now (decode_of (drop 2 line.now))) }
+    {
+        let digits = &line[2..];
+        let mut bytes = [0u8; MAX_CHUNK];
+        let chunk = &mut bytes[..digits.len() / 2];
+        if decode(digits, chunk) {
+            self.take_chunk(chunk)
+        } else {
+            self.take_order(line)
+        }
+    }
+
+    fn count_item(&mut self)
+        ensures { self.new ≡ record self.old { items = saturated_next self.old.items } }
+    {
+        self.items = self.items.saturating_add(1);
+    }
+
+    /// Counts a packet that was handled, and writes its reply, with the line that explains it.
+    fn answer_packet(&mut self, handled: &HandledPacket) -> Result<(), Failed>
+        ensures gateway { self.new.gateway.ghost_name ≡ self.old.gateway.ghost_name }
+        ensures kept { self.new.gateway.now ≡ self.old.gateway.now }
+        ensures loans { O.loans self.new.reply_sink ≡ O.loans self.old.reply_sink }
+        ensures counted { self.new.items ≡ saturated_next self.old.items }
+        ensures put { Puts O.output result self.old.reply_sink self.new.reply_sink (packet_answer handled.now) }
+    {
+        self.count_item();
+        self.reply_sink.put(Some(&handled.line), &handled.reply)
+    }
+
+    /// Counts an order that was handled, and writes its reply.
+    fn answer_order(&mut self, reply: &Reply) -> Result<(), Failed>
+        ensures gateway { self.new.gateway.ghost_name ≡ self.old.gateway.ghost_name }
+        ensures kept { self.new.gateway.now ≡ self.old.gateway.now }
+        ensures loans { O.loans self.new.reply_sink ≡ O.loans self.old.reply_sink }
+        ensures counted { self.new.items ≡ saturated_next self.old.items }
+        ensures put { Puts O.output result self.old.reply_sink self.new.reply_sink (answer_of reply.now) }
+    {
+        self.count_item();
+        self.reply_sink.put(None, reply)
+    }
+}

@@ -1,0 +1,5 @@
+use Rattle.gateway_main.proofs.LifeLemmas.{closes_end_registry_sessions}
+use Rattle.gateway_main.proofs.laws.closes_end_registry_sessions.Goals as goal
+
+pub returns : goal.returns
+returns g c = closes_end_registry_sessions g.C.SqlConnection.state

@@ -1,0 +1,71 @@
+-- From an open to a crash: after `replay` or `live`, a crash leaves what a session of the gateway may leave.
+use Rattle.std.specs.Prelude.{ℕ, List, [], ◌∷◌, ◌++◌, None}
+use Rattle.sqlite.specs.State.{State, HasCleanDisk}
+use Rattle.learned_devices.specs.Devices.{Devices}
+use Rattle.device_registry.specs.Holding.{Finds, IsReturned, Opens, registry_state_of}
+use Rattle.gateway_core.specs.SessionCalls.{BeginsSession, ClosedSessionLeaves, SessionMayLeave}
+use Rattle.gateway_core.specs.Calls.{GatewayValue}
+use Rattle.gateway_core.specs.Handling.{HandlerValue, Handles}
+use Rattle.gateway_core.specs.Events.{Event, inputs_of}
+use Rattle.gateway_core.specs.Step.{Input, Answer}
+use Rattle.gateway_loop.specs.Processing.{Processes, Breaks}
+use Rattle.gateway_main.specs.Started.{Starts}
+
+-- in whatever a crash leaves, the next open finds devices; a session that found these and handled these inputs may
+-- leave them
+abbrev pub CrashEndsSession : State → ℕ → Devices → List Input → List Answer → Type 0
+CrashEndsSession now base found items answers = (trees : _) → now.may_leave trees
+    → (left : Devices) × Finds trees left × SessionMayLeave base found items answers None left
+
+-- `puts` and `breaks` say which answers were written.
+module _ {C : Type 0} (state : C → State) where
+  -- The session found the devices that were committed last, and handled the events' inputs with the answers that were
+  -- written.
+  abbrev pub RunsAreSessions : (puts : List Answer → Type 0) → Type 0
+  RunsAreSessions puts =
+      (database : C) (base : ℕ) (old new : GatewayValue C) (events : List Event)
+      → (began : Starts state database base old.handler)
+      → (done : Processes (registry_state_of state) old new events puts)
+      → HasCleanDisk (state new.handler.registry)
+      → CrashEndsSession (state new.handler.registry) base began.found (inputs_of old.rest events)
+      done.answered.answers
+
+  -- The same if a write failed. The last answer may be missing, but its input was handled.
+  abbrev pub BrokenRunsAreSessions : (breaks : List Answer → Answer → Type 0) → Type 0
+  BrokenRunsAreSessions breaks =
+      (database : C) (base : ℕ) (old new : GatewayValue C) (events : List Event) (event : Event)
+      → (began : Starts state database base old.handler)
+      → (broken : Breaks (registry_state_of state) old new events event breaks)
+      → HasCleanDisk (state new.handler.registry)
+      → CrashEndsSession (state new.handler.registry) base began.found broken.items
+      (broken.answered.answers ++ broken.answered.last ∷ [])
+
+  -- The session ends by `close`, and the next open finds what it leaves, which is what was known at its end.
+  abbrev pub ClosedRunsAreSessions : (puts : List Answer → Type 0) → Type 0
+  ClosedRunsAreSessions puts =
+      (database opened : C) (base : ℕ) (old new : GatewayValue C) (events : List Event) (next : Devices)
+      → (began : Starts state database base old.handler)
+      → (done : Processes (registry_state_of state) old new events puts)
+      → HasCleanDisk (state new.handler.registry) → IsReturned (state new.handler.registry)
+      → Opens (state new.handler.registry) (state opened) next
+      → ClosedSessionLeaves base began.found (inputs_of old.rest events) done.answered.answers next
+
+  -- the same if a write failed
+  abbrev pub BrokenClosedRunsAreSessions : (breaks : List Answer → Answer → Type 0) → Type 0
+  BrokenClosedRunsAreSessions breaks =
+      (database opened : C) (base : ℕ) (old new : GatewayValue C) (events : List Event) (event : Event) (next : Devices)
+      → (began : Starts state database base old.handler)
+      → (broken : Breaks (registry_state_of state) old new events event breaks)
+      → HasCleanDisk (state new.handler.registry) → IsReturned (state new.handler.registry)
+      → Opens (state new.handler.registry) (state opened) next
+      → ClosedSessionLeaves base began.found broken.items (broken.answered.answers ++ broken.answered.last ∷ []) next
+
+-- ---- theorems about a gateway over a registry
+
+-- on the connection that was closed and returned, an open finds what a closed session leaves
+abbrev pub ClosesEndRegistrySessions : {C : Type 0} → (C → State) → Type 0
+ClosesEndRegistrySessions {C} state =
+    (old new : HandlerValue C) (opened : C) (found next : Devices) (items : List Input) (answers : List Answer)
+    → HasCleanDisk (state new.registry) → BeginsSession (registry_state_of state) old found
+    → Handles (registry_state_of state) old items answers new → IsReturned (state new.registry)
+    → Opens (state new.registry) (state opened) next → ClosedSessionLeaves old.base found items answers next

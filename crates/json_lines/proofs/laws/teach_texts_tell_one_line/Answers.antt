@@ -1,5 +1,0 @@
-use Rattle.json_lines.proofs.TeachLines.{one_teach_line}
-use Rattle.json_lines.proofs.laws.teach_texts_tell_one_line.Goals as goal
-
-pub returns : goal.returns
-returns c = one_teach_line
