@@ -1,9 +1,9 @@
-/* What `enogate replay --base ID [--explain]` does, in plain C: a yardstick for speed, of which nothing is proved. The
- * devices lie in memory, and each line of output is one write(). `bench/same` compares what the two write.
+/* The same as `enogate replay --base ID [--explain]`, in plain C: a baseline for its speed, without any proof. The
+ * devices are in memory, and each line of output is one write(). `bench/same` compares the output of the two.
  *
- * Left out: `--db` and with it the answers `store` and `memory`, other ways to write the command line and the texts of
- * usage, `bad base` instead of `an argument is not text`, and the end after 4,000,000,000 reads. The table of devices
- * takes IDs as they come in practice; who chooses them can make it slow.
+ * Left out: `--db` and with it the answers `store` and `memory`, other ways to write the command line and the usage
+ * messages, `bad base` instead of `an argument is not text`, and the end after 4,000,000,000 reads. The table of
+ * devices is made for IDs as they come in practice; whoever chooses them can make it slow.
  */
 #define _POSIX_C_SOURCE 200809L
 #include <errno.h>
@@ -92,7 +92,7 @@ static void put_maker(int maker) {
         put_number((uint64_t)maker);
 }
 
-/* A text of a JSON string, in which a quotation mark and a backslash want a backslash before them. */
+/* A text of a JSON string, in which a quotation mark and a backslash need a backslash before them. */
 static void put_escaped(const char *word) {
     for (; *word; word++) {
         if (*word == '"' || *word == '\\')
@@ -106,7 +106,7 @@ static void stop(const char *cause) {
     exit(1);
 }
 
-/* Writes the line that begins there, behind one that is not whole yet. */
+/* Writes the line that begins there, after one that is not complete yet. */
 static void write_from(size_t begin) {
     TEXT("\n");
     for (size_t done = begin; done < length;) {
@@ -186,7 +186,7 @@ static uint32_t number(const uint8_t *bytes) {
     return (uint32_t)bytes[0] << 24 | (uint32_t)bytes[1] << 16 | (uint32_t)bytes[2] << 8 | bytes[3];
 }
 
-/* Puts the four bytes of a number, and returns the place behind them. */
+/* Puts the four bytes of a number, and returns the place after them. */
 static uint8_t *put_bytes(uint8_t *to, uint32_t number) {
     for (int shift = 24; shift >= 0; shift -= 8)
         *to++ = (uint8_t)(number >> shift);
@@ -208,7 +208,7 @@ static void percent(const char *name, unsigned value, const char *at_127) {
         scaled(name, "%", (int)value, 100, 0, 100);
 }
 
-/* What a telegram says by a profile. Telegrams of teach-in do not come here. */
+/* The readings of a telegram by a profile. Teach-in telegrams are handled elsewhere. */
 
 static void contact(uint32_t eep, const uint8_t *payload, size_t size, uint8_t status) {
     (void)eep, (void)size, (void)status;
@@ -419,7 +419,7 @@ static struct device *find(uint32_t id) {
     return &devices[at];
 }
 
-/* Learns a device, or tells that 1,000 others are learned. A learned one keeps its label. */
+/* Learns a device, or returns that 1,000 others are learned. A learned one keeps its label. */
 static bool learn(uint32_t id, uint32_t eep, int maker) {
     struct device *device = find(id);
     if (device->id == ALL) {
@@ -435,7 +435,7 @@ static bool learn(uint32_t id, uint32_t eep, int maker) {
     return true;
 }
 
-/* Frees a slot, and fills it from those behind it that would not be found any more. */
+/* Frees a slot, and fills it from those after it that would not be found any more. */
 static void forget(struct device *device) {
     size_t hole = (size_t)(device - devices);
     for (size_t at = (hole + 1) % SLOTS; devices[at].id != ALL; at = (at + 1) % SLOTS) {
@@ -466,7 +466,7 @@ static void write_teach(uint32_t id, uint32_t eep, int maker, const char *result
     write_line();
 }
 
-/* What was counted. */
+/* The counters. */
 
 static uint64_t readings, responses, taught, ignored;
 
@@ -481,7 +481,7 @@ static uint8_t header_check(const uint8_t *header) {
     return step[step[step[step[header[0]] ^ header[1]] ^ header[2]] ^ header[3]];
 }
 
-/* Sends a packet of so many bytes of data, and so many of optional data behind them. */
+/* Sends a packet of this many bytes of data, and this many of optional data after them. */
 static void send_packet(uint8_t type, const uint8_t *bytes, uint8_t size, uint8_t more) {
     uint8_t header[] = {0, size, more, type}, check = 0;
     TEXT("S 55");
@@ -510,7 +510,7 @@ static void send_telegram(uint8_t rorg, const uint8_t *payload, uint8_t size, ui
 
 /* The packets of the radio module. */
 
-/* The lines that explain packets. They do not count as what tells a line about the packet, so they return false. */
+/* The lines that explain packets. They do not count as a line about the packet, so they return false. */
 
 enum { NONE = 0 }; /* the profile of a sender of which none is known; no profile that is read has this number */
 
@@ -526,8 +526,8 @@ static struct {
     int maker;
 } heard; /* the telegram in hand */
 
-/* Whether it is a query, and what it tells. Of a 4BS query: 6 bits of FUNC, 7 of TYPE and 11 of the maker. Of a UTE
- * query: behind two bytes 11 bits of the maker and the profile, each with the low byte first. */
+/* Whether it is a query, and its contents. Of a 4BS query: 6 bits of FUNC, 7 of TYPE and 11 of the maker. Of a UTE
+ * query: after two bytes 11 bits of the maker and the profile, each with the low byte first. */
 static void hear_query(void) {
     const uint8_t *query = heard.data + 1;
     heard.asks = true;
@@ -553,7 +553,7 @@ static void put_dbm(int dbm) {
     }
 }
 
-/* Explains a telegram. If it is no query, what is known of its sender is told. */
+/* Explains a telegram. If it is no query, the stored data of its sender is shown. */
 static bool explain(const char *why, uint32_t eep, int maker) {
     if (!explains)
         return false;
@@ -599,7 +599,7 @@ static bool explain(const char *why, uint32_t eep, int maker) {
     return false;
 }
 
-/* Explains a telegram of a sender of which nothing is known. */
+/* Explains a telegram of an unknown sender. */
 static bool explain_stranger(const char *why) {
     return explain(why, NONE, UNKNOWN);
 }
@@ -626,7 +626,7 @@ static const char *unread(const struct device *device, const uint8_t *payload, s
     return of_length ? "other_message" : "wrong_length";
 }
 
-/* Tells what a telegram of a learned device says, if its profile can read it. */
+/* Reports the readings of a telegram of a learned device, if its profile can read it. */
 static bool reading(const struct device *device, const uint8_t *data, size_t size, int dbm) {
     if (data[0] != device->eep >> 16)
         return explain("wrong_kind", device->eep, device->maker);
@@ -651,15 +651,15 @@ static bool reading(const struct device *device, const uint8_t *data, size_t siz
     return true;
 }
 
-/* Teaching in. What tells a line about the packet returns true. */
+/* Teaching in. A function that writes a line about the packet returns true. */
 
 enum mode { CLOSED, ON, ANSWER, AS };
 
 static enum mode mode;
 static uint32_t wanted_eep; /* of the mode AS */
 
-/* What comes of a telegram: its word in a teach line, the last byte of the reply to a 4BS query, of which DELETED and
- * GENERAL never come, and the code in the reply to a UTE query. */
+/* The outcome of a telegram: its word in a teach line, the last byte of the reply to a 4BS query (DELETED and GENERAL
+ * do not occur there), and the code in the reply to a UTE query. */
 
 enum result { ACCEPTED, DELETED, UNSUPPORTED, FULL, GENERAL };
 
@@ -689,7 +689,7 @@ static enum result forget_sender(uint32_t id) {
     return DELETED;
 }
 
-/* Tells what came of a telegram. The mode AS ends with the first one that is accepted. */
+/* Reports the outcome of a telegram. The mode AS ends with the first one that is accepted. */
 static bool finish(uint32_t id, uint32_t eep, int maker, enum result result) {
     if (result == ACCEPTED)
         explain(RESULTS[result].word, eep, maker);
@@ -707,14 +707,14 @@ static bool teach(uint32_t id, uint32_t eep, int maker) {
     return finish(id, eep, maker, learn_sender(id, eep, maker));
 }
 
-/* The same, if the mode takes telegrams of this RORG. Else this is why it does not. */
+/* The same, if the mode learns from telegrams of this RORG. Otherwise this is why it does not. */
 static bool teach_wanted(uint8_t rorg, uint32_t id, int maker, const char *why) {
     if (mode == AS && wanted_eep >> 16 == rorg)
         return teach(id, wanted_eep, maker);
     return explain_stranger(why);
 }
 
-/* Why a telegram of teach-in is not taken. */
+/* Why a teach-in telegram is ignored. */
 static const char *untaken(void) {
     return mode == CLOSED ? "window_closed" : "other_mode";
 }
@@ -745,7 +745,7 @@ static bool universal_query(uint32_t id, const uint8_t *query) {
     return finish(id, eep, maker, result);
 }
 
-/* A 4BS telegram of teach-in: a reply to another gateway, a query, or one without a profile. */
+/* A 4BS teach-in telegram: a reply to another gateway, a query, or one without a profile. */
 static bool four_byte_teach(uint32_t id, const uint8_t *payload) {
     if (heard.asks)
         return four_byte_query(id, payload);
@@ -787,7 +787,7 @@ static bool is_telegram(const uint8_t *data, size_t size) {
     }
 }
 
-/* Tells a telegram. The first seven bytes of the optional data, where there are so many, are the number of
+/* Reports a telegram. The first seven bytes of the optional data, if there are that many, are the number of
  * subtelegrams, the destination, the signal strength and the security. */
 static bool telegram(const uint8_t *data, size_t size, const uint8_t *optional, size_t more) {
     if (!is_telegram(data, size))
@@ -916,7 +916,7 @@ static void search(void) {
     }
 }
 
-/* Room for a piece behind the held bytes. */
+/* Memory for a chunk after the held bytes. */
 static uint8_t *room(void) {
     if (end + PIECE >= HELD) {
         memmove(held, held + start, end - start);
@@ -944,7 +944,7 @@ static void make_digits(void) {
         digit['A' + value - 10] = digit['a' + value - 10] = (int8_t)value;
 }
 
-/* Reads so many hexadecimal digits behind what was read before. */
+/* Reads this many hexadecimal digits after those that were read before. */
 static bool digits(const char *from, int count, uint32_t *value) {
     for (int k = 0; k < count; k++) {
         int one = digit[(uint8_t)from[k]];
@@ -986,7 +986,7 @@ static void remove_device(uint32_t id) {
     forget(device);
 }
 
-/* Gives a learned device a label: so many bytes, of a text that `is_label_text`. */
+/* Gives a learned device a label: this many bytes, of a text that `is_label_text`. */
 static void relabel(uint32_t id, const char *label, size_t size) {
     struct device *device = find(id);
     if (id == ALL || size > LABEL) {
@@ -1069,7 +1069,7 @@ static void ask_base(void) {
     write_ok();
 }
 
-/* Sends a telegram to a learned device, if it is one whose profile is told by this function. */
+/* Sends a telegram to a learned device, if this function accepts its profile. */
 static void to_device(uint32_t id, bool in_range, void (*tell)(uint32_t, const uint8_t *, size_t, uint8_t),
                       const uint8_t *payload, uint8_t size) {
     const struct device *device = find(id);
@@ -1116,13 +1116,13 @@ static void dim_all(uint32_t offset, uint32_t value, uint32_t ramp) {
            PAYLOAD(2, (uint8_t)value, (uint8_t)ramp, value == 0 ? 0x0C : 0x0D));
 }
 
-/* What stands in an order. */
+/* The values in an order. */
 
 struct words {
     uint32_t id, eep, numbers[3];
 };
 
-/* Reads a number of one to five digits, and returns the place behind it, or NULL. */
+/* Reads a number of one to five digits, and returns the place after it, or NULL. */
 static const char *decimal(const char *from, const char *to, uint32_t *value) {
     const char *at = from;
     for (*value = 0; at < to && '0' <= *at && *at <= '9'; at++) {
@@ -1163,8 +1163,8 @@ static bool has_shape(const char *line, size_t size, const char *shape, struct w
     return line == to;
 }
 
-/* Whether a text of one byte or more is a label, but for its length: characters from space to `~`, of which neither the
- * first nor the last is a space. */
+/* Whether a text of one byte or more is a label, except for its length: characters from space to `~`, neither the first
+ * nor the last of which is a space. */
 static bool is_label_text(const char *from, const char *to) {
     if (from == to || *from == ' ' || to[-1] == ' ')
         return false;
@@ -1174,7 +1174,7 @@ static bool is_label_text(const char *from, const char *to) {
     return true;
 }
 
-/* Reads a line as `label`, an ID and, behind a space, a text, and answers it if it is that. */
+/* Reads a line as `label`, an ID and, after a space, a text, and answers it if it is that. */
 static bool label_order(const char *line, size_t size) {
     static const size_t FRONT = sizeof "label 01800ABC" - 1;
     struct words words = {0};
@@ -1238,7 +1238,7 @@ static void order(const char *line, size_t size) {
 #undef IS
 }
 
-/* Takes the bytes of a piece behind the held ones, or tells that the line is none. */
+/* Appends the chunk that a line spells to the held bytes. Returns false if it spells none. */
 static bool piece(const char *line, size_t size) {
     if (size < 2 || size % 2 != 0 || line[0] != 'S' || line[1] != ' ')
         return false;

@@ -1,1 +1,1 @@
-"""What scripts/mutants is made of: it tries the mutants of each crate, many in one check."""
+"""The modules of scripts/mutants: it tries the mutants of each crate, many in one check."""

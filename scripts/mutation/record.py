@@ -1,4 +1,4 @@
-"""The record of refusals: which mutants were refused, with a digest of everything that each result depends on."""
+"""The record of the refused mutants, with a digest of everything that each result depends on."""
 import hashlib
 import os
 import re
@@ -8,7 +8,7 @@ from mutation.sources import functions_of
 
 FOLDER = "tests/refusals"
 COUNTS = "tests/mutant-counts"
-# What a check reads of a crate.
+# The files that a check reads of a crate.
 PARTS = ("src", "specs", "proofs", "c")
 # The proof files of one function, in a folder of its name. The proofs of other functions do not read these files.
 OF_ONE_FUNCTION = ("Answers.antt", "Invariants.antt", "Proof.antt")
@@ -18,7 +18,8 @@ ELSEWHERE = "-"
 
 
 class Digests(NamedTuple):
-    """Digests of what a mutant's refusal depends on: `own` if its own function is refused, otherwise `whole`."""
+    """Digests of everything that the refusal of a mutant depends on: `own` if its own function is refused, otherwise
+    `whole`."""
 
     own: str
     whole: str

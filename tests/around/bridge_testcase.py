@@ -22,8 +22,8 @@ ONLINE, OFFLINE = f"{OWN}/status online", f"{OWN}/status offline"
 # The client as which the bridge reads what the broker retains.
 READER = "enogate-hall.reader"
 RESPONSE = f'{{"code":0,"data":"{BASE}","name":"OK","type":"response"}}'
-# What a failure shows: the first lines of a difference, the last lines of each journal and of what was published, and
-# of all these the first characters.
+# The parts of a failure's report: the first lines of a difference, the last lines of each journal and of what was
+# published, each limited to its first characters.
 MOST_DIFFERENT, MOST, WIDEST = 60, 12, 240
 # These are not compared: they depend on the time, or on how often the bridge has asked.
 VARYING = ("/last_seen", "/counters")
@@ -94,7 +94,7 @@ class BridgeTest(unittest.TestCase):
         self.assert_published(ONLINE)
 
     def context(self) -> str:
-        """What a failure shows besides the difference."""
+        """The report of a failure, besides the difference."""
         parts = {"what was published": self.heard.messages(), "the gateway": lines_of(self.bridge.lines_path)}
         parts |= {path.name: lines_of(path) for path in sorted(self.work.glob("enogate*.journal"))}
         return "\n".join(line for name, lines in parts.items() if lines
@@ -135,7 +135,7 @@ class BridgeTest(unittest.TestCase):
             self.assert_seen(journal[-MOST:], [wanted])
 
     def published(self) -> list[str]:
-        """What was published besides lines and counters, sorted."""
+        """The messages that were published besides lines and counters, sorted."""
         others = (f"{OWN}/lines ", f"{OWN}/counters ")
         return sorted(message for message in self.heard.messages() if not message.startswith(others))
 
@@ -146,7 +146,7 @@ class BridgeTest(unittest.TestCase):
         return of_type([message.removeprefix(start) for message in messages], kind)
 
     def retained(self) -> dict[str, str]:
-        """What the broker retains, by topic, without what varies."""
+        """The messages that the broker retains, by topic, without the parts that vary."""
         return {topic: text for topic, text in self.broker.retained().items() if not topic.endswith(VARYING)}
 
     def pass_a_cycle(self) -> None:
@@ -182,15 +182,15 @@ class GatewayTest(BridgeTest):
         self.print_lines(lambda: self.stick.bring(device, *telegrams), len(telegrams), "reading")
 
     def print_lines(self, act: Callable[[], None], count: int, kind: str = "") -> None:
-        """Does something, and waits until the gateway has printed so many lines of this type, or more."""
+        """Does something, and waits until the gateway has printed this many lines of this type, or more."""
         before = len(of_type(self.gateway.lines(), kind))
         act()
         printed = wait_for(lambda: len(of_type(self.gateway.lines(), kind)) - before, lambda printed: printed >= count)
         self.assert_seen(f"{min(printed, count)} new lines of the gateway", f"{count} new lines of the gateway")
 
     def settle(self) -> None:
-        """Waits until the bridge has handled all that the gateway has printed (an order that is none is answered), and
-        has compared what the broker retains."""
+        """Waits until the bridge has handled everything that the gateway has printed (an invalid order is answered),
+        and has compared the retained messages."""
         before = len(self.published_lines("error"))
         self.gateway.order("settle")
         self.assert_soon(lambda: len(self.published_lines("error")) - before, 1)

@@ -101,7 +101,7 @@ class Broker(Program):
         return bool(lines) and f" as {name} " in lines[-1]
 
     def retained(self) -> dict[str, str]:
-        """What the broker retains, by topic."""
+        """The messages that the broker retains, by topic."""
         filters = [word for topic in ("enogate/#", "homeassistant/#", END) for word in ("-t", topic)]
         words = self.words("sub", "--retained-only", "-W", "10", "-F", "%t %x", *filters)
         found = {}
@@ -123,7 +123,7 @@ def message(line: str) -> tuple[str, str]:
 
 
 class Listener(Program):
-    """What is published while it listens, without what was retained before."""
+    """The messages that are published while it listens, without those retained before."""
 
     def __init__(self, broker: Broker, work: pathlib.Path):
         super().__init__(work / "listener.journal")

@@ -26,14 +26,14 @@ KEYS = {"class", "state", "unit", "on", "off", "options", "types", "diagnostic",
 
 # The units of values that only grow: meters and actuators count them. All other values go up and down.
 GROWING = {"Ws", "Wh", "kWh", "m3"}
-# The words of switches that are no press and no release: EB tells a press beside its rocker.
+# The words of switches that are neither a press nor a release: EB reports a press beside its rocker.
 NO_EVENT = {("EB", "pressed"), ("buttons", "none")}
 # D2-01 of EnOcean Equipment Profiles 2.6: the types that dim, and those with two channels. The others have one.
 DIMMING = {"02", "03", "04", "05", "09"}
 TWO_CHANNELS = {"10", "11", "12"}
 # The profiles of devices that send at intervals.
 CYCLIC = {"D5-00", "A5-02", "A5-04", "A5-06", "A5-07", "A5-08", "A5-09", "A5-10"}
-# The reading by which an actuator is driven, and the number in a reading of a channel or a tariff.
+# The reading that drives an actuator, and the number in a reading of a channel or a tariff.
 DRIVEN = {"D2-01": "OV", "D2-05": "POS"}
 NUMBERED = {"A5-12": "TI", "D2-01": "IO", "D2-05": "CHN"}
 
@@ -82,7 +82,7 @@ def component(reading):
 
 def numbers(reading):
     """How the numbers of the entities of a reading are written in a line. What an actuator measures has no entity
-    before it is told."""
+    before it is reported."""
     eep, name, _unit = reading
     if eep[:5] not in NUMBERED:
         return "-"
@@ -91,7 +91,7 @@ def numbers(reading):
 
 
 def faults_of_words(entity, more, reading, words):
-    """What is wrong of the words that a line has for those of its reading."""
+    """The faults in the words that a line has for those of its reading."""
     own = {more[key] for key in ("on", "off") if key in more}
     own |= set("|".join(more[key] for key in ("options", "types") if key in more).split("|")) - {""}
     if entity == "event":
@@ -106,7 +106,7 @@ def faults_of_words(entity, more, reading, words):
 
 
 def faults_of_sensor(more, unit):
-    """What is wrong of a sensor for values of this unit."""
+    """The faults of a sensor for values of this unit."""
     written = WRITTEN.get(unit, unit)
     units, states = SENSORS.get(more.get("class"), ({written}, MEASURED | COUNTED))
     state = more.get("state")
@@ -121,7 +121,7 @@ def faults_of_sensor(more, unit):
 
 
 def faults_of(line, reading, words):
-    """What is wrong of a line for this reading."""
+    """The faults of a line for this reading."""
     _profiles, _name, unit, topic, by, entity, title, *more = line
     more = dict(word.partition("=")[::2] for word in more)
     if more.get("class") not in CLASSES[entity]:

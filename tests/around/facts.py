@@ -1,4 +1,4 @@
-"""What a text says about the program, one fact per line: the manual page and the guide must say the same.
+"""The facts in a text about the program, one per line: the manual page and the guide must state the same.
 
     tests/around/facts.py contrib/enogate.1
     tests/around/facts.py docs/guide
@@ -70,7 +70,7 @@ def of_guide(text):
 
 
 def opened(said):
-    """What is opened, in the order in which this text names it."""
+    """The files that are opened, in the order in which this text names them."""
     return re.findall(r"the (database|serial port|desk|output)", said.replace("\n", " "))
 
 

@@ -1,4 +1,4 @@
-"""Tells the functions of these Python files that are longer than 40 lines, and files with a line that is too long.
+"""Prints the functions of these Python files that are longer than 40 lines, and files with a line that is too long.
 
     tests/around/functions.py FILE..
 """

@@ -1,6 +1,6 @@
 """A stand-in for a gateway with very many devices, which are actuators with two channels (D2-01-12). It answers `list`,
 `status` and `base` at a desk as a gateway does, any other order with ok, and reads the desk as fast as one: 256 bytes,
-ten times a second. Lines that are there already are kept; with --told it first writes two readings of each device.
+ten times a second. Existing lines are kept; with --told it first writes two readings of each device.
 
     tests/around/gateway.py DESK LINES COUNT [--told]
 """

@@ -1,5 +1,5 @@
-"""Hangs a terminal up, as the kernel does where a stick is pulled out: from then on each read of it answers 0 bytes at
-once. It wants the rights of root.
+"""Hangs a terminal up, as the kernel does if a stick is pulled out: from then on each read of it returns 0 bytes at
+once. It needs the rights of root.
 
     tests/around/hang_up.py TERMINAL
 """

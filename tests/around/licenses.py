@@ -14,7 +14,7 @@ fields = [dict(re.findall(r"^([A-Z]\w+):((?:.*\n?)(?:[ \t].*\n?)*)", text + "\n"
 
 
 def used(crate):
-    """The crates of the toolchain that a crate names, but for those that are its own modules."""
+    """The crates of the toolchain that a crate names, except for those that are its own modules."""
     sources = [path for path in (kit / crate / "src").rglob("*.rt") if "tests" not in path.parts]
     own = {path.stem for path in sources} | {path.parent.name for path in sources}
     names = {name for path in sources for name in re.findall(r"^\s*(?:pub )?use (\w+)(?:::|;)", path.read_text(), re.M)}

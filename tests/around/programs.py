@@ -16,7 +16,7 @@ Seen = TypeVar("Seen")
 
 
 def wait_for(see: Callable[[], Seen], is_so: Callable[[Seen], object]) -> Seen:
-    """What `see` returns once it is so, or what it returns after ten seconds."""
+    """The result of `see` once it is true, or after ten seconds."""
     end = time.monotonic() + WITHIN
     while not is_so(seen := see()) and time.monotonic() < end:
         time.sleep(PAUSE)

@@ -6,13 +6,13 @@ import select
 import termios
 import tty
 
-# What the test itself sends to the stick. No packet has these bytes.
+# The bytes that the test itself sends to the stick. No packet has them.
 MARK = b"all that was sent before"
 
 
 class Stick:
-    """A stick that is plugged in until `unplug` is called. A read of it that gets no byte returns after so many tenths
-    of a second."""
+    """A stick that is plugged in until `unplug` is called. A read of it that gets no byte returns after this many
+    tenths of a second."""
 
     def __init__(self, tenths: int = 1):
         self.module, self.line = os.openpty()
@@ -47,7 +47,8 @@ class Stick:
             self.sent += os.read(self.module, 4096)
 
     def collect_all(self, seconds: float) -> None:
-        """Adds to `sent` all that was sent to the stick before. Bytes arrive in their order, within so many seconds."""
+        """Adds to `sent` everything that was sent to the stick before. Bytes arrive in their order, within this many
+        seconds."""
         os.write(self.line, MARK)
         while not self.sent.endswith(MARK):
             before = len(self.sent)

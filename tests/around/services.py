@@ -92,7 +92,7 @@ class Gateway(Unit):
             desk.writelines(f"{order}\n" for order in orders)
 
     def lines(self) -> list[str]:
-        """What it has printed, since its lines were rotated."""
+        """The text that it has printed since its lines were rotated."""
         return lines_of(self.lines_path)
 
     def size(self) -> int:

@@ -1,8 +1,8 @@
 """What Home Assistant is shown, from the messages of its discovery (TOPIC PAYLOAD in each line of standard input): the
-devices, their entities and their device triggers. What all of them have alike is checked here and not printed. A
-template is replaced by what it makes of 0, 50, 100 and unknown, or of the members of JSON below, by the engine that
-Home Assistant has. SECONDS is the time after which cyclic readings expire, if they do: an entity that has it is printed
-with the word `expires`.
+devices, their entities and their device triggers. Parts that all of them share are checked here and not printed. A
+template is replaced by its result for 0, 50, 100 and unknown, or for the members of JSON below, with the template
+language of Home Assistant. SECONDS is the time after which cyclic readings expire, if they do: an entity that has it is
+printed with the word `expires`.
 
     tests/around/shown.py NAME [SECONDS] <messages
 """
@@ -54,7 +54,7 @@ def fact(key, value):
 
 
 class Shown:
-    """What was read of the messages of a gateway."""
+    """The contents of the messages of a gateway."""
 
     def __init__(self, name, seconds):
         self.name, self.seconds = name, seconds

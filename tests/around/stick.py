@@ -1,7 +1,7 @@
-"""A stick with a radio module, as the tests play it: a pseudo-terminal, set as the guide sets a stick. What it brings
-stands in a file that grows, in lines of hexadecimal digits; what the gateway sends is added to another, without lines.
-With ANSWER it answers the question for its base ID by these digits, keeps nothing of the question, and does not have
-the terminal open itself. It ends by a signal, and that pulls the stick out.
+"""A simulated stick with a radio module: a pseudo-terminal, configured as the guide configures a stick. It brings the
+contents of a file that grows, in lines of hexadecimal digits; what the gateway sends is added to another, without
+lines. With ANSWER it answers the query for its base ID with these digits, keeps nothing of the query, and does not have
+the terminal open itself. A signal ends it, and that pulls the stick out.
 
     tests/around/stick.py LINK BROUGHT SENT [ANSWER]
 """

@@ -70,7 +70,7 @@ class TerminalTest(LiveTest):
         self.plug_in()
 
     def plug_in(self, tenths: int = 1) -> None:
-        """A new stick is the serial line. A read of it waits for so many tenths of a second."""
+        """A new stick is the serial line. A read of it waits for this many tenths of a second."""
         self.stick = self.enterContext(Stick(tenths))
         self.line = self.stick.path
         self.wanted_sent = b""

@@ -8,7 +8,7 @@ from bridge_testcase import MAY_SKIP, OWN, PYTHON, has_module
 from kinds import ADDED, END_OF_LIST, KINDS, KindsTest
 from services import HERE
 
-# The teach-in of a device with universal teach-in, the reply of the gateway, and its line.
+# The teach-in of a UTE device, the reply of the gateway, and its line.
 TEACH_IN = bytes.fromhex("55000D0701FDD4A00146001201D201800ABC0001FFFFFFFF2D008A")
 REPLY = "55000d0701fdd4910146001201d2ff800000000301800abcff00f3"
 LEARNED = '{"eep":"D2-01-12","id":"01800ABC","maker":70,"result":"accepted","type":"teach"}'
@@ -37,7 +37,7 @@ class Devices(KindsTest):
         self.start_bridge()
         self.learn()
         self.bring_all()
-        # the bridge asks for the labels some seconds after its first question
+        # the bridge asks for the labels a few seconds after its first query
         self.assert_lines(LABELLED, END_OF_LIST)
         self.settle()
 

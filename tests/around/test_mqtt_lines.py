@@ -10,7 +10,7 @@ TORN = '{"dbm":-45,"eep":"D5-0'
 
 
 class Lines(GatewayTest):
-    """A gateway whose device was heard before the bridge runs for the first time, and a broker that retains an order.
+    """A gateway that received its device before the bridge runs for the first time, and a broker that retains an order.
     While the bridge runs, other programs change the file of lines."""
 
     def setUp(self):
@@ -46,7 +46,8 @@ class Lines(GatewayTest):
                 f"enogate-mqtt: invalid line ignored: b'{TORN}'", f"enogate-mqtt: {self.reason_of_a_cut()}"])
 
     def first_run(self) -> None:
-        """What the device has said is published, but none of its lines. The name of the device is asked for."""
+        """The readings of the device are published, but none of its lines. The bridge asks for the name of the
+        device."""
         self.assert_lines('{"eep":"A5-02-05","id":"01800A02","label":"","maker":null,"type":"device"}',
                           '{"count":1,"type":"list"}')
         self.assert_published(f"{DEVICE}/TMP 20.0784")

@@ -31,7 +31,7 @@ class Stops(KindsTest):
             self.assert_published(ONLINE)
 
     def stop_and_restart(self) -> None:
-        """Meanwhile lines are rotated. A press of then is not published as an event."""
+        """Meanwhile lines are rotated. An earlier press is not published as an event."""
         self.bridge.end()
         with self.subTest("it says that it is away"):
             self.assert_published(OFFLINE)
@@ -65,7 +65,7 @@ class Stops(KindsTest):
             self.assert_seen(self.published_lines("reading"), [])
 
     def test_a_broker_that_was_killed_gets_everything_again(self):
-        """Meanwhile two devices are heard, and the bridge is started again. Its second start has no connection."""
+        """Meanwhile two devices send, and the bridge is started again. Its second start has no connection."""
         before = self.retained()
         self.kill_broker()
         self.bring("01800A01", "D5 08")

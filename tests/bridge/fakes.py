@@ -1,4 +1,4 @@
-"""What the unit tests of the bridge have in place of the clock, the broker and the files of a gateway."""
+"""Replacements of the clock, the broker and the files of a gateway, for the unit tests of the bridge."""
 from __future__ import annotations
 
 import json
@@ -21,7 +21,7 @@ OK = {"type": "ok"}
 
 
 class Clock:
-    """A clock that stands still until it is set."""
+    """A clock that does not move until it is set."""
 
     def __init__(self, now: float = 1000.0):
         self.now = now

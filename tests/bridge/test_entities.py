@@ -294,7 +294,7 @@ class Events(unittest.TestCase):
 
 
 class Golden(unittest.TestCase):
-    """Rows of each kind as EnOcean Equipment Profiles 2.6 and Home Assistant's documents want them: the place of the
+    """Rows of each kind as EnOcean Equipment Profiles 2.6 and Home Assistant's documents require them: the place of the
     entity, the count of its numbers, its kind, and its device class, state class and unit."""
 
     def test_rows(self):

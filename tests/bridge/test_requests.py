@@ -18,7 +18,7 @@ class Asking(Case):
         self.requests = Requests(Desk(str(self.site.desk), self.clock), self.clock, 120)
 
     def turn(self, seconds=0.0, needs_list=False):
-        """The orders that are given after so many seconds."""
+        """The orders that are given after this many seconds."""
         self.clock.now += seconds
         before = len(self.site.orders())
         self.requests.turn(needs_list)
@@ -29,7 +29,7 @@ class Asking(Case):
         self.assertEqual(self.turn(1), [])
 
     def times(self, order, seconds):
-        """When this order is given within so many seconds, from now on."""
+        """When this order is given within this many seconds, from now on."""
         return [second for second in range(seconds) if order in self.turn(1)]
 
     def test_the_list_is_asked_for_with_growing_pauses(self):

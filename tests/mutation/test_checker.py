@@ -1,4 +1,4 @@
-"""Unit tests of scripts/mutation/checker.py, with a shell script in the place of the prover."""
+"""Unit tests of scripts/mutation/checker.py, with a shell script instead of the prover."""
 import os
 import types
 import unittest

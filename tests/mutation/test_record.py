@@ -233,7 +233,7 @@ class Digests(OfDigests):
             self.assertEqual(self.same_and_others(*changes), [(False, False), (True, False)])
 
     def test_after_a_function_no_text_goes_on(self):
-        # (the backslash of a raw text is none)
+        # (the backslash of a raw text is no escape)
         text = 'const A: &str = r"\\";\nfn most() {\n}\n// Two.\n'
         self.write("src/text.rt", text)
         self.assertEqual(self.same_and_others(("src/text.rt", text.replace("Two", "2"))), [(True, False)])

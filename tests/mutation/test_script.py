@@ -1,4 +1,4 @@
-"""Unit tests of scripts/mutants itself, with a run and crates that are made up."""
+"""Unit tests of scripts/mutants itself, with a fake run and generated crates."""
 import contextlib
 import importlib.machinery
 import importlib.util
@@ -19,7 +19,7 @@ def loaded():
 
 
 class FakeRun:
-    """What scripts/mutants asks of a run."""
+    """The functions that scripts/mutants needs of a run."""
 
     untried, mutants = 5, "all"
 

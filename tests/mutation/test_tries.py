@@ -163,7 +163,7 @@ class Crate(InFolder):
         self.assertEqual(self.results(), want)
 
     def test_a_batch_whose_check_ends_early_decides_nothing(self):
-        # (the lines that a killed check printed say `not proved` of a mutant that is proved alone)
+        # (the lines that a killed check printed say `not proved` of a mutant that is proved by itself)
         def killed_in_batches(texts, only=(), check=self.checker.check):
             found = check(texts, only)
             lines = found.printed.replace("Pair::sum: proved", "Pair::sum: not proved")

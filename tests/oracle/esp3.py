@@ -13,7 +13,7 @@ CHECKS = list(checks_of_bytes())
 
 
 def check8(data):
-    """The check byte: CRC-8 with the polynomial x^8 + x^2 + x + 1, from 0."""
+    """CRC-8 with the polynomial x^8 + x^2 + x + 1, from 0."""
     check = 0
     for byte in data:
         check = CHECKS[check ^ byte]
@@ -64,5 +64,5 @@ def sent(rorg, payload, sender, destination=ALL):
 
 
 def pieces(stream, size=99):
-    """The lines `S ` of a script that bring these bytes, so many at a time. A line takes 99 bytes at most."""
+    """The lines `S ` of a script that bring these bytes, this many at a time. A line takes 99 bytes at most."""
     return "".join(f"S {stream[k : k + size].hex().upper()}\n" for k in range(0, len(stream), size))

@@ -45,14 +45,14 @@ class Telegram:
 
 
 class Gateway:
-    """What the gateway has to write for each line of a script."""
+    """The lines that the gateway must write for each line of a script."""
 
     def __init__(self):
         self.devices, self.labels, self.mode, self.held = {}, {}, "closed", b""
         self.counts = dict.fromkeys(("ignored", "readings", "refused", "responses", "teach"), 0)
 
     def answer(self, text):
-        """What is written for a line, which is given without its end."""
+        """The lines for one line, which is given without its end."""
         return without_explanations(self.explained(text))
 
     def explained(self, text):

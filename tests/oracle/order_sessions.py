@@ -1,7 +1,7 @@
 """The sessions on the orders. `orders` has every order at both ends of its ranges, and past them, and lines that one
 letter, digit, space or word keeps from being an order; `orders-to-devices` each order to a device, against devices of
 every profile, and unknown ones; `orders-to-all` the orders that send and need no device; `label-texts` labels with
-every character, and texts that are none; `full-registry` a thousand devices, and one more."""
+every character, and texts that are no labels; `full-registry` a thousand devices, and one more."""
 import itertools
 
 from oracle.esp3 import ALL, radio, sent, telegram
@@ -86,7 +86,7 @@ def numbers(row):
         row.try_each(with_word(words_for(order), place, number) for number in numbers_near(GREATEST[word]))
 
 
-# What is no number, no ID and no profile: of another length, with signs, in another base or another script.
+# Texts that are no number, no ID and no profile: of another length, with signs, in another base or another script.
 NO_NUMBERS = ["", "00", "007", "+1", "-1", "1.0", "100000"]
 NO_NUMBERS += ["1e1", "000000", "01", "00001", "000001", "+0", "-0", "+", "-", ".1", "1.", "1,0", "1E1", "0x1", "0b1"]
 NO_NUMBERS += ["1_0", "1'0", "1h", "A", "a", "1+1", "000100", "999999", "4294967296", "4294967297"]
@@ -154,7 +154,7 @@ def spaces(row):
 
 
 def near(word):
-    """Words of which one letter is another, in the other case, missing or more than in this one."""
+    """Words that differ from this one in one letter: another one, the other case, one missing or one more."""
     for place, letter in enumerate(word):
         yield word[:place] + chr(ord("a") + (ord(letter) - ord("a") + 1) % 26) + word[place + 1 :]
     yield from (word.upper(), word.capitalize(), word[:-1] + word[-1].upper(), word[:-1], word[1:], word + "s")
@@ -297,7 +297,7 @@ def in_each_mode(row, sending):
 
 
 def answers(row):
-    """What devices answer to orders: the answers are addressed to the gateway. And orders amid a packet."""
+    """The answers of devices to orders, which are addressed to the gateway. And orders amid a packet."""
     row.add(DEVICES)
     for text, sender, payload in (
         (f"switch {SWITCH:08X} 0 on", SWITCH, "0460E4"),
@@ -314,7 +314,7 @@ def answers(row):
         for cut in (5, len(stream) - 1):
             row.say("S " + stream[:cut].hex(), text, "S " + stream[cut:].hex())
         row.say("status")
-    # What the gateway itself sends is for another device, if it comes back.
+    # Packets that the gateway itself sends are for another device, if they come back.
     row.say("S " + sent(0xD2, bytes.fromhex("010064"), BASE, SWITCH).hex(), "status")
     row.clear()
 
@@ -352,7 +352,8 @@ def orders_to_all():
     # Known devices do not matter, not even those with the gateway's own IDs.
     row.add({BASE: "D2-01-12", BASE + 5: "D2-05-00", **DEVICES})
     row.say(*(said(order) for order in TO_ALL), "status", "list")
-    # What the module answers to `base`, also amid a packet of it, and what the gateway sends, if it comes back.
+    # The answer of the module to `base`, also amid a packet of it, and the packets that the gateway sends, if they come
+    # back.
     for response in ("5500010002650000", "5500050002CE00FF800000DA"):
         row.say("base", "S " + response, "S " + response[:12], "base", "S " + response[12:], "status")
     for order in TO_ALL:
@@ -362,8 +363,8 @@ def orders_to_all():
     return row
 
 
-# Texts that are labels, and texts that are none: with a space or a tab within them or at their ends, or with a letter
-# that is no character of a label.
+# Texts that are labels, and texts that are no labels: with a space or a tab within them or at their ends, or with a
+# letter that is no character of a label.
 LABELS = ["x", "Hall", 'Door "A"', '"', '""', "\\", "\\\\", '\\"', "\\n", "\\u0041", "a b", "a  b", "a   b", "/"]
 LABELS += ["label", "01800ABC", "FFFFFFFF", "D5-00-01", "on", "null", "0", "-", "{}", '{"label":""}', "S 00", "a:b,c"]
 NO_LABELS = ["", " ", "  ", " x", "x ", " x ", "  x", "x  ", " Hall", 'Door "A" ', "\t", "\tx", "x\t", "a\tb", "a\rb"]
@@ -381,7 +382,7 @@ def all_labels(row):
     for text in dict.fromkeys(texts):
         row.say(f"label {CONTACT:08X} {text}", "list")
     row.say(*(f"label {CONTACT:08X} {text}" for text in NO_LABELS), "list")
-    # a line of 200 bytes has room for a text of 185
+    # a line of 200 bytes holds a text of 185
     row.say(*(f"label {CONTACT:08X} {length * 'x'}" for length in (33, 34, 64, 184, 185, 186)), "list")
     for end in ("\r", "x\r", " \r", " x\r", " x\r\r", " x \r"):
         row.say(f"label {CONTACT:08X}{end}", "list")

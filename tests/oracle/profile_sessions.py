@@ -1,6 +1,6 @@
 """The sessions on profiles: `switches`, `four-byte` and `variable-length` have telegrams of every profile;
-`other-profiles` an `add` of profiles that are next to those of the tables, which are refused; `two-hundred-contacts`
-devices that are learned, and then heard."""
+`other-profiles` an `add` of profiles that are next to those of the tables, which are rejected; `two-hundred-contacts`
+devices that are learned, and then send."""
 import itertools
 
 from oracle.profiles import BLIND, FOUR_BYTE, IN_TABLES, MESSAGES, SWITCHES, eep_of, with_fields
@@ -117,7 +117,7 @@ def all_other_profiles():
 
 
 def two_hundred_contacts():
-    """Each is learned, and then heard twice."""
+    """Each is learned, and then sends twice."""
     row, senders = Session(), range(0x01800A00, 0x01800AC8)
     row.add(dict.fromkeys(senders, "D5-00-01"))
     for sender in senders:

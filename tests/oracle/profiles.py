@@ -206,7 +206,7 @@ def with_fields(size, fields, fill=0):
 
 
 def readings(rows, payload, status):
-    """What the rows say, in their order."""
+    """The readings of the rows, in their order."""
     bits = bits_of(payload)
     found = []
     for name, offset, length, condition, kind in rows:

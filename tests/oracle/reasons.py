@@ -48,8 +48,8 @@ def of_packet(kind, data):
 
 
 def of_telegram(heard, mode, known, taught):
-    """Why, for a telegram that came in this mode. `known` has the profile and the maker that were known of its sender;
-    it is None if that was not learned. `taught` has the profile, the maker and the result of its teach line, if any."""
+    """The reason, for a telegram that came in this mode. `known` has the stored profile and maker of its sender; it is
+    None if the sender was not learned. `taught` has the profile, the maker and the result of its teach line, if any."""
     kind, _ = kind_of(heard.rorg, heard.payload, known is not None)
     is_data = kind in DATA_KINDS
     return first(

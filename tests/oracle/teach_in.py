@@ -1,8 +1,8 @@
 """Learning by telegram: the kinds of telegrams, what is done with each, and the replies."""
 
-# What is done with a teach-in telegram, and with the data of a stranger (a sender that is not learned): in the modes
-# `on` and `answer`, and in the mode `as E`. In the mode `closed` nothing is done with any. A telegram that is not
-# silent gives a teach line.
+# How a teach-in telegram, and data of an unknown sender (one that is not learned), are handled: in the modes `on` and
+# `answer`, and in the mode `as E`. In the mode `closed` all are ignored. A telegram that is not silent gives a teach
+# line.
 #
 #   learn EEP    the sender is learned with this profile; one that is learned keeps its label
 #   learn own    the sender is learned with the telegram's own profile; if that is not supported: `unsupported`

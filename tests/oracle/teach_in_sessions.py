@@ -26,7 +26,7 @@ FROM_STRANGERS = [
     "D5 F7",
     "D5 08",  # 1BS data
     "D5 FF",
-    "A5 00000000",  # 4BS bare teach-in
+    "A5 00000000",  # 4BS teach-in without a profile
     "A5 FFFFFF77",
     "A5 08284680",  # 4BS query: A5-02-05, maker 70
     "A5 082846E7",
@@ -54,9 +54,9 @@ FROM_STRANGERS = [
     "D4 900146001201D2",
     "D4 A00146001201D2",
     "D4 B00146001201D2",
-    "D4 E0FF46000502A5",  # with no reply wanted: A5-02-05, and F6-02-01, maker 2047
+    "D4 E0FF46000502A5",  # ones that ask for no reply: A5-02-05, and F6-02-01, maker 2047
     "D4 40FFFFFF0102F6",
-    "D4 A00146000032D2",  # D2-32-00, and with no reply wanted
+    "D4 A00146000032D2",  # D2-32-00, and one that asks for no reply
     "D4 D00146000032D2",
     "D4 910146001201D2",  # UTE replies
     "D4 AF0146001201D2",
@@ -108,7 +108,7 @@ def known_by(rorg):
 
 
 def in_mode(row, mode, from_strangers, from_known):
-    """These telegrams in this mode. What was learned is seen as it is removed."""
+    """These telegrams in this mode. Removing the device shows what was learned."""
     row.bring("closed", STRANGER)
     for sender, eep in itertools.chain(*(known_by(rorg).items() for rorg in KNOWN)):
         row.know(sender, eep)
@@ -133,7 +133,7 @@ def each_kind(row):
 
 
 def single_bits(length):
-    """No bit, each bit alone, and the complements of these."""
+    """No bit, each single bit, and the complements of these."""
     ones = [0] + [1 << place for place in range(length)]
     return ones + [2**length - 1 - number for number in ones]
 
@@ -338,7 +338,7 @@ def no_telegrams(row):
 
 
 def one_after_another(row):
-    """What a telegram does to the next one: a sender is learned again, the mode is closed, data are read."""
+    """The effect of a telegram on the next one: a sender is learned again, the mode is closed, data are read."""
     row.bring("on", STRANGER)
     for text in (
         "A5 08284680",
@@ -480,7 +480,7 @@ def verdicts():
 
 
 def verdicts_full():
-    """If 1,000 devices are learned, no stranger is, and one of the 1,000 may still be learned again."""
+    """If 1,000 devices are learned, no unknown sender is, and one of the 1,000 may still be learned again."""
     row = Row()
     fixed = dict(itertools.chain(*(known_by(rorg).items() for rorg in KNOWN)))
     for sender, eep in fixed.items():
@@ -496,7 +496,7 @@ def verdicts_full():
         ("as D2-01-12", "D2 00"),
     ):
         in_mode(row, mode, FROM_KNOWN + ["A5 E047FF80", "A5 10080080"], TEACHING)
-        # If there is room for one, one stranger is learned, and not the next.
+        # If 999 are learned, one unknown sender is learned, and not the next.
         row.say("remove 00000001")
         row.bring(mode)
         row.send(text, STRANGER)
@@ -505,7 +505,7 @@ def verdicts_full():
         row.say("status", "add 00000001 D5-00-01", f"remove {OTHER_STRANGER:08X}", f"remove {STRANGER:08X}")
         row.know(1, "D5-00-01")
     row.say(f"add {STRANGER:08X} D5-00-01", f"add {STRANGER:08X} A5-38-08", f"add {ALL:08X} D5-00-01", "status")
-    # A deletion makes room, unless its sender is not learned.
+    # After a deletion one more can be learned, unless the deleted sender was not learned.
     row.bring("on")
     for sender, text in (
         (STRANGER, "D4 900146001201D2"),

@@ -1,8 +1,8 @@
-/* Preloaded, it refuses a call of one kind, which REFUSE_KIND names: growth (of memory), input (a read of standard
-   input), or read, write, sync or truncation (of a file, at a place). It is the call whose number REFUSE_NUMBER gives,
-   counted from 1; with REFUSE_ON set also each call of the kind behind it. Where it refuses one, it makes the empty
-   file that REFUSE_MARK names. At the end it writes how many calls of the kind there were to the file that COUNT_CALLS
-   names. */
+/* Preloaded, it makes a call of one kind fail, which REFUSE_KIND names: growth (an allocation), input (a read of
+   standard input), or read, write, sync or truncation (of a file, at a place). It is the call whose number
+   REFUSE_NUMBER gives, counted from 1; with REFUSE_ON set also each call of the kind after it. If one fails, it makes
+   the empty file that REFUSE_MARK names. At the end it writes how many calls of the kind there were to the file that
+   COUNT_CALLS names. */
 #define _GNU_SOURCE
 #include <errno.h>
 #include <fcntl.h>

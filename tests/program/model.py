@@ -1,4 +1,4 @@
-"""What the built program has to write for a script, and what it may leave, according to the oracle."""
+"""What the built program must write for a script, and what it may leave, according to the oracle."""
 import copy
 import re
 
@@ -15,8 +15,8 @@ def sent(text, sender):
     return pieces(telegram(rorg[0], payload, sender)).strip()
 
 
-# A registry of version 1, its log of a stop, and the devices of the registry by ID: profile and maker. The files are
-# those of an earlier program (version-1.md).
+# A registry of version 1, its log after a crash, and the devices of the registry by ID: profile and maker. The files
+# are those of an earlier program (version-1.md).
 VERSION_1 = ROOT / "tests/program/version-1.registry"
 VERSION_1_LOG = ROOT / "tests/program/version-1.log"
 VERSION_1_DEVICES = {
@@ -32,7 +32,7 @@ VERSION_1_DEVICES = {
 CONTACT, QUERY, PRESS, ACTUATOR = "D5 00", "A5 08284680", "F6 50", "D2 0460E4"
 UNSUPPORTED, BARE, REPLY = "A5 50084680", "A5 00000000", "A5 082846F0"
 
-# Universal teach-in: queries, one of them of a profile that is not supported, and a reply.
+# UTE queries, one of them of a profile that is not supported, and a reply.
 UNIVERSAL, DELETION, NOT_USED = "D4 A00146001201D2", "D4 900146001201D2", "D4 B00146001201D2"
 UNIVERSAL_UNSUPPORTED, UNIVERSAL_REPLY = "D4 A00146000032D2", "D4 910146001201D2"
 
@@ -42,7 +42,7 @@ def whole(lines):
 
 
 def answers(lines, refused=(), fault="memory", gateway=None):
-    """What has to be written for each line, if the lines with these numbers are refused with this error."""
+    """The required answer to each line, if the lines with these numbers fail with this error."""
     gateway = gateway or Gateway()
     told = []
     for number, line in enumerate(lines):
@@ -55,12 +55,12 @@ def answers(lines, refused=(), fault="memory", gateway=None):
 
 
 def ending(told, fault="", status=0):
-    """What a run writes to its two streams, and its status."""
+    """The text that a run writes to its two streams, and its status."""
     return "".join(told), fault, status
 
 
 def new_in(work, name):
-    """By its number, a database for each run, which is not there yet."""
+    """By its number, a database for each run, which does not exist yet."""
     return lambda number: work / f"{name}_{number}.db"
 
 
@@ -85,8 +85,8 @@ def lists_behind(lines, refused):
 
 
 def refused_by_store(lines, told):
-    """The numbers of the lines that were refused, if each line was answered as the oracle says or, if it needs the
-    store, with `store`; otherwise None."""
+    """The numbers of the lines that failed, if each line was answered as the oracle says or, if it needs the database,
+    with `store`; otherwise None."""
     gateway, numbers = Gateway(), []
     for number, line in enumerate(lines):
         needs_store = not re.match("learn|status|S 5500010002", line)

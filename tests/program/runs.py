@@ -1,4 +1,4 @@
-"""What the Python tests of the built program share."""
+"""Functions that the Python tests of the built program share."""
 import concurrent.futures
 import os
 import pathlib
@@ -54,7 +54,7 @@ def command(base, database):
 
 
 def run(script, base="FF800000", database=None, **settings):
-    """What a run writes to its two streams, and its status. The script comes through a pipe."""
+    """The text that a run writes to its two streams, and its status. The script comes through a pipe."""
     done = subprocess.run(command(base, database), input=script, capture_output=True, text=True, **settings)
     return done.stdout, done.stderr, done.returncode
 
@@ -77,8 +77,8 @@ def calls(work, kind, script, database=None, **settings):
 
 
 def refuse_each(work, name, kind, script, case_of, cases, database=None, is_kept=None, first=1, on=False):
-    """Each call of this kind refused in turn, from number `first` on, alone or with all calls after it; in the end none
-    is refused. Each run is on the database of its number. It ends in a case, `none` if no call is refused, and then
+    """Each call of this kind fails in turn, from number `first` on, by itself or with all calls after it; in the end
+    none fails. Each run is on the database of its number. It ends in a case, `none` if no call fails, and then
     `is_kept` holds for the database. Each of these cases occurs."""
     last = calls(work, kind, script, database and database(0))
     preloading(work, REFUSE_CALL)

@@ -1,5 +1,6 @@
-"""How often the built program allocates memory. A growth is a call that asks for memory, or for more of it. Each query
-of the database has growths, so a run with no more growths than another one has no more queries."""
+"""How often the built program allocates memory. A call that asks for memory, or for more of it, counts as one
+allocation. Each query of the database allocates, so a run with no more allocations than another one has no more
+queries."""
 import random
 import unittest
 
@@ -34,7 +35,7 @@ ADD_4BS, ADD_VLD, REMOVE = "add 01800ABC A5-02-05\n", "add 01800ABC D2-01-12\n",
 
 class GrowthsTest(ProgramTest):
     def growths(self, script, *options):
-        """How many growths a run has, and what it prints."""
+        """How many allocations a run has, and what it prints."""
         counted = self.work / "counted"
         counted.unlink(missing_ok=True)
         env = self.preloading(REFUSE_CALL, REFUSE_KIND="growth", COUNT_CALLS=counted)
@@ -43,18 +44,19 @@ class GrowthsTest(ProgramTest):
         return int(counted.read_text()), text_of(run.stdout)
 
     def assert_alike(self, one, other):
-        """Runs on these two scripts have as many growths. Returns what the second one prints."""
+        """Runs on these two scripts have as many allocations. Returns what the second one prints."""
         other_growths, output = self.growths(other)
         self.assertEqual(self.growths(one)[0], other_growths)
         return output
 
     def growths_by_packet(self, orders, line, *options):
-        """How many growths this packet has after these orders, and how many when it comes a second and a third time."""
+        """How many allocations this packet has after these orders, and how many when it comes a second and a third
+        time."""
         made = [self.growths(orders + times * line, *options)[0] for times in range(4)]
         return [after - before for before, after in zip(made, made[1:])]
 
     def growths_of_reading(self):
-        """How many growths one line of output has."""
+        """How many allocations one line of output has."""
         return self.growths_by_packet(ADD, PACKET)[0]
 
     def asked(self):
@@ -81,15 +83,15 @@ class Queries(GrowthsTest):
         self.assertEqual(others, [line, line])
 
     def test_only_the_first_packet_after_a_start_asks_the_database(self):
-        """The packets after it take less memory than the question alone."""
+        """The packets after it need less memory than the query itself."""
         line = self.growths_of_reading()
         first, *others = self.growths_by_packet("", PACKET, *self.asked())
         self.assertEqual(others, [line, line])
         self.assertGreater(first - line, line)
 
     def test_1000_devices_and_24_strangers_are_remembered(self):
-        """After each has sent once, three rounds of them in turn have as many growths as one device and one stranger
-        that send as often. So no packet queries the database."""
+        """After each has sent once, three rounds of them in turn have as many allocations as one device and one unknown
+        sender that send as often. So no packet queries the database."""
 
         def script(senders):
             senders = [*range(1024), *senders, *senders, *senders]
@@ -102,10 +104,10 @@ class Queries(GrowthsTest):
 
 
 class Lines(GrowthsTest):
-    """What takes only the memory of its line of output, and so does not ask the database."""
+    """Packets that need only the memory of their line of output, and so do not query the database."""
 
     def assert_lines_only(self, orders, line, *options):
-        """After these orders the packet takes each time as many growths as a reading does."""
+        """After these orders the packet has as many allocations each time as a reading has."""
         self.assertEqual(self.growths_by_packet(orders, line, *options), 3 * [self.growths_of_reading()])
 
     def test_the_longest_line_of_readings_is_allocated_at_once(self):
@@ -132,7 +134,7 @@ class TeachIn(GrowthsTest):
     """A telegram that teaches a device in or out asks the database as often as an order that does the same."""
 
     def assert_as_adds(self, add, script):
-        """This script, which teaches a device in 50 times, has as many growths as 50 orders that add it."""
+        """This script, which teaches a device in 50 times, has as many allocations as 50 orders that add it."""
         output = self.assert_alike(50 * add, script)
         self.assertEqual(output.count('"result":"accepted"'), 50)
 
@@ -170,16 +172,16 @@ class TeachIn(GrowthsTest):
 
 
 def spoilt(good):
-    """A packet with a wrong check byte."""
+    """A packet with a wrong CRC."""
     return good[:-1] + bytes([good[-1] ^ 1])
 
 
 class NoMemory(GrowthsTest):
-    """What takes no memory after the start: some 100,000 bytes of each kind."""
+    """Bytes and orders that need no memory after the start: about 100,000 bytes of each kind."""
 
     def assert_no_memory(self, script, ignored, mode="closed"):
-        """A run on this script has only the growths of its start. If a packet follows, this many packets are ignored,
-        and the mode is this one. The `learn` orders of the script are done.
+        """A run on this script has only the allocations of its start. If a packet follows, this many packets are
+        ignored, and the mode is this one. The `learn` orders of the script are done.
 
         The packet comes after 01 and 65,791 zeros, so that a false header does not take it for its data."""
         self.assert_alike("", script)
@@ -194,9 +196,9 @@ class NoMemory(GrowthsTest):
         self.assert_no_memory(pieces(b"\x55" * 100_000), 1)
 
     def test_false_headers(self):
-        """None of these makes a packet. If a header announces a row of headers only, their check byte is not the 55
-        after them. Otherwise it announces headers and then 01 and zeros: that is an odd number of bits 1, and the bytes
-        after the header of a packet have an even one, since the polynomial of the check byte has the factor x + 1."""
+        """None of these makes a packet. If a header announces a row of headers only, their CRC is not the 55 after
+        them. Otherwise it announces headers and then 01 and zeros: that is an odd number of bits 1, and the bytes after
+        the header of a packet have an even one, since the polynomial of the CRC has the factor x + 1."""
         header = packet(9, bytes(65535), bytes(255))[:6]
         self.assertNotEqual(check8(header * 10_965), 0x55)
         self.assert_no_memory(pieces(header * 16_667), 1)
@@ -258,15 +260,15 @@ def error_line(name):
 
 
 class Orders(GrowthsTest):
-    """How many growths a list, an `add`, a `remove` and a `label` have, as they were counted on this program with the
-    kit that the README names. They show a change, such as a second query of the database. They do not show that
+    """How many allocations a list, an `add`, a `remove` and a `label` have, as counted on this program with the kit
+    that the README names. The numbers show a change, such as a second query of the database. They do not show that
     there is only one query."""
 
     TWO = "add 00000001 D5-00-01\nadd 00000002 D5-00-01\n"
     LABEL = "label 00000001 x\n"
 
     def assert_growths(self, wanted, script, line):
-        """After this script the line has this many growths."""
+        """After this script the line has this many allocations."""
         before, after = (self.growths(text)[0] for text in (script, script + line))
         self.assertEqual(after - before, wanted)
 

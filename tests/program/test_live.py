@@ -30,7 +30,7 @@ def in_a_minute():
 
 
 class Gateway(LiveTest):
-    """What `live` reads and writes."""
+    """The bytes that `live` reads and writes."""
 
     def packet_in_the_second_turn(self):
         """A telegram comes in the second turn, and the last line of the desk has no end."""

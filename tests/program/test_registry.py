@@ -17,7 +17,7 @@ BAD_ROWS = ("4294967295, 1, -1", "-1, 1, -1", "5, -5, -1", "5, 16777216, -1", "5
 
 
 def sqlite3(database, *texts):
-    """What the stock sqlite3 prints for these texts."""
+    """The output of the stock sqlite3 for these texts."""
     command = ["sqlite3", "-bail", database, *texts]
     return subprocess.run(command, stdin=subprocess.DEVNULL, stdout=subprocess.PIPE, check=True).stdout.decode()
 
@@ -39,7 +39,7 @@ class RegistryTest(ProgramTest):
 
 
 class Starts(RegistryTest):
-    """What one start learns, the next one knows."""
+    """The next start knows the devices that one start learned."""
 
     def test_a_second_start_knows_the_devices_of_the_first(self):
         self.assert_ended(self.replay_on(self.database, CONTACT), ACCEPTED + READING)
@@ -141,7 +141,7 @@ class OtherDatabases(RegistryTest):
                 self.assertEqual(sqlite3(database, ".dump"), before)
 
     def test_rows_of_version_2_that_break_the_checks(self):
-        """The store itself opens no file with such rows."""
+        """SQLite itself opens no file with such rows."""
         rest = f"{SECOND}; INSERT INTO enogate_meta VALUES (1, 2); INSERT INTO enogate_device_v2"
         for row in BAD_ROWS:
             with self.subTest(row=row):

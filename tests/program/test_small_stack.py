@@ -1,6 +1,6 @@
-"""The built program on a stack of 128 KiB; the default is 8 MiB. Measured, it needs some 90 KiB, for an empty script as
-for the packets below, so there is no space for calls that nest once per byte of a packet. And the program with 20 MiB
-of addresses. Measured, it needs some 6 MiB, and some 14 MiB with a registry in a file."""
+"""The built program on a stack of 128 KiB; the default is 8 MiB. Measured, it needs about 90 KiB, for an empty script
+as for the packets below, so there is no space for calls that nest once per byte of a packet. And the program with 20
+MiB of addresses. Measured, it needs about 6 MiB, and about 14 MiB with a registry in a file."""
 import unittest
 
 from runs import ACCEPTED, OK, READING, counts, in_little_memory, on_small_stack
@@ -23,8 +23,8 @@ def packets_of_each_type():
     return f"add 01800ABC D5-00-01\n{pieces(stream)}status\n"
 
 
-# The telegram is read in type 1, and zeros are none. Type 2 is a response, whose code is the first byte of the data.
-# All others are ignored: 254 of the short packets, and four of the longest.
+# A packet of type 1 is read as a telegram, and zeros are no telegram. Type 2 is a response, whose code is the first
+# byte of the data. All others are ignored: 254 of the short packets, and four of the longest.
 RESPONSES = (
     '{"code":213,"data":"0901800ABC00","name":null,"type":"response"}\n'
     + '{"code":0,"data":"' + 131068 * "0" + '","name":"OK","type":"response"}\n'
@@ -54,7 +54,7 @@ class SmallStack(ProgramTest):
         self.assert_ended(run, ANSWERS)
 
     def assert_row(self, name, part, *options, limit):
-        """The program writes this part of the worked row."""
+        """The program writes this part of the golden session."""
         row = session.read(name)
         run = self.replay(*options, script=self.file("row", session.part(row, "script")), preexec_fn=limit)
         self.assert_ended(run, session.part(row, part).decode())

@@ -1,4 +1,4 @@
-//! Sources: inputs of bytes.
+//! Sources of bytes.
 ghost use Rattle.std.specs.Prelude.{◌≡◌, ◌≤◌, ◌<◌, ℕ, List, Option, IfOk, length};
 ghost use Rattle.std.specs.Io.KnownBytes.{ReadConsumes};
 ghost use Rattle.byte_io.specs.Counts.{Counts, count_call, no_calls};
@@ -7,7 +7,7 @@ ghost use Rattle.byte_io.specs.Limits.{max_read};
 use crate::tally::{Failed, Tally};
 use std::io::Read;
 
-/// An input of bytes.
+/// A source of bytes.
 pub trait Source {
     /// The bytes that later reads will return, if they are known.
     ghost left: { Self → Option (List ℕ) };

@@ -94,7 +94,7 @@ listed_recalled old new entries early sure keeps recalls entry has clean =
     still old new clean (sure clean).1 (λ devices had. (keeps clean devices had).now) entry
     (recalls entry has (early clean))
 
--- a change affects only its sender
+-- an update changes only its sender
 apart : (a b : ℕ) → a ≢ b → eq_by_cmp nat_cmp a b ≡ false
 apart a b h = grind (arith, nat_tests)
 
@@ -111,11 +111,11 @@ there : (devices : Devices) (id : ℕ) (entry : Option DeviceData) → get (with
 there devices id (Some it) = get-insert nat_cmp_total devices id it id ∙ rw (tied id) refl
 there devices id None = get-remove nat_cmp_total devices id id ∙ rw (tied id) refl
 
--- the data of a sender after the change
+-- the data of a sender after the update
 abbrev known_after : Devices → DeviceUpdate → Option DeviceData
 known_after devices update = data_after (get devices update.sender) update.operation
 
--- a change is committed, and its sender is cached
+-- an update is committed, and its sender is cached
 pub changed_recalled : (old new : State) (update : DeviceUpdate) (known : Option Device)
     (before between later : List Entry)
     → (HasCleanDisk new → HasCleanDisk old) → (HasCleanDisk new → IsReady old × IsReady new)

@@ -92,7 +92,7 @@ pub ready_if : {T E : Type 0} (r : Result T E) (old new : State) → WritesNothi
 ready_if (Ok v) old new stays well clean ready = ready_both old new stays well clean ready
 ready_if (Err e) old new stays well clean ready = tt
 
--- ---- a change was attempted
+-- ---- an update was attempted
 
 module _ {T E : Type 0} (old mid new : State) (update : DeviceUpdate) (result : Result T E)
     (stays : WritesNothing old mid)
@@ -273,7 +273,7 @@ module _ {T F : Type 0} (old mid new : State) (result : Result T F) (stays : Wri
       devices = λ clean. pends old mid new update result stays well turns (goes_on clean) clean;
     }
 
-    -- or the change is made
+    -- or the update is made
     pub add_made : {E : Type 0} (it : Device) → CommitsOrFails mid new (learn_update it) result
         → (HasCleanDisk new → (devices : Devices) → IsReadyWith mid devices
         → IsReadyWith new (apply_update devices (learn_update it)))
@@ -307,7 +307,7 @@ module _ {T F : Type 0} (old mid new : State) (result : Result T F) (stays : Wri
 
 -- ---- what is upserted
 
--- a change whose result is this device of its sender upserts it
+-- an update whose result is this device of its sender upserts it
 pub becomes : (devices : Devices) (update : DeviceUpdate) (it : DeviceData)
     → data_after (get devices update.sender) update.operation ≡ Some it
     → apply_update devices update ≡ insert devices update.sender it

@@ -74,7 +74,7 @@ module _ {S : Type 0} (g : Ghosts S) where
 
 -- ---- its end
 
--- it was begun at this state
+-- it began in this state
 pub since : {S : Type 0} (g : Ghosts S) (old start : Held S) (new : State)
     → start ≡ record old { in_transaction = true } → IsUncommitted (state g start) new → IsUncommitted (state g old) new
 since g old start new is it =

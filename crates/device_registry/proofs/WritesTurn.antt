@@ -114,7 +114,7 @@ module _ (sql : List ℕ) (params : Row) (update : DeviceUpdate) (HasRoom : Devi
       err_of (Ok count) h = tt
       err_of (Err e) h = spared old new (not_executed sql params old new e h)
 
--- the registry is not full for the sender, and the change gives the sender this data
+-- the registry is not full for the sender, and the update gives the sender this data
 abbrev pub MakesIt : DeviceUpdate → ℕ → DeviceData → Devices → Type 0
 MakesIt update id it devices = (is_full devices id ≡ false) × (apply_update devices update ≡ insert devices id it)
 
@@ -179,7 +179,7 @@ renew_does update s after text tally devices had sound same h =
     r.whole.row r.tables.meta_stands.there (meta_alone s.now.schema r.tables) r.whole.one r.whole.numbered.key h in
     subst (IsRegistryOf after) (sym same) (renewed_registers s.now after devices had sound kept.0 kept.1 kept.2)
 
--- a change that leaves the devices as they are is made by rewriting the version row
+-- an update that leaves the devices as they are is made by rewriting the version row
 pub renew_turns : (update : DeviceUpdate) (old new : State) (r : Result ℕ Error) → (HasCleanDisk old → IsReady old)
     → (HasCleanDisk old → (devices : Devices) → IsReadyWith old devices → apply_update devices update ≡ devices)
     → Survives old new (CommitsBy rewrite_version_text [] old)

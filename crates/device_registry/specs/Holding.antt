@@ -63,7 +63,7 @@ pub record Opens (old new : State) (devices : Devices) : Type 0 where
 abbrev pub RewritesVersion : State → State → Type 0
 RewritesVersion old new = Executes rewrite_version_text [] old new (Ok 1)
 
--- The last operation on the state is the statement that upserts the row of the change's sender, over the same devices.
+-- The last operation on the state is the statement that upserts the row of the update's sender, over the same devices.
 -- It is an observable change, because SQLite counts the row.
 pub record WritesRow {C : Type 0} (state : C → State) (new : C) (update : DeviceUpdate) (devices : Devices) : Type 0
   where

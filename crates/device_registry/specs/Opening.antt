@@ -121,7 +121,7 @@ RegistriesAreRecognized {C} state =
     × ((old new : C) (fault : OpenFault) (devices : Devices) → HasCleanDisk (state new)
     → RefusesToOpen (state old) (state new) fault → Finds (state old).committed.trees devices → fault ≢ NotARegistry)
 
--- A database is rejected as no registry only if it is none. This also holds of an open that drops its connection, if
+-- Only a database that is no registry is rejected as such. This also holds of an open that drops its connection, if
 -- the disk had returned what was written when the connection was dropped.
 abbrev pub OnlyNonRegistriesAreRefused : {C : Type 0} → (C → State) → Type 0
 OnlyNonRegistriesAreRefused {C} state = (conn last : C) → HasCleanDisk (state last)

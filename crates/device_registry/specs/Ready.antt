@@ -42,7 +42,7 @@ pub record WritesNothing (old new : State) : Type 0 where
   pub crash : HasCleanDisk new → (trees : Trees) → new.may_leave trees → old.may_leave trees
   pub goes_on : HasCleanDisk new → KeepsDevices old new
 
--- the change is made and committed; or it failed, and then a crash may leave it nevertheless
+-- the update is made and committed; or it failed, and then a crash may leave it nevertheless
 pub record CommitsOrFails {T E : Type 0} (old new : State) (update : DeviceUpdate) (result : Result T E) : Type 0 where
   pub clean : HasCleanDisk new → HasCleanDisk old
   pub crash : HasCleanDisk new → (trees : Trees) → new.may_leave trees → old.may_leave trees

@@ -10,7 +10,7 @@ use std::num::NonZeroUsize;
 
 pub type Cache = LruCache<u32, Option<Device>>;
 
-/// An empty cache with room for `most` senders.
+/// An empty cache of at most `most` senders.
 pub fn new_cache(alloc: Global, most: usize) -> Result<Cache, AllocError>
     requires { 1 ≤ most }
     ensures { IfOk result (λ cache. cache.entries ≡ []) }

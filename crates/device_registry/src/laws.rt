@@ -45,7 +45,7 @@ pub fn registries_are_recognized<C: SqlConnection>()
     ensures { RegistriesAreRecognized C.state }
 {}
 
-/// A database is rejected as no registry only if it is none. This also holds of an open that drops its connection, if
+/// Only a database that is no registry is rejected as such. This also holds of an open that drops its connection, if
 /// the disk had returned what was written when the connection was dropped.
 pub fn only_non_registries_are_refused<C: SqlConnection>()
     ensures { OnlyNonRegistriesAreRefused C.state }

@@ -104,7 +104,7 @@ fn run_upsert<C: SqlConnection>(
     conn.execute(UPSERT, params![id, eep, maker, label])
 }
 
-/// Upserts a device; implements any change whose result is `device`.
+/// Upserts a device; implements any update whose result is `device`.
 pub(crate) fn upsert<C: SqlConnection>(conn: &mut C, device: Device) -> Result<usize, Error>
     requires ready { HasCleanDisk (C.state conn.old) → IsReady (C.state conn.old) }
     requires room { HasCleanDisk (C.state conn.old) → (devices : Devices) → IsReadyWith
@@ -141,7 +141,7 @@ fn forget<C: SqlConnection>(conn: &mut C, id: u32) -> Result<usize, Error>
     run_delete(conn, i64::from(id))
 }
 
-/// Rewrites the version row unchanged, so that a change without effect commits too.
+/// Rewrites the version row unchanged, so that an update without effect commits too.
 pub(crate) fn rewrite_version<C: SqlConnection>(conn: &mut C) -> Result<usize, Error>
     requires { HasCleanDisk (C.state conn.old) → IsReady (C.state conn.old) }
     ensures runs { HasCleanDisk (C.state conn.new) → Executes rewrite_version_text [] (C.state conn.old)

@@ -91,7 +91,7 @@ pub fn resync(window: &mut Window) -> Option<Header>
     }
 }
 
-/// Skips the first byte, at which no packet begins, and then proceeds as `settle`, so it does not check that byte
+/// Skips the first byte, at which no packet begins, and then proceeds as `resync`, so it does not check that byte
 /// again.
 pub fn resync_after_first(window: &mut Window) -> Option<Header>
     requires { front_of window.old ≡ Never }

@@ -35,7 +35,7 @@ pub record Acknowledges (session : Session) (line : TeachLine) : Type 0 where
 
 -- The input asks for the acknowledged update of this device, in the state that the run reached before it. The line has
 -- the text of this device's line. Every later session finds the update, until an input that changes that sender
--- otherwise is applied, fails at its write, or is interrupted by a crash. If the devices found are in range and the
+-- otherwise is applied, fails at its commit, or is interrupted by a crash. If the devices found are in range and the
 -- data of packets are bytes, the device is in range, and a line in range is the line of this device.
 pub record IsDurable (session : Session) (line : TeachLine) (answered : Acknowledges session line) : Type 0 where
   pub at : State

@@ -25,13 +25,13 @@ state_after_run state (input ∷ inputs) (result ∷ results) =
     state_after_run (state_with state input result) inputs results
 state_after_run state inputs results = state
 
--- the devices are those with the update of the first input, which failed at its write
+-- the devices are those with the update of the first input, which failed at its commit
 abbrev pub IncludesPendingUpdate : State → List Input → List InputResult → Devices → Type 0
 IncludesPendingUpdate state (input ∷ inputs) (FailedAtCommit cause ∷ results) devices =
     devices ≡ with_update state.devices (update_of state input)
 IncludesPendingUpdate state inputs results devices = ⊥
 
--- The devices after the inputs of the prefix, perhaps with the update of the next one, which failed at its write. No
+-- The devices after the inputs of the prefix, perhaps with the update of the next one, which failed at its commit. No
 -- input after the prefix was acknowledged.
 pub record AfterPrefix (start : State) (inputs : List Input) (results : List InputResult) (devices : Devices) : Type 0
   where
@@ -48,7 +48,7 @@ pub record AfterPrefix (start : State) (inputs : List Input) (results : List Inp
     pub is : (devices ≡ at.devices) ⊎ IncludesPendingUpdate at after more devices
 
 -- crash-consistent devices are those known after a prefix of the inputs that contains every acknowledged one, perhaps
--- with the update of the next one, which failed at its write
+-- with the update of the next one, which failed at its commit
 abbrev pub CrashStatesArePrefixes : Type 0
 CrashStatesArePrefixes = (start : State) (inputs : List Input) (results : List InputResult) (devices : Devices)
     → length inputs ≡ length results

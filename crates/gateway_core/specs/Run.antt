@@ -11,7 +11,7 @@ use Rattle.gateway_core.specs.Step.{update_of, need_of}
 use Rattle.gateway_core.specs.Step.{state_after}
 use Rattle.gateway_core.specs.Step.{Cause, Memory, Store, MayFailFor}
 
--- an input is applied, or it fails before its write to the registry or at that write
+-- an input is applied, or it fails: before its commit in the device store, or at that commit
 pub data InputResult : Type 0 where
   Applied : InputResult
   Failed : (cause : Cause) → InputResult
@@ -62,7 +62,7 @@ failure_cause Applied = None
 failure_cause (Failed cause) = Some cause
 failure_cause (FailedAtCommit cause) = Some cause
 
--- the same inputs fail, each for the same cause, whether before its write or at it
+-- the same inputs fail, each for the same cause, whether at its commit or before
 abbrev pub FailAlike : List InputResult → List InputResult → Type 0
 FailAlike results others = map failure_cause results ≡ map failure_cause others
 

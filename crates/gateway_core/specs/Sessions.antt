@@ -55,7 +55,7 @@ abbrev pub DoesNotOverride : DeviceUpdate → Option DeviceUpdate → Type 0
 DoesNotOverride it None = Unit {0}
 DoesNotOverride it (Some update) = (update.sender ≢ it.sender) ⊎ Preserves it.operation update.operation
 
--- each input that changes the sender keeps what this update guarantees, whether it is applied or fails at its write
+-- each input that changes the sender keeps what this update guarantees, whether it is applied or fails at its commit
 abbrev pub NoneOverrides : DeviceUpdate → State → List Input → List InputResult → Type 0
 NoneOverrides it state (input ∷ inputs) (result ∷ results) =
     DoesNotOverride it (possible_update state input result)

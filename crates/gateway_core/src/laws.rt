@@ -44,7 +44,7 @@ pub fn handles_join<S: DeviceStore>()
         → Handles S.store_state old (inputs ++ more) (answers ++ after) new }
 {}
 
-/// If the same inputs fail for the same causes, before their writes or at them, the answers are the same.
+/// If the same inputs fail for the same causes, at their commits or before, the answers are the same.
 pub fn same_failures()
     ensures { SameFailures }
 {}
@@ -139,8 +139,8 @@ pub fn numbers_stay_in_range()
     ensures tells { ReportsInRange }
 {}
 
-/// A crash state is what was known after a prefix of the inputs, perhaps with the update of the next one, whose write
-/// failed. The prefix contains every acknowledged input.
+/// A crash state is what was known after a prefix of the inputs, perhaps with the update of the next one, whose
+/// commit failed. The prefix contains every acknowledged input.
 pub fn crash_states_are_prefixes()
     ensures safe { CrashStatesArePrefixes }
     ensures reported { AcknowledgedAreInPrefix }

@@ -263,7 +263,7 @@ module _ {S : Type 0} (state : S → StoreState) where
           );
         }
 
-    -- some lines that LF ended, of an input with more after them
+    -- some lines that LF ended, of a script with more after them
     ended_lines_replayed : (fault : RunFault) → ReplaysEnded state (replay_at source sink) explains old new
         → ReplaysAsSpecified state source sink explains (Err fault) old new
     ended_lines_replayed fault done base found input held began left_is held_is clean =

@@ -1,4 +1,4 @@
--- How a player continues with bytes, from slice to slice and from line to line.
+-- How a line dispatcher continues with bytes, from slice to slice and from line to line.
 use Rattle.std.proofs.Common.{◌≡◌, ◌≢◌, ℕ, ◌<◌, ◌^◌, List, []}
 use Rattle.std.proofs.Common.{◌∷◌, ◌++◌, length, take, refl, ap, sym, ◌∙◌}
 use Rattle.std.proofs.Common.{append_assoc, append-nil, arith, false}

@@ -155,7 +155,7 @@ module _ {O S : Type 0} (stored : S → StoreState) (output : OutputSpec O) {A E
             subst P (e ∙ take_all max_partial_line line near) given
       ]
 
-  -- and so does what is kept of a line that the end of the input ends
+  -- and so does what is kept of a line that the end of the script ends
   pub kept_last_line_alike : (kept line : List ℕ) → kept ≡ take max_partial_line line
       → TakesOrBreaks stored output r old new (event_of kept) → TakesOrBreaks stored output r old new (event_of line)
   kept_last_line_alike kept line e given =

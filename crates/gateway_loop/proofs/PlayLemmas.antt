@@ -1,4 +1,4 @@
--- How an `Driver` continues with events.
+-- How a `Driver` continues with events.
 use Rattle.std.proofs.Common.{◌≡◌, ◌<◌, ◌^◌, List, [], ◌∷◌}
 use Rattle.std.proofs.Common.{◌++◌, ap, sym, ◌∙◌, append_assoc, append-nil, map}
 use Rattle.std.proofs.Common.{arith, length, length-append}

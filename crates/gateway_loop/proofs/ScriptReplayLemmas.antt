@@ -1,4 +1,4 @@
--- What an `Driver` wrote to a sink, also after the loans of the gateway and of the sink have ended.
+-- What a `Driver` wrote to a sink, also after the loans of the gateway and of the sink have ended.
 use Rattle.std.proofs.Common.{◌≡◌, ℕ, List, [], ◌∷◌, ◌++◌, ap, sym, ◌∙◌, append_assoc, append-nil}
 use Rattle.std.specs.List.{flat_map}
 use Rattle.std.specs.Str.Lines.{strip_carriage_return}
@@ -55,7 +55,7 @@ module _ {W S : Type 0} (stored : S → StoreState) (sink : sinks.Ghosts W) wher
       };
     })
 
-    -- at the last event after some that were played
+    -- at the last event after some that were processed
     pub part_at_end : (old : Driver (ReplayText W) S) (input : List ℕ) (events more : List Event)
         → script input ≡ events ++ more → DriverProcesses stored output entry old events
         → BreaksAtLastEvent stored old.gateway.now now.gateway.now more (output.breaks old.reply_sink now.reply_sink)
@@ -72,7 +72,7 @@ module _ {W S : Type 0} (stored : S → StoreState) (sink : sinks.Ghosts W) wher
     }
 
   module _ (entry now : LineDispatcher (ReplayText W) S) (input : List ℕ) where
-    -- the script of an input whose lines are known
+    -- the events of a script whose lines are known
     pub script_of_bytes : (p : TakesBytes stored output ScriptLines entry now input)
         → script input ≡ events_by ScriptLines p.ended ++ script p.rest
     script_of_bytes p = ap script p.whole ∙ script-ended p.ended p.rest p.each

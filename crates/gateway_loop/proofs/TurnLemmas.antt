@@ -177,7 +177,7 @@ module _ {O S : Type 0} (stored : S → StoreState) (output : OutputSpec O) (ent
   piece_taken new taken =
       takes-append stored output entry.driver old.driver new (events_of_turns read) (Chunk chunk ∷ []) p.taken taken
 
-  -- `mid` is the player after the chunk
+  -- `mid` is the line dispatcher after the chunk
   pub turn_taken : (mid new : LineDispatcher O S) (desk : List ℕ)
       → Takes stored output old.driver mid.driver (Chunk chunk ∷ [])
       → TakesBytes stored output DeskLines mid new (p.rest ++ desk)

@@ -1,4 +1,4 @@
--- What an `Driver` wrote to two sinks, also after the loans of the gateway and of the sinks have ended.
+-- What a `Driver` wrote to two sinks, also after the loans of the gateway and of the sinks have ended.
 use Rattle.std.proofs.Common.{◌≡◌, List, inl, inr}
 use Rattle.learned_devices.specs.StoreState.{StoreState}
 use Rattle.gateway_core.specs.Step.{Answer}

@@ -53,7 +53,7 @@ module _ {S : Type 0} (stored : S → StoreState) where
   -- an input that needs memory or the device store can fail; then only the counter of failed inputs changed. The
   -- answers are written. The gateway knows the state after the last step; while the device store is open, it holds the
   -- devices of that state. Any crash state is sound, and is what was known after some prefix of the inputs. The prefix
-  -- contains every acknowledged input. The update of the next input may be there too, if its write failed.
+  -- contains every acknowledged input. The update of the next input may be there too, if its commit failed.
   pub record AsSpecified (base : ℕ) (found : Devices) (items : List Input) (out : List Answer → Type 0)
       (new : HandlerValue S) : Type 0 where
     pub results : List InputResult
@@ -74,8 +74,8 @@ module _ {S : Type 0} (stored : S → StoreState) where
     pub whole : items ≡ handled ++ later
     pub specified : AsSpecified base found handled out new
 
-  -- `replay`, for a new gateway, a reader that has this input left, and a writer that holds these bytes. At `Ok` the
-  -- input was read to its end, and the writer received exactly the text of the answers to the inputs of the script. At
+  -- `replay`, for a new gateway, a reader that has these bytes left, and a writer that holds those. At `Ok` the
+  -- script was read to its end, and the writer received exactly the text of the answers to the inputs of the script. At
   -- a fault it received a prefix of the text for some prefix of these inputs. (The postconditions `err`, `read`,
   -- `write` and `too_many` of `replay` say which prefix, and when each fault is returned.)
   pub record ReplaySpecified {R W : Type 0} (source : sources.Ghosts R) (sink : sinks.Ghosts W) (explains : Bool)

@@ -1,4 +1,4 @@
--- What an `Driver` handles and writes, for any output.
+-- What a `Driver` handles and writes, for any output.
 use Rattle.std.specs.Prelude.{◌≡◌, ◌<◌, List, [], ◌∷◌, ◌++◌, length, map, ℕ}
 use Rattle.learned_devices.specs.StoreState.{StoreState}
 use Rattle.esp3_frames.specs.Framing.{MayBecomePacket}
@@ -57,13 +57,13 @@ module _ {S : Type 0} (stored : S → StoreState) where
     pub rest : new.rest ≡ rest_of (old.rest ++ bytes_in (events ++ begun ∷ []))
     pub answered : AnswersPart old.handler new.handler items breaks
 
-  -- the lines of the input that LF ends were played
+  -- the lines that LF ends in what was read were processed
   pub record ProcessesEnded (old new : GatewayValue S) (input : List ℕ) (puts : List Answer → Type 0) : Type 0 where
     pub ended : List ℕ
     pub is : IsUpToLastLf input ended
     pub processed : Processes old new (script ended) puts
 
-  -- an answer was not written completely, at the last event of a prefix of the input that ends with LF
+  -- an answer was not written completely, at the last event of a prefix of what was read that ends with LF
   pub record BreaksAtLastLine (old new : GatewayValue S) (input : List ℕ) (breaks : List Answer → Answer → Type 0)
       : Type 0 where
     pub part : List ℕ

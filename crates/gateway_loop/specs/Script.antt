@@ -21,7 +21,7 @@ event_of line =
     (decode_of (drop 2 line))
     else Line line
 
--- a line ends with LF, or CR LF, or the end of the input
+-- a line ends with LF, or CR LF, or the end of the script
 abbrev pub script : List ℕ → List Event
 script input = map event_of (lines input)
 
@@ -33,7 +33,7 @@ HasNoLf bytes = All (λ byte. byte ≢ 10) bytes
 abbrev pub with_lf : List ℕ → List ℕ
 with_lf line = line ++ 10 ∷ []
 
--- `ended` is the input up to and including its last LF
+-- `ended` is what was read up to and including its last LF
 pub record IsUpToLastLf (input ended : List ℕ) : Type 0 where
   pub tail : List ℕ
   pub whole : input ≡ ended ++ tail

@@ -23,7 +23,7 @@ pub enum Lines {
     DeskLines,
 }
 
-/// An `Driver`, and the partial line so far.
+/// A `Driver`, and the partial line so far.
 #[derive(Drop)]
 pub struct LineDispatcher<'g, O, S: DeviceStore> {
     pub driver: Driver<'g, O, S>,

@@ -17,7 +17,7 @@ pub enum RunFault {
     /// A write failed, or took 0 bytes.
     #[error("a write failed, or took 0 bytes")]
     Write,
-    /// All allowed reads were made, and the input of a replay has not ended.
+    /// All allowed reads were made, and the script of a replay has not ended.
     #[error("the input has not ended after all reads that were allowed")]
     TooManyTurns,
 }

@@ -18,14 +18,14 @@ use gateway_core::{DeviceStore, GatewayOver};
 
 /// Replays a script: reads its lines, and writes the gateway's answers.
 ///
-/// A line ends with LF or with the end of the input, without one CR before LF; there is no empty line after the last
+/// A line ends with LF or with the end of the script, without one CR before LF; there is no empty line after the last
 /// LF. A line of at most `MAX_LINE` bytes that is `S`, one space and an even number of hexadecimal digits is a chunk of
 /// the serial stream. Any other line is an order of the desk. For each packet and each order the radio bytes are
 /// written as such a chunk, in lower case and with LF, then the line that explains the packet, if packets are
 /// explained, and then the desk's text.
 ///
 /// A turn is one read of at most `MAX_READ` bytes, and at most `turns` reads are made. A read of 0 bytes ends the
-/// input. At `Read` and `TooManyTurns`, the lines that LF ended were handled and answered, and nothing of a partial
+/// script. At `Read` and `TooManyTurns`, the lines that LF ended were handled and answered, and nothing of a partial
 /// line was. At `Write`, the output ends within the text for one packet or order, and packets may still be ready in the
 /// gateway.
 pub fn replay<R: Source, W: Sink, S: DeviceStore>(

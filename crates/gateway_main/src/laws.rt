@@ -46,7 +46,7 @@ pub fn runs_are_sessions<R: Sink, D: Sink, C: SqlConnection>()
         (sink_value R.Sink serial_now, sink_value D.Sink desk_now)) }
 {}
 
-/// After `replay` or `live`, by a gateway that `start` made and that is then closed, the next open finds what such an
+/// After `replay` or `live`, by a gateway that `start` made and that is then closed, the next open finds what such a
 /// session may leave, which is what was known at its end.
 pub fn closed_runs_are_sessions<R: Sink, D: Sink, C: SqlConnection>()
     ensures replay { (explains : Bool) (held now : Option (List ℕ))

@@ -12,7 +12,7 @@ const CONTACT: [u8; 21] = [
     0xFF, 0xFF, 0x2D, 0x00, 0x1F,
 ];
 
-/// The input of a CRC.
+/// The message of a CRC.
 enum Of {
     Bytes(&'static [u8]),
     /// A message with this CRC, and one more byte.

@@ -18,14 +18,14 @@ pub record LooksUp {E : Type 0} (old new : StoreState) (id : ℕ) (result : Resu
       → MatchResult result (λ found. (found ≡ device_of devices id) × Keeps old new devices)
       (λ _. Keeps old new devices)
 
--- an update is committed, or the call failed, at its write or before
+-- an update is committed, or the call failed, at its commit or before
 pub record Updates {A E : Type 0} (old new : StoreState) (update : DeviceUpdate) (result : Result A E) : Type 0 where
   pub clean : new.honest → old.honest
   pub registries : new.honest → new.sound
   pub devices : new.honest → (devices : Devices) → old.holds devices
       → MatchResult result (λ _. Commits new update devices) (λ _. LeavesPending old new update devices)
 
--- A device is not learned. If 1,000 others are, nothing is written; otherwise the call failed, at its write or before.
+-- A device is not learned. If 1,000 others are, nothing is written; otherwise the call failed, at its commit or before.
 abbrev pub RefusesToLearn : StoreState → StoreState → Device → Devices → LearnFault → Type 0
 RefusesToLearn old new it devices Full = IsTrue (is_full devices it.id) × Keeps old new devices
 RefusesToLearn old new it devices (Refused fault) =

@@ -28,7 +28,7 @@ abbrev pub MayLeaveUpdate : StoreState → StoreState → DeviceUpdate → Devic
 MayLeaveUpdate old new update devices = (left : Devices) → new.may_recover left
     → old.may_recover left ⊎ (left ≡ apply_update devices update)
 
--- the call failed, at its write or before: the devices are as they were, but a crash may leave the updated ones
+-- the call failed, at its commit or before: the devices are as they were, but a crash may leave the updated ones
 pub record LeavesPending (old new : StoreState) (update : DeviceUpdate) (devices : Devices) : Type 0 where
   pub now : new.holds devices
   pub crash : MayLeaveUpdate old new update devices

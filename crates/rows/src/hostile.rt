@@ -1,4 +1,4 @@
-//! Hostile conditions: stores that fail, crashes, noise, inputs that end early, and readers and writers that fail.
+//! Hostile conditions: stores that fail, crashes, noise, scripts that end early, and readers and writers that fail.
 //!
 //! The mutants that are named beside the cases were tried in one run, all at once, except for that of `a device that
 //! could not be told is kept`. Each case outside this module was `ok`. The number in a case's output shows which mutant

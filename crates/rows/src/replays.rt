@@ -46,7 +46,7 @@ pub(crate) fn is_written(alloc: Global, script: &[u8], text: &[u8]) -> Result<bo
     Ok(done.is_ok() && out.as_slice() == text)
 }
 
-// The end of the input is a read of its own.
+// The end of the script is a read of its own.
 fn tell_turns(rt: &HostRuntime, telling: &mut Telling) -> Result<()> {
     let script = b"\n".as_slice();
     let too_many = Err(RunFault::TooManyTurns);
@@ -103,7 +103,7 @@ fn tell_lengths(rt: &HostRuntime, telling: &mut Telling) -> Result<()> {
     Ok(())
 }
 
-// One CR before LF belongs to the end of a line, and a CR before the end of the input to the line.
+// One CR before LF belongs to the end of a line, and a CR before the end of the script to the line.
 fn tell_ends(rt: &HostRuntime, telling: &mut Telling) -> Result<()> {
     let cases: [(&str, &[u8], &[u8]); 7] = [
         ("a line with LF", b"list\n", NONE_LISTED),

@@ -189,7 +189,7 @@ fn a_label_that_is_there_is_answered_behind_a_sync(rt: HostRuntime) -> Result<()
 #[test]
 fn an_open_ends_what_a_refused_write_left(rt: HostRuntime) -> Result<(), Fail> {
     let files = made(rt.alloc(), FEW)?;
-    // Without an open after it, a failed change may be found later. In that case the database has closed the
+    // Without an open after it, a failed update may be found later. In that case the database has closed the
     // connection, so no open on it returns Ok.
     let trial = Trial::Learning(false);
     let ends = each_refused(rt.alloc(), &rt, &files, Which::Log, trial, DEATH)?;

@@ -11,7 +11,7 @@ use std::test::Fail;
 #[derive(Drop)]
 pub struct Stumbling<D: Disk> {
     inner: D,
-    /// The write that is reported as failed: the next one is 1, and 0 is none.
+    /// The write that is reported as failed: 1 is the next one, and 0 no write.
     write: u64,
     told: u64,
     syncs: u64,
@@ -146,7 +146,7 @@ pub enum Refusal {
 pub enum Stop {
     /// The process dies: all of it.
     OfProcess,
-    /// The machine stops: nothing.
+    /// The machine crashes: nothing.
     OfMachine,
 }
 

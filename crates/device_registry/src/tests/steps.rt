@@ -36,21 +36,21 @@ pub enum End {
     NoRefusal,
     /// No registry was opened, or the first call failed.
     Early,
-    /// The first call that failed; and whether the sender that it was to change was found afterwards.
+    /// The first call that failed; and whether the sender of its update was found afterwards.
     At(Call, bool),
     /// The look-up of an uncached sender failed, and a cached sender was answered.
     ToldApart,
-    /// A change failed, and so did the next open on its connection.
+    /// An update failed, and so did the next open on its connection.
     Shut,
-    /// A change failed, and after a crash its sender was found.
+    /// An update failed, and after a crash its sender was found.
     Found,
-    /// A change failed, and after a crash its sender was not found.
+    /// An update failed, and after a crash its sender was not found.
     NotFound,
     /// An empty database was not prepared before a crash, but was after it.
     MadeBehind,
     /// A registry of version 1 was not prepared, and after a crash it had this version.
     Was(i64),
-    /// An acknowledged change was found after a crash.
+    /// An acknowledged update was found after a crash.
     Kept,
 }
 
@@ -142,7 +142,7 @@ fn is_forget_refused<R: Remembering>(
     Ok(false)
 }
 
-// Whether the database fails in `all`. If not, the list shows the change.
+// Whether the database fails in `all`. If not, the list shows the update.
 fn is_all_refused<R: Remembering>(rt: &impl Abort, registry: &mut R) -> Result<bool, Fail> {
     match registry.all() {
         Ok(all) => {
@@ -167,7 +167,7 @@ fn is_refused<R: Remembering>(rt: &impl Abort, registry: &mut R, call: Call) -> 
     }
 }
 
-// Whether a sender is found after its change failed. If so, it is as it was before.
+// Whether a sender is found after its update failed. If so, it is as it was before.
 fn is_found_behind<R: Remembering>(
     rt: &impl Abort,
     registry: &mut R,

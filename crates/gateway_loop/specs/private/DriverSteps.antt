@@ -1,4 +1,4 @@
--- What an `Driver` does with ready packets, and with events.
+-- What a `Driver` does with ready packets, and with events.
 use Rattle.std.specs.Prelude.{◌≡◌, ◌<◌, ℕ, List, [], ◌∷◌, ◌++◌, length, map, Result, MatchResult}
 use Rattle.learned_devices.specs.StoreState.{StoreState}
 use Rattle.esp3_frames.specs.Packet.{Packet}
@@ -28,7 +28,7 @@ module _ {S : Type 0} (stored : S → StoreState) where
     pub answered : AnswersPart stored old.handler new.handler (map Received packets) breaks
 
 module _ {O S : Type 0} (stored : S → StoreState) (output : OutputSpec O) where
-  -- the events were played, and their answers written
+  -- the events were processed, and their answers written
   abbrev pub DriverProcesses : Driver O S → Driver O S → List Event → Type 0
   DriverProcesses old new events =
       Processes stored old.gateway.now new.gateway.now events (output.puts old.reply_sink new.reply_sink)

@@ -314,7 +314,7 @@ const LENT: [Lent; 4] = [
     },
 ];
 
-// A packet is lent if it is whole and at the front of the bytes, and no byte is held.
+// A packet is borrowed if it is whole and at the front of the bytes, and no byte is held.
 #[test]
 fn packets_lent(rt: HostRuntime) -> Result<(), Fail> {
     let mut framer = Framer::new(rt.alloc())?;

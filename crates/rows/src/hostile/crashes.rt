@@ -112,7 +112,7 @@ fn tell_trial(
 }
 
 /// The first number of calls after which the file stops and a run is wrong, if any. Runs end in each of these ways, and
-/// the last one without a stop.
+/// the last one without a failure of the file.
 fn first_wrong(alloc: Global, trial: &Trial<'_>, ends: &[End]) -> Result<Option<usize>> {
     let mut met = Vec::new(alloc);
     for calls in 0..MOST {

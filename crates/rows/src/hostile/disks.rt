@@ -20,7 +20,7 @@ pub enum Which {
 pub enum Stop {
     /// The process dies: everything.
     OfProcess,
-    /// The machine stops: nothing.
+    /// The machine crashes: nothing.
     OfMachine,
 }
 
