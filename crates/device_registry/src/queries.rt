@@ -83,7 +83,7 @@ pub(crate) fn list_devices<C: SqlConnection>(conn: &mut C) -> Result<Vec<Row>, E
     ensures stays { WritesNothing (C.state conn.old) (C.state conn.new) }
     ensures all { HasCleanDisk (C.state conn.new) → IfOk result (λ rows. IsReady (C.state conn.new) ×
         ((devices : Devices) → IsReadyWith (C.state conn.old) devices
-            → map device_in_row rows.items ≡ all_of devices)) }
+        → map device_in_row rows.items ≡ all_of devices)) }
 {
     let all = compile(conn, FIND_ALL)?;
     conn.query_all_prepared(&all, &[])

@@ -211,11 +211,11 @@ fn an_empty_database_is_prepared_behind_each_stop(rt: HostRuntime) -> Result<(),
     for which in [Which::Log, Which::Database] {
         for crash in [Stop::OfProcess, Stop::OfMachine] {
             let ends = each_refused(rt.alloc(), &rt, &files, which, Trial::Preparing, crash)?;
-            assert!(rt; !ends.is_empty(), "{which:?}, {stop:?}");
+            assert!(rt; !ends.is_empty(), "{which:?}, {crash:?}");
             // `prepare` does not use the database file: its pages stay in the log.
             assert!(rt;
                 which == Which::Database || ends.contains(&End::MadeBehind),
-                "{stop:?}"
+                "{crash:?}"
             );
         }
     }
@@ -239,13 +239,13 @@ fn a_thousand_devices_are_migrated_behind_each_stop(rt: HostRuntime) -> Result<(
     for which in [Which::Log, Which::Database] {
         for crash in [Stop::OfProcess, Stop::OfMachine] {
             let ends = migrates_behind_each_stop(rt.alloc(), &rt, 1000, which, crash)?;
-            assert!(rt; ends.contains(&End::Was(1)), "{which:?}, {stop:?}");
+            assert!(rt; ends.contains(&End::Was(1)), "{which:?}, {crash:?}");
             // A write that was reported as failed is in the log, and only the process has died.
             let is_migrated = which == Which::Log && crash == Stop::OfProcess;
             assert_eq!(rt;
                 ends.contains(&End::Was(2)),
                 is_migrated,
-                "{which:?}, {stop:?}"
+                "{which:?}, {crash:?}"
             );
         }
     }
