@@ -17,8 +17,7 @@ abbrev pub Devices : Type 0
 Devices = FinMap nat_cmp DeviceData
 
 abbrev pub device : ℕ → DeviceData → Device
-device id learn_update =
-    record { id = id; eep = learn_update.eep; maker = learn_update.maker; label = learn_update.label }
+device id data = record { id = id; eep = data.eep; maker = data.maker; label = data.label }
 
 -- the stored data of a device's sender
 abbrev pub device_data : Device → DeviceData
