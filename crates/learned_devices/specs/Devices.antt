@@ -17,7 +17,7 @@ abbrev pub Devices : Type 0
 Devices = FinMap nat_cmp DeviceData
 
 abbrev pub device : ℕ → DeviceData → Device
-device id data = record { id = id; eep = data.eep; maker = data.maker; label = data.label }
+device id it = record { id = id; eep = it.eep; maker = it.maker; label = it.label }
 
 -- the stored data of a device's sender
 abbrev pub device_data : Device → DeviceData
