@@ -163,9 +163,9 @@ shaped_by : (digits : List ℕ) (more : List (List ℕ)) (i : Option ℕ) (t : O
     → label_in more ≡ t
     → Shaped (codes "label" ∷ digits ∷ more) (map_two (λ id label. Label id label) i t)
 unfolding Shaped
-shaped_by digits more None t is is_label_word = tt
-shaped_by digits more (Some id) None is is_label_word = tt
-shaped_by digits more (Some id) (Some label) is is_label_word = label_shaped digits more id label is is_label_word
+shaped_by digits more None t is may = tt
+shaped_by digits more (Some id) None is may = tt
+shaped_by digits more (Some id) (Some label) is may = label_shaped digits more id label is may
 
 shaped_label : (more : List (List ℕ)) → Shaped (codes "label" ∷ more) (label_order more)
 unfolding Shaped

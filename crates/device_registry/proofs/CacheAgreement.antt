@@ -31,7 +31,7 @@ cleared_recalled s cap cache is = none_recalled s cache.entries (ap (λ (c : Lru
 
 pub fewer_recalled : (s : State) (old new : List Entry) → CacheAgrees s old
     → ((e : Entry) → Contains new e → Contains old e) → CacheAgrees s new
-fewer_recalled s old new recalls registry_state entry has clean = recalls entry (registry_state entry has) clean
+fewer_recalled s old new recalls fewer entry has clean = recalls entry (fewer entry has) clean
 
 -- a cached entry agrees with every list of devices that the registry may hold
 pub recalled : (s : State) (id : ℕ) (known : Option Device) → HasCleanDisk s → EntryAgrees s (id, known)
@@ -68,11 +68,11 @@ pub found_recalled : (old new : State) (id : ℕ) (known : Option Device) (befor
     → (known ≡ device_of devices id) × Keeps (registry_state old) (registry_state new) devices)
     → CacheAgrees old before → ((e : Entry) → Contains later e → Contains before e ⊎ (e ≡ (id, known)))
     → CacheAgrees new later
-found_recalled old new id known before later early sure found recalls registry_state entry has clean =
+found_recalled old new id known before later early sure found recalls fewer entry has clean =
     let it = sure clean in
     let was_devices = it.0.devices in
     let had = held it.0 in
-    elim (registry_state entry has) [
+    elim (fewer entry has) [
       | inl was ↦ still old new clean it.1 (λ devices had. (found clean devices had).1.now) entry
           (recalls entry was (early clean))
       | inr same ↦
@@ -124,11 +124,11 @@ pub changed_recalled : (old new : State) (update : DeviceUpdate) (known : Option
     → known ≡ option_map (device update.sender) (known_after devices update))
     → CacheAgrees old before → ((e : Entry) → Contains between e → Contains before e × (e.0 ≢ update.sender))
     → ((e : Entry) → Contains later e → Contains between e ⊎ (e ≡ (update.sender, known))) → CacheAgrees new later
-changed_recalled old new update known before between later early sure commits is recalls taken registry_state entry has
+changed_recalled old new update known before between later early sure commits is recalls taken fewer entry has
     clean =
     let it = sure clean in
     let id = update.sender in
-    elim (registry_state entry has) [
+    elim (fewer entry has) [
       | inl was ↦
           let left = taken entry was in
           let right = recalls entry left.0 (early clean) in

@@ -341,7 +341,7 @@ room_if_known s id label it known clean devices shows =
 is_known : (known : Option DeviceData) (label : List ℕ) (it : DeviceData) → data_after known (Relabel label) ≡ Some it
     → true ≡ is_some known
 is_known None label it e = absurd (let none = e in cc)
-is_known (Some learn_update) label it e = refl
+is_known (Some stored) label it e = refl
 
 pub stays_itself : (s : State) → WritesNothing s s
 stays_itself s = record {

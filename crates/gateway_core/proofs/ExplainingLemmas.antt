@@ -41,7 +41,7 @@ use Rattle.gateway_core.specs.Dispositions.{shown_packet}
 use Rattle.gateway_core.specs.Dispositions.{why_filtered, why_other, why_silent}
 use Rattle.gateway_core.specs.Profiles.{read_by}
 use Rattle.gateway_core.specs.Responses.{response_from, response_in}
-use Rattle.gateway_core.specs.Explaining.{DoesNotFit, ExplanationsAreTrue, IsAddressedToUs, IsDataOf, Means, IsTeachIn}
+use Rattle.gateway_core.specs.Explaining.{DoesNotFit, ExplanationsAreTrue, IsNotFilteredOut, IsDataOf, Means, IsTeachIn}
 use Rattle.gateway_core.specs.Explaining.{IsPlanned, Shows}
 use Rattle.gateway_core.specs.Step.{State, Effect, case_effect, case_of, data_case, teach_case}
 use Rattle.gateway_core.specs.Step.{FilteredOut, non_telegram_effect, packet_effect_from, packet_effect, plan_effect}
@@ -249,7 +249,7 @@ module _ (state : State) (packet : Packet) (t : Telegram) (carried : telegram_of
           (ap (λ b. why_filtered (if b then reason.FromBroadcast else reason.ForOthers)) is)
           (t, carried, eqb-false t.sender 0xFFFF_FFFF is, eqb-false t.dest 0xFFFF_FFFF both.0, both.1, (refl, refl))
 
-  module _ (heard : IsAddressedToUs state packet t) where
+  module _ (heard : IsNotFilteredOut state packet t) where
     refused : (outcome : Outcome) → RefusalMeans (teach_in_of t) outcome → state.mode ≢ mode.Closed
         → IsPlanned state t (Refuse outcome) → (update : (packet_effect state packet).update ≡ None)
         → Means state packet (without_device (why.TeachIn outcome)) (why.TeachIn outcome)

@@ -306,9 +306,9 @@ updates_survive_restarts session update sessions last is tells spares are =
     (kept.safe session.left (subst (λ l. IsCrashConsistent Before (with_interrupted l session.last session.interrupted)
     session.left) same is.safe))
   where
-    told_run : (at last : State) (input : Input) (data_after : List Input) (more : List InputResult)
+    told_run : (at last : State) (input : Input) (later : List Input) (more : List InputResult)
         (answers : List Answer)
-        → Run at (input ∷ data_after) (Applied ∷ more) answers last
-        → (others : List Answer) × Run (state_after at input) data_after more others last
-    told_run at last input data_after more (a ∷ answers) run = (answers, run.2)
-    told_run at last input data_after more [] run = absurd run
+        → Run at (input ∷ later) (Applied ∷ more) answers last
+        → (others : List Answer) × Run (state_after at input) later more others last
+    told_run at last input later more (a ∷ answers) run = (answers, run.2)
+    told_run at last input later more [] run = absurd run

@@ -191,10 +191,10 @@ told-before state (b ∷ before) after (a ∷ ahead) behind input (d ∷ done) m
     is = absurd (omega (arith, same))
 
 pub told_stand_before : AcknowledgedAreInPrefix
-told_stand_before start inputs ahead behind input results earlier later result devices p is are same with_committed =
+told_stand_before start inputs ahead behind input results earlier later result devices p is are same told =
     told-before start p.before p.after ahead behind input p.done p.more earlier later result (sym p.inputs_are ∙ is)
     (sym p.results_are ∙ are) p.as_many same
-    (subst (λ s. NoneAcknowledged s p.after p.more) p.at_is p.unacknowledged) with_committed
+    (subst (λ s. NoneAcknowledged s p.after p.more) p.at_is p.unacknowledged) told
 
 stop_steps : (Before : Devices → Type 0) (left : CrashStates) (state : State) (interrupted : Option Input)
     (devices : Devices)

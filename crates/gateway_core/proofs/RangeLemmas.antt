@@ -305,11 +305,11 @@ interrupted-in state (Some input) devices done bytes is = subst AreInRange (sym 
 interrupted-in state None devices done bytes is = absurd done
 
 -- the first inputs are of bytes, and the others
-parts-in : (before data_after : List Input) → AllByRecursion IsOfBytes (before ++ data_after)
-    → AllByRecursion IsOfBytes before × AllByRecursion IsOfBytes data_after
-parts-in [] data_after bytes = (tt, bytes)
-parts-in (input ∷ before) data_after bytes =
-    let rest = parts-in before data_after bytes.1 in ((bytes.0, rest.0), rest.1)
+parts-in : (before later : List Input) → AllByRecursion IsOfBytes (before ++ later)
+    → AllByRecursion IsOfBytes before × AllByRecursion IsOfBytes later
+parts-in [] later bytes = (tt, bytes)
+parts-in (input ∷ before) later bytes =
+    let rest = parts-in before later bytes.1 in ((bytes.0, rest.0), rest.1)
 
 pub leaves_in_range : LeavesInRange
 leaves_in_range session is found bytes interrupted =

@@ -107,7 +107,7 @@ plan-need state t =
       adds = λ hears eep maker.
           effect_unless_full-need state.devices (record { id = t.sender; eep = eep; maker = maker; label = [] }) _ _
           refl refl;
-      forgets = λ with_committed asks. refl;
+      forgets = λ learning asks. refl;
       refuses = λ hears outcome is. refl;
     })
 
@@ -128,8 +128,8 @@ telegram-need None = refl
 
 pub known-need : (known : Option Device) (effect_of : Device → Effect)
     → ((it : Device) → (effect_of it).need ≡ NeedsStore) → (if_known known effect_of).need ≡ NeedsStore
-known-need None effect_of need_of = refl
-known-need (Some it) effect_of need_of = need_of it
+known-need None effect_of needs_store = refl
+known-need (Some it) effect_of needs_store = needs_store it
 
 -- the line and the reply for a sender
 pub taught-answer : (state : State) (kind : Teach) (line : TeachLine) (answer : Answer) (outcome : Outcome)
@@ -381,7 +381,7 @@ module _ {S : Type 0} (stored : S → StoreState) where
       → AppliesOrFails (stored old) (stored new) devices
       (if_known (device_of devices id) (λ it. relabel_effect id label))
       (Err (AtWrite fault))
-  label-refused old new devices id label fault state_after_failure = one (get devices id) state_after_failure
+  label-refused old new devices id label fault failed = one (get devices id) failed
     where
       one : (it : Option DeviceData)
           → MatchBool (is_some it) (LeavesPending (stored old) (stored new) (relabel_update id label) devices)
@@ -415,15 +415,15 @@ module _ {S : Type 0} (stored : S → StoreState) where
     pub tries-refused : (failure : Failure) → Learns stored old known (Err failure) new
         → Attempts stored old (λ state. effect_unless_full state.devices known (full state) (done state)) (Err failure)
         new
-    tries-refused (Before fault) learn_effect =
-        tries-registry old new _ _ _ learn_effect.alone
+    tries-refused (Before fault) learns =
+        tries-registry old new _ _ _ learns.alone
         (λ devices keeps.
         let all = adds devices in (
           permitted _ (cause_of fault) (effect_unless_full-need devices known _ _ all.full_needs all.done_needs),
           keeps,
         ))
-    tries-refused (AtWrite fault) learn_effect =
-        tries-registry old new _ _ _ learn_effect.alone
+    tries-refused (AtWrite fault) learns =
+        tries-registry old new _ _ _ learns.alone
         (λ devices pends.
         effect_unless_full-pending old.registry new.registry devices known (full (state_of old devices))
         (done (state_of old devices)) (adds devices) (cause_of fault) pends)
@@ -431,18 +431,18 @@ module _ {S : Type 0} (stored : S → StoreState) where
     pub tries-full : (made : HandlerEffect) → Learns stored old known (Ok None) new
         → ((devices : Devices) → MatchesEffect made (full (state_of new devices)))
         → Attempts stored old (λ state. effect_unless_full state.devices known (full state) (done state)) (Ok made) new
-    tries-full made learn_effect gives =
-        tries-registry old new _ _ _ learn_effect.alone
+    tries-full made learns gives =
+        tries-registry old new _ _ _ learns.alone
         (λ devices (is, keeps).
         rw (is, (adds devices).stays)
-        (gives-before old new made full devices learn_effect.alone.same (gives devices), keeps))
+        (gives-before old new made full devices learns.alone.same (gives devices), keeps))
 
     -- out of memory for the line that reports it
     pub tries-unacknowledged : (fault : StoreFault) → Learns stored old known (Ok None) new
         → Attempts stored old (λ state. effect_unless_full state.devices known (full state) (done state))
         (Err (Before fault)) new
-    tries-unacknowledged fault learn_effect =
-        tries-registry old new _ _ _ learn_effect.alone
+    tries-unacknowledged fault learns =
+        tries-registry old new _ _ _ learns.alone
         (λ devices (is, keeps).
         let all = adds devices in (
           permitted _ (cause_of fault) (effect_unless_full-need devices known _ _ all.full_needs all.done_needs),
@@ -453,11 +453,11 @@ module _ {S : Type 0} (stored : S → StoreState) where
         → Learns stored old known (Ok (Some committed)) new
         → ((devices : Devices) → MatchesEffect made (done (state_of new devices)))
         → Attempts stored old (λ state. effect_unless_full state.devices known (full state) (done state)) (Ok made) new
-    tries-learned committed made learn_effect gives =
-        tries-registry old new _ _ _ learn_effect.alone
+    tries-learned committed made learns gives =
+        tries-registry old new _ _ _ learns.alone
         (λ devices (is, commits).
         rw (is, (adds devices).learns)
-        (gives-before old new made done devices learn_effect.alone.same (gives devices), commits))
+        (gives-before old new made done devices learns.alone.same (gives devices), commits))
 
   module _ (old new : HandlerValue S) (line : TeachLine) (effect : State → Effect)
       (drops : (devices : Devices) → Drops line.id (effect (state_of old devices))) where

@@ -36,7 +36,7 @@ use Rattle.gateway_core.specs.Profiles.{read_by}
 use Rattle.gateway_core.specs.Step.{State, Received, answer_to, update_of, is_learned}
 
 -- the packet carries this telegram, which is addressed to us
-pub record IsAddressedToUs (state : State) (packet : Packet) (t : Telegram) : Type 0 where
+pub record IsNotFilteredOut (state : State) (packet : Packet) (t : Telegram) : Type 0 where
   pub carried : telegram_of packet ≡ Ok t
   pub heard : is_filtered_out state.base t ≡ false
 
@@ -50,7 +50,7 @@ IsTeachIn kind = ⊥
 
 -- data of a learned device
 pub record IsDataOf (state : State) (packet : Packet) (t : Telegram) (known : Device) : Type 0 where
-  pub hears : IsAddressedToUs state packet t
+  pub hears : IsNotFilteredOut state packet t
   pub data_alone : teach_in_of t ≡ Plain
   pub is_known : device_of state.devices t.sender ≡ Some known
 
@@ -92,15 +92,15 @@ Means state packet disposition why.ForOthers =
     (t : Telegram) × (telegram_of packet ≡ Ok t) × (t.sender ≢ 0xFFFF_FFFF) × (t.dest ≢ 0xFFFF_FFFF)
     × (is_own state.base t.dest ≡ false) × NamesDevice disposition None
 Means state packet disposition why.TeachInReply =
-    (t : Telegram) × IsAddressedToUs state packet t × (teach_in_of t ≡ Answer) × NamesDevice disposition None
+    (t : Telegram) × IsNotFilteredOut state packet t × (teach_in_of t ≡ Answer) × NamesDevice disposition None
 Means state packet disposition why.WindowClosed =
-    (t : Telegram) × IsAddressedToUs state packet t × IsTeachIn (teach_in_of t) × (state.mode ≡ Closed)
+    (t : Telegram) × IsNotFilteredOut state packet t × IsTeachIn (teach_in_of t) × (state.mode ≡ Closed)
     × NamesDevice disposition None
 Means state packet disposition why.OtherMode =
-    (t : Telegram) × IsAddressedToUs state packet t × IsTeachIn (teach_in_of t)
+    (t : Telegram) × IsNotFilteredOut state packet t × IsTeachIn (teach_in_of t)
     × ((eep : Eep) × (state.mode ≡ LearnAs eep) × DoesNotFit eep (teach_in_of t)) × NamesDevice disposition None
 Means state packet disposition why.UnknownSender =
-    (t : Telegram) × IsAddressedToUs state packet t × (teach_in_of t ≡ Plain)
+    (t : Telegram) × IsNotFilteredOut state packet t × (teach_in_of t ≡ Plain)
     × (device_of state.devices t.sender ≡ None)
     × (update_of state (Received packet) ≡ None) × NamesDevice disposition None
 Means state packet disposition why.Read =
@@ -114,30 +114,30 @@ Means state packet disposition why.OtherMessage =
     IsUnreadable state packet disposition (λ fault. (fault ≡ unreadable.OtherMessage)
     ⊎ (fault ≡ unreadable.NotSupported))
 Means state packet disposition (why.TeachIn Accepted) =
-    (t : Telegram) × (known : Device) × IsAddressedToUs state packet t × (known.id ≡ t.sender) × (state.mode ≢ Closed)
+    (t : Telegram) × (known : Device) × IsNotFilteredOut state packet t × (known.id ≡ t.sender) × (state.mode ≢ Closed)
     × IsPlanned state t (Add known) × (update_of state (Received packet) ≡ Some (learn_update known))
     × NamesDevice disposition (Some known)
 Means state packet disposition (why.TeachIn Deleted) =
-    (t : Telegram) × (query : UteQuery) × IsAddressedToUs state packet t × (state.mode ≢ Closed)
+    (t : Telegram) × (query : UteQuery) × IsNotFilteredOut state packet t × (state.mode ≢ Closed)
     × (teach_in_of t ≡ Ute query)
     × (request_in query ≡ deletion) × IsPlanned state t (Forget t.sender)
     × (update_of state (Received packet) ≡ Some (forget_update t.sender))
     × NamesDevice disposition None
 Means state packet disposition (why.TeachIn Full) =
-    (t : Telegram) × (known : Device) × IsAddressedToUs state packet t × (known.id ≡ t.sender) × (state.mode ≢ Closed)
+    (t : Telegram) × (known : Device) × IsNotFilteredOut state packet t × (known.id ≡ t.sender) × (state.mode ≢ Closed)
     × IsPlanned state t (Add known) × (is_full state.devices t.sender ≡ true)
     × (update_of state (Received packet) ≡ None) × NamesDevice disposition None
 Means state packet disposition (why.TeachIn Unsupported) =
-    (t : Telegram) × (eep : Eep) × IsAddressedToUs state packet t × (state.mode ≢ Closed)
+    (t : Telegram) × (eep : Eep) × IsNotFilteredOut state packet t × (state.mode ≢ Closed)
     × (query_eep (teach_in_of t) ≡ Some eep) × (supported eep ≡ false) × IsPlanned state t (Refuse Unsupported)
     × (update_of state (Received packet) ≡ None) × NamesDevice disposition None
 Means state packet disposition (why.TeachIn General) =
-    (t : Telegram) × (query : UteQuery) × IsAddressedToUs state packet t × (state.mode ≢ Closed)
+    (t : Telegram) × (query : UteQuery) × IsNotFilteredOut state packet t × (state.mode ≢ Closed)
     × (teach_in_of t ≡ Ute query)
     × (request_in query ≡ not_used) × IsPlanned state t (Refuse General)
     × (update_of state (Received packet) ≡ None) × NamesDevice disposition None
 Means state packet disposition (why.TeachIn NoProfile) =
-    (t : Telegram) × IsAddressedToUs state packet t × (state.mode ≢ Closed) × (teach_in_of t ≡ Bare)
+    (t : Telegram) × IsNotFilteredOut state packet t × (state.mode ≢ Closed) × (teach_in_of t ≡ Bare)
     × IsPlanned state t (Refuse NoProfile) × (update_of state (Received packet) ≡ None) × NamesDevice disposition None
 
 -- A telegram is shown with its parts, and with the profile and maker of its query, if it is one, otherwise with those

@@ -11,7 +11,8 @@ use Rattle.gateway_core.specs.Step.{update_of, need_of}
 use Rattle.gateway_core.specs.Step.{state_after}
 use Rattle.gateway_core.specs.Step.{Cause, Memory, Store, MayFailFor}
 
--- an input is applied, or it fails: before its commit in the device store, or at that commit
+-- An input is applied, or it fails: `FailedAtCommit` if the call of the device store that commits its update failed,
+-- whether that call had written yet or not, and `Failed` otherwise.
 pub data InputResult : Type 0 where
   Applied : InputResult
   Failed : (cause : Cause) → InputResult

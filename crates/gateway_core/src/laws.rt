@@ -139,8 +139,8 @@ pub fn numbers_stay_in_range()
     ensures tells { ReportsInRange }
 {}
 
-/// A crash state is what was known after a prefix of the inputs, perhaps with the update of the next one, whose
-/// commit failed. The prefix contains every acknowledged input.
+/// A crash state is what was known after a prefix of the inputs, perhaps with the update of the next one, if the call
+/// that commits it failed. The prefix contains every acknowledged input.
 pub fn crash_states_are_prefixes()
     ensures safe { CrashStatesArePrefixes }
     ensures reported { AcknowledgedAreInPrefix }

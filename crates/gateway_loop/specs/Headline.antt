@@ -53,7 +53,8 @@ module _ {S : Type 0} (stored : S → StoreState) where
   -- an input that needs memory or the device store can fail; then only the counter of failed inputs changed. The
   -- answers are written. The gateway knows the state after the last step; while the device store is open, it holds the
   -- devices of that state. Any crash state is sound, and is what was known after some prefix of the inputs. The prefix
-  -- contains every acknowledged input. The update of the next input may be there too, if its commit failed.
+  -- contains every acknowledged input. The update of the next input may be there too, if the call that commits it
+  -- failed.
   pub record AsSpecified (base : ℕ) (found : Devices) (items : List Input) (out : List Answer → Type 0)
       (new : HandlerValue S) : Type 0 where
     pub results : List InputResult

@@ -49,7 +49,7 @@ module _ (old new : StoreState) (devices : Devices) where
   IsUpdateCommitted None = Keeps old new devices
   IsUpdateCommitted (Some update) = Commits new update devices
 
-  -- what may fail for this cause failed at its commit; if there was nothing to write, nothing is pending
+  -- the call that commits failed, and may fail for this cause; if there was nothing to write, nothing is pending
   abbrev pub IsPending : Need → Cause → Option DeviceUpdate → Type 0
   IsPending need cause None = MayFailFor need cause × Keeps old new devices
   IsPending need cause (Some update) = LeavesPending old new update devices
@@ -105,7 +105,7 @@ ReportsForgotten line (Ok committed) = IsCommittedAs line committed
 ReportsForgotten line result = Unit {0}
 
 module _ (old new : StoreState) (devices : Devices) where
-  -- a failure leaves what was known, and perhaps the update, if its commit was tried
+  -- a failure leaves what was known, and perhaps the update, if the call that commits it failed
   abbrev pub FailsToUpdate : DeviceUpdate → Failure → Type 0
   FailsToUpdate update (Before fault) = Keeps old new devices
   FailsToUpdate update (AtWrite fault) = LeavesPending old new update devices
