@@ -71,8 +71,8 @@ def row_of(cells: list[str]) -> Row | BadRow:
     if QUOTED.match(label):
         label = label[1:]
     if FLOAT.fullmatch(device) and not re.fullmatch(grammar.ID, device):
-        return BadRow(f"a spreadsheet changed the ID to the number {device}: enter it again, in a column with the format "
-                      "Text")
+        return BadRow(f"a spreadsheet changed the ID to the number {device}: enter it again, in a column with the "
+                      "format Text")
     row = Row(device.upper(), eep.upper(), label)
     try:
         for order in (add(row), relabel(row)):
@@ -93,8 +93,8 @@ def relabel(row: Row) -> str:
 
 
 class Import:
-    """Learns devices and gives them labels. `known` has the learned ones by their IDs, `give` gives an order and returns
-    the sentence of an error or None, `report` prints a line."""
+    """Learns devices and gives them labels. `known` has the learned ones by their IDs, `give` gives an order and
+    returns the sentence of an error or None, `report` prints a line."""
 
     def __init__(self, known: dict[str, Listed], give: Callable[[str], str | None], report: Callable[[str], None]):
         self.known, self.give, self.report = known, give, report

@@ -105,8 +105,9 @@ class CtlTest(unittest.TestCase):
         return int(found[0])
 
     def hang(self) -> None:
-        """The gateway stops until `go_on`."""
+        """The gateway stops until `go_on`. At the end of the test it answers all orders."""
         self.hanging = self.process()
+        self.addCleanup(self.ctl, "status")
         self.addCleanup(self.go_on)
         os.kill(self.hanging, signal.SIGSTOP)
 

@@ -10,8 +10,8 @@ from oracle.esp3 import sent
 from programs import wait_for
 
 RANGE = "range: an ID, a number or a label is out of its range: see ORDERS in enogate(1)"
-UNKNOWN = ("unknown_device: no device with this ID is learned: check the ID with `list`, or learn the device with `add`")
-WRONG = ("wrong_profile: the order does not apply to the profile of this device: check the profile with `list`")
+UNKNOWN = "unknown_device: no device with this ID is learned: check the ID with `list`, or learn the device with `add`"
+WRONG = "wrong_profile: the order does not apply to the profile of this device: check the profile with `list`"
 
 
 class Orders(CtlTest):
@@ -46,10 +46,11 @@ class Orders(CtlTest):
     def test_bad_usage_is_not_written_to_the_desk(self):
         before = self.gateway.desk.read_bytes()
         for words in ((), ("frob",), ("add", "1800ABC", "D5-00-01"), ("label", "01800ABC", "a\nremove 01800ABC"),
-                      ("label", "01800ABC", "ö"), ("label", "01800ABC", "x" * 33), ("--no", "list"), ("list", "--for", "5"),
-                      ("learn", "off", "--for", "5"), ("learn", "on", "--for", "0"), ("learn", "on", "--for", "x"),
-                      ("devices",), ("devices", "--export", "--import"), ("list", "--export"), ("--timeout", "-1", "list"),
-                      ("devices", "--json", "--export"), ("devices", "--export", "--for", "1"), ("list", " ")):
+                      ("label", "01800ABC", "ö"), ("label", "01800ABC", "x" * 33), ("--no", "list"), ("list", " "),
+                      ("list", "--for", "5"), ("learn", "off", "--for", "5"), ("learn", "on", "--for", "0"),
+                      ("learn", "on", "--for", "x"), ("devices",), ("devices", "--export", "--import"),
+                      ("list", "--export"), ("--timeout", "-1", "list"), ("devices", "--json", "--export"),
+                      ("devices", "--export", "--for", "1")):
             with self.subTest(words):
                 run = self.ctl(*words)
                 self.assertEqual((run.status, run.out), (USAGE, ""))
@@ -70,7 +71,8 @@ class Orders(CtlTest):
         self.assertEqual((run.status, run.out), (REFUSED, '{"error":"unknown_device","type":"error"}\n'))
         self.assert_run(self.ctl("label", "01900001", "--", "-x", "--json  \"b\""), OK, "ok\n")
         lines = self.ctl("list", "--json").out.splitlines()
-        self.assertIn('{"eep":"D5-00-01","id":"01900001","label":"-x --json  \\"b\\"","maker":null,"type":"device"}', lines)
+        device = '{"eep":"D5-00-01","id":"01900001","label":"-x --json  \\"b\\"","maker":null,"type":"device"}'
+        self.assertIn(device, lines)
         self.assertEqual(json.loads(lines[-1]), {"count": len(lines) - 1, "type": "list"})
         self.assert_run(self.ctl("remove", "01900001"), OK, "deleted\n")
 
@@ -128,10 +130,9 @@ class Several(CtlTest):
     def give(self, number: int) -> None:
         """A program gives orders with enogatectl."""
         device = f"019001{number:02X}"
-        for words, status in ((["add", device, "F6-02-01"], OK), (["remove", device], OK), (["remove", device], REFUSED),
-                              (["label", device, "x"], REFUSED), (["add", "01900300", "D5-00-01"], OK),
-                              (["central", "0", "on"], OK)):
-            run = self.ctl(*words)
+        for words, status in ((f"add {device} F6-02-01", OK), (f"remove {device}", OK), (f"remove {device}", REFUSED),
+                              (f"label {device} x", REFUSED), ("add 01900300 D5-00-01", OK), ("central 0 on", OK)):
+            run = self.ctl(*words.split(" "))
             if run.status != status:
                 self.wrong.append((words, run))
 
@@ -158,8 +159,9 @@ class Sheets(CtlTest):
     """Export and import."""
 
     def test_round_trip(self):
-        rows = ("id;eep;label\r\n1800222;D5-00-01;'=Hall\r\n01800AC1;D5-00-99;\r\nnonsense;x\r\n01800ac2;d2-01-12;Lamp, \"2\"\r\n"
-                "01800AC3;F6-02-01;ö\r\n1,80E+15;F6-02-01\r\n;;\r\n01800AC4;F6-02-01\r\n")
+        rows = ("id;eep;label\r\n1800222;D5-00-01;'=Hall\r\n01800AC1;D5-00-99;\r\nnonsense;x\r\n"
+                "01800ac2;d2-01-12;Lamp, \"2\"\r\n01800AC3;F6-02-01;ö\r\n1,80E+15;F6-02-01\r\n;;\r\n"
+                "01800AC4;F6-02-01\r\n")
         run = self.ctl("devices", "--import", text="\ufeff" + rows)
         self.assertEqual((run.status, run.err), (REFUSED, ""))
         self.assertEqual(run.out.splitlines(), [
@@ -168,8 +170,10 @@ class Sheets(CtlTest):
             "this profile: see the table of profiles in the guide, and try a similar one",
             "line 4: 'add NONSENSE X' is not an order: the form is add ID EEP",
             "line 5: 01800AC2: learned and labelled",
-            "line 6: 'label 01800AC3 ö' is not an order: the form is label ID TEXT | label ID (1 to 32 ASCII characters)",
-            "line 7: a spreadsheet changed the ID to the number 1,80E+15: enter it again, in a column with the format Text",
+            "line 6: 'label 01800AC3 ö' is not an order: the form is label ID TEXT | label ID (1 to 32 ASCII "
+            "characters)",
+            "line 7: a spreadsheet changed the ID to the number 1,80E+15: enter it again, in a column with the format "
+            "Text",
             "line 9: 01800AC4: learned"])
         exported = self.ctl("devices", "--export")
         self.assertEqual(exported, Run(OK, "id,eep,label\n01800222,D5-00-01,'=Hall\n"
