@@ -12,7 +12,7 @@ from .answers import Answer
 from .places import Places
 from .tables import table
 
-HEADINGS = ("LABEL", "ID", "PROFILE", "NAME", "LAST READINGS", "SIGNAL", "LAST HEARD")
+HEADINGS = ("LABEL", "ID", "PROFILE", "NAME", "LAST READINGS", "SIGNAL", "LAST SEEN")
 
 
 def shown(answer: Answer, places: Places, now: Callable[[], datetime]) -> str:

@@ -2,6 +2,7 @@
 from __future__ import annotations
 
 import json
+import logging
 import pathlib
 import tempfile
 import unittest
@@ -35,6 +36,8 @@ class Site(unittest.TestCase):
     maxDiff = None
 
     def setUp(self) -> None:
+        logging.disable()
+        self.addCleanup(logging.disable, logging.NOTSET)
         self.folder = pathlib.Path(self.enterContext(tempfile.TemporaryDirectory()))
         self.desk, self.lines, self.state = (self.folder / name for name in ("desk", "hall.lines", "bridge.db"))
         self.desk.touch()
@@ -46,7 +49,7 @@ class Site(unittest.TestCase):
         """The gateway writes these lines."""
         with self.lines.open("a") as file:
             for line in lines:
-                file.write((line if isinstance(line, str) else json.dumps(line)) + "\n")
+                file.write((line if isinstance(line, str) else json.dumps(line, separators=(",", ":"))) + "\n")
 
 
 def status(mode: str = "closed", **counters: int) -> dict:
