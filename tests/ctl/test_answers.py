@@ -126,6 +126,7 @@ class Rule(unittest.TestCase):
             self.assertEqual(between(ADD, packet("refused"), reading("01800ABC"), error(name)), [error(name)])
             self.assertEqual(between(ADD, error(name), ACCEPTED), [ACCEPTED])
             self.assertEqual(between("label 01800ABC", OK, error(name)), [OK])
+        self.assertEqual(between(ADD, error("memory"), error("store")), [error("store")])
 
     def test_status(self):
         self.assertEqual(found("status", OK, error("memory"), status("on")), ([status("on")], 3))

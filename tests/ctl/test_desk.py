@@ -159,6 +159,14 @@ class Asking(DeskTest):
         self.clock.acts[1] = lambda: self.write('{"type":"ok"}', *ANSWER)
         self.made().ask("learn on")
 
+    def test_the_end_of_an_incomplete_line_is_not_a_fence(self):
+        with self.lines.open("a") as file:
+            file.write("{" * 100)
+        refused = error("unsupported_profile")
+        lines = (status(), status(), OK, status(), status(), refused, status())
+        self.clock.acts[1] = lambda: self.write(*lines)
+        self.assertEqual(self.made().ask("learn as A5-99-99").error, "unsupported_profile")
+
     def test_no_lines_yet(self):
         self.lines.unlink()
         self.clock.acts[1] = lambda: self.write(*ANSWER)
