@@ -7,6 +7,7 @@ import re
 import sqlite3
 import unittest
 from datetime import datetime, timedelta, timezone
+from unittest import mock
 
 from enogate_ctl import recent, words
 from enogate_ctl.answers import REFUSALS, Answer, line_of
@@ -198,6 +199,15 @@ class Recent(Site):
         with self.lines.open("a") as file:
             file.write(json.dumps(reading("01800ABC"), separators=(",", ":")) + "\n")
         self.assertEqual(self.times(), {})
+
+    def test_only_so_much_is_read_after_the_place(self):
+        self.put(self.lines, *["01800ABC"] * 50)
+        start = Place(self.lines.stat().st_ino, 0, b"")
+        with mock.patch("enogate_mqtt.follow.MAX_READ", 500), \
+                mock.patch.object(recent.Follower, "read", autospec=True, side_effect=recent.Follower.read) as read:
+            self.assertIsNone(recent.devices_after(start, str(self.lines), 900))
+            self.assertLess(read.call_count, 5)
+            self.assertEqual(recent.devices_after(start, str(self.lines), 9000), {"01800ABC"})
 
     def test_a_state_that_is_damaged_or_none(self):
         bridge(self, "01800ABC", NOW)
