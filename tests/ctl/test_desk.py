@@ -312,8 +312,8 @@ class Files(DeskTest):
         with mock.patch("os.write", side_effect=full):
             self.assert_no_answer(f"the desk {self.desk} cannot be written: No space left on device")
         with mock.patch("os.write", side_effect=lambda file, text: len(text) - 1):
-            self.assert_no_answer(f"the desk {self.desk} could only be written in part, because its file system is full: "
-                                  "restart the gateway, which empties the desk")
+            self.assert_no_answer(f"the desk {self.desk} could only be written in part, because its file system is "
+                                  "full: restart the gateway, which empties the desk")
 
     def test_what_others_append_is_no_restart(self):
         self.desk.write_text("list\n")

@@ -67,7 +67,8 @@ class Words(unittest.TestCase):
             ("D2-01-0F", [{"name": "PF", "raw": 0}, {"name": "EL", "word": "ok"}, {"name": "IO", "raw": 0},
                           {"den": 1, "name": "OV", "num": 100, "unit": "%"}], "OV 100 %"),
             ("A5-04-01", [{"name": "HUM", "out_of_range": 251}], "Humidity out_of_range"),
-            ("A5-12-01", [{"name": "TI", "raw": 3}], "TI 3"), ("D2-01-0F", [{"name": "LC", "raw": 1}], "Local control 1"),
+            ("A5-12-01", [{"name": "TI", "raw": 3}], "TI 3"),
+            ("D2-01-0F", [{"name": "LC", "raw": 1}], "Local control 1"),
         ):
             with self.subTest(text):
                 telegram, = lines_of(reading("01800ABC", eep, readings))
@@ -220,7 +221,8 @@ class Recent(Site):
     def test_files_are_closed(self):
         self.put(self.lines, "01800ABC")
         before = len(os.listdir("/proc/self/fd"))
-        self.assertEqual(recent.devices_after(Place(self.lines.stat().st_ino, 0, b""), str(self.lines), 999), {"01800ABC"})
+        start = Place(self.lines.stat().st_ino, 0, b"")
+        self.assertEqual(recent.devices_after(start, str(self.lines), 999), {"01800ABC"})
         recent.last_telegrams(str(self.lines))
         self.assertEqual(len(os.listdir("/proc/self/fd")), before)
 
