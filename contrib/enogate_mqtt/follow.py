@@ -52,7 +52,7 @@ class Follower:
 
     def open_at_place(self) -> bool:
         """Opens the file of the place, whatever its name is now."""
-        paths = self.paths()
+        paths = files_of(self.path)
         for number, path in enumerate(paths):
             try:
                 file = os.open(path, os.O_RDONLY | os.O_CLOEXEC)
@@ -64,15 +64,6 @@ class Follower:
                 return True
             os.close(file)
         return False
-
-    def paths(self) -> list[str]:
-        """The rotated files as logrotate names them, without the compressed ones, and the file itself: the oldest
-        first. Their names end with a date (`-20261127`) or with a number (`.1`), which is greater for an older file."""
-        found = glob.glob(glob.escape(self.path) + "*")
-        dated = sorted(path for path in found if re.fullmatch(r"-[0-9-]+", path[len(self.path):]))
-        ends = [path[len(self.path):] for path in found]
-        numbers = sorted((int(end[1:]) for end in ends if re.fullmatch(r"\.[0-9]+", end)), reverse=True)
-        return [*dated, *(f"{self.path}.{number}" for number in numbers), self.path]
 
     def read(self) -> list[tuple[bytes, Place]]:
         """The lines that have ended since the last call, each with the place before it."""
@@ -120,7 +111,7 @@ class Follower:
     def following(self) -> str | None:
         """The file that was written after this one, if there is one."""
         assert self.file is not None
-        own, paths = os.fstat(self.file).st_ino, self.paths()
+        own, paths = os.fstat(self.file).st_ino, files_of(self.path)
         there = [(path, inode) for path in paths if (inode := inode_of(path))]
         places = [number for number, (_, inode) in enumerate(there) if inode == own]
         if places:
@@ -140,10 +131,37 @@ class Follower:
         if self.file is not None:
             os.close(self.file)
         self.file, self.rest, self.seen_next = file, b"", None
-        paths = self.paths()
+        paths = files_of(self.path)
         self.older = inodes(paths[:paths.index(path)] if path in paths else [])
         self.place = Place(os.fstat(file).st_ino, 0, b"")
         return True
+
+    def close(self) -> None:
+        """Closes the file."""
+        if self.file is not None:
+            os.close(self.file)
+            self.file = None
+
+
+def files_of(path: str) -> list[str]:
+    """The rotated files as logrotate names them, without the compressed ones, and the file itself: the oldest first.
+    Their names end with a date (`-20261127`) or with a number (`.1`), which is greater for an older file."""
+    found = glob.glob(glob.escape(path) + "*")
+    dated = sorted(file for file in found if re.fullmatch(r"-[0-9-]+", file[len(path):]))
+    ends = [file[len(path):] for file in found]
+    numbers = sorted((int(end[1:]) for end in ends if re.fullmatch(r"\.[0-9]+", end)), reverse=True)
+    return [*dated, *(f"{path}.{number}" for number in numbers), path]
+
+
+def end_of(path: str) -> Place | None:
+    """The place at the end of the file at this path; None if it cannot be read."""
+    try:
+        with open(path, "rb") as file:
+            size = file.seek(0, os.SEEK_END)
+            file.seek(max(0, size - MAX_LAST))
+            return Place(os.fstat(file.fileno()).st_ino, size, file.read(size))
+    except OSError:
+        return None
 
 
 def inode_of(path: str) -> int:

@@ -1,4 +1,4 @@
-"""The contents of the gateway's lines, as far as the bridge uses them."""
+"""The contents of the gateway's lines, as far as the bridge and enogatectl use them."""
 from __future__ import annotations
 
 import json
@@ -97,15 +97,25 @@ Content = Union[Telegram, Learned, Deleted, Listed, EndOfList, Status, Response,
 COUNTERS = ("ignored", "readings", "refused", "responses", "teach")
 
 
-def content_of(line: bytes) -> Content:
-    """The contents of a line, or BadLine."""
+def members_of(line: bytes) -> dict[str, Any]:
+    """The members of a line, one of which is its type, or BadLine."""
     try:
         members = json.loads(line.decode("ascii"))
-        kind = members["type"]
+        members["type"]
     except (ValueError, TypeError, KeyError, RecursionError) as error:
         raise BadLine(line) from error
+    return members
+
+
+def content_of(line: bytes) -> Content:
+    """The contents of a line, or BadLine."""
+    return content_of_members(members_of(line), line)
+
+
+def content_of_members(members: dict[str, Any], line: bytes) -> Content:
+    """The contents of a line with these members."""
     try:
-        return content_by_type(kind, members)
+        return content_by_type(members["type"], members)
     except (ValueError, TypeError, KeyError, ZeroDivisionError):
         return Strange(f"line with unexpected members, not decoded: {line[:SHOWN_OF_A_LINE]!r}")
 

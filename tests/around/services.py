@@ -82,8 +82,8 @@ class Gateway(Unit):
     def __init__(self, work: pathlib.Path):
         super().__init__(work, "enogate")
 
-    def start(self, stick: Stick) -> None:
-        self.run_unit(BASE=BASE, SERIAL=str(stick.path), TURNS="4000", EXPLAIN="")
+    def start(self, stick: Stick, explain: str = "") -> None:
+        self.run_unit(BASE=BASE, SERIAL=str(stick.path), TURNS="4000", EXPLAIN=explain)
         assert wait_for(self.desk.exists, bool), self.journal()
 
     def order(self, *orders: str) -> None:

@@ -3,7 +3,7 @@ import os
 import unittest
 from unittest import mock
 
-from enogate_mqtt.follow import MAX_READ, Follower, Place
+from enogate_mqtt.follow import MAX_READ, Follower, Place, end_of, files_of
 from fakes import Case, Site
 
 
@@ -237,8 +237,25 @@ class Following(Case):
             self.rotate(f".{9 - number}")
         self.write("x\n")
         self.read(follower)
-        os.close(follower.file)
+        follower.close()
+        follower.close()
         self.assertEqual(len(os.listdir("/proc/self/fd")), before)
+
+    def test_the_end_of_a_file(self):
+        for text in ("", "a\n", "x" * 100 + "\nhalf"):
+            self.path.write_text(text)
+            place = end_of(str(self.path))
+            self.assertEqual(place, Place(self.path.stat().st_ino, len(text), text[-64:].encode()))
+            self.write("b\n")
+            self.assertEqual(self.read(self.follower(place)), ["b"])
+        self.path.unlink()
+        self.assertIsNone(end_of(str(self.path)))
+
+    def test_the_names_of_rotated_files(self):
+        for end in (".2", ".10", "-20261127", "-20261126", ".1.gz", ".bak"):
+            self.write("x\n", self.path.with_name(self.path.name + end))
+        ends = [path.removeprefix(str(self.path)) for path in files_of(str(self.path))]
+        self.assertEqual(ends, ["-20261126", "-20261127", ".10", ".2", ""])
 
 
 if __name__ == "__main__":

@@ -1,0 +1,191 @@
+"""Finds the lines that answer an order.
+
+The gateway answers the orders of its desk one by one: `list` with a line for each device and a line with their number,
+any other order with one line. It handles all orders of one read of the desk (256 bytes) before it reads the serial port
+again. No line names its order, and a telegram can give the same line as an order. So an order is written between orders
+`status`, the fences, in a single write:
+
+    status
+    status
+    ORDER
+    status
+
+Some lines only orders give: `ok`, `device`, `list`, and all errors but `memory` and `store`. Teach lines come from
+orders and from packets; the counter `teach` of two status lines says how many came from packets in between. The rule:
+
+1. Nothing counts until two status lines have come without a line of an order between them.
+2. The lines from there to the next status line are the answer if exactly one answer is among them that this order can
+   have: lines that only orders give, or a teach line that no packet gave. If there is neither, it is an error `memory`
+   or `store` that does not directly follow the packet line of a packet that failed.
+3. Otherwise these were status lines of another program, and the search continues with the last of them.
+
+The order `status` needs no fences: each status line after it is written answers it."""
+from __future__ import annotations
+
+from dataclasses import dataclass, field
+from typing import Any
+
+from enogate_mqtt.lines import BadLine, Content, Deleted, EndOfList, Learned, Listed, Status, Strange
+from enogate_mqtt.lines import content_of_members, members_of
+
+OPENING, CLOSING = b"status\nstatus\n", b"status\n"
+# The errors that packets have, too.
+SHARED = frozenset({"memory", "store"})
+# The errors that each order can have (docs/guide/orders.md).
+OF_DEVICE = frozenset({"range", "unknown_device"}) | SHARED
+OF_ACTUATOR = OF_DEVICE | {"wrong_profile"}
+REFUSALS = {
+    "learn": frozenset({"unsupported_profile"}), "add": frozenset({"range", "unsupported_profile", "full"}) | SHARED,
+    "remove": OF_DEVICE, "label": OF_DEVICE, "list": SHARED, "status": frozenset({"memory"}), "base": frozenset(),
+    "switch": OF_ACTUATOR, "dim": OF_ACTUATOR, "query": OF_ACTUATOR, "meter": OF_ACTUATOR, "blind": OF_ACTUATOR,
+    "stop": OF_ACTUATOR, "central": frozenset({"range"}), "level": frozenset({"range"}), "teach": frozenset({"range"}),
+}
+
+
+@dataclass(frozen=True)
+class Line:
+    """A line of the gateway."""
+    raw: bytes
+    members: dict[str, Any]
+    content: Content
+
+    @property
+    def kind(self) -> str:
+        return self.members["type"]
+
+    @property
+    def error(self) -> str | None:
+        """The name of the error, if it is one."""
+        return self.members["error"] if self.kind == "error" else None
+
+    @property
+    def is_own(self) -> bool:
+        """Whether only orders give such lines."""
+        return self.kind in ("ok", "device", "list") or (self.kind == "error" and self.error not in SHARED)
+
+
+@dataclass(frozen=True)
+class Answer:
+    """The lines that answer an order."""
+    lines: list[Line]
+
+    @property
+    def error(self) -> str | None:
+        """The name of the error, if the order was refused or failed."""
+        return self.lines[-1].error
+
+
+@dataclass
+class Window:
+    """The lines after a status line: those that only orders give, teach lines, and errors that orders and packets have
+    in common. `follows_failed` says that the last line explained a packet that failed: the next line is its error."""
+    opening: Status
+    own: list[Line] = field(default_factory=list)
+    teach: list[Line] = field(default_factory=list)
+    failed: list[Line] = field(default_factory=list)
+    follows_failed: bool = False
+
+    def take(self, line: Line) -> None:
+        """Adds a line, unless a packet gave it."""
+        if line.is_own:
+            self.own.append(line)
+        elif line.kind == "teach":
+            self.teach.append(line)
+        elif line.kind == "error" and not self.follows_failed:
+            self.failed.append(line)
+        self.follows_failed = line.kind == "packet" and line.members.get("why") == "refused"
+
+    def taught_by_orders(self, closing: Status) -> int:
+        """How many of the teach lines no packet gave."""
+        return len(self.teach) - (closing.counters["teach"] - self.opening.counters["teach"])
+
+
+def line_of(raw: bytes) -> Line | None:
+    """The line, or None if it is not one of a gateway."""
+    try:
+        members = members_of(raw)
+    except BadLine:
+        return None
+    content = content_of_members(members, raw)
+    if isinstance(content, Strange) or not isinstance(members["type"], str):
+        return None
+    if members["type"] == "error" and not isinstance(members.get("error"), str):
+        return None
+    return Line(raw, members, content)
+
+
+def is_of_order(raw: bytes) -> bool:
+    """Whether only an order can have given this line."""
+    line = line_of(raw)
+    return line is not None and (line.is_own or isinstance(line.content, Status))
+
+
+class AnswerFinder:
+    """Finds the answer to an order among the lines that come after it was written."""
+
+    def __init__(self, order: str):
+        self.words = order.split(" ")
+        self.verb = self.words[0]
+        # How many status lines have come without a line of an order between them.
+        self.fences = 0
+        self.window: Window | None = None
+
+    @property
+    def text(self) -> bytes:
+        """The text for the desk."""
+        order = " ".join(self.words).encode("ascii") + b"\n"
+        return CLOSING if self.verb == "status" else OPENING + order + CLOSING
+
+    def take(self, raw: bytes) -> Answer | None:
+        """The answer, if it ends with this line."""
+        line = line_of(raw)
+        if line is None:
+            return None
+        if isinstance(line.content, Status):
+            return self.take_status(line, line.content)
+        if self.window:
+            self.window.take(line)
+        return None
+
+    def take_status(self, line: Line, closing: Status) -> Answer | None:
+        """The answer, if this status line is the closing fence."""
+        if self.verb == "status":
+            return Answer([line])
+        window, self.window = self.window, Window(closing)
+        if window is None:
+            self.fences = 1
+            return None
+        answer = self.answer_in(window, closing) if self.fences >= 2 else None
+        has_order = bool(window.own) or window.taught_by_orders(closing) != 0
+        self.fences = 1 if has_order else self.fences + 1
+        return answer
+
+    def answer_in(self, window: Window, closing: Status) -> Answer | None:
+        """The answer between two status lines, if they are those next to the order."""
+        taught = window.taught_by_orders(closing)
+        if window.own:
+            return Answer(window.own) if taught == 0 and self.are_answer(window.own) else None
+        if taught:
+            fitting = [line for line in window.teach if self.fits(line)]
+            return Answer(fitting[-1:]) if taught == 1 and fitting else None
+        fitting = [line for line in window.failed if self.fits(line)]
+        return Answer(fitting[-1:]) if fitting else None
+
+    def are_answer(self, own: list[Line]) -> bool:
+        """Whether these lines are exactly one answer that this order can have."""
+        if self.verb == "list":
+            *devices, end = own
+            return (isinstance(end.content, EndOfList) and end.content.count == len(devices)
+                    and all(isinstance(line.content, Listed) for line in devices))
+        return len(own) == 1 and self.fits(own[0])
+
+    def fits(self, line: Line) -> bool:
+        """Whether this line can answer the order, which is not `list`; or whether it is an error that it can have."""
+        if line.kind == "error":
+            return line.error in REFUSALS[self.verb]
+        match self.verb, line.content:
+            case "add", Learned(device, eep, maker):
+                return (device, eep, maker) == (self.words[1].upper(), self.words[2].upper(), None)
+            case "remove", Deleted(device):
+                return device == self.words[1].upper()
+        return line.kind == "ok" and self.verb not in ("add", "remove", "list")

@@ -1,0 +1,150 @@
+"""The command line of enogatectl."""
+from __future__ import annotations
+
+import argparse
+import math
+from dataclasses import dataclass
+from typing import NoReturn, Sequence
+
+from enogate_tools import VERSION
+
+from . import grammar
+from .places import NoName, Places, places_of
+
+TIMEOUT = 10.0
+USAGE = """enogatectl [--timeout SECONDS] [--json] [--desk PATH] [--lines PATH] GATEWAY ORDER..
+       enogatectl [..] GATEWAY learn on|on answer|as EEP --for SECONDS
+       enogatectl [..] GATEWAY devices --export|--import
+       enogatectl base PORT"""
+EPILOG = ("GATEWAY is the name of a gateway, for example `hall` for enogate@hall.service. ORDER is one of: "
+          f"{', '.join(grammar.FORMS)}. Words after -- are part of the order, even if they begin with -. "
+          "The exit status is 0 if the order was carried out, 1 if the gateway refused it or it failed, 2 if the "
+          "command line is invalid, and 3 if the gateway did not answer in time. See enogatectl(1).")
+
+
+@dataclass(frozen=True)
+class AskBase:
+    """Asks the radio module at this port for its base ID."""
+    port: str
+
+
+@dataclass(frozen=True)
+class Give:
+    """Gives an order to a gateway. With `seconds`, it opens the learn window for this time."""
+    places: Places
+    timeout: float
+    is_json: bool
+    order: str
+    seconds: float | None
+
+
+@dataclass(frozen=True)
+class Export:
+    """Writes the devices of a gateway as CSV."""
+    places: Places
+    timeout: float
+
+
+@dataclass(frozen=True)
+class Import:
+    """Learns the devices of a CSV file."""
+    places: Places
+    timeout: float
+
+
+Command = AskBase | Give | Export | Import
+
+
+def seconds_of(text: str) -> float:
+    """A time in seconds, which is greater than 0."""
+    seconds = float(text)
+    if not 0 < seconds < math.inf:
+        raise ValueError
+    return seconds
+
+
+seconds_of.__name__ = "number of seconds"
+
+
+def parser() -> argparse.ArgumentParser:
+    """The parser of the command line."""
+    made = argparse.ArgumentParser("enogatectl", USAGE, "Give orders to an EnOcean gateway, and print the answers.",
+                                   EPILOG, allow_abbrev=False)
+    made.add_argument("gateway", metavar="GATEWAY", help=argparse.SUPPRESS)
+    made.add_argument("order", metavar="ORDER", nargs="*", help=argparse.SUPPRESS)
+    made.add_argument("--timeout", metavar="SECONDS", type=seconds_of, default=TIMEOUT,
+                      help=f"how long to wait for the answer (default: {TIMEOUT:g})")
+    made.add_argument("--json", action="store_true", help="print the lines of the answer as they are")
+    made.add_argument("--desk", metavar="PATH", help="desk of a gateway without a unit")
+    made.add_argument("--lines", metavar="PATH", help="output lines of a gateway without a unit")
+    made.add_argument("--for", metavar="SECONDS", type=seconds_of, dest="seconds",
+                      help="with `learn`: close the learn window after this time, or if interrupted; print what is "
+                      "taught meanwhile")
+    made.add_argument("--export", action="store_true", dest="exports",
+                      help="with `devices`: print the learned devices as CSV (id,eep,label)")
+    made.add_argument("--import", action="store_true", dest="imports",
+                      help="with `devices`: learn and label the devices of such a CSV file, from standard input")
+    made.add_argument("--version", action="version", version=f"enogatectl {VERSION}")
+    return made
+
+
+def parsed(arguments: Sequence[str]) -> Command:
+    """The command of this command line. If it is invalid, the program ends with status 2."""
+    made = parser()
+    place = arguments.index("--") if "--" in arguments else len(arguments)
+    # Options may come between the words of an order.
+    words = made.parse_intermixed_args(arguments[:place])
+    words.order += arguments[place + 1:]
+    return CommandLine(made, words).command()
+
+
+class CommandLine:
+    """The words of a command line, which may not fit together."""
+
+    def __init__(self, made: argparse.ArgumentParser, words: argparse.Namespace):
+        self.parser, self.words = made, words
+
+    def fail(self, message: str) -> NoReturn:
+        """Ends the program with status 2."""
+        self.parser.error(message)
+
+    def command(self) -> Command:
+        """The command."""
+        words = self.words
+        if words.gateway == "base" and len(words.order) == 1 and "/" in words.order[0]:
+            self.forbid("base", "json", "seconds", "exports", "imports", "desk", "lines")
+            return AskBase(words.order[0])
+        if words.order == ["devices"]:
+            return self.devices()
+        self.forbid("an order", "exports", "imports")
+        order = " ".join(words.order)
+        try:
+            grammar.check(order)
+        except grammar.NoOrder as error:
+            self.fail(str(error) if order else "an order is required")
+        if words.seconds is not None and not grammar.opens_window(order):
+            self.fail("--for needs an order that opens the learn window: learn on, learn on answer, or learn as EEP")
+        return Give(self.places(), words.timeout, words.json, order, words.seconds)
+
+    def devices(self) -> Command:
+        """The command `devices`."""
+        self.forbid("devices", "json", "seconds")
+        if self.words.exports == self.words.imports:
+            self.fail("devices needs either --export or --import")
+        kind = Export if self.words.exports else Import
+        return kind(self.places(), self.words.timeout)
+
+    def places(self) -> Places:
+        """The files of the gateway."""
+        try:
+            places = places_of(self.words.gateway)
+        except NoName as error:
+            self.fail(str(error))
+        return Places(self.words.desk or places.desk, self.words.lines or places.lines, places.bridge)
+
+    def forbid(self, where: str, *options: str) -> None:
+        """Fails if one of these options was given."""
+        names = {"seconds": "for", "exports": "export", "imports": "import"}
+        for option in options:
+            if getattr(self.words, option) not in (None, False):
+                self.fail(f"--{names.get(option, option)} cannot be used with {where}")

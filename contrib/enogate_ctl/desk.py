@@ -1,0 +1,142 @@
+"""Gives one order to a gateway, and waits for its answer."""
+from __future__ import annotations
+
+import os
+import time
+from typing import Callable
+
+from enogate_mqtt.follow import Follower, end_of
+
+from .answers import Answer, AnswerFinder, is_of_order
+from .desk_file import DeskFile, Unusable
+from .places import Places
+from .stops import Stopped, restore
+
+# The pauses of the command and of the process that keeps the lock, in seconds.
+PAUSE, LONG_PAUSE = 0.01, 0.1
+# How long that process keeps the lock: in all, and after the gateway answers orders again. The second is for an order
+# whose fence failed, which never gets its answer.
+LONGEST_KEPT, KEPT_AFTER_ANSWER = 3600.0, 10.0
+
+
+class NoAnswer(Exception):
+    """The gateway did not answer in time. The text is a sentence that says why, and what to do."""
+
+
+class TooLate(Exception):
+    """The time for an answer is over."""
+
+
+class Lines:
+    """The lines that are written after this was made."""
+
+    def __init__(self, path: str):
+        try:
+            os.close(os.open(path, os.O_RDONLY | os.O_CLOEXEC))
+        except FileNotFoundError:
+            # The file appears with the first line.
+            pass
+        except OSError as error:
+            raise Unusable(f"the lines {path} cannot be read: {error.strerror}; become root, or a member of the group "
+                           "enogate (log in again afterwards)") from error
+        place = end_of(path)
+        self.follower = Follower(path, place)
+        # The rest of a line that was begun before.
+        self.is_torn = place is not None and place.offset > 0 and not place.last.endswith(b"\n")
+
+    def read(self) -> list[bytes]:
+        """The lines that have ended since the last call."""
+        found = [line for line, _ in self.follower.read()]
+        if found and self.is_torn:
+            found, self.is_torn = found[1:], False
+        return found
+
+    def close(self) -> None:
+        """Closes the file."""
+        self.follower.close()
+
+
+class Desk:
+    """The desk of the gateway with these files. An order waits so many seconds for its answer."""
+
+    def __init__(self, places: Places, timeout: float, clock: Callable[[], float] = time.monotonic,
+                 sleep: Callable[[float], None] = time.sleep, fork: Callable[[], int] = os.fork):
+        self.places, self.timeout, self.clock, self.sleep, self.fork = places, timeout, clock, sleep, fork
+
+    def ask(self, order: str) -> Answer:
+        """The answer to this order, or NoAnswer. The desk is locked until then. If the order gets no answer in time, or
+        if a signal stops the command, another process keeps the lock until no answer can come any more: otherwise the
+        next order could get this one's answer."""
+        limit = self.clock() + self.timeout
+        try:
+            file = DeskFile(self.places.desk)
+            try:
+                self.lock(file, limit)
+                return self.ask_locked(file, AnswerFinder(order), limit)
+            finally:
+                file.close()
+        except Unusable as error:
+            raise NoAnswer(str(error)) from error
+
+    def lock(self, file: DeskFile, limit: float) -> None:
+        """Waits until the desk is locked."""
+        while not file.lock():
+            if self.clock() >= limit:
+                raise NoAnswer("another order is still waiting for its answer: is the gateway running? Check it with "
+                               "enogate-check")
+            self.sleep(PAUSE)
+
+    def ask_locked(self, file: DeskFile, finder: AnswerFinder, limit: float) -> Answer:
+        """Writes the order and waits for its answer."""
+        lines = Lines(self.places.lines)
+        try:
+            file.append(finder.text)
+            return self.wait(file, lines, finder, limit)
+        except TooLate as late:
+            self.keep_lock(file, lines, finder)
+            raise NoAnswer(f"the gateway did not answer within {self.timeout:g} s, and may still carry out the order: "
+                           "check the gateway with enogate-check") from late
+        except Stopped:
+            if file.text:
+                self.keep_lock(file, lines, finder)
+            raise
+        finally:
+            lines.close()
+
+    def wait(self, file: DeskFile, lines: Lines, finder: AnswerFinder, limit: float) -> Answer:
+        """The answer, if it comes in time and the desk still has the order then."""
+        while True:
+            answer = next(filter(None, map(finder.take, lines.read())), None)
+            file.check()
+            if answer:
+                return answer
+            if self.clock() >= limit:
+                raise TooLate
+            self.sleep(PAUSE)
+
+    def keep_lock(self, file: DeskFile, lines: Lines, finder: AnswerFinder) -> None:
+        """Starts a process that keeps the lock until no answer can come any more. It leaves the terminal and the pipes
+        of the command, which others may be reading."""
+        if self.fork():
+            return
+        try:
+            restore()
+            os.setsid()
+            nothing = os.open(os.devnull, os.O_RDWR)
+            for number in (0, 1, 2):
+                os.dup2(nothing, number)
+            self.wait_for_end(file, lines, finder)
+        finally:
+            os._exit(0)
+
+    def wait_for_end(self, file: DeskFile, lines: Lines, finder: AnswerFinder) -> None:
+        """Returns or fails once no answer to the order can come any more."""
+        limit = self.clock() + LONGEST_KEPT
+        while self.clock() < limit:
+            for line in lines.read():
+                if finder.take(line):
+                    return
+                if is_of_order(line):
+                    limit = min(limit, self.clock() + KEPT_AFTER_ANSWER)
+            file.check()
+            self.sleep(LONG_PAUSE)

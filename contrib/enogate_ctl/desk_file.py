@@ -1,0 +1,71 @@
+"""The file of a desk: its lock, and the place of an order in it."""
+from __future__ import annotations
+
+import fcntl
+import os
+import stat
+
+from .stops import held
+
+
+class Unusable(Exception):
+    """The desk cannot be used, or an order on it gets no answer. The text is a sentence that says why."""
+
+
+class DeskFile:
+    """The open desk at this path, and the text that was appended to it. Its lock belongs to the open file, so a forked
+    process keeps it."""
+
+    def __init__(self, path: str):
+        self.path, self.text, self.start = path, b"", 0
+        try:
+            flags = os.O_RDWR | os.O_APPEND | os.O_NONBLOCK | os.O_NOCTTY | os.O_CLOEXEC
+            self.file = os.open(path, flags)
+        except FileNotFoundError as error:
+            raise Unusable(f"there is no desk {path}: start the gateway; its unit makes the desk") from error
+        except OSError as error:
+            raise Unusable(f"the desk {path} cannot be opened: {error.strerror}; become root, or a member of the group "
+                           "enogate (log in again afterwards)") from error
+        if not stat.S_ISREG(os.fstat(self.file).st_mode):
+            os.close(self.file)
+            raise Unusable(f"the desk {path} is not a file: this command cannot use terminals and pipes")
+
+    def lock(self) -> bool:
+        """Locks the desk, unless another program has locked it. Returns whether it is locked now."""
+        try:
+            fcntl.flock(self.file, fcntl.LOCK_EX | fcntl.LOCK_NB)
+        except BlockingIOError:
+            return False
+        return True
+
+    def append(self, text: bytes) -> None:
+        """Appends this text in a single write. If the file ends with an incomplete line, that line is ended first."""
+        size = os.fstat(self.file).st_size
+        end = b"" if size == 0 or os.pread(self.file, 1, size - 1) == b"\n" else b"\n"
+        try:
+            with held():
+                written = os.write(self.file, end + text)
+                self.text = end + text
+                self.start = os.lseek(self.file, 0, os.SEEK_CUR) - written
+        except OSError as error:
+            raise Unusable(f"the desk {self.path} cannot be written: {error.strerror}") from error
+        if written != len(self.text):
+            raise Unusable(f"the desk {self.path} could only be written in part, because its file system is full: "
+                           "restart the gateway, which empties the desk")
+
+    def check(self) -> None:
+        """Raises Unusable if the text is no longer on the desk."""
+        if os.pread(self.file, len(self.text), self.start) != self.text:
+            raise Unusable("the gateway was restarted, or its desk was truncated: find out with `list` or `status` "
+                           "whether the order was carried out, and give it again if not")
+        try:
+            is_same = os.path.samestat(os.stat(self.path), os.fstat(self.file))
+        except OSError:
+            is_same = False
+        if not is_same:
+            raise Unusable(f"the desk {self.path} was replaced or deleted: restart the gateway, and give the order "
+                           "again")
+
+    def close(self) -> None:
+        """Closes the file. This unlocks it, unless a forked process has it open."""
+        os.close(self.file)

@@ -1,0 +1,97 @@
+"""What was received last from each device: its readings, from the lines, and its time, from the MQTT bridge. The lines
+have no times."""
+from __future__ import annotations
+
+import contextlib
+import json
+import os
+import sqlite3
+import urllib.parse
+from datetime import datetime
+from typing import Iterator
+
+from enogate_mqtt.devices import LAST_SEEN
+from enogate_mqtt.follow import Follower, Place, files_of
+from enogate_mqtt.lines import BadLine, Telegram, content_of
+
+# How much of the lines is read for the last readings, and the end of a line with readings.
+MOST_READ = 1 << 20
+READING = b'"type":"reading"}'
+# How long to wait for the state of the bridge while the bridge writes it, in seconds.
+WAIT = 1.0
+
+
+def last_telegrams(path: str, most: int = MOST_READ) -> dict[str, Telegram]:
+    """The last telegram of each device, if it is near the end of the lines."""
+    found: dict[str, Telegram] = {}
+    for telegram in filter(None, map(telegram_in, last_lines(path, most))):
+        found.setdefault(telegram.device, telegram)
+    return found
+
+
+def telegram_in(line: bytes) -> Telegram | None:
+    """The telegram that a line reports; None if it is another line."""
+    if not line.endswith(READING):
+        return None
+    try:
+        content = content_of(line)
+    except BadLine:
+        return None
+    return content if isinstance(content, Telegram) else None
+
+
+def last_lines(path: str, most: int) -> Iterator[bytes]:
+    """The lines in so many bytes at the end, the last line first. They may be in several files. The first one may be
+    incomplete, and is then not valid."""
+    for name in reversed(files_of(path)):
+        try:
+            with open(name, "rb") as file:
+                file.seek(max(0, file.seek(0, os.SEEK_END) - most))
+                text = file.read(most)
+        except OSError:
+            continue
+        most -= len(text)
+        *lines, _ = text.split(b"\n")
+        yield from reversed(lines)
+        if most <= 0:
+            return
+
+
+def last_times(path: str, lines: str, most: int = MOST_READ) -> dict[str, datetime]:
+    """When the bridge with this state file received the last telegram of each device. Devices with a later telegram,
+    which the bridge has not read yet, are left out. Empty if the bridge does not run, or if this user may not read its
+    state."""
+    if not os.path.exists(f"{path}-wal"):
+        return {}
+    try:
+        address = f"file:{urllib.parse.quote(path)}?mode=ro"
+        with contextlib.closing(sqlite3.connect(address, uri=True, timeout=WAIT)) as connection:
+            place = connection.execute("SELECT inode, offset, last FROM place").fetchone()
+            rows = connection.execute("SELECT id, told FROM device").fetchall()
+    except sqlite3.Error:
+        return {}
+    later = devices_after(Place(*place), lines, most) if place else None
+    if later is None:
+        return {}
+    return {device: time for device, text in rows if device not in later and (time := time_in(text))}
+
+
+def devices_after(place: Place, path: str, most: int) -> set[str] | None:
+    """The devices with telegrams after this place in the lines; None if it is not found, or further back than this."""
+    follower, devices = Follower(path, place), set()
+    if follower.file is None:
+        return None
+    with contextlib.closing(follower):
+        while not follower.is_at_end and most >= 0:
+            for line, _ in follower.read():
+                most -= len(line)
+                devices |= {telegram.device} if (telegram := telegram_in(line)) else set()
+    return devices if most >= 0 else None
+
+
+def time_in(text: str) -> datetime | None:
+    """The time in the readings of a device, as the bridge stores them; None if it has none."""
+    try:
+        return datetime.fromisoformat(json.loads(text)[LAST_SEEN])
+    except (ValueError, TypeError, KeyError):
+        return None

@@ -1,0 +1,56 @@
+"""Opens the learn window for a time. What is taught meanwhile is printed."""
+from __future__ import annotations
+
+import contextlib
+from typing import Callable
+
+from . import words
+from .answers import line_of
+from .desk import Desk, Lines
+from .stops import Stopped, Stops
+
+# The pause between two looks at the lines, in seconds.
+PAUSE = 0.1
+CLOSE = "learn off"
+
+
+class LearnWindow:
+    """The learn window of a gateway. `give` gives an order, and raises an exception if it fails. `report` prints a
+    line; it may fail if nobody reads it any more."""
+
+    def __init__(self, desk: Desk, give: Callable[[str], None], report: Callable[[str], None], stops: Stops,
+                 is_json: bool = False):
+        self.desk, self.give, self.print, self.stops, self.is_json = desk, give, report, stops, is_json
+        self.clock, self.sleep = desk.clock, desk.sleep
+
+    def open_for(self, order: str, seconds: float) -> None:
+        """Opens the window with this order, and closes it after the time, or if a signal stops the command. The desk is
+        not locked meanwhile. A window that the gateway refused to open is not closed: another program may have opened
+        it."""
+        with contextlib.closing(Lines(self.desk.places.lines)) as lines:
+            try:
+                self.give(order)
+                self.report("" if self.is_json else f"the learn window is open for {seconds:g} s; Ctrl-C closes it")
+                self.show(lines, self.clock() + seconds)
+                self.stops.ignore()
+            except Stopped:
+                # The window is closed in any case.
+                pass
+            self.give(CLOSE)
+            self.report("" if self.is_json else "the learn window is closed")
+
+    def show(self, lines: Lines, end: float) -> None:
+        """Prints what is taught up to this time."""
+        while (left := end - self.clock()) > 0:
+            for raw in lines.read():
+                line = line_of(raw)
+                text = words.taught(line) if line else None
+                if line and text:
+                    self.report(raw.decode("ascii") if self.is_json else text)
+            self.sleep(min(PAUSE, left))
+
+    def report(self, text: str) -> None:
+        """Prints a line, if somebody reads it. A window is closed also if nobody does."""
+        if text:
+            with contextlib.suppress(OSError):
+                self.print(words.printable(text))

@@ -1,0 +1,139 @@
+"""Orders with enogatectl to gateways that hang, restart, do not run, or cannot write their database."""
+from __future__ import annotations
+
+import fcntl
+import os
+import resource
+import signal
+import time
+
+from ctl_testcase import OK, REFUSED, SILENT, CtlTest
+
+LATE = "the gateway did not answer within 1 s, and may still carry out the order: check the gateway with enogate-check"
+WAITING = ("another order is still waiting for its answer: is the gateway running? Check it with enogate-check")
+RESTARTED = ("the gateway was restarted, or its desk was truncated: find out with `list` or `status` whether the order "
+             "was carried out, and give it again if not")
+
+
+class Hangs(CtlTest):
+    """A gateway that hangs for a while."""
+
+    def test_in_time(self):
+        self.hang()
+        begin = time.monotonic()
+        self.assert_run(self.ctl("--timeout", "1", "learn", "off"), SILENT, "", LATE)
+        self.assertLess(time.monotonic() - begin, 2)
+
+    def test_a_late_answer_is_not_that_of_the_next_order(self):
+        """The first order is answered with `ok`, and the second one is refused."""
+        for first in (("learn", "off"), ("add", "01900111", "F6-02-01")):
+            with self.subTest(first):
+                self.hang()
+                self.assert_run(self.ctl("--timeout", "1", *first), SILENT, "", LATE)
+                self.assert_run(self.ctl("--timeout", "0.2", "list"), SILENT, "", WAITING)
+                second = self.begin("label", "01900112", "x")
+                time.sleep(0.3)
+                self.go_on()
+                self.assert_ends(self.end(second), REFUSED, "unknown_device: ")
+
+    def test_an_interrupted_order_keeps_the_lock(self):
+        for number in (signal.SIGINT, signal.SIGTERM, signal.SIGHUP):
+            with self.subTest(number.name):
+                self.hang()
+                size = self.desk_size()
+                process = self.begin("learn", "on")
+                self.wait_for_order(size)
+                process.send_signal(number)
+                # its pipes are closed, although the process that keeps the lock still runs
+                self.assert_run(self.end(process), 128 + number)
+                self.assert_run(self.ctl("--timeout", "0.3", "label", "01900112", "x"), SILENT, "", WAITING)
+                self.go_on()
+                self.assert_ends(self.ctl("label", "01900112", "x"), REFUSED, "unknown_device: ")
+
+    def test_a_lock_that_another_program_holds(self):
+        with self.gateway.desk.open("ab") as desk:
+            fcntl.flock(desk, fcntl.LOCK_EX)
+            self.assert_run(self.ctl("--timeout", "0.3", "list"), SILENT, "", WAITING)
+            process = self.begin("learn", "off")
+            time.sleep(0.3)
+        self.assert_run(self.end(process), OK, "ok\n")
+
+    def test_rotation_between_an_order_and_its_answer(self):
+        self.hang()
+        size = self.desk_size()
+        process = self.begin("add", "01900113", "F6-02-01")
+        self.wait_for_order(size)
+        self.gateway.rotate()
+        self.go_on()
+        self.assert_run(self.end(process), OK, "accepted\n")
+
+    def test_an_incomplete_line_on_the_desk_and_one_in_the_lines(self):
+        self.gateway.append('{"type":"o')
+        with self.gateway.desk.open("a") as desk:
+            desk.write("lis")
+        self.assert_run(self.ctl("learn", "off"), OK, "ok\n")
+
+
+class Restarts(CtlTest):
+    """A gateway that restarts, or does not run."""
+
+    def test_a_restart_before_the_answer(self):
+        self.gateway.end(signal.SIGKILL)
+        size = self.desk_size()
+        process = self.begin("list")
+        self.wait_for_order(size)
+        self.start_gateway()
+        self.assert_run(self.end(process), SILENT, "", RESTARTED)
+        self.assert_run(self.ctl("list"), OK, "no device is learned\n")
+
+    def test_it_does_not_run(self):
+        self.gateway.end(signal.SIGKILL)
+        self.addCleanup(self.start_gateway)
+        self.assert_run(self.ctl("--timeout", "1", "list"), SILENT, "", LATE)
+        desk = self.gateway.desk
+        desk.unlink()
+        self.assert_run(self.ctl("list"), SILENT, "",
+                        f"there is no desk {desk}: start the gateway; its unit makes the desk")
+        os.mkfifo(desk)
+        self.assert_run(self.ctl("list"), SILENT, "",
+                        f"the desk {desk} is not a file: this command cannot use terminals and pipes")
+        desk.unlink()
+
+    def test_the_desk_is_replaced(self):
+        """As an editor does it. A restart helps."""
+        self.addCleanup(self.start_gateway)
+        self.addCleanup(self.gateway.end, signal.SIGKILL)
+        desk = self.gateway.desk
+        os.kill(self.process(), signal.SIGSTOP)
+        size = self.desk_size()
+        process = self.begin("list")
+        self.wait_for_order(size)
+        text = desk.read_bytes()
+        desk.rename(desk.with_name("old"))
+        desk.write_bytes(text)
+        self.assert_run(self.end(process), SILENT, "",
+                        f"the desk {desk} was replaced or deleted: restart the gateway, and give the order again")
+
+
+class Database(CtlTest):
+    """A database that cannot be written."""
+
+    def test_store_of_packets_is_not_the_answer_to_an_order(self):
+        self.assertEqual(self.ctl("add", "01900001", "F6-02-01").status, OK)
+        resource.prlimit(self.process(), resource.RLIMIT_FSIZE, (1, 1))
+        for words, status in (("add 01A00000 F6-02-01", REFUSED), ("label 01900001 x", REFUSED), ("status", OK),
+                              ("list", OK), ("switch 01900001 0 on", REFUSED), ("learn on", OK)):
+            run = self.ctl(*words.split(" "))
+            self.assertEqual((run.status, "store: " in run.err), (status, words[:3] in ("add", "lab")), run)
+        for _ in range(4):
+            # each telegram is answered with `store`
+            self.stick.bring("01800300", *["D5 00"] * 3)
+            self.assert_run(self.ctl("learn", "on"), OK, "ok\n")
+            self.assert_ends(self.ctl("remove", "01900001"), REFUSED, "store: ")
+        self.assertGreaterEqual(self.status()["refused"], 12)
+
+
+class ExplainedDatabase(Database):
+    """The same with packet lines."""
+
+    explain = "--explain"

@@ -1,0 +1,186 @@
+"""Orders with enogatectl, and their answers."""
+from __future__ import annotations
+
+import json
+import threading
+import time
+
+from ctl_testcase import OK, REFUSED, USAGE, CtlTest, Run
+from oracle.esp3 import sent
+from programs import wait_for
+
+RANGE = "range: an ID, a number or a label is out of its range: see ORDERS in enogate(1)"
+UNKNOWN = "unknown_device: no device with this ID is learned: check the ID with `list`, or learn the device with `add`"
+WRONG = "wrong_profile: the order does not apply to the profile of this device: check the profile with `list`"
+
+
+class Orders(CtlTest):
+    """Each order, and each exit status but 3."""
+
+    def test_each_order(self):
+        """The devices are an actuator, a blind and a contact."""
+        for words, status, text in (
+            ("add 01800ABC d2-01-12", OK, "accepted"), ("add 01800abd D2-05-00", OK, "accepted"),
+            ("add 01800ABE D5-00-01", OK, "accepted"), ("add FFFFFFFF D5-00-01", REFUSED, RANGE),
+            ("add 01800ABC A5-99-99", REFUSED, "unsupported_profile: the gateway does not support this profile: see "
+             "the table of profiles in the guide, and try a similar one"),
+            ("label 01800ABE Front door", OK, "ok"), ("label 01800ABE", OK, "ok"),
+            ("label 01800ABF Lamp", REFUSED, UNKNOWN), ("remove 01800ABE", OK, "deleted"),
+            ("remove 01800ABE", REFUSED, UNKNOWN), ("base", OK, "ok"), ("learn on answer", OK, "ok"),
+            ("learn as f6-02-01", OK, "ok"), ("learn on", OK, "ok"), ("learn off", OK, "ok"),
+            ("switch 01800ABC 0 on", OK, "ok"), ("switch 01800ABC 31 on", REFUSED, RANGE),
+            ("switch 01800ABD 0 off", REFUSED, WRONG), ("dim 01800ABC 0 50", OK, "ok"), ("query 01800ABC 0", OK, "ok"),
+            ("meter 01800ABC 0 power", OK, "ok"), ("blind 01800ABD 50", OK, "ok"), ("stop 01800ABD", OK, "ok"),
+            ("central 5 on", OK, "ok"), ("level 5 40 10", OK, "ok"), ("level 128 0 0", REFUSED, RANGE),
+            ("teach 5", OK, "ok"),
+        ):
+            with self.subTest(words):
+                run = self.ctl(*words.split(" "))
+                wanted = (text, "") if status == OK else ("", f"enogatectl: {text}")
+                self.assertEqual((run.status, run.out.rstrip("\n"), run.err.rstrip("\n")), (status, *wanted))
+        switched = sent(0xD2, bytes.fromhex("010064"), 0xFF800000, 0x01800ABC).hex()
+        self.assertIn(switched, wait_for(self.stick.sent, lambda seen: switched in seen))
+        self.assert_run(self.ctl("remove", "01800ABC"), OK, "deleted\n")
+        self.assert_run(self.ctl("remove", "01800ABD"), OK, "deleted\n")
+
+    def test_bad_usage_is_not_written_to_the_desk(self):
+        before = self.gateway.desk.read_bytes()
+        for words in ((), ("frob",), ("add", "1800ABC", "D5-00-01"), ("label", "01800ABC", "a\nremove 01800ABC"),
+                      ("label", "01800ABC", "ö"), ("label", "01800ABC", "x" * 33), ("--no", "list"), ("list", " "),
+                      ("list", "--for", "5"), ("learn", "off", "--for", "5"), ("learn", "on", "--for", "0"),
+                      ("learn", "on", "--for", "x"), ("devices",), ("devices", "--export", "--import"),
+                      ("list", "--export"), ("--timeout", "-1", "list"), ("devices", "--json", "--export"),
+                      ("devices", "--export", "--for", "1")):
+            with self.subTest(words):
+                run = self.ctl(*words)
+                self.assertEqual((run.status, run.out), (USAGE, ""))
+                self.assertIn("usage: enogatectl", run.err)
+        self.assertEqual(self.gateway.desk.read_bytes(), before)
+
+    def test_one_write_between_status_orders(self):
+        before = self.gateway.desk.read_bytes()
+        self.ctl("central", "3", "on")
+        self.assertEqual(self.gateway.desk.read_bytes(), before + b"status\nstatus\ncentral 3 on\nstatus\n")
+        self.ctl("status")
+        self.assertEqual(self.gateway.desk.read_bytes(), before + b"status\nstatus\ncentral 3 on\nstatus\nstatus\n")
+
+    def test_json_is_the_lines_themselves(self):
+        accepted = '{"eep":"D5-00-01","id":"01900001","maker":null,"result":"accepted","type":"teach"}\n'
+        self.assert_run(self.ctl("--json", "add", "01900001", "D5-00-01"), OK, accepted)
+        run = self.ctl("label", "--json", "01900002", "x")
+        self.assertEqual((run.status, run.out), (REFUSED, '{"error":"unknown_device","type":"error"}\n'))
+        self.assert_run(self.ctl("label", "01900001", "--", "-x", "--json  \"b\""), OK, "ok\n")
+        lines = self.ctl("list", "--json").out.splitlines()
+        device = '{"eep":"D5-00-01","id":"01900001","label":"-x --json  \\"b\\"","maker":null,"type":"device"}'
+        self.assertIn(device, lines)
+        self.assertEqual(json.loads(lines[-1]), {"count": len(lines) - 1, "type": "list"})
+        self.assert_run(self.ctl("remove", "01900001"), OK, "deleted\n")
+
+
+class Tables(CtlTest):
+    """What people see, by a gateway with three devices."""
+
+    def test_list_and_status(self):
+        self.assert_run(self.ctl("list"), OK, "no device is learned\n")
+        for order in ("add 01800A01 D5-00-01", "add 01800A02 A5-02-05", "add 01800A0F D2-01-0F", "label 01800A01 Door"):
+            self.assertEqual(self.ctl(*order.split(" ")).status, OK)
+        self.stick.bring("01800A01", "D5 09")
+        self.stick.bring("01800A02", "A5 00007F08")
+        self.stick.bring("01800A0F", "D2 046064")
+        self.read_all(3)
+        self.assert_run(self.ctl("list"), OK, """\
+LABEL  ID        PROFILE   NAME                         LAST READINGS         SIGNAL
+Door   01800A01  D5-00-01  single contact               Contact closed        -45 dBm
+       01800A02  A5-02-05  temperature                  Temperature 20.08 °C  -45 dBm
+       01800A0F  D2-01-0F  electronic switch or dimmer  OV 100 %              -45 dBm
+""")
+        self.gateway.rotate()
+        self.assertIn("Temperature 20.08 °C", self.ctl("list").out)
+        self.assert_run(self.ctl("status"), OK, """\
+learn window  closed
+ignored       0
+readings      3
+refused       0
+responses     0
+teach         0
+""")
+
+
+class Several(CtlTest):
+    """Several programs that write to the desk, while devices send."""
+
+    explain = "--explain"
+
+    def flood(self) -> None:
+        """Devices send teach-in telegrams, which give the same line as `add`, and readings."""
+        self.ctl("learn", "on")
+        self.ctl("add", "019000FF", "D5-00-01")
+        while not self.is_over.is_set():
+            self.stick.bring("01900300", "D5 00")
+            self.stick.bring("019000FF", "D5 09")
+            self.stick.bring("01900999", "F6 50 30")
+            time.sleep(0.02)
+
+    def write(self) -> None:
+        """Another program gives orders, and takes no lock."""
+        while not self.is_over.is_set():
+            self.gateway.order("learn on", "status", "label 01900777 x", "list")
+            time.sleep(0.15)
+
+    def give(self, number: int) -> None:
+        """A program gives orders with enogatectl."""
+        device = f"019001{number:02X}"
+        for words, status in ((f"add {device} F6-02-01", OK), (f"remove {device}", OK), (f"remove {device}", REFUSED),
+                              (f"label {device} x", REFUSED), ("add 01900300 D5-00-01", OK), ("central 0 on", OK)):
+            run = self.ctl(*words.split(" "))
+            if run.status != status:
+                self.wrong.append((words, run))
+
+    def run_at_once(self, *acts) -> None:
+        """Runs these at the same time, while devices send and another program gives orders."""
+        self.is_over, self.wrong = threading.Event(), []
+        others = [threading.Thread(target=act) for act in (self.flood, self.write)]
+        threads = [threading.Thread(target=act, args=(number,)) for number, act in enumerate(acts)]
+        for thread in others + threads:
+            thread.start()
+        for thread in threads:
+            thread.join()
+        self.is_over.set()
+        for thread in others:
+            thread.join()
+
+    def test_three_at_once(self):
+        """Other writers and radio lines give neither a wrong answer nor a missing one."""
+        self.run_at_once(*[self.give] * 3)
+        self.assertEqual(self.wrong, [])
+
+
+class Sheets(CtlTest):
+    """Export and import."""
+
+    def test_round_trip(self):
+        rows = ("id;eep;label\r\n1800222;D5-00-01;'=Hall\r\n01800AC1;D5-00-99;\r\nnonsense;x\r\n"
+                "01800ac2;d2-01-12;Lamp, \"2\"\r\n01800AC3;F6-02-01;ö\r\n1,80E+15;F6-02-01\r\n;;\r\n"
+                "01800AC4;F6-02-01\r\n")
+        run = self.ctl("devices", "--import", text="\ufeff" + rows)
+        self.assertEqual((run.status, run.err), (REFUSED, ""))
+        self.assertEqual(run.out.splitlines(), [
+            "line 2: 01800222: learned and labelled",
+            "line 3: 01800AC1: `add 01800AC1 D5-00-99` was refused: unsupported_profile: the gateway does not support "
+            "this profile: see the table of profiles in the guide, and try a similar one",
+            "line 4: 'add NONSENSE X' is not an order: the form is add ID EEP",
+            "line 5: 01800AC2: learned and labelled",
+            "line 6: 'label 01800AC3 ö' is not an order: the form is label ID TEXT | label ID (1 to 32 ASCII "
+            "characters)",
+            "line 7: a spreadsheet changed the ID to the number 1,80E+15: enter it again, in a column with the format "
+            "Text",
+            "line 9: 01800AC4: learned"])
+        exported = self.ctl("devices", "--export")
+        self.assertEqual(exported, Run(OK, "id,eep,label\n01800222,D5-00-01,'=Hall\n"
+                                       '01800AC2,D2-01-12,"Lamp, ""2"""\n01800AC4,F6-02-01,\n', ""))
+        self.assert_run(self.ctl("devices", "--import", text=exported.out), OK,
+                        "line 2: 01800222: unchanged\nline 3: 01800AC2: unchanged\nline 4: 01800AC4: unchanged\n")
+        for device in ("01800222", "01800AC2", "01800AC4"):
+            self.assert_run(self.ctl("remove", device), OK, "deleted\n")
+        self.assertEqual(self.ctl("devices", "--import", text=exported.out).status, OK)
+        self.assertEqual(self.ctl("devices", "--export"), exported)

@@ -1,0 +1,90 @@
+"""What the unit tests of enogatectl have in place of the clock, and the files of a gateway in a temporary folder."""
+from __future__ import annotations
+
+import json
+import logging
+import pathlib
+import tempfile
+import unittest
+from typing import Callable
+
+from enogate_ctl.places import Places
+
+OK = {"type": "ok"}
+
+
+class Clock:
+    """A clock that moves on only in pauses. After so many pauses something happens."""
+
+    def __init__(self) -> None:
+        self.now = 0.0
+        self.slept: list[float] = []
+        self.acts: dict[int, Callable[[], None]] = {}
+
+    def __call__(self) -> float:
+        return self.now
+
+    def sleep(self, seconds: float) -> None:
+        self.now += seconds
+        self.slept.append(seconds)
+        self.acts.pop(len(self.slept), lambda: None)()
+
+
+class Site(unittest.TestCase):
+    """The desk and the lines of a gateway, which are empty."""
+
+    maxDiff = None
+
+    def setUp(self) -> None:
+        logging.disable()
+        self.addCleanup(logging.disable, logging.NOTSET)
+        self.folder = pathlib.Path(self.enterContext(tempfile.TemporaryDirectory()))
+        self.desk, self.lines, self.state = (self.folder / name for name in ("desk", "hall.lines", "bridge.db"))
+        self.desk.touch()
+        self.lines.touch()
+        self.places = Places(str(self.desk), str(self.lines), str(self.state))
+        self.clock = Clock()
+
+    def write(self, *lines: dict | str) -> None:
+        """The gateway writes these lines."""
+        with self.lines.open("a") as file:
+            for line in lines:
+                file.write((line if isinstance(line, str) else json.dumps(line, separators=(",", ":"))) + "\n")
+
+
+def status(mode: str = "closed", **counters: int) -> dict:
+    """A status line."""
+    every = {"ignored": 0, "readings": 0, "refused": 0, "responses": 0, "teach": 0, **counters}
+    return {**every, "mode": mode, "type": "status"}
+
+
+def error(name: str) -> dict:
+    """An error line."""
+    return {"error": name, "type": "error"}
+
+
+def teach(device: str, eep: str | None = "D5-00-01", maker: int | None = None, result: str = "accepted") -> dict:
+    """A teach line."""
+    return {"eep": eep, "id": device, "maker": maker, "result": result, "type": "teach"}
+
+
+def device(name: str, label: str = "", eep: str = "D5-00-01") -> dict:
+    """A device line."""
+    return {"eep": eep, "id": name, "label": label, "maker": None, "type": "device"}
+
+
+def end_of_list(count: int) -> dict:
+    """The end of a list."""
+    return {"count": count, "type": "list"}
+
+
+def reading(name: str, eep: str = "D5-00-01", readings: list | None = None, dbm: int | None = -45) -> dict:
+    """A reading line."""
+    readings = readings or [{"name": "CO", "word": "closed"}]
+    return {"dbm": dbm, "eep": eep, "id": name, "readings": readings, "type": "reading"}
+
+
+def packet(why: str) -> dict:
+    """A packet line."""
+    return {"dbm": -45, "dest": None, "eep": None, "id": "01800ABC", "maker": None, "payload": "09", "rorg": "D5",
+            "status": "00", "type": "packet", "why": why}

@@ -1,0 +1,165 @@
+"""The rule that finds the answer to an order."""
+import json
+import unittest
+
+from enogate_ctl.answers import AnswerFinder, is_of_order, line_of
+from fakes import OK, device, end_of_list, error, packet, reading, status, teach
+
+RESPONSE = {"code": 0, "data": "", "name": "OK", "type": "response"}
+ADD, REMOVE = "add 01800abc d5-00-01", "remove 01800abc"
+ACCEPTED = teach("01800ABC")
+DELETED = teach("01800ABC", result="deleted")
+
+
+def found(order, *lines):
+    """The answer to an order in these lines, and how many lines were read for it; None if there is none."""
+    finder = AnswerFinder(order)
+    for number, line in enumerate(lines, 1):
+        raw = line if isinstance(line, bytes) else json.dumps(line).encode()
+        if answer := finder.take(raw):
+            return [one.members for one in answer.lines], number
+    return None
+
+
+def between(order, *lines, before=0, after=0):
+    """The answer to an order with these lines between its fences; the status lines count this many packets that
+    taught."""
+    answer = found(order, status(teach=before), status(teach=before), *lines, status(teach=after))
+    return answer and answer[0]
+
+
+class Rule(unittest.TestCase):
+    def test_text(self):
+        self.assertEqual(AnswerFinder("label 01800ABC a  b").text,
+                         b"status\nstatus\nlabel 01800ABC a  b\nstatus\n")
+        self.assertEqual(AnswerFinder("status").text, b"status\n")
+        self.assertLess(len(AnswerFinder("label 01800ABC " + 32 * "x").text), 70)
+
+    def test_own_lines(self):
+        self.assertEqual(between("learn on", OK), [OK])
+        self.assertEqual(between("label 01800ABC x", error("unknown_device")), [error("unknown_device")])
+        self.assertEqual(between("list", end_of_list(0)), [end_of_list(0)])
+        lines = [device("01800ABC"), device("01800ABD"), end_of_list(2)]
+        self.assertEqual(between("list", *lines), lines)
+
+    def test_lines_of_packets_are_skipped(self):
+        lines = [reading("01800ABC"), RESPONSE, packet("read"), teach("01800ABD"), packet("refused"), error("store")]
+        self.assertEqual(between("learn on", *lines, OK, *lines, after=2), [OK])
+        self.assertEqual(between("list", *lines, device("01800ABC"), *lines, end_of_list(1), *lines, after=3),
+                         [device("01800ABC"), end_of_list(1)])
+
+    def test_the_lines_need_two_fences_before_them_and_one_after_them(self):
+        self.assertIsNone(found("learn on", OK))
+        self.assertIsNone(found("learn on", status(), OK, status()))
+        self.assertIsNone(found("learn on", status(), status(), OK))
+        self.assertEqual(found("learn on", status(), status(), OK, status()), ([OK], 4))
+        self.assertEqual(found("learn on", OK, status(), status(), error("range"), status(), status(), OK, status()),
+                         ([OK], 8))
+
+    def test_status_lines_of_others(self):
+        one, two = status(readings=1), status(readings=2)
+        self.assertEqual(found("learn on", one, status(), status(), OK, two), ([OK], 5))
+        self.assertEqual(found("learn on", one, OK, status(), status(), OK, two), ([OK], 6))
+        self.assertEqual(found("learn on", OK, one, one, one, two, two, OK, two), ([OK], 8))
+        # what is between the fences of another program does not fit
+        self.assertEqual(found("learn on", one, one, error("unknown_device"), one, one, OK, two), ([OK], 7))
+        self.assertEqual(found("list", one, one, OK, one, one, end_of_list(0), two), ([end_of_list(0)], 7))
+
+    def test_an_order_of_another_between_status_lines_begins_the_search_again(self):
+        self.assertIsNone(found("learn on", status(), error("range"), status(), OK, status()))
+        self.assertIsNone(found("learn on", status(), teach("01800ABC"), status(), OK, status()))
+        lines = status(), teach("01800ABC"), status(teach=1), OK, status(teach=1)
+        self.assertEqual(found("learn on", *lines), ([OK], 5))
+
+    def test_more_than_one_answer(self):
+        self.assertIsNone(between("learn on", OK, OK))
+        self.assertIsNone(between("learn on", OK, error("range")))
+        self.assertIsNone(between("learn on", OK, teach("01800ABD")))
+        self.assertIsNone(between("list", end_of_list(0), end_of_list(0)))
+        self.assertIsNone(between("list", device("01800ABC"), end_of_list(2)))
+        self.assertIsNone(between("list", device("01800ABC"), device("01800ABD"), end_of_list(1)))
+        self.assertIsNone(between("list", OK, end_of_list(1)))
+        self.assertIsNone(between("list", device("01800ABC")))
+        self.assertIsNone(between(ADD, ACCEPTED, ACCEPTED))
+        self.assertIsNone(between(ADD, ACCEPTED, error("full")))
+
+    def test_lines_that_the_order_cannot_have(self):
+        for order, line in (
+            ("learn on", error("range")), ("learn on", end_of_list(0)), ("learn on", device("01800ABC")), (ADD, OK),
+            (REMOVE, OK), ("list", OK), ("base", error("range")), (ADD, error("unknown_device")),
+            ("switch 01800ABC 0 on", error("full")), ("central 5 on", error("wrong_profile")),
+            ("learn on", error("syntax")),
+        ):
+            with self.subTest((order, line)):
+                self.assertIsNone(between(order, line))
+
+    def test_teach_lines_of_orders(self):
+        self.assertEqual(between(ADD, ACCEPTED), [ACCEPTED])
+        self.assertEqual(between(REMOVE, DELETED), [DELETED])
+        self.assertEqual(between(REMOVE, teach("01800ABC", "A5-02-05", 70, "deleted")),
+                         [teach("01800ABC", "A5-02-05", 70, "deleted")])
+
+    def test_teach_lines_of_packets(self):
+        """The counter tells them from those of orders."""
+        self.assertIsNone(between(ADD, ACCEPTED, after=1))
+        self.assertEqual(between(ADD, ACCEPTED, ACCEPTED, after=1), [ACCEPTED])
+        self.assertEqual(between(ADD, ACCEPTED, error("full"), before=5, after=6), [error("full")])
+        self.assertEqual(between(REMOVE, DELETED, error("unknown_device"), after=1), [error("unknown_device")])
+        self.assertEqual(between("learn off", ACCEPTED, OK, DELETED, after=2), [OK])
+        self.assertIsNone(between("learn off", ACCEPTED, OK, DELETED, after=1))
+
+    def test_other_teach_lines(self):
+        for order, line in (
+            (ADD, teach("01800ABD")), (ADD, teach("01800ABC", "D5-00-02")), (ADD, teach("01800ABC", maker=1)),
+            (ADD, DELETED), (REMOVE, ACCEPTED), (REMOVE, teach("01800ABD", result="deleted")),
+            (ADD, teach("01800ABC", result="full")), ("learn on", ACCEPTED),
+        ):
+            with self.subTest((order, line)):
+                self.assertIsNone(between(order, line))
+        self.assertEqual(between(ADD, ACCEPTED, teach("01800ABC", maker=1), after=1), [ACCEPTED])
+
+    def test_errors_that_packets_have_too(self):
+        for name in ("memory", "store"):
+            self.assertEqual(between(ADD, error(name)), [error(name)])
+            self.assertEqual(between("list", error(name)), [error(name)])
+            self.assertIsNone(between("learn on", error(name)))
+            self.assertIsNone(between("central 5 on", error(name)))
+            self.assertIsNone(between(ADD, packet("refused"), error(name)))
+            self.assertEqual(between(ADD, packet("refused"), error("store"), error(name)), [error(name)])
+            self.assertEqual(between(ADD, error(name), packet("refused"), error("store")), [error(name)])
+            self.assertEqual(between(ADD, packet("read"), error(name)), [error(name)])
+            self.assertEqual(between(ADD, packet("refused"), reading("01800ABC"), error(name)), [error(name)])
+            self.assertEqual(between(ADD, error(name), ACCEPTED), [ACCEPTED])
+            self.assertEqual(between("label 01800ABC", OK, error(name)), [OK])
+        self.assertEqual(between(ADD, error("memory"), error("store")), [error("store")])
+
+    def test_status(self):
+        self.assertEqual(found("status", OK, error("memory"), status("on")), ([status("on")], 3))
+
+    def test_lines_of_no_gateway(self):
+        strange = (b"", b"{", b"3", b"[]", b'{"type":3}', b'{"type":["ok"]}', b'{"type":"status"}', b'{"type":"error"}',
+                   b'{"type":"error","error":["store"]}', b'{"type":"error","error":null}', b'{"type":"ok"}\xff',
+                   b'{"type":"status","mode":"on","teach":"x"}', b'{"type":"list"}', b'{"type":"device"}',
+                   b'{"type":"teach","result":"accepted"}')
+        for raw in strange:
+            self.assertIsNone(line_of(raw), raw)
+            self.assertFalse(is_of_order(raw))
+        self.assertEqual(between("learn on", *strange, OK, *strange), [OK])
+
+    def test_lines_that_only_orders_give(self):
+        for line, is_own in ((OK, True), (status(), True), (device("01800ABC"), True), (end_of_list(0), True),
+                             (error("range"), True), (error("memory"), False), (error("store"), False),
+                             (teach("01800ABC"), False), (reading("01800ABC"), False), (packet("read"), False),
+                             (RESPONSE, False)):
+            with self.subTest(line):
+                self.assertEqual(is_of_order(json.dumps(line).encode()), is_own)
+
+    def test_the_error_of_an_answer(self):
+        finder = AnswerFinder("learn on")
+        lines = [status(), status(), error("unsupported_profile"), status()]
+        answers = [finder.take(json.dumps(line).encode()) for line in lines]
+        self.assertEqual([answer and answer.error for answer in answers], [None, None, None, "unsupported_profile"])
+
+
+if __name__ == "__main__":
+    unittest.main()

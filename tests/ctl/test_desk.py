@@ -1,0 +1,342 @@
+"""The desk: its lock, the single write, and the wait for the answer."""
+import fcntl
+import os
+import select
+import signal
+import time
+import unittest
+from unittest import mock
+
+from enogate_ctl import desk as desks
+from enogate_ctl.desk import KEPT_AFTER_ANSWER, LONG_PAUSE, LONGEST_KEPT, PAUSE, Desk, Lines, NoAnswer
+from enogate_ctl.desk_file import DeskFile, Unusable
+from enogate_ctl.stops import Stopped
+from fakes import OK, Site, error, status
+
+RESTARTED = ("the gateway was restarted, or its desk was truncated: find out with `list` or `status` whether the order "
+             "was carried out, and give it again if not")
+LOCKED = "another order is still waiting for its answer: is the gateway running? Check it with enogate-check"
+ANSWER = (status(), status(), OK, status())
+
+
+class DeskTest(Site):
+    """A desk with this clock. A process that would be forked is counted."""
+
+    def setUp(self):
+        super().setUp()
+        self.forks = 0
+
+    def fork(self):
+        self.forks += 1
+        return 1
+
+    def made(self, timeout=10.0):
+        return Desk(self.places, timeout, self.clock, self.clock.sleep, self.fork)
+
+    def assert_no_answer(self, text, order="learn on", timeout=10.0):
+        """The order gets no answer, for this reason."""
+        with self.assertRaises(NoAnswer) as found:
+            self.made(timeout).ask(order)
+        self.assertEqual(str(found.exception), text)
+
+    def lock(self):
+        """Another program locks the desk. Returns its open file."""
+        other = os.open(self.desk, os.O_RDWR)
+        self.addCleanup(lambda: other in self.opened and os.close(other))
+        self.opened = {other}
+        fcntl.flock(other, fcntl.LOCK_EX)
+        return other
+
+
+class Asking(DeskTest):
+    def test_the_answer(self):
+        self.write(*ANSWER[:3], "half")
+        self.clock.acts[3] = lambda: self.write(*ANSWER)
+        answer = self.made().ask("learn on")
+        self.assertEqual(([line.members for line in answer.lines], answer.error), ([OK], None))
+        self.assertEqual(self.desk.read_text(), "status\nstatus\nlearn on\nstatus\n")
+        self.assertEqual((self.clock.slept, self.forks), ([PAUSE] * 3, 0))
+
+    def test_an_error(self):
+        self.clock.acts[1] = lambda: self.write(status(), status(), error("unsupported_profile"), status())
+        self.assertEqual(self.made().ask("learn as A5-99-99").error, "unsupported_profile")
+
+    def test_it_is_appended_in_one_write(self):
+        self.desk.write_text("list\n")
+        with mock.patch("os.write", wraps=os.write) as write:
+            self.clock.acts[1] = lambda: self.write(*ANSWER)
+            self.made().ask("learn on")
+        self.assertEqual([call.args[1] for call in write.call_args_list], [b"status\nstatus\nlearn on\nstatus\n"])
+        self.assertEqual(self.desk.read_text(), "list\nstatus\nstatus\nlearn on\nstatus\n")
+
+    def test_the_desk_is_unlocked_and_files_are_closed(self):
+        before = len(os.listdir("/proc/self/fd"))
+        self.clock.acts[1] = lambda: self.write(*ANSWER)
+        self.made().ask("learn on")
+        self.assertEqual(len(os.listdir("/proc/self/fd")), before)
+        fcntl.flock(self.lock(), fcntl.LOCK_UN)
+
+    def test_it_is_locked_meanwhile(self):
+        other = os.open(self.desk, os.O_RDWR)
+        self.addCleanup(os.close, other)
+
+        def look():
+            for kind in (fcntl.LOCK_EX, fcntl.LOCK_SH):
+                self.assertRaises(BlockingIOError, fcntl.flock, other, kind | fcntl.LOCK_NB)
+            self.write(*ANSWER)
+        self.clock.acts[1] = look
+        self.made().ask("learn on")
+
+    def test_a_locked_desk(self):
+        other = self.lock()
+        self.assert_no_answer(LOCKED, timeout=0.05)
+        self.assertEqual((len(self.clock.slept), self.desk.read_text(), self.forks), (5, "", 0))
+        self.clock.slept.clear()
+        self.clock.acts[2] = lambda: os.close(other) or self.opened.clear()
+        self.clock.acts[4] = lambda: self.write(*ANSWER)
+        self.made().ask("learn on")
+        self.assertEqual(len(self.clock.slept), 4)
+
+    def test_the_time_for_the_lock_and_for_the_answer_is_one(self):
+        other = self.lock()
+        self.clock.acts[3] = lambda: os.close(other) or self.opened.clear()
+        self.assert_no_answer("the gateway did not answer within 0.05 s, and may still carry out the order: check the "
+                              "gateway with enogate-check", timeout=0.05)
+        self.assertEqual((len(self.clock.slept), self.forks), (5, 1))
+
+    def test_an_answer_at_the_last_moment(self):
+        self.clock.acts[5] = lambda: self.write(*ANSWER)
+        self.made(0.05).ask("learn on")
+
+    def test_a_stop_while_it_waits_for_the_lock(self):
+        self.lock()
+        self.assert_stop(0)
+
+    def test_a_stop_while_it_waits_for_the_answer(self):
+        self.assert_stop(1)
+
+    def assert_stop(self, forks):
+        """A signal stops the command. So many processes keep the lock."""
+        def stop():
+            raise Stopped(signal.SIGTERM)
+        self.clock.acts[2] = stop
+        self.assertRaises(Stopped, self.made().ask, "learn on")
+        self.assertEqual(self.forks, forks)
+
+    def test_a_restart(self):
+        self.clock.acts[2] = lambda: self.desk.write_text("")
+        self.assert_no_answer(RESTARTED)
+        self.assertEqual(self.forks, 0)
+
+    def test_a_restart_that_is_noticed_late(self):
+        """Other programs have written to the desk since, and the lines look like an answer."""
+        def restart():
+            self.desk.write_text("list\n" * 20)
+            self.write(*ANSWER)
+        self.clock.acts[1] = restart
+        self.assert_no_answer(RESTARTED)
+
+    def test_a_desk_that_is_replaced_or_deleted(self):
+        def replace():
+            text = self.desk.read_text()
+            self.desk.rename(self.folder / "old")
+            self.desk.write_text(text)
+        text = f"the desk {self.desk} was replaced or deleted: restart the gateway, and give the order again"
+        for act in (replace, self.desk.unlink):
+            self.clock = type(self.clock)()
+            self.clock.acts[1] = act
+            self.assert_no_answer(text)
+
+    def test_rotation(self):
+        def rotate():
+            self.write(*ANSWER[:2])
+            self.lines.rename(self.folder / "hall.lines.1")
+            self.write(*ANSWER[2:])
+        self.clock.acts[1] = rotate
+        self.made().ask("learn on")
+
+    def test_an_incomplete_line(self):
+        with self.lines.open("a") as file:
+            file.write("{" * 100)
+        self.clock.acts[1] = lambda: self.write('{"type":"ok"}', *ANSWER)
+        self.made().ask("learn on")
+
+    def test_the_end_of_an_incomplete_line_is_not_a_fence(self):
+        with self.lines.open("a") as file:
+            file.write("{" * 100)
+        refused = error("unsupported_profile")
+        lines = (status(), status(), OK, status(), status(), refused, status())
+        self.clock.acts[1] = lambda: self.write(*lines)
+        self.assertEqual(self.made().ask("learn as A5-99-99").error, "unsupported_profile")
+
+    def test_no_lines_yet(self):
+        self.lines.unlink()
+        self.clock.acts[1] = lambda: self.write(*ANSWER)
+        self.made().ask("learn on")
+
+    def test_lines_that_cannot_be_read(self):
+        def refuse(path, *words):
+            if path == str(self.lines):
+                raise PermissionError(13, "Permission denied")
+            return mock.DEFAULT
+        with mock.patch("os.open", side_effect=refuse, wraps=os.open):
+            self.assert_no_answer(f"the lines {self.lines} cannot be read: Permission denied; become root, or a member "
+                                  "of the group enogate (log in again afterwards)")
+        self.assertEqual(self.desk.read_text(), "")
+
+
+class Keeping(DeskTest):
+    """The process that keeps the lock."""
+
+    def keep(self, *orders):
+        """How long the lock is kept, and why it ends."""
+        file = DeskFile(self.places.desk)
+        self.addCleanup(file.close)
+        finder = desks.AnswerFinder("learn on")
+        file.append(finder.text)
+        lines = Lines(self.places.lines)
+        try:
+            self.made().wait_for_end(file, lines, finder)
+        except Unusable:
+            return self.clock.now, "unusable"
+        return self.clock.now, "returned"
+
+    def test_until_the_answer_comes(self):
+        self.clock.acts[30] = lambda: self.write(*ANSWER)
+        self.assertEqual(self.keep(), (3.0000000000000013, "returned"))
+        self.assertEqual(set(self.clock.slept), {LONG_PAUSE})
+
+    def test_until_the_desk_is_emptied_or_replaced(self):
+        self.clock.acts[7] = lambda: self.desk.write_text("")
+        self.assertEqual(self.keep()[1], "unusable")
+        self.assertEqual(len(self.clock.slept), 7)
+
+    def test_until_some_time_after_the_gateway_answers_orders_again(self):
+        """The first fence has failed."""
+        for number in (50, 90):
+            self.clock.acts[number] = lambda: self.write(error("memory"), error("range"))
+        seconds, end = self.keep()
+        self.assertAlmostEqual(seconds, 5 + KEPT_AFTER_ANSWER, 0)
+        self.assertEqual((end, KEPT_AFTER_ANSWER), ("returned", 10))
+
+    def test_packets_do_not_end_it(self):
+        for number in range(1, 300, 10):
+            self.clock.acts[number] = lambda: self.write(error("memory"))
+        seconds, end = self.keep()
+        self.assertAlmostEqual(seconds, LONGEST_KEPT, 0)
+        self.assertEqual((end, LONGEST_KEPT), ("returned", 3600))
+
+    def leave(self):
+        """An order gets no answer. Returns the process that keeps the lock."""
+        numbers = []
+
+        def fork():
+            numbers.append(os.fork())
+            return numbers[0]
+        with self.assertRaises(NoAnswer):
+            Desk(self.places, 0.1, fork=fork).ask("learn on")
+        return numbers[0]
+
+    def test_a_signal_ends_the_process(self):
+        """It is that of its own session: a signal to the terminal does not end it."""
+        before = signal.signal(signal.SIGTERM, lambda *_: None)
+        self.addCleanup(signal.signal, signal.SIGTERM, before)
+        number = self.leave()
+        self.addCleanup(lambda: number and os.kill(number, signal.SIGKILL))
+        end = time.monotonic() + 10
+        while os.getsid(number) != number and time.monotonic() < end:
+            time.sleep(0.01)
+        self.assertEqual(os.getsid(number), number)
+        os.kill(number, signal.SIGTERM)
+        while (found := os.waitpid(number, os.WNOHANG))[0] == 0 and time.monotonic() < end:
+            time.sleep(0.01)
+        self.assertEqual(found, (number, signal.SIGTERM))
+        number = 0
+
+    def test_the_process(self):
+        """It keeps the lock, and has none of the pipes of the command."""
+        read, write = os.pipe()
+        self.addCleanup(os.close, read)
+        self.addCleanup(self.desk.write_text, "")
+        outs = [os.dup(number) for number in (0, 1, 2)]
+        desk = Desk(self.places, 0.1)
+        try:
+            for number in (1, 2):
+                os.dup2(write, number)
+            os.close(write)
+            with self.assertRaises(NoAnswer):
+                desk.ask("learn on")
+        finally:
+            for number, out in enumerate(outs):
+                os.dup2(out, number)
+                os.close(out)
+        self.assertEqual((select.select([read], [], [], 10)[0], os.read(read, 1)), ([read], b""))
+        other = os.open(self.desk, os.O_RDWR)
+        self.addCleanup(os.close, other)
+        self.assertRaises(BlockingIOError, fcntl.flock, other, fcntl.LOCK_EX | fcntl.LOCK_NB)
+        self.desk.write_text("")
+        self.assertEqual(os.wait()[1], 0)
+        fcntl.flock(other, fcntl.LOCK_EX | fcntl.LOCK_NB)
+
+
+class Files(DeskTest):
+    """The file of a desk."""
+
+    def test_no_desk(self):
+        self.desk.unlink()
+        self.assert_no_answer(f"there is no desk {self.desk}: start the gateway; its unit makes the desk")
+
+    def test_no_rights(self):
+        with mock.patch("os.open", side_effect=PermissionError(13, "Permission denied")):
+            self.assert_no_answer(f"the desk {self.desk} cannot be opened: Permission denied; become root, or a member "
+                                  "of the group enogate (log in again afterwards)")
+
+    def test_no_file(self):
+        self.desk.unlink()
+        os.mkfifo(self.desk)
+        before = len(os.listdir("/proc/self/fd"))
+        self.assert_no_answer(f"the desk {self.desk} is not a file: this command cannot use terminals and pipes")
+        self.assertEqual(len(os.listdir("/proc/self/fd")), before)
+
+    def test_an_incomplete_line_is_ended(self):
+        for text in ("lis", "list\n", ""):
+            self.desk.write_text(text)
+            file = DeskFile(self.places.desk)
+            file.append(b"status\n")
+            file.check()
+            file.close()
+            self.assertEqual(self.desk.read_text(), (text + "\n" if text == "lis" else text) + "status\n")
+
+    def test_a_full_file_system(self):
+        full = OSError(28, "No space left on device")
+        with mock.patch("os.write", side_effect=full):
+            self.assert_no_answer(f"the desk {self.desk} cannot be written: No space left on device")
+        with mock.patch("os.write", side_effect=lambda file, text: len(text) - 1):
+            self.assert_no_answer(f"the desk {self.desk} could only be written in part, because its file system is "
+                                  "full: restart the gateway, which empties the desk")
+
+    def test_what_others_append_is_no_restart(self):
+        self.desk.write_text("list\n")
+        file = DeskFile(self.places.desk)
+        self.addCleanup(file.close)
+        file.append(b"status\n")
+        with self.desk.open("a") as other:
+            other.write("list\n")
+        file.check()
+        self.desk.write_text("list\nstat")
+        self.assertRaisesRegex(Unusable, "was restarted", file.check)
+
+    def test_signals_are_held_while_it_is_written(self):
+        def write(_file, text):
+            blocked = signal.pthread_sigmask(signal.SIG_BLOCK, [])
+            self.assertLessEqual({signal.SIGINT, signal.SIGTERM, signal.SIGHUP}, blocked)
+            return len(text)
+        file = DeskFile(self.places.desk)
+        self.addCleanup(file.close)
+        with mock.patch("os.write", side_effect=write):
+            file.append(b"status\n")
+        self.assertNotIn(signal.SIGTERM, signal.pthread_sigmask(signal.SIG_BLOCK, []))
+
+
+if __name__ == "__main__":
+    unittest.main()

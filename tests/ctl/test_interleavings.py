@@ -1,0 +1,207 @@
+"""The rule that finds answers, on random interleavings of orders, packets, other programs, failures and restarts."""
+from __future__ import annotations
+
+import collections
+import random
+import unittest
+from dataclasses import dataclass
+
+from enogate_ctl.answers import SHARED, AnswerFinder, line_of
+from enogate_ctl.desk import Desk, TooLate
+from enogate_ctl.desk_file import Unusable
+from enogate_ctl.places import places_of
+from model import EEPS, IDS, UNSUPPORTED, Model
+
+COUNT = 24000
+
+
+def some_order(source: random.Random) -> str:
+    """An order, which may be refused."""
+    name, eep = source.choice((*IDS, IDS[0].lower(), "FFFFFFFF")), source.choice((*EEPS, EEPS[0].lower(), UNSUPPORTED))
+    return source.choice((
+        f"add {name} {eep}", f"add {name} {eep}", f"remove {name}", f"remove {name}", f"label {name} Lamp 2",
+        f"label {name}", "list", "base", f"switch {name} {source.choice((0, 31))} on", "learn on", "learn off",
+        f"learn as {eep}", f"central {source.choice((5, 128))} on", "status"))
+
+
+def of_others(source: random.Random) -> list[str]:
+    """What another program gives at once."""
+    order = some_order(source)
+    return source.choice(([order], [order], ["status"], [order, "status"], ["status", order], ["list", "status"],
+                          ["status", order, "status"]))
+
+
+@dataclass(frozen=True)
+class Event:
+    """Lines that are written together: of a packet, of an order of another program, or of an own one, or a restart."""
+    who: str
+    order: str
+    lines: list[bytes]
+
+    @property
+    def is_status(self) -> bool:
+        return self.order == "status" and b'"mode"' in self.lines[0]
+
+    @property
+    def is_failed_packet(self) -> bool:
+        return self.who == "packet" and bool(self.lines) and is_shared(self.lines[-1])
+
+
+class Case:
+    """An interleaving of packets and of the orders of the command with those of other programs."""
+
+    def __init__(self, source: random.Random, failing: float, fences_fail: bool, has_pair: bool):
+        self.source, self.explains, self.order = source, source.random() < 0.5, some_order(source)
+        self.model = Model(source, self.explains, failing, fences_fail)
+        self.model.mode = source.choice(("closed", "on", "on"))
+        for name in source.sample(IDS, source.randrange(len(IDS))):
+            self.model.devices[name] = source.choice(EEPS), source.choice((None, 70))
+        self.before = [text for _ in range(source.choice((0, 0, 1, 2))) for text in of_others(source)]
+        if has_pair:
+            self.before += ["status", "status", some_order(source)]
+        self.own = AnswerFinder(self.order).text.decode().split("\n")[:-1]
+        self.after = [text for _ in range(source.choice((0, 1, 2))) for text in of_others(source)]
+        self.events = list(self.play())
+        # the command finds the end of the lines before its orders are handled
+        own = [number for number, event in enumerate(self.events) if event.who in ("own", "restart")]
+        self.seen = self.events[source.randrange(min(own) + 1):]
+
+    def play(self):
+        """What a gateway does. At a restart the desk is emptied, and other programs go on."""
+        orders = [("other", text) for text in self.before] + [("own", text) for text in self.own]
+        if self.source.random() < 0.1:
+            del orders[self.source.randrange(len(orders)):]
+            orders += [("restart", ""), *(("other", text) for text in ("status", "status", some_order(self.source)))]
+        for who, text in orders + [("other", text) for text in self.after]:
+            for _ in range(self.source.choice((0, 0, 1, 2, 3))):
+                yield Event("packet", "", self.model.packet())
+            if who == "restart":
+                self.model.start()
+            yield Event(who, text, self.model.order(text) if text else [])
+
+    @property
+    def answer(self) -> list[bytes] | None:
+        """The right answer, if there is one."""
+        own = [event.lines for event in self.events if event.who == "own"]
+        return own[len(self.own) // 2] if len(own) > len(self.own) // 2 else None
+
+    @property
+    def is_ambiguous(self) -> bool:
+        """Whether the rule cannot decide this case, by the manual page. Another program has given two `status` orders
+        and another order, none of which is answered yet; or it has given one `status` order, and without packet lines
+        a packet fails before the fences are answered; or a fence has failed, and it gives `status` orders."""
+        if any(event.who == "own" and event.order == "status" and not event.is_status for event in self.seen):
+            return any(event.who == "other" and event.is_status for event in self.seen)
+        statuses = own = 0
+        for event in self.seen:
+            own += event.who == "own"
+            if own == 3 or event.who == "restart" or self.order == "status":
+                return False
+            if event.is_status:
+                statuses += 1
+            elif event.who == "other" and statuses >= 2:
+                return True
+            elif event.who == "other" and not is_shared(event.lines[-1]):
+                statuses = 0
+            elif event.is_failed_packet and not self.explains and statuses >= 2 and own < 2:
+                return True
+        return False
+
+    def pieces(self) -> list[list[Event]]:
+        """What the command reads at a time."""
+        pieces: list[list[Event]] = [[]]
+        for event in self.seen:
+            if self.source.random() < 0.4:
+                pieces.append([])
+            pieces[-1].append(event)
+        return pieces
+
+    def run(self) -> list[bytes] | str:
+        """The answer that the command finds, or why it finds none."""
+        self.left, self.read_events = self.pieces(), []
+        desk = Desk(places_of("hall"), 10.0, lambda: 0.0 if self.left else 99.0, lambda _: None)
+        try:
+            return [line.raw for line in desk.wait(self, self, AnswerFinder(self.order), 10.0).lines]
+        except TooLate:
+            return "late"
+        except Unusable:
+            return "restarted"
+
+    def read(self) -> list[bytes]:
+        """The next piece of the lines."""
+        piece = self.left.pop(0) if self.left else []
+        self.read_events += piece
+        return [raw for event in piece for raw in event.lines]
+
+    def check(self) -> None:
+        """Fails after a restart, which empties the desk."""
+        if any(event.who == "restart" for event in self.read_events):
+            raise Unusable
+
+
+def is_shared(raw: bytes) -> bool:
+    """Whether this line is the error `memory` or `store`."""
+    line = line_of(raw)
+    return line is not None and line.error in SHARED
+
+
+class Interleavings(unittest.TestCase):
+    """The command finds the right answer, or none."""
+
+    def results(self, count: int, seed: int, failing: float = 0.05, fences_fail: bool = False,
+                has_pair: bool = False) -> collections.Counter:
+        """How many of so many interleavings have which result. A wrong one is shown."""
+        source, found = random.Random(seed), collections.Counter()
+        self.wrong: list[tuple] = []
+        for _ in range(count):
+            case = Case(source, failing, fences_fail, has_pair)
+            result = case.run()
+            found[self.result(case, result)] += 1
+        return found
+
+    def result(self, case: Case, result: list[bytes] | str) -> str:
+        """What became of the order of a case."""
+        if isinstance(result, str):
+            return result
+        if result == case.answer or (case.order == "status" and b'"mode"' in result[0]):
+            # any status line that is written after the order was given answers `status`
+            return "right"
+        if case.answer and is_shared(result[-1]) and is_shared(case.answer[-1]) and not case.explains:
+            return "other error"
+        device = case.order[7:].upper().encode()
+        if case.answer and all(b'"deleted"' in lines[-1] and device in lines[-1] for lines in (result, case.answer)):
+            return "other profile"
+        if case.is_ambiguous:
+            return "ambiguous"
+        self.wrong.append((case.order, result, case.answer, [(event.who, event.lines) for event in case.seen]))
+        return "wrong"
+
+    def test_no_answer_is_wrong_or_late(self):
+        """Except for the cases that the manual page names."""
+        found = self.results(COUNT, 1)
+        self.assertEqual(self.wrong[:1], [])
+        self.assertEqual(found["late"], 0)
+        self.assertGreater(found["right"], 20000)
+        self.assertLess(found["ambiguous"], 150)
+        self.assertLess(found["other error"] + found["other profile"], 200)
+
+    def test_many_failures(self):
+        found = self.results(4000, 2, failing=0.3)
+        self.assertEqual((self.wrong[:1], found["late"]), ([], 0))
+        self.assertGreater(found["right"], 3000)
+
+    def test_another_program_with_pairs_of_status_orders(self):
+        found = self.results(4000, 3, has_pair=True)
+        self.assertEqual((self.wrong[:1], found["late"]), ([], 0))
+        self.assertGreater(found["right"], 1000)
+
+    def test_fences_that_fail(self):
+        """Such an order may be late."""
+        found = self.results(4000, 4, failing=0.1, fences_fail=True)
+        self.assertEqual(self.wrong[:1], [])
+        self.assertGreater(found["right"], 2500)
+        self.assertGreater(found["late"], 100)
+
+
+if __name__ == "__main__":
+    unittest.main()

@@ -1,0 +1,122 @@
+"""Devices as CSV."""
+import unittest
+
+from enogate_ctl import sheet
+from enogate_ctl.sheet import BadRow, Row
+from enogate_mqtt.lines import Listed
+
+LABELS = ("Front door, \"A\" <b>", "=1+1", "'=1", "''+x", "-5C", "@home", "+", "'x", "", "a;b", "x" * 32)
+
+
+def listed(*labels):
+    return [Listed(f"01800A{number:02X}", "D5-00-01", label, 70) for number, label in enumerate(labels)]
+
+
+class Sheets(unittest.TestCase):
+    maxDiff = None
+
+    def rows(self, text):
+        return [(number, str(row) if isinstance(row, BadRow) else row) for number, row in sheet.rows_in(text)]
+
+    def test_export(self):
+        self.assertEqual(sheet.exported(listed("Door, \"A\"", "=x", "")),
+                         'id,eep,label\n01800A00,D5-00-01,"Door, ""A"""\n01800A01,D5-00-01,\'=x\n01800A02,D5-00-01,\n')
+        self.assertEqual(sheet.exported([]), "id,eep,label\n")
+
+    def test_no_cell_begins_a_formula(self):
+        for row in sheet.exported(listed(*LABELS)).splitlines():
+            for cell in sheet.csv.reader([row]):
+                self.assertNotIn(cell[-1][:1], tuple("=+-@"))
+
+    def test_round_trip(self):
+        devices = listed(*LABELS)
+        self.assertEqual([row for _, row in sheet.rows_in(sheet.exported(devices))],
+                         [Row(device.device, device.eep, device.label) for device in devices])
+
+    def test_separators_headings_and_empty_rows(self):
+        wanted = [(2, Row("01800ABC", "D5-00-01", "Door")), (4, Row("01800ABD", "D5-00-01", ""))]
+        for separator in ",;\t":
+            for start in ("", "\ufeff"):
+                text = f"{start}ID,EEP, Label\r\n01800abc , d5-00-01,Door\r\n,,\r\n01800ABD,D5-00-01\r\n"
+                self.assertEqual(self.rows(text.replace(",", separator)), wanted)
+        self.assertEqual(self.rows("01800ABC,D5-00-01,Door"), [(1, wanted[0][1])])
+        self.assertEqual(self.rows("id,eep,label,floor\n01800ABC,D5-00-01,Door,2\n"), [(2, wanted[0][1])])
+        self.assertEqual(self.rows(""), [])
+
+    def test_leading_zeros(self):
+        for device, found in (("1800222", "01800222"), ("1", "00000001"), ("12345678", "12345678")):
+            self.assertEqual(self.rows(f"{device},D5-00-01"), [(1, Row(found, "D5-00-01", ""))])
+        self.assertEqual(self.rows("01800E12,D5-00-01"), [(1, Row("01800E12", "D5-00-01", ""))])
+
+    def test_numbers_with_an_exponent(self):
+        for device in ("1.80E+15", "1,80E+15", "1.8e15", "2E+10"):
+            self.assertEqual(self.rows(f'"{device}",D5-00-01'), [(1, (
+                f"a spreadsheet changed the ID to the number {device}: enter it again, in a column with the format "
+                "Text"))])
+
+    def test_rows_of_no_device(self):
+        for text, reason in (
+            ("x,D5-00-01", "'add X D5-00-01' is not an order: the form is add ID EEP"),
+            ("01800ABC", "'add 01800ABC ' is not an order: the form is add ID EEP"),
+            ("01800ABC,D5-00-01," + 33 * "x", f"'label 01800ABC {33 * 'x'}' is not an order: the form is "
+             "label ID TEXT | label ID (1 to 32 ASCII characters)"),
+            ('01800ABC,D5-00-01,"a\nlist"', "'label 01800ABC a\\nlist' is not an order: the form is label ID TEXT | "
+             "label ID (1 to 32 ASCII characters)"),
+        ):
+            with self.subTest(text):
+                self.assertEqual([row for _, row in self.rows(text)], [reason])
+
+    def test_a_row_that_is_no_csv(self):
+        sheet.csv.field_size_limit(200)
+        self.addCleanup(sheet.csv.field_size_limit, sheet.csv.field_size_limit())
+        self.addCleanup(sheet.csv.field_size_limit, 131072)
+        rows = self.rows("x" * 300 + ",\n01800ABC,D5-00-01\n")
+        self.assertEqual(rows, [(1, "not CSV: field larger than field limit (200)"),
+                                (2, Row("01800ABC", "D5-00-01", ""))])
+
+
+class Importing(unittest.TestCase):
+    def setUp(self):
+        self.orders, self.lines, self.refused = [], [], {}
+
+    def give(self, order):
+        self.orders.append(order)
+        return self.refused.get(order)
+
+    def run_import(self, text, *known):
+        devices = {device.device: device for device in known}
+        return sheet.Import(devices, self.give, self.lines.append).run(text)
+
+    def test_new_devices(self):
+        self.assertTrue(self.run_import("01800ABC,D5-00-01,Door\n01800ABD,F6-02-01\n"))
+        self.assertEqual(self.orders, ["add 01800ABC D5-00-01", "label 01800ABC Door", "add 01800ABD F6-02-01"])
+        self.assertEqual(self.lines, ["line 1: 01800ABC: learned and labelled", "line 2: 01800ABD: learned"])
+
+    def test_known_devices(self):
+        known = Listed("01800ABC", "D5-00-01", "Door", 70)
+        self.assertTrue(self.run_import("01800abc,d5-00-01,Door\n01800ABC,D5-00-01,\n01800ABC,D5-00-01,Gate\n"
+                                        "01800ABC,F6-02-01,Gate\n01800ABC,F6-02-01,Gate\n", known))
+        self.assertEqual(self.orders, ["label 01800ABC Gate", "add 01800ABC F6-02-01"])
+        self.assertEqual(self.lines, ["line 1: 01800ABC: unchanged", "line 2: 01800ABC: unchanged",
+                                      "line 3: 01800ABC: labelled", "line 4: 01800ABC: learned",
+                                      "line 5: 01800ABC: unchanged"])
+
+    def test_a_label_that_is_kept(self):
+        self.assertTrue(self.run_import("01800ABC,F6-02-01\n01800ABC,F6-02-01,Door\n",
+                                        Listed("01800ABC", "D5-00-01", "Door", None)))
+        self.assertEqual(self.orders, ["add 01800ABC F6-02-01"])
+
+    def test_it_goes_on_after_an_error(self):
+        self.refused = {"add 01800ABC D5-00-99": "unsupported_profile: why", "label 01800ABD x": "store: why"}
+        self.assertFalse(self.run_import("01800ABC,D5-00-99,x\n01800ABD,D5-00-01,x\nx\n01800ABE,D5-00-01\n"))
+        self.assertEqual(self.orders, ["add 01800ABC D5-00-99", "add 01800ABD D5-00-01", "label 01800ABD x",
+                                       "add 01800ABE D5-00-01"])
+        self.assertEqual(self.lines, [
+            "line 1: 01800ABC: `add 01800ABC D5-00-99` was refused: unsupported_profile: why",
+            "line 2: 01800ABD: `label 01800ABD x` was refused: store: why",
+            "line 3: 'add X ' is not an order: the form is add ID EEP", "line 4: 01800ABE: learned"])
+        self.assertFalse(self.run_import("x\n01800ABE,D5-00-01\n"))
+
+
+if __name__ == "__main__":
+    unittest.main()

@@ -1,0 +1,231 @@
+"""What people see: words, tables, and what was received last."""
+import contextlib
+import json
+import os
+import pathlib
+import re
+import sqlite3
+import unittest
+from datetime import datetime, timedelta, timezone
+from unittest import mock
+
+from enogate_ctl import recent, words
+from enogate_ctl.answers import REFUSALS, Answer, line_of
+from enogate_ctl.shown import shown
+from enogate_ctl.tables import table
+from enogate_mqtt.devices import Device
+from enogate_mqtt.entities import Table
+from enogate_mqtt.follow import Place, end_of
+from enogate_mqtt.store import Store
+from fakes import OK, Site, device, end_of_list, packet, reading, status, teach
+
+GUIDE = pathlib.Path(__file__).parents[2] / "docs" / "guide"
+NOW = datetime(2026, 11, 28, 12, 0, 0, tzinfo=timezone.utc)
+TEMPERATURE = [{"den": 51, "name": "TMP", "num": 1024, "unit": "C"}]
+
+
+def lines_of(*members):
+    return [line_of(json.dumps(one).encode()) for one in members]
+
+
+class Words(unittest.TestCase):
+    def test_each_error_has_advice(self):
+        named = re.findall(r"^\| `(\w+)` \|", (GUIDE / "output.md").read_text().split("| Error | When |")[1]
+                           .split("\n\n")[0], re.MULTILINE)
+        self.assertEqual(sorted(words.ADVICE), sorted(named))
+        self.assertLessEqual(frozenset().union(*REFUSALS.values()), words.ADVICE.keys())
+        self.assertTrue(words.advice("full").startswith("full: 1,000 devices are learned"))
+        self.assertEqual(words.advice("new"), "new")
+
+    def test_each_result_has_words(self):
+        named = re.findall(r"^\| `(\w+)` \|", (GUIDE / "output.md").read_text().split("| Result | Meaning |")[1]
+                           .split("\n\n")[0], re.MULTILINE)
+        self.assertEqual(sorted(words.RESULTS), sorted(named))
+
+    def test_profiles_have_the_names_of_the_guide(self):
+        text = (GUIDE / "output.md").read_text().split("| Profile | Device | Readings |")[1].split("\n\n")[0]
+        for names, kind in re.findall(r"^\| (`[^|]*) \| ([^|]*) \|", text, re.MULTILINE):
+            first, *others = re.findall(r"`([^`]*)`", names)
+            kinds = {words.profile(name if len(name) == 8 else first[:5] + name) for name in (first, *others)}
+            with self.subTest(names):
+                if "meter" in kind:
+                    self.assertEqual(kinds, {"electricity meter", "gas meter", "water meter"})
+                else:
+                    self.assertEqual({name.split(" or ")[0] for name in kinds}, {
+                        kind.replace("switches and dimmers", "switch").split(" or ")[0]})
+        self.assertEqual((words.profile("A5-99-01"), words.profile("F6-01-02")), ("", ""))
+
+    def test_readings(self):
+        for eep, readings, text in (
+            ("D5-00-01", [{"name": "CO", "word": "closed"}], "Contact closed"),
+            ("A5-02-05", TEMPERATURE, "Temperature 20.08 °C"),
+            ("A5-02-05", [{"den": 2, "name": "TMP", "num": -1, "unit": "C"}], "Temperature -0.5 °C"),
+            ("A5-02-05", [{"den": 1, "name": "TMP", "num": 100, "unit": "C"}], "Temperature 100 °C"),
+            ("A5-12-01", [{"den": 10, "name": "MR", "num": 123456785, "unit": "kWh"}, {"name": "TI", "raw": 3}],
+             "Energy 12345678.5 kWh"),
+            ("F6-02-01", [{"name": "R1", "word": "BI"}, {"name": "EB", "word": "pressed"}], "R1 BI, EB pressed"),
+            ("D2-01-0F", [{"name": "PF", "raw": 0}, {"name": "EL", "word": "ok"}, {"name": "IO", "raw": 0},
+                          {"den": 1, "name": "OV", "num": 100, "unit": "%"}], "OV 100 %"),
+            ("A5-04-01", [{"name": "HUM", "out_of_range": 251}], "Humidity out_of_range"),
+            ("A5-12-01", [{"name": "TI", "raw": 3}], "TI 3"),
+            ("D2-01-0F", [{"name": "LC", "raw": 1}], "Local control 1"),
+        ):
+            with self.subTest(text):
+                telegram, = lines_of(reading("01800ABC", eep, readings))
+                self.assertEqual(words.readings(telegram.content, Table()), text)
+
+    def test_ages(self):
+        for seconds, text in ((-5, "0 s ago"), (0.9, "0 s ago"), (59.9, "59 s ago"), (60, "1 min ago"),
+                              (3599, "59 min ago"), (3600, "1 h ago"), (86399, "23 h ago"), (86400, "1 d ago"),
+                              (900000, "10 d ago")):
+            self.assertEqual(words.age(seconds), text)
+
+    def test_results_of_teaching(self):
+        for line, text in (
+            (teach("01800ABC"), "01800ABC learned, D5-00-01 (single contact)"),
+            (teach("01800ABC", result="deleted"), "01800ABC deleted"),
+            (teach("01800ABC", "A5-99-01"), "01800ABC learned, A5-99-01"),
+            (teach("01800ABC", None, None, "no_profile"),
+             "01800ABC not learned: it does not send its profile; use `learn as EEP`"),
+            (teach("01800ABC", result="full"), "01800ABC not learned: 1,000 devices are learned"),
+            (teach("01800ABC", result="new"), "01800ABC new"), (OK, None), (packet("accepted"), None),
+            ({"type": "teach", "result": 3}, None), ({"type": "other", "result": "accepted"}, None),
+        ):
+            self.assertEqual(words.taught(*lines_of(line)), text)
+
+    def test_control_characters(self):
+        self.assertEqual(words.printable("a\x1b[2J\n\x7f°C"), "a?[2J??°C")
+
+
+class Tables(unittest.TestCase):
+    def test_columns(self):
+        rows = [("A", "LONG", "EMPTY", "C"), ("aaa", "x", "", ""), ("", "", "", "c")]
+        self.assertEqual(table(rows), "A    LONG  C\naaa  x\n           c")
+        self.assertEqual(table([("A", "B")]), "A  B")
+
+
+class Shown(Site):
+    def shown(self, *lines):
+        return shown(Answer(lines_of(*lines)), self.places, lambda: NOW)
+
+    def test_short_answers(self):
+        self.assertEqual(self.shown(OK), "ok")
+        self.assertEqual(self.shown(teach("01800ABC")), "accepted")
+        self.assertEqual(self.shown(teach("01800ABC", result="deleted")), "deleted")
+        self.assertEqual(self.shown(status("as F6-02-01", readings=12)), "learn window  as F6-02-01\nignored       0\n"
+                         "readings      12\nrefused       0\nresponses     0\nteach         0")
+        self.assertEqual(self.shown(end_of_list(0)), "no device is learned")
+
+    def test_a_list(self):
+        self.write(reading("01800ABC"), reading("01800ABD", "A5-02-05", TEMPERATURE, None), reading("01800ABE"))
+        bridge(self, "01800ABC", NOW - timedelta(minutes=5))
+        self.assertEqual(self.shown(device("01800ABC", "Do\x1bor"), device("01800ABD", eep="A5-02-05"),
+                                    device("01800ABE", eep="F6-02-01"), end_of_list(3)), """\
+LABEL  ID        PROFILE   NAME                      LAST READINGS         SIGNAL   LAST SEEN
+Do?or  01800ABC  D5-00-01  single contact            Contact closed        -45 dBm  5 min ago
+       01800ABD  A5-02-05  temperature               Temperature 20.08 °C
+       01800ABE  F6-02-01  rocker switch, 2 rockers                        -45 dBm""")
+
+    def test_columns_without_a_source_are_left_out(self):
+        self.assertEqual(self.shown(device("01800ABC"), end_of_list(1)),
+                         "ID        PROFILE   NAME\n01800ABC  D5-00-01  single contact")
+
+
+def bridge(site, name, time, place=None):
+    """A running bridge that has received this device at this time, and has read the lines to their end. Returns its
+    connection."""
+    store = Store(str(site.state), "")
+    site.addCleanup(store.connection.close)
+    told = {"CO": "closed", "last_seen": time.isoformat(timespec="seconds")}
+    other = Device("01800AFF", "D5-00-01", "", None, {})
+    store.save(place or end_of(str(site.lines)), [name, "01800AFF"], {name: Device(name, "D5-00-01", "", None, told),
+                                                                     "01800AFF": other}, set())
+    return store
+
+
+class Recent(Site):
+    def test_the_last_telegram(self):
+        self.write(reading("01800ABC", dbm=-50), reading("01800ABD"), reading("01800ABC", dbm=-60), "{", OK,
+                   '{"x":1,"type":"reading"}', '{"dbm":-99,"half')
+        found = recent.last_telegrams(str(self.lines))
+        self.assertEqual({name: telegram.dbm for name, telegram in found.items()}, {"01800ABC": -60, "01800ABD": -45})
+
+    def put(self, path, *names):
+        """Lines as the gateway writes them."""
+        path.write_text("".join(json.dumps(reading(name, dbm=-10 - number), separators=(",", ":")) + "\n"
+                                for number, name in enumerate(names)))
+        return path.stat().st_size // len(names)
+
+    def test_only_the_end_is_read(self):
+        size = self.put(self.lines, "01800AB1", "01800AB2", "01800AB3")
+        for most, names in ((3 * size, {"01800AB1", "01800AB2", "01800AB3"}), (3 * size - 5, {"01800AB2", "01800AB3"}),
+                            (size + 5, {"01800AB3"}), (5, set())):
+            self.assertEqual(recent.last_telegrams(str(self.lines), most).keys(), names, most)
+        self.assertEqual(recent.MOST_READ, 1 << 20)
+
+    def test_rotated_files(self):
+        size = self.put(self.folder / "hall.lines.2", "01800AB1")
+        self.put(self.folder / "hall.lines.1", "01800AB2", "01800AB1")
+        self.put(self.lines, "01800AB3")
+        path = str(self.lines)
+        self.assertEqual(list(recent.last_telegrams(path)), ["01800AB3", "01800AB1", "01800AB2"])
+        self.assertEqual(recent.last_telegrams(path)["01800AB1"].dbm, -11)
+        self.assertEqual(list(recent.last_telegrams(path, 2 * size + 5)), ["01800AB3", "01800AB1"])
+        self.assertEqual(list(recent.last_telegrams(path, size)), ["01800AB3"])
+        self.lines.unlink()
+        self.assertEqual(list(recent.last_telegrams(path)), ["01800AB1", "01800AB2"])
+
+    def times(self, most=recent.MOST_READ):
+        return recent.last_times(str(self.state), str(self.lines), most)
+
+    def test_times(self):
+        self.assertEqual(self.times(), {})
+        store = bridge(self, "01800ABC", NOW)
+        self.assertEqual(self.times(), {"01800ABC": NOW})
+        store.connection.close()
+        self.assertEqual(self.times(), {})
+
+    def test_a_place_that_is_lost(self):
+        self.put(self.lines, "01800ABC")
+        bridge(self, "01800ABC", NOW, Place(1, 5, b"lost"))
+        self.assertEqual(self.times(), {})
+
+    def test_what_the_bridge_has_not_read_yet(self):
+        self.put(self.lines, "01800ABC")
+        bridge(self, "01800ABC", NOW)
+        with self.lines.open("a") as file:
+            file.write('{"type":"ok"}\n' + json.dumps(reading("01800ABD"), separators=(",", ":")) + "\n")
+        self.assertEqual(self.times(), {"01800ABC": NOW})
+        self.assertEqual(self.times(20), {})
+        with self.lines.open("a") as file:
+            file.write(json.dumps(reading("01800ABC"), separators=(",", ":")) + "\n")
+        self.assertEqual(self.times(), {})
+
+    def test_only_so_much_is_read_after_the_place(self):
+        self.put(self.lines, *["01800ABC"] * 50)
+        start = Place(self.lines.stat().st_ino, 0, b"")
+        with mock.patch("enogate_mqtt.follow.MAX_READ", 500), \
+                mock.patch.object(recent.Follower, "read", autospec=True, side_effect=recent.Follower.read) as read:
+            self.assertIsNone(recent.devices_after(start, str(self.lines), 900))
+            self.assertLess(read.call_count, 5)
+            self.assertEqual(recent.devices_after(start, str(self.lines), 9000), {"01800ABC"})
+
+    def test_a_state_that_is_damaged_or_none(self):
+        bridge(self, "01800ABC", NOW)
+        with contextlib.closing(sqlite3.connect(self.state)) as connection, connection:
+            connection.execute("UPDATE device SET told = '3'")
+        self.assertEqual(self.times(), {})
+        self.state.write_bytes(b"x" * 5000)
+        self.assertEqual(self.times(), {})
+
+    def test_files_are_closed(self):
+        self.put(self.lines, "01800ABC")
+        before = len(os.listdir("/proc/self/fd"))
+        start = Place(self.lines.stat().st_ino, 0, b"")
+        self.assertEqual(recent.devices_after(start, str(self.lines), 999), {"01800ABC"})
+        recent.last_telegrams(str(self.lines))
+        self.assertEqual(len(os.listdir("/proc/self/fd")), before)
+
+
+if __name__ == "__main__":
+    unittest.main()

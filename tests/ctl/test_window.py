@@ -1,0 +1,77 @@
+"""The learn window for a time."""
+import json
+import signal
+import unittest
+
+from enogate_ctl.desk import Desk, NoAnswer
+from enogate_ctl.stops import Stopped, Stops
+from enogate_ctl.window import PAUSE, LearnWindow
+from fakes import OK, Site, teach
+
+OPENED, CLOSED = "the learn window is open for 0.25 s; Ctrl-C closes it", "the learn window is closed"
+
+
+class Window(Site):
+    def setUp(self):
+        super().setUp()
+        self.orders, self.printed, self.failing, self.stops = [], [], {}, Stops()
+
+    def give(self, order):
+        self.orders.append(order)
+        if order in self.failing:
+            raise self.failing[order]
+
+    def report(self, text):
+        self.printed.append(text)
+
+    def open(self, is_json=False, seconds=0.25):
+        desk = Desk(self.places, 10, self.clock, self.clock.sleep)
+        LearnWindow(desk, self.give, self.report, self.stops, is_json).open_for("learn on", seconds)
+
+    def test_it_is_closed_after_the_time(self):
+        self.open()
+        self.assertEqual((self.orders, self.printed), (["learn on", "learn off"], [OPENED, CLOSED]))
+        self.assertEqual([round(seconds, 3) for seconds in self.clock.slept], [PAUSE, PAUSE, 0.05])
+        self.assertTrue(self.stops.are_ignored)
+
+    def test_a_signal_closes_it(self):
+        self.clock.acts[2] = lambda: self.stops.take(signal.SIGTERM)
+        self.open()
+        self.assertEqual((self.orders, self.printed), (["learn on", "learn off"], [OPENED, CLOSED]))
+        self.assertEqual(len(self.clock.slept), 2)
+
+    def test_a_signal_while_it_is_opened(self):
+        self.failing["learn on"] = Stopped(signal.SIGINT)
+        self.open()
+        self.assertEqual((self.orders, self.printed), (["learn on", "learn off"], [CLOSED]))
+
+    def test_it_is_not_closed_if_it_was_not_opened(self):
+        self.failing["learn on"] = NoAnswer("why")
+        self.assertRaises(NoAnswer, self.open)
+        self.assertEqual((self.orders, self.printed), (["learn on"], []))
+
+    def test_what_is_taught_is_printed(self):
+        self.write(teach("01800AAA"))
+        self.clock.acts[1] = lambda: self.write("{", OK, teach("01800ABC"), teach("01800ABD", result="full"))
+        self.open()
+        self.assertEqual(self.printed[1:-1], ["01800ABC learned, D5-00-01 (single contact)",
+                                              "01800ABD not learned: 1,000 devices are learned"])
+
+    def test_json(self):
+        self.clock.acts[1] = lambda: self.write(OK, teach("01800ABC"))
+        self.open(True)
+        self.assertEqual([json.loads(text) for text in self.printed], [teach("01800ABC")])
+
+    def test_control_characters(self):
+        self.clock.acts[1] = lambda: self.write(teach("01800ABC", result="\x1b"))
+        self.open()
+        self.assertEqual(self.printed[1], "01800ABC ?")
+
+    def test_nobody_reads(self):
+        self.report = lambda _text: (_ for _ in ()).throw(BrokenPipeError)
+        self.open()
+        self.assertEqual(self.orders, ["learn on", "learn off"])
+
+
+if __name__ == "__main__":
+    unittest.main()
