@@ -116,6 +116,8 @@ class CommandLine:
             return AskBase(words.order[0])
         if words.order == ["devices"]:
             return self.devices()
+        if hint := self.hint():
+            self.fail(hint)
         self.forbid("an order", "exports", "imports")
         order = " ".join(words.order)
         try:
@@ -125,6 +127,16 @@ class CommandLine:
         if words.seconds is not None and not grammar.opens_window(order):
             self.fail("--for needs an order that opens the learn window: learn on, learn on answer, or learn as EEP")
         return Give(self.places(), words.timeout, words.json, order, words.seconds)
+
+    def hint(self) -> str:
+        """What to write instead, if the name of the gateway or the path of the port is missing; otherwise empty."""
+        first, others = self.words.gateway, self.words.order
+        if first not in (*grammar.FORMS, "devices") or (others and others[0] in grammar.FORMS):
+            return ""
+        if first == "base" and others:
+            return ("base needs the path of a serial port, such as /dev/enocean; give the order as: enogatectl GATEWAY "
+                    "base")
+        return f"the name of the gateway comes first: enogatectl GATEWAY {first} .."
 
     def devices(self) -> Command:
         """The command `devices`."""
@@ -140,6 +152,8 @@ class CommandLine:
             places = places_of(self.words.gateway)
         except NoName as error:
             self.fail(str(error))
+        if (self.words.desk is None) != (self.words.lines is None):
+            self.fail("--desk and --lines must be used together")
         return Places(self.words.desk or places.desk, self.words.lines or places.lines, places.bridge)
 
     def forbid(self, where: str, *options: str) -> None:

@@ -82,8 +82,8 @@ class Desk:
         """Waits until the desk is locked."""
         while not file.lock():
             if self.clock() >= limit:
-                raise NoAnswer("another order is still waiting for its answer: is the gateway running? Check it with "
-                               "enogate-check")
+                raise NoAnswer("another order is still waiting for its answer: check the gateway with enogate-check; "
+                               "a restart of the gateway ends the wait")
             self.sleep(PAUSE)
 
     def ask_locked(self, file: DeskFile, finder: AnswerFinder, limit: float) -> Answer:

@@ -22,7 +22,8 @@ class DeskFile:
             flags = os.O_RDWR | os.O_APPEND | os.O_NONBLOCK | os.O_NOCTTY | os.O_CLOEXEC
             self.file = os.open(path, flags)
         except FileNotFoundError as error:
-            raise Unusable(f"there is no desk {path}: start the gateway; its unit makes the desk") from error
+            raise Unusable(f"there is no desk {path}: correct the name of the gateway, or start it; its unit "
+                           "makes the desk") from error
         except OSError as error:
             raise Unusable(f"the desk {path} cannot be opened: {error.strerror}; become root, or a member of the group "
                            "enogate (log in again afterwards)") from error

@@ -12,7 +12,7 @@ FORMS = {
     "learn": (f"learn (?:on|on answer|off|as {EEP})", "learn on | learn on answer | learn as EEP | learn off"),
     "add": (f"add {ID} {EEP}", "add ID EEP"),
     "remove": (f"remove {ID}", "remove ID"),
-    "label": (f"label {ID}(?: {LABEL})?", "label ID TEXT | label ID (1 to 32 ASCII characters)"),
+    "label": (f"label {ID}(?: {LABEL})?", "label ID TEXT | label ID"),
     "list": ("list", "list"),
     "status": ("status", "status"),
     "base": ("base", "base"),
@@ -25,6 +25,11 @@ FORMS = {
     "central": (f"central {NUMBER} (?:on|off)", "central OFF on | central OFF off"),
     "level": (f"level {NUMBER} {NUMBER} {NUMBER}", "level OFF VAL RAMP"),
     "teach": (f"teach {NUMBER}", "teach OFF"),
+}
+# What the words in capital letters of these forms stand for.
+PARAMETERS = {
+    "ID": "8 hexadecimal digits", "EEP": "a profile such as D5-00-01", "TEXT": "1 to 32 ASCII characters",
+    "CH": "a channel, 0 to 30", "OFF": "an offset, 0 to 127", "VAL": "percent, 0 to 100", "RAMP": "seconds, 0 to 255",
 }
 # Orders that open the learn window.
 OPENING = re.compile(f"learn (?:on|on answer|as {EEP})")
@@ -41,7 +46,8 @@ def check(order: str) -> None:
         raise NoOrder(f"{order!r} is not an order: the orders are {', '.join(FORMS)}")
     pattern, shown = FORMS[verb]
     if not re.fullmatch(pattern, order):
-        raise NoOrder(f"{order!r} is not an order: the form is {shown}")
+        named = [f"{name}: {meaning}" for name, meaning in PARAMETERS.items() if re.search(rf"\b{name}\b", shown)]
+        raise NoOrder(f"{order!r} is not an order: the form is {shown}" + (f" ({'; '.join(named)})" if named else ""))
 
 
 def opens_window(order: str) -> bool:

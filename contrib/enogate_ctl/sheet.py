@@ -100,9 +100,12 @@ class Import:
         self.known, self.give, self.report = known, give, report
 
     def run(self, text: str) -> bool:
-        """Handles each row, whatever became of the others. Returns whether all succeeded."""
+        """Handles each row, whatever became of the others. Returns whether all succeeded. An empty input is a failure:
+        the export that should have written it failed."""
         results = [self.take(number, row) for number, row in rows_in(text)]
-        return all(results)
+        if not results:
+            self.report("the input has no devices")
+        return all(results) and text.strip() != ""
 
     def take(self, number: int, row: Row | BadRow) -> bool:
         """Handles a row, and reports the result. Returns whether it succeeded."""

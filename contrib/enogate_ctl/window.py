@@ -4,9 +4,11 @@ from __future__ import annotations
 import contextlib
 from typing import Callable
 
+from enogate_mqtt.lines import Status
+
 from . import words
 from .answers import line_of
-from .desk import Desk, Lines
+from .desk import Desk, Lines, NoAnswer
 from .stops import Stopped, Stops
 
 # The pause between two looks at the lines, in seconds.
@@ -24,14 +26,14 @@ class LearnWindow:
         self.clock, self.sleep = desk.clock, desk.sleep
 
     def open_for(self, order: str, seconds: float) -> None:
-        """Opens the window with this order, and closes it after the time, or if a signal stops the command. The desk is
-        not locked meanwhile. A window that the gateway refused to open is not closed: another program may have opened
-        it."""
+        """Opens the window with this order, and closes it after the time, or if a signal stops the command. A window
+        for one device (`learn as`) ends earlier: the gateway closes it. The desk is not locked meanwhile. A window that
+        the gateway refused to open is not closed: another program may have opened it."""
         with contextlib.closing(Lines(self.desk.places.lines)) as lines:
             try:
                 self.give(order)
                 self.report("" if self.is_json else f"the learn window is open for {seconds:g} s; Ctrl-C closes it")
-                self.show(lines, self.clock() + seconds)
+                self.show(lines, self.clock() + seconds, order.startswith("learn as "))
                 self.stops.ignore()
             except Stopped:
                 # The window is closed in any case.
@@ -39,15 +41,26 @@ class LearnWindow:
             self.give(CLOSE)
             self.report("" if self.is_json else "the learn window is closed")
 
-    def show(self, lines: Lines, end: float) -> None:
-        """Prints what is taught up to this time."""
+    def show(self, lines: Lines, end: float, is_for_one: bool) -> None:
+        """Prints what is taught up to this time, or until a window for one device is closed."""
         while (left := end - self.clock()) > 0:
             for raw in lines.read():
                 line = line_of(raw)
                 text = words.taught(line) if line else None
                 if line and text:
                     self.report(raw.decode("ascii") if self.is_json else text)
+                    # The order `add` gives such a line too, and leaves the window open.
+                    if is_for_one and line.members["result"] == "accepted" and self.is_closed():
+                        return
             self.sleep(min(PAUSE, left))
+
+    def is_closed(self) -> bool:
+        """Whether the gateway says that the window is closed."""
+        try:
+            last = self.desk.ask("status").lines[-1].content
+        except NoAnswer:
+            return False
+        return isinstance(last, Status) and last.mode == "closed"
 
     def report(self, text: str) -> None:
         """Prints a line, if somebody reads it. A window is closed also if nobody does."""

@@ -12,7 +12,8 @@ from .answers import Line
 ADVICE = {
     "too_long": "the line is longer than 200 bytes",
     "syntax": "the gateway does not know this order: its version is older than that of this command",
-    "range": "an ID, a number or a label is out of its range: see ORDERS in enogate(1)",
+    "range": "a number is out of its range, or an ID is FFFFFFFF: a channel is 0 to 30, an offset 0 to "
+             "127, a value 0 to 100 %, and a time 0 to 255 s",
     "unsupported_profile": "the gateway does not support this profile: see the table of profiles in the guide, and try "
                            "a similar one",
     "unknown_device": "no device with this ID is learned: check the ID with `list`, or learn the device with `add`",

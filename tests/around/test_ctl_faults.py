@@ -10,7 +10,8 @@ import time
 from ctl_testcase import OK, REFUSED, SILENT, CtlTest
 
 LATE = "the gateway did not answer within 1 s, and may still carry out the order: check the gateway with enogate-check"
-WAITING = ("another order is still waiting for its answer: is the gateway running? Check it with enogate-check")
+WAITING = ("another order is still waiting for its answer: check the gateway with enogate-check; a restart of the "
+           "gateway ends the wait")
 RESTARTED = ("the gateway was restarted, or its desk was truncated: find out with `list` or `status` whether the order "
              "was carried out, and give it again if not")
 
@@ -93,7 +94,8 @@ class Restarts(CtlTest):
         desk = self.gateway.desk
         desk.unlink()
         self.assert_run(self.ctl("list"), SILENT, "",
-                        f"there is no desk {desk}: start the gateway; its unit makes the desk")
+                        f"there is no desk {desk}: correct the name of the gateway, or start it; its unit makes the "
+                        "desk")
         os.mkfifo(desk)
         self.assert_run(self.ctl("list"), SILENT, "",
                         f"the desk {desk} is not a file: this command cannot use terminals and pipes")

@@ -9,7 +9,8 @@ from ctl_testcase import OK, REFUSED, USAGE, CtlTest, Run
 from oracle.esp3 import sent
 from programs import wait_for
 
-RANGE = "range: an ID, a number or a label is out of its range: see ORDERS in enogate(1)"
+RANGE = ("range: a number is out of its range, or an ID is FFFFFFFF: a channel is 0 to 30, an offset 0 to 127, a value "
+         "0 to 100 %, and a time 0 to 255 s")
 UNKNOWN = "unknown_device: no device with this ID is learned: check the ID with `list`, or learn the device with `add`"
 WRONG = "wrong_profile: the order does not apply to the profile of this device: check the profile with `list`"
 
@@ -168,10 +169,11 @@ class Sheets(CtlTest):
             "line 2: 01800222: learned and labelled",
             "line 3: 01800AC1: `add 01800AC1 D5-00-99` was refused: unsupported_profile: the gateway does not support "
             "this profile: see the table of profiles in the guide, and try a similar one",
-            "line 4: 'add NONSENSE X' is not an order: the form is add ID EEP",
+            "line 4: 'add NONSENSE X' is not an order: the form is add ID EEP (ID: 8 hexadecimal digits; EEP: a "
+            "profile such as D5-00-01)",
             "line 5: 01800AC2: learned and labelled",
-            "line 6: 'label 01800AC3 ö' is not an order: the form is label ID TEXT | label ID (1 to 32 ASCII "
-            "characters)",
+            "line 6: 'label 01800AC3 ö' is not an order: the form is label ID TEXT | label ID (ID: 8 "
+            "hexadecimal digits; TEXT: 1 to 32 ASCII characters)",
             "line 7: a spreadsheet changed the ID to the number 1,80E+15: enter it again, in a column with the format "
             "Text",
             "line 9: 01800AC4: learned"])

@@ -66,6 +66,15 @@ class Window(CtlTest):
         process.send_signal(signal.SIGINT)
         self.assert_run(self.end(process), OK, CLOSED)
 
+    def test_a_window_for_one_device(self):
+        """It ends when the gateway has closed it. The order `add` does not close it."""
+        process = self.open("as", "F6-02-01", "--for", "60")
+        self.assertEqual(self.ctl("add", "01800302", "F6-02-01").status, OK)
+        self.assertEqual(process.stdout.readline(), "01800302 learned, F6-02-01 (rocker switch, 2 rockers)\n")
+        self.assertEqual(self.mode(), "as F6-02-01")
+        self.stick.bring("01800303", "F6 50 30")
+        self.assert_run(self.end(process), OK, "01800303 learned, F6-02-01 (rocker switch, 2 rockers)\n" + CLOSED)
+
     def test_json(self):
         process = self.begin("--json", "learn", "on", "--for", "60")
         self.assert_soon(self.mode, "on")
@@ -116,5 +125,6 @@ class Base(unittest.TestCase):
         self.assertEqual(self.base("/dev/null", "--json")[0], USAGE)
 
     def test_a_gateway_may_have_this_name(self):
-        self.assertEqual(self.base("--desk", "/none/desk", "base"), (
-            SILENT, "", "enogatectl: there is no desk /none/desk: start the gateway; its unit makes the desk\n"))
+        self.assertEqual(self.base("--desk", "/none/desk", "--lines", "/none/lines", "base"), (
+            SILENT, "", "enogatectl: there is no desk /none/desk: correct the name of the gateway, or start it; its "
+            "unit makes the desk\n"))

@@ -70,6 +70,14 @@ class CommandLines(unittest.TestCase):
             ("base /dev/x --json", "--json cannot be used with base"), ("base /dev/x --for 5", "--for cannot be used"),
             ("base /dev/x --export", "--export cannot be used"), ("base /dev/x --import", "--import cannot be used"),
             ("base /dev/x --desk d", "--desk cannot be used"), ("base /dev/x --lines d", "--lines cannot be used"),
+            ("status", "error: the name of the gateway comes first: enogatectl GATEWAY status .."),
+            ("learn on", "the name of the gateway comes first: enogatectl GATEWAY learn .."),
+            ("devices --export", "the name of the gateway comes first: enogatectl GATEWAY devices .."),
+            ("base", "the name of the gateway comes first: enogatectl GATEWAY base .."),
+            ("base hall", "base needs the path of a serial port, such as /dev/enocean; give the order as: enogatectl "
+             "GATEWAY base"), ("base status now", "'status now' is not an order"),
+            ("hall list --desk d", "--desk and --lines must be used together"),
+            ("hall devices --export --lines l", "--desk and --lines must be used together"),
             ("--time 5 hall list", "unrecognized arguments: --time"), ("-- hall list", "required: GATEWAY"),
         ):
             with self.subTest(words):

@@ -15,7 +15,8 @@ from fakes import OK, Site, error, status
 
 RESTARTED = ("the gateway was restarted, or its desk was truncated: find out with `list` or `status` whether the order "
              "was carried out, and give it again if not")
-LOCKED = "another order is still waiting for its answer: is the gateway running? Check it with enogate-check"
+LOCKED = ("another order is still waiting for its answer: check the gateway with enogate-check; a restart of the "
+          "gateway ends the wait")
 ANSWER = (status(), status(), OK, status())
 
 
@@ -284,7 +285,8 @@ class Files(DeskTest):
 
     def test_no_desk(self):
         self.desk.unlink()
-        self.assert_no_answer(f"there is no desk {self.desk}: start the gateway; its unit makes the desk")
+        self.assert_no_answer(f"there is no desk {self.desk}: correct the name of the gateway, or start it; its unit "
+                              "makes the desk")
 
     def test_no_rights(self):
         with mock.patch("os.open", side_effect=PermissionError(13, "Permission denied")):

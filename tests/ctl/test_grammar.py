@@ -41,11 +41,25 @@ class Grammar(unittest.TestCase):
         for order, text in (
             ("frob x", "'frob x' is not an order: the orders are learn, add, remove, label, list, status, base, "
              "switch, dim, query, meter, blind, stop, central, level, teach"),
-            ("stop", "'stop' is not an order: the form is stop ID"),
+            ("list x", "'list x' is not an order: the form is list"),
+            ("stop", "'stop' is not an order: the form is stop ID (ID: 8 hexadecimal digits)"),
+            ("label 01800ABC ö", "'label 01800ABC ö' is not an order: the form is label ID TEXT | label ID (ID: 8 "
+             "hexadecimal digits; TEXT: 1 to 32 ASCII characters)"),
+            ("learn", "'learn' is not an order: the form is learn on | learn on answer | learn as EEP | learn off "
+             "(EEP: a profile such as D5-00-01)"),
         ):
             with self.assertRaises(grammar.NoOrder) as found:
                 grammar.check(order)
             self.assertEqual(str(found.exception), text)
+
+    def test_the_parameters(self):
+        """Each word in capital letters is explained, with the numbers of the guide."""
+        self.assertEqual({word for _, shown in grammar.FORMS.values() for word in re.findall("[A-Z]+", shown)},
+                         set(grammar.PARAMETERS))
+        rows = dict(re.findall(r"^\| `([A-Z]+)` \| .* \| (.*) \|$", GUIDE.read_text(), re.MULTILINE))
+        for name, meaning in grammar.PARAMETERS.items():
+            for numbers in re.findall(r"\d+ to \d+", meaning):
+                self.assertTrue(rows[name].startswith(numbers), (name, rows[name]))
 
     def test_orders_that_open_the_window(self):
         opening = ["learn on", "learn on answer", "learn as A5-02-05", "learn as a5-02-0b"]
@@ -62,7 +76,7 @@ class Grammar(unittest.TestCase):
             words = re.findall(r"`([^`]+)`", names)
             forms.setdefault(words[0].split(" ")[0], []).extend(words)
             errors.setdefault(words[0].split(" ")[0], set()).update(re.findall(r"`([a-z_]+)`", refusals))
-        mine = {verb: shown.split(" (")[0].split(" | ") for verb, (_, shown) in grammar.FORMS.items()}
+        mine = {verb: shown.split(" | ") for verb, (_, shown) in grammar.FORMS.items()}
         self.assertEqual({verb: sorted(shown) for verb, shown in mine.items()},
                          {verb: sorted(shown) for verb, shown in forms.items()})
         names_a_device = {verb for verb, shown in mine.items() if any(" ID" in form for form in shown)} | {"list"}

@@ -5,6 +5,8 @@ from enogate_ctl import sheet
 from enogate_ctl.sheet import BadRow, Row
 from enogate_mqtt.lines import Listed
 
+ADD = "the form is add ID EEP (ID: 8 hexadecimal digits; EEP: a profile such as D5-00-01)"
+LABEL = "the form is label ID TEXT | label ID (ID: 8 hexadecimal digits; TEXT: 1 to 32 ASCII characters)"
 LABELS = ("Front door, \"A\" <b>", "=1+1", "'=1", "''+x", "-5C", "@home", "+", "'x", "", "a;b", "x" * 32)
 
 
@@ -56,12 +58,10 @@ class Sheets(unittest.TestCase):
 
     def test_rows_of_no_device(self):
         for text, reason in (
-            ("x,D5-00-01", "'add X D5-00-01' is not an order: the form is add ID EEP"),
-            ("01800ABC", "'add 01800ABC ' is not an order: the form is add ID EEP"),
-            ("01800ABC,D5-00-01," + 33 * "x", f"'label 01800ABC {33 * 'x'}' is not an order: the form is "
-             "label ID TEXT | label ID (1 to 32 ASCII characters)"),
-            ('01800ABC,D5-00-01,"a\nlist"', "'label 01800ABC a\\nlist' is not an order: the form is label ID TEXT | "
-             "label ID (1 to 32 ASCII characters)"),
+            ("x,D5-00-01", f"'add X D5-00-01' is not an order: {ADD}"),
+            ("01800ABC", f"'add 01800ABC ' is not an order: {ADD}"),
+            ("01800ABC,D5-00-01," + 33 * "x", f"'label 01800ABC {33 * 'x'}' is not an order: {LABEL}"),
+            ('01800ABC,D5-00-01,"a\nlist"', f"'label 01800ABC a\\nlist' is not an order: {LABEL}"),
         ):
             with self.subTest(text):
                 self.assertEqual([row for _, row in self.rows(text)], [reason])
@@ -114,8 +114,14 @@ class Importing(unittest.TestCase):
         self.assertEqual(self.lines, [
             "line 1: 01800ABC: `add 01800ABC D5-00-99` was refused: unsupported_profile: why",
             "line 2: 01800ABD: `label 01800ABD x` was refused: store: why",
-            "line 3: 'add X ' is not an order: the form is add ID EEP", "line 4: 01800ABE: learned"])
+            f"line 3: 'add X ' is not an order: {ADD}", "line 4: 01800ABE: learned"])
         self.assertFalse(self.run_import("x\n01800ABE,D5-00-01\n"))
+
+    def test_no_devices(self):
+        """An export writes the heading even without devices: an empty input is that of an export that failed."""
+        for text, succeeds in (("", False), ("\n", False), ("id,eep,label\n", True)):
+            self.assertEqual(self.run_import(text), succeeds)
+        self.assertEqual((self.orders, self.lines), ([], ["the input has no devices"] * 3))
 
 
 if __name__ == "__main__":

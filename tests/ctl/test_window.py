@@ -6,7 +6,7 @@ import unittest
 from enogate_ctl.desk import Desk, NoAnswer
 from enogate_ctl.stops import Stopped, Stops
 from enogate_ctl.window import PAUSE, LearnWindow
-from fakes import OK, Site, teach
+from fakes import OK, Site, error, status, teach
 
 OPENED, CLOSED = "the learn window is open for 0.25 s; Ctrl-C closes it", "the learn window is closed"
 
@@ -24,9 +24,9 @@ class Window(Site):
     def report(self, text):
         self.printed.append(text)
 
-    def open(self, is_json=False, seconds=0.25):
-        desk = Desk(self.places, 10, self.clock, self.clock.sleep)
-        LearnWindow(desk, self.give, self.report, self.stops, is_json).open_for("learn on", seconds)
+    def open(self, is_json=False, seconds=0.25, order="learn on", timeout=10):
+        desk = Desk(self.places, timeout, self.clock, self.clock.sleep, lambda: 1)
+        LearnWindow(desk, self.give, self.report, self.stops, is_json).open_for(order, seconds)
 
     def test_it_is_closed_after_the_time(self):
         self.open()
@@ -56,6 +56,25 @@ class Window(Site):
         self.open()
         self.assertEqual(self.printed[1:-1], ["01800ABC learned, D5-00-01 (single contact)",
                                               "01800ABD not learned: 1,000 devices are learned"])
+
+    def test_a_window_for_one_device_ends_when_the_gateway_has_closed_it(self):
+        self.clock.acts[1] = lambda: self.write(teach("01800ABC", result="full"), teach("01800ABC", "F6-02-01"))
+        self.clock.acts[2] = lambda: self.write(status("closed"))
+        self.open(order="learn as F6-02-01", seconds=60)
+        self.assertEqual(self.orders, ["learn as F6-02-01", "learn off"])
+        self.assertEqual((self.printed[2:], self.desk.read_text()), (
+            ["01800ABC learned, F6-02-01 (rocker switch, 2 rockers)", CLOSED], "status\n"))
+        self.assertLess(self.clock.now, 1)
+
+    def test_a_window_for_one_device_stays_open_after_an_order(self):
+        """An `add` gives such a line too. No answer to `status`, and an error, do not end the window either."""
+        for line in (status("as F6-02-01"), error("memory"), OK):
+            with self.subTest(line):
+                self.clock.acts[len(self.clock.slept) + 1] = lambda: self.write(teach("01800ABC"))
+                self.clock.acts[len(self.clock.slept) + 2] = lambda line=line: self.write(line)
+                begin = self.clock.now
+                self.open(order="learn as F6-02-01", seconds=5, timeout=1)
+                self.assertGreaterEqual(self.clock.now - begin, 5)
 
     def test_json(self):
         self.clock.acts[1] = lambda: self.write(OK, teach("01800ABC"))
