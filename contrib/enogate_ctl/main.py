@@ -107,6 +107,9 @@ def listed(desk: Desk) -> list[Listed]:
 
 def import_devices(desk: Desk) -> int:
     """Learns and labels the devices of the CSV file on standard input."""
+    if sys.stdin.isatty():
+        print("enogatectl: enter the devices as CSV, and end with Ctrl-D; to read a file, append <FILE to the command",
+              file=sys.stderr)
     text = sys.stdin.buffer.read().decode("utf-8", "replace")
     known = {device.device: device for device in listed(desk)}
 

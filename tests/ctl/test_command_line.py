@@ -18,10 +18,10 @@ ROOT = pathlib.Path(__file__).parents[2]
 HALL = places_of("hall")
 
 
-def run(*arguments, text=""):
+def run(*arguments, text="", is_terminal=False):
     """The status of the program, what it printed, and its errors."""
     out, err = io.StringIO(), io.StringIO()
-    stdin = mock.Mock(buffer=io.BytesIO(text.encode("utf-8", "surrogateescape")))
+    stdin = mock.Mock(buffer=io.BytesIO(text.encode("utf-8", "surrogateescape")), isatty=lambda: is_terminal)
     with contextlib.redirect_stdout(out), contextlib.redirect_stderr(err), mock.patch("sys.stdin", stdin), \
             mock.patch.object(program.Stops, "install"), mock.patch("logging.disable"):
         try:
@@ -144,6 +144,10 @@ class Programs(unittest.TestCase):
                              (0, "line 1: 01800ABC: unchanged\n", ""))
             status, out, _ = run("hall", "devices", "--import", text=text)
             self.assertEqual((status, out.splitlines()[1][:40]), (1, "line 2: 'label 01800ABD \ufffd' is not an ord"))
+        with self.ask(lines):
+            self.assertEqual(run("hall", "devices", "--import", text=text[:23], is_terminal=True), (
+                0, "line 1: 01800ABC: unchanged\n", "enogatectl: enter the devices as CSV, and end with Ctrl-D; to "
+                "read a file, append <FILE to the command\n"))
         with self.ask(lines, ['{"error":"full","type":"error"}']):
             status, out, _ = run("hall", "devices", "--import", text="01800ABE,D5-00-01\n")
             self.assertEqual((status, out[:57]), (1, "line 1: 01800ABE: `add 01800ABE D5-00-01` was refused: fu"))
