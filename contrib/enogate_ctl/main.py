@@ -1,6 +1,7 @@
 """The program: gives an order, and prints its answer."""
 from __future__ import annotations
 
+import json
 import logging
 import os
 import sys
@@ -12,8 +13,9 @@ from enogate_tools import port as ports
 
 from . import sheet, words
 from .answers import Answer
-from .command_line import AskBase, Command, Export, Give, Import, parsed
+from .command_line import AskBase, Command, Export, Give, Import, ShowPaths, parsed
 from .desk import Desk, NoAnswer
+from .places import Unreadable, paths
 from .shown import shown
 from .stops import Stopped, Stops
 from .window import LearnWindow
@@ -39,7 +41,7 @@ def main(arguments: Sequence[str] | None = None) -> int:
         status = run(command, stops)
         sys.stdout.flush()
         return status
-    except (Refused, ports.PortError) as error:
+    except (Refused, Unreadable, ports.PortError) as error:
         return complain(error, REFUSED)
     except NoAnswer as error:
         return complain(error, SILENT)
@@ -62,6 +64,9 @@ def run(command: Command, stops: Stops) -> int:
     match command:
         case AskBase(port):
             return ask_base(port)
+        case ShowPaths():
+            print(json.dumps(paths(), separators=(",", ":"), sort_keys=True))
+            return OK
         case Export(places, timeout):
             print(sheet.exported(listed(Desk(places, timeout))), end="")
             return OK

@@ -8,9 +8,9 @@ from unittest import mock
 
 from enogate_ctl import command_line, grammar, main as program
 from enogate_ctl.answers import Answer, line_of
-from enogate_ctl.command_line import AskBase, Export, Give, Import, parsed
+from enogate_ctl.command_line import AskBase, Export, Give, Import, ShowPaths, parsed
 from enogate_ctl.desk import NoAnswer
-from enogate_ctl.places import Places, places_of
+from enogate_ctl.places import Places, Unreadable, places_of
 from enogate_ctl.stops import Stopped
 from enogate_tools import VERSION, port as ports
 
@@ -44,7 +44,10 @@ class CommandLines(unittest.TestCase):
             ("--desk d --lines l hall status", Give(Places("d", "l", HALL.bridge), 10.0, False, "status", None)),
             ("base base", Give(places_of("base"), 10.0, False, "base", None)),
             ("base status", Give(places_of("base"), 10.0, False, "status", None)),
-            ("base /dev/enocean", AskBase("/dev/enocean")),
+            ("base /dev/enocean", AskBase("/dev/enocean")), ("paths", ShowPaths()),
+            ("paths list", Give(places_of("paths"), 10.0, False, "list", None)),
+            ("paths list --json", Give(places_of("paths"), 10.0, True, "list", None)),
+            ("paths devices --export", Export(places_of("paths"), 10.0)),
             ("hall devices --export", Export(HALL, 10.0)), ("--timeout 3 hall devices --export", Export(HALL, 3.0)),
             ("hall devices --import", Import(HALL, 10.0)), ("hall --timeout 3 devices --import", Import(HALL, 3.0)),
         ):
@@ -70,6 +73,10 @@ class CommandLines(unittest.TestCase):
             ("base /dev/x --json", "--json cannot be used with base"), ("base /dev/x --for 5", "--for cannot be used"),
             ("base /dev/x --export", "--export cannot be used"), ("base /dev/x --import", "--import cannot be used"),
             ("base /dev/x --desk d", "--desk cannot be used"), ("base /dev/x --lines d", "--lines cannot be used"),
+            ("paths paths", "'paths' is not an order"), ("hall paths", "'paths' is not an order"),
+            ("paths --json", "--json cannot be used with paths"), ("paths --for 5", "--for cannot be used with paths"),
+            ("paths --export", "--export cannot be used with paths"), ("paths --import", "--import cannot be used"),
+            ("paths --desk d", "--desk cannot be used with paths"), ("paths --lines d", "--lines cannot be used"),
             ("--time 5 hall list", "unrecognized arguments: --time"), ("-- hall list", "required: GATEWAY"),
         ):
             with self.subTest(words):
@@ -152,6 +159,14 @@ class Programs(unittest.TestCase):
                 self.assertEqual(run("base", "/dev/x"), (1, "", "enogatectl: why\n"))
             configure.assert_called_with(99, "/dev/x")
             self.assertEqual(close.call_count, 3)
+
+    def test_paths(self):
+        with mock.patch.object(program, "paths", return_value={"hall": {"lines": "l", "desk": "d"}, "attic": {}}):
+            self.assertEqual(run("paths"), (0, '{"attic":{},"hall":{"desk":"d","lines":"l"}}\n', ""))
+        with mock.patch.object(program, "paths", return_value={}):
+            self.assertEqual(run("paths"), (0, "{}\n", ""))
+        with mock.patch.object(program, "paths", side_effect=Unreadable("why\n")):
+            self.assertEqual(run("paths"), (1, "", "enogatectl: why?\n"))
 
     def test_nobody_reads(self):
         with self.ask(['{"type":"ok"}']), mock.patch("builtins.print", side_effect=BrokenPipeError), \
