@@ -12,7 +12,7 @@ from enogate_mqtt.lines import Listed
 from enogate_tools import port as ports
 
 from . import sheet, words
-from .answers import Answer
+from .answers import SHARED, Answer
 from .command_line import AskBase, Command, Export, Give, Import, ShowPaths, parsed
 from .desk import Desk, NoAnswer
 from .places import Unreadable, paths
@@ -115,9 +115,12 @@ def import_devices(desk: Desk) -> int:
     text = sys.stdin.buffer.read().decode("utf-8", "replace")
     known = {device.device: device for device in listed(desk)}
 
-    def give(order: str) -> str | None:
-        error = desk.ask(order).error
-        return words.advice(error) if error else None
+    def give(orders: list[str]) -> list[str | None]:
+        answers = desk.ask_all(orders)
+        if any(answer.error in SHARED for answer in answers):
+            # The error may be that of a telegram, and the answers those of other orders.
+            answers = [desk.ask(order) for order in orders]
+        return [words.advice(answer.error) if answer.error else None for answer in answers]
 
     def report(line: str) -> None:
         print(words.printable(line), flush=True)

@@ -107,13 +107,20 @@ class Programs(unittest.TestCase):
         """Each order gets the next of these: lines, or an exception."""
         self.orders = []
 
-        def ask(_desk, order):
-            self.orders.append(order)
-            answer = answers[min(len(self.orders), len(answers)) - 1]
-            if isinstance(answer, BaseException):
-                raise answer
-            return Answer([line_of(line.encode()) for line in answer])
-        return mock.patch.object(program.Desk, "ask", ask)
+        def answer():
+            lines = answers[min(sum(map(len, self.orders)), len(answers)) - 1]
+            if isinstance(lines, BaseException):
+                raise lines
+            return Answer([line_of(line.encode()) for line in lines])
+
+        def ask_all(_desk, orders):
+            found = []
+            self.orders.append([])
+            for order in orders:
+                self.orders[-1].append(order)
+                found.append(answer())
+            return found
+        return mock.patch.object(program.Desk, "ask_all", ask_all)
 
     def test_statuses(self):
         ok, store = ['{"type":"ok"}'], ['{"error":"store","type":"error"}']
@@ -146,6 +153,28 @@ class Programs(unittest.TestCase):
         with self.ask(lines, ['{"error":"full","type":"error"}']):
             status, out, _ = run("hall", "devices", "--import", text="01800ABE,D5-00-01\n")
             self.assertEqual((status, out[:57]), (1, "line 1: 01800ABE: `add 01800ABE D5-00-01` was refused: fu"))
+
+    def test_an_import_gives_orders_together(self):
+        """If one of them fails with an error that telegrams have too, they are given again, one by one."""
+        text = "01800ABC,D5-00-01,Door\n01800ABD,D5-00-01\n"
+        adds = ["add 01800ABC D5-00-01", "add 01800ABD D5-00-01"]
+        nothing, ok, accepted = ['{"count":0,"type":"list"}'], ['{"type":"ok"}'], [
+            '{"eep":"D5-00-01","id":"01800ABC","maker":null,"result":"accepted","type":"teach"}']
+        with self.ask(nothing, accepted, accepted, ok):
+            status, out, _ = run("hall", "devices", "--import", text=text)
+            self.assertEqual(self.orders, [["list"], adds, ["label 01800ABC Door"]])
+            self.assertEqual((status, out.splitlines()), (0, ["line 1: 01800ABC: learned and labelled",
+                                                              "line 2: 01800ABD: learned"]))
+        for name in ("memory", "store"):
+            failed = ['{"error":"%s","type":"error"}' % name]
+            with self.ask(nothing, failed, accepted, accepted, failed, ok):
+                status, out, _ = run("hall", "devices", "--import", text=text)
+                self.assertEqual(self.orders, [["list"], adds, adds[:1], adds[1:], ["label 01800ABC Door"]])
+                self.assertEqual((status, out.splitlines()[0]), (1, "line 1: 01800ABC: learned and labelled"))
+                self.assertIn(f"line 2: 01800ABD: `add 01800ABD D5-00-01` was refused: {name}: ", out)
+        with self.ask(nothing, ['{"error":"full","type":"error"}']):
+            self.assertEqual(run("hall", "devices", "--import", text=text)[0], 1)
+            self.assertEqual(self.orders, [["list"], adds])
 
     def test_base(self):
         with mock.patch.object(ports, "open_port", return_value=99), mock.patch("os.close") as close, \
