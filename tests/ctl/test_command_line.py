@@ -172,6 +172,9 @@ class Programs(unittest.TestCase):
                 self.assertEqual(self.orders, [["list"], adds, adds[:1], adds[1:], ["label 01800ABC Door"]])
                 self.assertEqual((status, out.splitlines()[0]), (1, "line 1: 01800ABC: learned and labelled"))
                 self.assertIn(f"line 2: 01800ABD: `add 01800ABD D5-00-01` was refused: {name}: ", out)
+            with self.ask(nothing, accepted, failed, accepted, accepted, ok):
+                self.assertEqual(run("hall", "devices", "--import", text=text)[0], 0)
+                self.assertEqual(self.orders, [["list"], adds, adds[:1], adds[1:], ["label 01800ABC Door"]])
         with self.ask(nothing, ['{"error":"full","type":"error"}']):
             self.assertEqual(run("hall", "devices", "--import", text=text)[0], 1)
             self.assertEqual(self.orders, [["list"], adds])

@@ -118,6 +118,7 @@ class Importing(unittest.TestCase):
             "line 2: 01800ABD: `label 01800ABD x` was refused: store: why",
             "line 3: 'add X ' is not an order: the form is add ID EEP", "line 4: 01800ABE: learned"])
         self.assertFalse(self.run_import("x\n01800ABE,D5-00-01\n"))
+        self.assertFalse(self.run_import("x\n"))
 
     def test_groups(self):
         """So many rows are handled at once. A device that occurs again begins a group."""
@@ -128,11 +129,11 @@ class Importing(unittest.TestCase):
         self.assertEqual(self.lines, [f"line {number + 1}: {number:08X}: learned and labelled" for number in range(35)])
         self.assertEqual((self.orders[16], self.orders[-1]), ("label 00000000 Lamp 0", "label 00000022 Lamp 34"))
         self.setUp()
-        rows = ["01800ABC,D5-00-01,Door", "x", "01800ABD,D5-00-01", "01800ABC,F6-02-01,Gate", "01800ABD,D5-00-01"]
+        rows = ["01800ABC,D5-00-01,Door", "x", "01800ABD,D5-00-01", "01800ABC,F6-02-01,Gate", "01800ABD,F6-02-01"]
         self.assertFalse(self.run_import("\n".join(rows)))
-        self.assertEqual(self.groups, [2, 1, 1, 1])
+        self.assertEqual(self.groups, [2, 1, 2, 1])
         self.assertEqual(self.orders, ["add 01800ABC D5-00-01", "add 01800ABD D5-00-01", "label 01800ABC Door",
-                                       "add 01800ABC F6-02-01", "label 01800ABC Gate"])
+                                       "add 01800ABC F6-02-01", "add 01800ABD F6-02-01", "label 01800ABC Gate"])
         self.assertEqual([line[:16] for line in self.lines], [
             "line 1: 01800ABC", "line 2: 'add X '", "line 3: 01800ABD", "line 4: 01800ABC", "line 5: 01800ABD"])
 
