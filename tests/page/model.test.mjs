@@ -16,10 +16,10 @@ function modelOf(...lines) {
 
 const values = (model, id) => [...model.devices.get(id).readings.values()].map(({ reading }) => reading.name);
 
-test("a reading makes a device, which was heard now", () => {
+test("a reading makes a device, which was received now", () => {
     const model = modelOf(READING);
     const device = model.devices.get("01800ABC");
-    assert.deepEqual([device.eep, device.dbm, device.heard, device.label], ["A5-02-05", -45, 1000, ""]);
+    assert.deepEqual([device.eep, device.dbm, device.received, device.label], ["A5-02-05", -45, 1000, ""]);
     assert.deepEqual([...device.readings.values()][0].values, [[1000, 1024 / 51]]);
 });
 
@@ -27,7 +27,7 @@ test("an earlier reading has neither a time nor a place in the plot", () => {
     const model = new Model(0);
     model.take(READING, null);
     const device = model.devices.get("01800ABC");
-    assert.equal(device.heard, null);
+    assert.equal(device.received, null);
     assert.deepEqual([...device.readings.values()][0].values, []);
 });
 
@@ -116,7 +116,7 @@ test("an unknown sender has its strongest signal, its count and its last reason"
     const query = { ...PACKET, dbm: null, why: "window_closed", eep: "F6-02-01" };
     const model = modelOf({ ...PACKET, dbm: -80 }, { ...PACKET, dbm: -50 }, query, PACKET);
     assert.deepEqual(model.unknown.get("01800AC1"),
-                     { rorg: "F6", why: "unknown_sender", best: -45, eep: "F6-02-01", count: 4, heard: 4000 });
+                     { rorg: "F6", why: "unknown_sender", best: -45, eep: "F6-02-01", count: 4, received: 4000 });
 });
 
 test("a learned sender is not unknown, and is none after it was learned", () => {

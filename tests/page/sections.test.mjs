@@ -7,7 +7,7 @@ import { Model } from "../../contrib/cockpit/enogate/model.js";
 import { filtered } from "../../contrib/cockpit/enogate/packets.js";
 import { DEVICE, LIST, PACKET, READING } from "./samples.mjs";
 
-/** A contact with a label and the weaker signal, and a sensor that was heard later. */
+/** A contact with a label and the weaker signal, and a sensor that was received later. */
 function devices() {
     const model = new Model(0);
     model.take({ ...READING, id: "01800AC0", dbm: -40 }, 2000);
@@ -24,7 +24,7 @@ const ids = (filter, column, isReverse = false) =>
 
 test("devices are sorted by each column, in both directions", () => {
     const [contact, sensor] = [["BC", "C0"], ["C0", "BC"]];
-    const wanted = { label: contact, id: contact, profile: sensor, signal: sensor, heard: sensor };
+    const wanted = { label: contact, id: contact, profile: sensor, signal: sensor, received: sensor };
     for (const [column, order] of Object.entries(wanted)) {
         assert.deepEqual(ids("", column), order, column);
         assert.deepEqual(ids("", column, true), [...order].reverse(), column);
@@ -38,11 +38,11 @@ test("devices are filtered by label, ID, and profile with its name", () => {
     assert.deepEqual(ids("<b>", "id"), []);
 });
 
-test("a device that was not heard since the page was opened is quiet after the same time", () => {
-    assert.ok(!isQuiet({ heard: 60000 }, 0, 120000, 1));
-    assert.ok(isQuiet({ heard: 60000 }, 0, 120001, 1));
-    assert.ok(isQuiet({ heard: null }, 0, 60001, 1));
-    assert.ok(!isQuiet({ heard: null }, 0, 1e12, Infinity));
+test("a device that was not received since the page was opened is quiet after the same time", () => {
+    assert.ok(!isQuiet({ received: 60000 }, 0, 120000, 1));
+    assert.ok(isQuiet({ received: 60000 }, 0, 120001, 1));
+    assert.ok(isQuiet({ received: null }, 0, 60001, 1));
+    assert.ok(!isQuiet({ received: null }, 0, 1e12, Infinity));
 });
 
 test("the profiles of the kind of a sender are offered", () => {

@@ -65,7 +65,8 @@ test("named states, numbers without a unit, and numbers without a meaning", () =
 test("details are left out if there is more", () => {
     const state = (channel, ...items) => items.map(item => ({ reading: item, channel }));
     const output = percent => ({ name: "OV", num: percent, den: 1, unit: "%" });
-    const details = [{ name: "PFD", raw: 0 }, { name: "EL", word: "ok" }, { name: "IO", raw: 0 }, { name: "LC", raw: 1 }];
+    const numbers = ["PFD", "IO"].map(name => ({ name, raw: 0 }));
+    const details = [...numbers, { name: "EL", word: "ok" }, { name: "LC", raw: 1 }];
     const normal = state(0, ...details, output(100));
     assert.equal(words.readingsText(normal), "output 100 %");
     const faults = [{ name: "PFD", raw: 1 }, { name: "EL", word: "failure" }];

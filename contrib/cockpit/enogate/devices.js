@@ -17,7 +17,7 @@ const ORDERS = new Map([
     ["id", ([a], [b]) => compareTexts(a, b)],
     ["profile", ([, a], [, b]) => compareTexts(a.eep, b.eep)],
     ["signal", ([, a], [, b]) => (b.dbm ?? -Infinity) - (a.dbm ?? -Infinity) || 0],
-    ["heard", ([, a], [, b]) => (b.heard ?? 0) - (a.heard ?? 0)],
+    ["received", ([, a], [, b]) => (b.received ?? 0) - (a.received ?? 0)],
 ]);
 
 /** The devices that match a filter, sorted by a column. */
@@ -30,8 +30,8 @@ export function selected(devices, filter, column, isReverse) {
     return [...devices].filter(matches).sort((a, b) => sign * order(a, b) || compareTexts(a[0], b[0]));
 }
 
-/** Whether a device was not heard for so many minutes, as far as the page can know. */
-export const isQuiet = (device, opened, now, minutes) => now - (device.heard ?? opened) > minutes * 60000;
+/** Whether a device has sent nothing for this time, as far as the page can know. */
+export const isQuiet = (device, opened, now, minutes) => now - (device.received ?? opened) > minutes * 60000;
 
 export class DevicesSection {
     constructor(page) {
@@ -95,8 +95,8 @@ export class DevicesSection {
 
 class DeviceRow {
     constructor(id, isQuiet) {
-        const [row, [label, idCell, profile, readings, signal, heard]] = cells(6);
-        Object.assign(this, { element: row, label, profile, readings, heard, isQuiet, values: new Map() });
+        const [row, [label, idCell, profile, readings, signal, received]] = cells(6);
+        Object.assign(this, { element: row, label, profile, readings, received, isQuiet, values: new Map() });
         row.dataset.id = id;
         idCell.className = "mono";
         setText(idCell, id);
@@ -113,13 +113,13 @@ class DeviceRow {
         if (device.dbm !== null && this.bar.value !== device.dbm)
             this.bar.value = device.dbm;
         setText(this.dbm, words.signal(device.dbm));
-        setText(this.heard, this.heardText(device));
+        setText(this.received, this.ageText(device));
         this.element.classList.toggle("quiet", this.isQuiet(device));
     }
 
-    heardText({ heard, readings }) {
-        if (heard !== null)
-            return words.age(heard, Date.now());
+    ageText({ received, readings }) {
+        if (received !== null)
+            return words.age(received, Date.now());
         return readings.size ? "before the page was opened" : "not yet";
     }
 

@@ -132,7 +132,7 @@ export class Rows {
     }
 }
 
-/** A row with so many cells. */
+/** A row with this number of cells. */
 export function cells(count) {
     const made = Array.from({ length: count }, () => element("td"));
     return [element("tr", {}, ...made), made];

@@ -5,7 +5,7 @@ import { parse } from "./lines.js";
 
 // How many earlier lines are read.
 const EARLIER = 2000;
-// After so many ms without a line, the lines are new; and in any case after so many ms, if lines arrive all the time.
+// Lines are new after a pause of this length in ms; and after the second time in any case, if there is no pause.
 const QUIET = 300;
 const NEW_AFTER = 2000;
 const RETRY_AFTER = 2000;

@@ -52,9 +52,9 @@ export class LearnDialog {
         setText(byId("learn-result"), "…");
         try {
             await this.page.give(orders.add(this.id, byId("learn-profile").value));
-            this.isLearned = true;
             if (text)
                 await this.page.give(orders.label(this.id, text));
+            this.isLearned = true;
             setText(byId("learn-result"), "Learned. Press the button of the device again to see its first reading.");
             this.page.refresh();
         } catch (error) {

@@ -1,4 +1,4 @@
-// Checks the lines of a gateway. Lines of another shape are dropped here, so all other modules may rely on the members.
+// Checks the lines of a gateway. Malformed lines are dropped here, so all other modules may rely on the members.
 
 const text = (value, shape) => typeof value === "string" && shape.test(value);
 const id = value => text(value, /^[0-9A-F]{8}$/);

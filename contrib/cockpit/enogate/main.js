@@ -1,4 +1,4 @@
-// The page: joins the sections to one gateway.
+// The page: connects the sections to one gateway.
 
 import { ActuatorsSection } from "./actuators.js";
 import { cockpit } from "./cockpit.js";
@@ -41,7 +41,7 @@ class Page {
         this.section = "devices";
     }
 
-    /** Nothing is known of the gateway. */
+    /** Nothing is known about the gateway yet. */
     forget() {
         this.model = new Model(Date.now());
         this.health = { states: null, hasStick: null };

@@ -1,4 +1,4 @@
-// What is known of a gateway from its lines. Nothing here touches the page.
+// Stores the contents of the lines of a gateway. Nothing here touches the page.
 
 import { COUNTERS } from "./lines.js";
 
@@ -24,14 +24,14 @@ const BY_UNIT = new Set(["MR", "MV"]);
  * @property {string} label
  * @property {Map<string, Value>} readings
  * @property {?number} dbm
- * @property {?number} heard        the time in ms; null if it was before the page was opened
+ * @property {?number} received        the time in ms; null if it was before the page was opened
  *
  * @typedef {Object} Sender         a sender that is not learned
  * @property {string} rorg
  * @property {?string} eep          which it has sent itself
  * @property {number} count
  * @property {?number} best         its strongest signal
- * @property {?number} heard
+ * @property {?number} received
  * @property {string} why
  */
 
@@ -60,7 +60,7 @@ export class Model {
         /** @type {Map<string, Device>} */
         this.devices = new Map();
         this.devicesLeftOut = 0;
-        /** @type {Map<string, Sender>} the one heard last is the last one */
+        /** @type {Map<string, Sender>} the sender of the last packet is the last one */
         this.unknown = new Map();
         this.unknownLeftOut = 0;
         this.packets = [];
@@ -71,7 +71,7 @@ export class Model {
         this.listing = null;
         this.isListed = false;
         this.hasPackets = false;
-        this.received = 0;
+        this.taken = 0;
     }
 
     /**
@@ -80,7 +80,7 @@ export class Model {
      * @param {?number} now - the time in ms; null for a line from before the page was opened
      */
     take(line, now) {
-        this.received++;
+        this.taken++;
         switch (line.type) {
         case "reading":
             this.takeReading(line, now);
@@ -115,7 +115,7 @@ export class Model {
             return undefined;
         }
         if (!device || device.eep !== eep) {
-            device = { label: "", dbm: null, heard: null, ...device, eep, readings: new Map() };
+            device = { label: "", dbm: null, received: null, ...device, eep, readings: new Map() };
             this.devices.set(id, device);
         }
         this.unknown.delete(id);
@@ -141,12 +141,12 @@ export class Model {
             device.readings.set(key, value);
         }
         device.dbm = dbm;
-        device.heard = now;
+        device.received = now;
     }
 
     takePacket(line, now) {
         this.hasPackets = true;
-        this.packets.push({ number: this.received, line, time: now });
+        this.packets.push({ number: this.taken, line, time: now });
         if (this.packets.length > 2 * MOST_PACKETS)
             limit(this.packets, MOST_PACKETS);
         if (LEARNABLE.has(line.why) && !this.devices.has(line.id))
@@ -158,7 +158,7 @@ export class Model {
         this.unknown.delete(id);
         const best = dbm === null ? before?.best ?? null : Math.max(dbm, before?.best ?? dbm);
         this.unknown.set(id, {
-            rorg, why, best, eep: eep || before?.eep || null, count: (before?.count ?? 0) + 1, heard: now,
+            rorg, why, best, eep: eep || before?.eep || null, count: (before?.count ?? 0) + 1, received: now,
         });
         if (this.unknown.size > MOST_UNKNOWN) {
             this.unknown.delete(this.unknown.keys().next().value);
@@ -167,7 +167,7 @@ export class Model {
     }
 
     takeTaught(line, now) {
-        this.taught.push({ number: this.received, line, time: now });
+        this.taught.push({ number: this.taken, line, time: now });
         limit(this.taught, MOST_TAUGHT);
         if (line.result === "accepted" && line.eep !== null)
             this.device(line.id, line.eep);

@@ -10,7 +10,7 @@ const TWO_CHANNELS = new Set(["10", "11", "12"]);
 /** The command that gives an order. @param {string[]} order */
 export const command = (gateway, order) => ["enogatectl", "--json", gateway, "--", ...order];
 
-/** The command that opens the learn window, and closes it after so many seconds or when it is ended. */
+/** The command that opens the learn window, and closes it after this time or when it is ended. */
 export const windowCommand = (gateway, order, seconds) =>
     ["enogatectl", "--for", String(seconds), gateway, "--", ...order];
 
@@ -22,7 +22,7 @@ export const label = (id, text) => text === "" ? ["label", id] : ["label", id, t
 export const isLabel = text => /^(?:[!-~](?:[ -~]{0,30}[!-~])?)?$/.test(text);
 
 /**
- * What an actuator with this profile can do.
+ * The abilities of an actuator with this profile.
  * @returns {?{kind: "switch"|"dimmer"|"blind", channels: number[]}} null if it is no actuator
  */
 export function abilities(eep) {

@@ -51,7 +51,7 @@ export function propertiesIn(output) {
             .map(([, name, value]) => [name, value]));
 }
 
-/** What the user should know about a gateway that does not work, in a sentence; empty if it does. */
+/** Why a gateway does not work, in a sentence; empty if it does. */
 export function trouble(name, states, hasStick, serial) {
     if (states && states.ActiveState && states.ActiveState !== "active" && states.ActiveState !== "activating")
         return `The gateway ${name} is stopped. Start it with: systemctl start ${unitOf(name)}`;

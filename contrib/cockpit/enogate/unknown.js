@@ -20,7 +20,7 @@ export class UnknownSection {
 
     paint() {
         const { model } = this.page;
-        // The sender that was heard last comes first: whoever presses a button sees it on top.
+        // The sender of the last packet comes first: whoever presses a button sees it on top.
         this.rows.fill([...model.unknown].slice(-MOST_SHOWN).reverse(), id => model.unknown.get(id));
         setText(byId("unknown-note"), this.note(model));
     }
@@ -32,7 +32,7 @@ export class UnknownSection {
         }
         const notes = ["Press a button of your device: it comes to the top."];
         if (unknown.size > MOST_SHOWN)
-            notes.push(`The ${MOST_SHOWN} senders that were heard last are shown.`);
+            notes.push(`The ${MOST_SHOWN} senders of the last packets are shown.`);
         if (unknownLeftOut)
             notes.push(`There were more than ${MOST_UNKNOWN} senders; only the last ${MOST_UNKNOWN} are kept.`);
         return notes.join(" ");
@@ -41,8 +41,8 @@ export class UnknownSection {
 
 class SenderRow {
     constructor(id, dialog) {
-        const [row, [idCell, kind, count, best, heard, reason, action]] = cells(7);
-        Object.assign(this, { element: row, kind, count, best, heard, reason, sender: null });
+        const [row, [idCell, kind, count, best, received, reason, action]] = cells(7);
+        Object.assign(this, { element: row, kind, count, best, received, reason, sender: null });
         row.dataset.id = id;
         idCell.className = "mono";
         setText(idCell, id);
@@ -54,7 +54,7 @@ class SenderRow {
         setText(this.kind, words.kind(sender.rorg));
         setText(this.count, String(sender.count));
         setText(this.best, words.signal(sender.best));
-        setText(this.heard, words.age(sender.heard, Date.now()) || "before the page was opened");
+        setText(this.received, words.age(sender.received, Date.now()) || "before the page was opened");
         setText(this.reason, words.reason(sender.why));
     }
 }
