@@ -41,18 +41,18 @@ def telegram_in(line: bytes) -> Telegram | None:
 
 
 def last_lines(path: str, most: int) -> Iterator[bytes]:
-    """So many bytes of the last complete lines, the last line first. They may be in several files."""
+    """The lines in so many bytes at the end, the last line first. They may be in several files. The first one may be
+    incomplete, and is then not valid."""
     for name in reversed(files_of(path)):
         try:
             with open(name, "rb") as file:
-                start = max(0, file.seek(0, os.SEEK_END) - most)
-                file.seek(start)
+                file.seek(max(0, file.seek(0, os.SEEK_END) - most))
                 text = file.read(most)
         except OSError:
             continue
         most -= len(text)
         *lines, _ = text.split(b"\n")
-        yield from reversed(lines[1:] if start else lines)
+        yield from reversed(lines)
         if most <= 0:
             return
 

@@ -20,7 +20,7 @@ def shown(answer: Answer, places: Places, now: Callable[[], datetime]) -> str:
     last = answer.lines[-1]
     match last.content:
         case Status(mode, counters):
-            return table([("learn window", mode), *((name, str(counters[name])) for name in sorted(counters))])
+            return table([("learn window", mode), *((name, str(count)) for name, count in counters.items())])
     if last.kind == "list":
         return devices([line.content for line in answer.lines[:-1] if isinstance(line.content, Listed)], places, now())
     return last.members.get("result", last.kind)

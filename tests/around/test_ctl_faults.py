@@ -125,12 +125,12 @@ class Database(CtlTest):
                               ("list", OK), ("switch 01900001 0 on", REFUSED), ("learn on", OK)):
             run = self.ctl(*words.split(" "))
             self.assertEqual((run.status, "store: " in run.err), (status, words[:3] in ("add", "lab")), run)
-        for _ in range(8):
+        for _ in range(4):
             # each telegram is answered with `store`
             self.stick.bring("01800300", *["D5 00"] * 3)
             self.assert_run(self.ctl("learn", "on"), OK, "ok\n")
             self.assert_ends(self.ctl("remove", "01900001"), REFUSED, "store: ")
-        self.assertGreater(self.status()["refused"], 12)
+        self.assertGreaterEqual(self.status()["refused"], 12)
 
 
 class ExplainedDatabase(Database):

@@ -119,7 +119,8 @@ class Model:
 
     def packet(self) -> list[bytes]:
         """The lines of a packet."""
-        name, kind = self.source.choice(IDS), self.source.choice(("read", "teach", "teach", "delete", "response", "ignore"))
+        name = self.source.choice(IDS)
+        kind = self.source.choice(("read", "teach", "teach", "delete", "response", "ignore"))
         if kind in ("read", "teach", "delete") and (failed := self.fails()):
             return [*self.explained(name, "refused"), failed]
         return getattr(self, kind)(name)

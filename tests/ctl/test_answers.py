@@ -68,7 +68,8 @@ class Rule(unittest.TestCase):
     def test_an_order_of_another_between_status_lines_begins_the_search_again(self):
         self.assertIsNone(found("learn on", status(), error("range"), status(), OK, status()))
         self.assertIsNone(found("learn on", status(), teach("01800ABC"), status(), OK, status()))
-        self.assertEqual(found("learn on", status(), teach("01800ABC"), status(teach=1), OK, status(teach=1)), ([OK], 5))
+        lines = status(), teach("01800ABC"), status(teach=1), OK, status(teach=1)
+        self.assertEqual(found("learn on", *lines), ([OK], 5))
 
     def test_more_than_one_answer(self):
         self.assertIsNone(between("learn on", OK, OK))
@@ -83,10 +84,12 @@ class Rule(unittest.TestCase):
         self.assertIsNone(between(ADD, ACCEPTED, error("full")))
 
     def test_lines_that_the_order_cannot_have(self):
-        for order, line in (("learn on", error("range")), ("learn on", end_of_list(0)), ("learn on", device("01800ABC")),
-                            ("base", error("range")), (ADD, OK), (REMOVE, OK), ("list", OK), (ADD, error("unknown_device")),
-                            ("switch 01800ABC 0 on", error("full")), ("central 5 on", error("wrong_profile")),
-                            ("learn on", error("syntax"))):
+        for order, line in (
+            ("learn on", error("range")), ("learn on", end_of_list(0)), ("learn on", device("01800ABC")), (ADD, OK),
+            (REMOVE, OK), ("list", OK), ("base", error("range")), (ADD, error("unknown_device")),
+            ("switch 01800ABC 0 on", error("full")), ("central 5 on", error("wrong_profile")),
+            ("learn on", error("syntax")),
+        ):
             with self.subTest((order, line)):
                 self.assertIsNone(between(order, line))
 
@@ -106,9 +109,11 @@ class Rule(unittest.TestCase):
         self.assertIsNone(between("learn off", ACCEPTED, OK, DELETED, after=1))
 
     def test_other_teach_lines(self):
-        for order, line in ((ADD, teach("01800ABD")), (ADD, teach("01800ABC", "D5-00-02")), (ADD, teach("01800ABC", maker=1)),
-                            (ADD, DELETED), (REMOVE, ACCEPTED), (REMOVE, teach("01800ABD", result="deleted")),
-                            (ADD, teach("01800ABC", result="full")), ("learn on", ACCEPTED)):
+        for order, line in (
+            (ADD, teach("01800ABD")), (ADD, teach("01800ABC", "D5-00-02")), (ADD, teach("01800ABC", maker=1)),
+            (ADD, DELETED), (REMOVE, ACCEPTED), (REMOVE, teach("01800ABD", result="deleted")),
+            (ADD, teach("01800ABC", result="full")), ("learn on", ACCEPTED),
+        ):
             with self.subTest((order, line)):
                 self.assertIsNone(between(order, line))
         self.assertEqual(between(ADD, ACCEPTED, teach("01800ABC", maker=1), after=1), [ACCEPTED])

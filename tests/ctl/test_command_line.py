@@ -59,7 +59,8 @@ class CommandLines(unittest.TestCase):
             ("../x list", "'../x' is not the name of a gateway"), ("mqtt list", "'mqtt' is not the name of a gateway"),
             ("hall list --for 5", "--for needs an order that opens the learn window"),
             ("hall learn off --for 5", "--for needs an order"), ("hall learn on --for 0", "invalid number of seconds"),
-            ("hall learn on --for inf", "invalid number of seconds value: 'inf'"), ("hall list --timeout nan", "--timeout"),
+            ("hall learn on --for inf", "invalid number of seconds value: 'inf'"),
+            ("hall list --timeout nan", "argument --timeout: invalid"),
             ("hall devices", "devices needs either --export or --import"),
             ("hall devices --export --import", "devices needs either"), ("mqtt devices --export", "is not the name"),
             ("hall devices --export --json", "--json cannot be used with devices"),
@@ -125,26 +126,28 @@ class Programs(unittest.TestCase):
             self.assertEqual(run("hall", "learn", "on", "--for", "1")[0], 1)
 
     def test_devices(self):
-        lines = ['{"eep":"D5-00-01","id":"01800ABC","label":"Door","maker":null,"type":"device"}', '{"count":1,"type":"list"}']
+        lines = ['{"eep":"D5-00-01","id":"01800ABC","label":"Door","maker":null,"type":"device"}',
+                 '{"count":1,"type":"list"}']
         with self.ask(lines):
             self.assertEqual(run("hall", "devices", "--export"), (0, "id,eep,label\n01800ABC,D5-00-01,Door\n", ""))
         text = "01800ABC,D5-00-01,Door\n01800ABD,D5-00-01,\udcff\n"
         with self.ask(lines, ['{"type":"ok"}']):
-            self.assertEqual(run("hall", "devices", "--import", text=text[:23]), (0, "line 1: 01800ABC: unchanged\n", ""))
+            self.assertEqual(run("hall", "devices", "--import", text=text[:23]),
+                             (0, "line 1: 01800ABC: unchanged\n", ""))
             status, out, _ = run("hall", "devices", "--import", text=text)
             self.assertEqual((status, out.splitlines()[1][:40]), (1, "line 2: 'label 01800ABD \ufffd' is not an ord"))
         with self.ask(lines, ['{"error":"full","type":"error"}']):
             status, out, _ = run("hall", "devices", "--import", text="01800ABE,D5-00-01\n")
-            self.assertEqual((status, out[:55]), (1, "line 1: 01800ABE: `add 01800ABE D5-00-01` was refused: f"[:55]))
+            self.assertEqual((status, out[:57]), (1, "line 1: 01800ABE: `add 01800ABE D5-00-01` was refused: fu"))
 
     def test_base(self):
-        with mock.patch.object(ports, "open_port", return_value=99), mock.patch.object(ports, "configure") as configure, \
-                mock.patch("os.close") as close:
+        with mock.patch.object(ports, "open_port", return_value=99), mock.patch("os.close") as close, \
+                mock.patch.object(ports, "configure") as configure:
             with mock.patch.object(ports, "ask_base", return_value="FFA1B280"):
                 self.assertEqual(run("base", "/dev/x"), (0, "FFA1B280\n", ""))
             with mock.patch.object(ports, "ask_base", return_value=None):
                 status, out, err = run("base", "/dev/x")
-                self.assertEqual((status, out, err[:50]), (3, "", "enogatectl: no radio module answers at /dev/x: chec"[:50]))
+                self.assertEqual((status, out, err[:46]), (3, "", "enogatectl: no radio module answers at /dev/x:"))
             with mock.patch.object(ports, "ask_base", side_effect=ports.PortError("why")):
                 self.assertEqual(run("base", "/dev/x"), (1, "", "enogatectl: why\n"))
             configure.assert_called_with(99, "/dev/x")

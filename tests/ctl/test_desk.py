@@ -3,6 +3,7 @@ import fcntl
 import os
 import select
 import signal
+import time
 import unittest
 from unittest import mock
 
@@ -80,7 +81,8 @@ class Asking(DeskTest):
         self.addCleanup(os.close, other)
 
         def look():
-            self.assertRaises(BlockingIOError, fcntl.flock, other, fcntl.LOCK_EX | fcntl.LOCK_NB)
+            for kind in (fcntl.LOCK_EX, fcntl.LOCK_SH):
+                self.assertRaises(BlockingIOError, fcntl.flock, other, kind | fcntl.LOCK_NB)
             self.write(*ANSWER)
         self.clock.acts[1] = look
         self.made().ask("learn on")
@@ -224,6 +226,33 @@ class Keeping(DeskTest):
         self.assertAlmostEqual(seconds, LONGEST_KEPT, 0)
         self.assertEqual((end, LONGEST_KEPT), ("returned", 3600))
 
+    def leave(self):
+        """An order gets no answer. Returns the process that keeps the lock."""
+        numbers = []
+
+        def fork():
+            numbers.append(os.fork())
+            return numbers[0]
+        with self.assertRaises(NoAnswer):
+            Desk(self.places, 0.1, fork=fork).ask("learn on")
+        return numbers[0]
+
+    def test_a_signal_ends_the_process(self):
+        """It is that of its own session: a signal to the terminal does not end it."""
+        before = signal.signal(signal.SIGTERM, lambda *_: None)
+        self.addCleanup(signal.signal, signal.SIGTERM, before)
+        number = self.leave()
+        self.addCleanup(lambda: number and os.kill(number, signal.SIGKILL))
+        end = time.monotonic() + 10
+        while os.getsid(number) != number and time.monotonic() < end:
+            time.sleep(0.01)
+        self.assertEqual(os.getsid(number), number)
+        os.kill(number, signal.SIGTERM)
+        while (found := os.waitpid(number, os.WNOHANG))[0] == 0 and time.monotonic() < end:
+            time.sleep(0.01)
+        self.assertEqual(found, (number, signal.SIGTERM))
+        number = 0
+
     def test_the_process(self):
         """It keeps the lock, and has none of the pipes of the command."""
         read, write = os.pipe()
@@ -283,8 +312,8 @@ class Files(DeskTest):
         with mock.patch("os.write", side_effect=full):
             self.assert_no_answer(f"the desk {self.desk} cannot be written: No space left on device")
         with mock.patch("os.write", side_effect=lambda file, text: len(text) - 1):
-            self.assert_no_answer(f"the desk {self.desk} could only be written in part, because its file system is full: "
-                                  "restart the gateway, which empties the desk")
+            self.assert_no_answer(f"the desk {self.desk} could only be written in part, because its file system is "
+                                  "full: restart the gateway, which empties the desk")
 
     def test_what_others_append_is_no_restart(self):
         self.desk.write_text("list\n")

@@ -38,9 +38,11 @@ class Grammar(unittest.TestCase):
                 self.assertRaises(grammar.NoOrder, grammar.check, order)
 
     def test_messages(self):
-        for order, text in (("frob x", "'frob x' is not an order: the orders are learn, add, remove, label, list, status, "
-                             "base, switch, dim, query, meter, blind, stop, central, level, teach"),
-                            ("stop", "'stop' is not an order: the form is stop ID")):
+        for order, text in (
+            ("frob x", "'frob x' is not an order: the orders are learn, add, remove, label, list, status, base, "
+             "switch, dim, query, meter, blind, stop, central, level, teach"),
+            ("stop", "'stop' is not an order: the form is stop ID"),
+        ):
             with self.assertRaises(grammar.NoOrder) as found:
                 grammar.check(order)
             self.assertEqual(str(found.exception), text)

@@ -87,9 +87,9 @@ class Case:
 
     @property
     def is_ambiguous(self) -> bool:
-        """Whether the rule cannot decide this case, by the manual page. Another program has given two `status` orders and
-        another order, none of which is answered yet; or it has given one `status` order, and without packet lines a
-        packet fails before the fences are answered; or a fence has failed, and it gives `status` orders."""
+        """Whether the rule cannot decide this case, by the manual page. Another program has given two `status` orders
+        and another order, none of which is answered yet; or it has given one `status` order, and without packet lines
+        a packet fails before the fences are answered; or a fence has failed, and it gives `status` orders."""
         if any(event.who == "own" and event.order == "status" and not event.is_status for event in self.seen):
             return any(event.who == "other" and event.is_status for event in self.seen)
         statuses = own = 0

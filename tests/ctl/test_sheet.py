@@ -51,14 +51,15 @@ class Sheets(unittest.TestCase):
     def test_numbers_with_an_exponent(self):
         for device in ("1.80E+15", "1,80E+15", "1.8e15", "2E+10"):
             self.assertEqual(self.rows(f'"{device}",D5-00-01'), [(1, (
-                f"a spreadsheet changed the ID to the number {device}: enter it again, in a column with the format Text"))])
+                f"a spreadsheet changed the ID to the number {device}: enter it again, in a column with the format "
+                "Text"))])
 
     def test_rows_of_no_device(self):
         for text, reason in (
             ("x,D5-00-01", "'add X D5-00-01' is not an order: the form is add ID EEP"),
             ("01800ABC", "'add 01800ABC ' is not an order: the form is add ID EEP"),
-            ("01800ABC,D5-00-01," + 33 * "x", f"'label 01800ABC {33 * 'x'}' is not an order: the form is label ID TEXT | "
-             "label ID (1 to 32 ASCII characters)"),
+            ("01800ABC,D5-00-01," + 33 * "x", f"'label 01800ABC {33 * 'x'}' is not an order: the form is "
+             "label ID TEXT | label ID (1 to 32 ASCII characters)"),
             ('01800ABC,D5-00-01,"a\nlist"', "'label 01800ABC a\\nlist' is not an order: the form is label ID TEXT | "
              "label ID (1 to 32 ASCII characters)"),
         ):
@@ -70,7 +71,8 @@ class Sheets(unittest.TestCase):
         self.addCleanup(sheet.csv.field_size_limit, sheet.csv.field_size_limit())
         self.addCleanup(sheet.csv.field_size_limit, 131072)
         rows = self.rows("x" * 300 + ",\n01800ABC,D5-00-01\n")
-        self.assertEqual(rows, [(1, "not CSV: field larger than field limit (200)"), (2, Row("01800ABC", "D5-00-01", ""))])
+        self.assertEqual(rows, [(1, "not CSV: field larger than field limit (200)"),
+                                (2, Row("01800ABC", "D5-00-01", ""))])
 
 
 class Importing(unittest.TestCase):

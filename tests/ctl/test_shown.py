@@ -7,6 +7,7 @@ import re
 import sqlite3
 import unittest
 from datetime import datetime, timedelta, timezone
+from unittest import mock
 
 from enogate_ctl import recent, words
 from enogate_ctl.answers import REFUSALS, Answer, line_of
@@ -66,7 +67,8 @@ class Words(unittest.TestCase):
             ("D2-01-0F", [{"name": "PF", "raw": 0}, {"name": "EL", "word": "ok"}, {"name": "IO", "raw": 0},
                           {"den": 1, "name": "OV", "num": 100, "unit": "%"}], "OV 100 %"),
             ("A5-04-01", [{"name": "HUM", "out_of_range": 251}], "Humidity out_of_range"),
-            ("A5-12-01", [{"name": "TI", "raw": 3}], "TI 3"), ("D2-01-0F", [{"name": "LC", "raw": 1}], "Local control 1"),
+            ("A5-12-01", [{"name": "TI", "raw": 3}], "TI 3"),
+            ("D2-01-0F", [{"name": "LC", "raw": 1}], "Local control 1"),
         ):
             with self.subTest(text):
                 telegram, = lines_of(reading("01800ABC", eep, readings))
@@ -199,6 +201,15 @@ class Recent(Site):
             file.write(json.dumps(reading("01800ABC"), separators=(",", ":")) + "\n")
         self.assertEqual(self.times(), {})
 
+    def test_only_so_much_is_read_after_the_place(self):
+        self.put(self.lines, *["01800ABC"] * 50)
+        start = Place(self.lines.stat().st_ino, 0, b"")
+        with mock.patch("enogate_mqtt.follow.MAX_READ", 500), \
+                mock.patch.object(recent.Follower, "read", autospec=True, side_effect=recent.Follower.read) as read:
+            self.assertIsNone(recent.devices_after(start, str(self.lines), 900))
+            self.assertLess(read.call_count, 5)
+            self.assertEqual(recent.devices_after(start, str(self.lines), 9000), {"01800ABC"})
+
     def test_a_state_that_is_damaged_or_none(self):
         bridge(self, "01800ABC", NOW)
         with contextlib.closing(sqlite3.connect(self.state)) as connection, connection:
@@ -210,7 +221,8 @@ class Recent(Site):
     def test_files_are_closed(self):
         self.put(self.lines, "01800ABC")
         before = len(os.listdir("/proc/self/fd"))
-        self.assertEqual(recent.devices_after(Place(self.lines.stat().st_ino, 0, b""), str(self.lines), 999), {"01800ABC"})
+        start = Place(self.lines.stat().st_ino, 0, b"")
+        self.assertEqual(recent.devices_after(start, str(self.lines), 999), {"01800ABC"})
         recent.last_telegrams(str(self.lines))
         self.assertEqual(len(os.listdir("/proc/self/fd")), before)
 
