@@ -34,6 +34,16 @@ test("the properties of systemd", () => {
     assert.deepEqual(places.propertiesIn("Failed to connect to bus\n"), {});
 });
 
+test("each start of a gateway that can answer is another run", () => {
+    const active = { ActiveState: "active", SubState: "running" };
+    assert.equal(places.runOf(null, null), "unknown");
+    assert.equal(places.runOf(active, true), places.runOf(active, null));
+    const runs = ["1", "2"].map(InvocationID => places.runOf({ ...active, InvocationID }, true));
+    assert.notEqual(runs[0], runs[1]);
+    for (const [state, hasStick] of [["inactive", true], ["failed", true], ["activating", true], ["active", false]])
+        assert.equal(places.runOf({ ActiveState: state }, hasStick), null, state);
+});
+
 test("what is wrong with a gateway", () => {
     const trouble = (ActiveState, SubState, hasStick) =>
         places.trouble("hall", ActiveState && { ActiveState, SubState }, hasStick, "/dev/enocean");

@@ -19,7 +19,7 @@ export class ActuatorsSection {
         const actuators = [...model.devices].filter(([, { eep }]) => orders.abilities(eep))
                 .sort(([a], [b]) => a < b ? -1 : 1)
                 .map(([id, device]) => [`${id} ${device.eep}`, { id, mayAct, ...device }]);
-        this.rows.fill(actuators);
+        this.rows.fill(actuators, () => undefined);
         show(byId("actuators-note"), actuators.length ? "" : "No actuator is learned. Teach it in first.");
     }
 }

@@ -1,6 +1,7 @@
 // The section of the learned devices.
 
-import { byId, cells, element, Rows, setText, show } from "./dom.js";
+import { byId, button, cells, element, Rows, setText, show } from "./dom.js";
+import { EditDialog } from "./edit.js";
 import { MOST_DEVICES } from "./model.js";
 import { Plot } from "./plot.js";
 import * as words from "./words.js";
@@ -38,7 +39,8 @@ export class DevicesSection {
         this.page = page;
         this.column = "label";
         this.isReverse = false;
-        this.rows = new Rows(byId("devices-rows"), id => new DeviceRow(id, device => this.isQuiet(device)));
+        this.dialog = new EditDialog(page);
+        this.rows = new Rows(byId("devices-rows"), id => new DeviceRow(id, this));
         this.filter = byId("devices-filter");
         this.filter.addEventListener("input", () => page.painter.now());
         this.minutes = byId("devices-quiet");
@@ -94,18 +96,20 @@ export class DevicesSection {
 }
 
 class DeviceRow {
-    constructor(id, isQuiet) {
-        const [row, [label, idCell, profile, readings, signal, received]] = cells(6);
-        Object.assign(this, { element: row, label, profile, readings, received, isQuiet, values: new Map() });
+    constructor(id, section) {
+        const [row, [label, idCell, profile, readings, signal, received, action]] = cells(7);
+        Object.assign(this, { element: row, label, profile, readings, received, section, values: new Map() });
         row.dataset.id = id;
         idCell.className = "mono";
         setText(idCell, id);
         this.bar = element("meter", SIGNAL);
         this.dbm = element("span");
         signal.append(this.bar, " ", this.dbm);
+        action.append(button("Edit …", () => section.dialog.open(id, this.device)));
     }
 
     fill(device) {
+        this.device = device;
         setText(this.label, device.label || "–");
         setText(this.profile, words.profileWithName(device.eep));
         this.fillReadings(device);
@@ -114,7 +118,7 @@ class DeviceRow {
             this.bar.value = device.dbm;
         setText(this.dbm, words.signal(device.dbm));
         setText(this.received, this.ageText(device));
-        this.element.classList.toggle("quiet", this.isQuiet(device));
+        this.element.classList.toggle("quiet", this.section.isQuiet(device));
     }
 
     ageText({ received, readings }) {

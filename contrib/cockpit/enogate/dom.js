@@ -85,9 +85,9 @@ export class Rows {
     }
 
     /**
-     * Shows these rows.
+     * Shows these rows. A row that only remains because it is in use is marked as gone if `find` has no item for it.
      * @param {Array} entries - pairs of key and item
-     * @param {function(string): ?Object} [find] - the item with a key; needed if `entries` is only a part of all
+     * @param {function(string): ?Object} [find] - the item with a key, also if it is not in `entries`
      */
     fill(entries, find = null) {
         if (this.isInUse() && this.shown.length)
@@ -101,19 +101,23 @@ export class Rows {
             }
         }
         let place = this.body.firstChild;
-        for (const [key, item] of entries) {
+        for (const [key, item, isGone] of entries) {
             const row = this.row(key, item);
             if (row.element === place)
                 place = place.nextSibling;
             else
                 this.body.insertBefore(row.element, place);
+            row.element.classList.toggle("gone", isGone === true);
             row.fill(item);
         }
     }
 
     /** The rows that are shown, with their present items. */
     inPlace(items, find) {
-        return this.shown.map(([key, item]) => [key, items.get(key) ?? find?.(key) ?? item]);
+        return this.shown.map(([key, item]) => {
+            const present = items.get(key) ?? (find ? find(key) : item);
+            return [key, present ?? item, present === undefined];
+        });
     }
 
     row(key, item) {

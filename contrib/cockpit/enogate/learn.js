@@ -1,6 +1,7 @@
 // The dialog that learns a sender.
 
 import { byId, setOptions, setText } from "./dom.js";
+import { LabelField } from "./label.js";
 import * as orders from "./orders.js";
 import * as words from "./words.js";
 
@@ -16,16 +17,8 @@ export class LearnDialog {
         this.id = null;
         this.isLearned = false;
         this.dialog = byId("learn");
-        this.label = byId("learn-label");
+        this.field = new LabelField(byId("learn-label"), () => this.learn());
         byId("learn-go").addEventListener("click", () => this.learn());
-        this.label.addEventListener("keydown", event => {
-            if (event.key === "Enter") {
-                // The form would close the dialog.
-                event.preventDefault();
-                this.learn();
-            }
-        });
-        this.label.addEventListener("input", () => this.label.setCustomValidity(""));
     }
 
     open(id, sender) {
@@ -34,19 +27,15 @@ export class LearnDialog {
         setText(byId("learn-id"), id);
         const profiles = profilesFor(sender).map(eep => [eep, words.profileWithName(eep)]);
         setOptions(byId("learn-profile"), profiles, sender.eep);
-        this.label.value = "";
-        this.label.setCustomValidity("");
+        this.field.reset("");
         setText(byId("learn-result"), "");
         byId("learn-go").disabled = !this.page.mayAct;
         this.dialog.showModal();
     }
 
     async learn() {
-        if (byId("learn-go").disabled)
-            return;
-        const text = this.label.value.trim();
-        this.label.setCustomValidity(orders.isLabel(text) ? "" : "Use 1 to 32 ASCII characters.");
-        if (!this.label.reportValidity())
+        const text = this.field.label();
+        if (text === null || byId("learn-go").disabled)
             return;
         byId("learn-go").disabled = true;
         setText(byId("learn-result"), "…");

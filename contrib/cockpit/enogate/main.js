@@ -10,7 +10,7 @@ import { GatewaySection } from "./gateway.js";
 import { Model } from "./model.js";
 import { sentence } from "./orders.js";
 import { PacketsSection } from "./packets.js";
-import { linesOf, trouble } from "./places.js";
+import { linesOf, runOf, trouble } from "./places.js";
 import { TeachSection } from "./teach.js";
 import { UnknownSection } from "./unknown.js";
 import * as words from "./words.js";
@@ -29,7 +29,6 @@ class Page {
     constructor() {
         this.gateway = null;
         this.feed = null;
-        this.feedState = { state: "reading", why: "" };
         this.mayAct = false;
         this.unanswered = "";
         this.forget();
@@ -45,7 +44,9 @@ class Page {
     forget() {
         this.model = new Model(Date.now());
         this.health = { states: null, hasStick: null };
+        this.run = null;
         this.settings = new Map();
+        this.feedState = { state: "reading", why: "" };
         this.refreshTimer = null;
     }
 
@@ -105,7 +106,6 @@ class Page {
             this.feedState = { state, why };
             this.painter.ask();
         });
-        this.askAll();
         await this.look();
     }
 
@@ -127,7 +127,7 @@ class Page {
         this.painter.ask();
     }
 
-    /** Looks at the service and the stick. */
+    /** Looks at the service and the stick. Asks the gateway for its devices after each start. */
     async look() {
         const name = this.gateway;
         if (name === null || document.hidden)
@@ -139,8 +139,11 @@ class Page {
         ]);
         if (name !== this.gateway)
             return;
-        Object.assign(this, { settings, health: { states, hasStick } });
+        const before = this.run;
+        Object.assign(this, { settings, health: { states, hasStick }, run: runOf(states, hasStick) });
         this.painter.ask();
+        if (this.run !== before)
+            this.askAll();
     }
 
     /** Gives an order. @returns {Promise<string>} */
@@ -165,6 +168,8 @@ class Page {
 
     /** Asks for all that the lines may not have. */
     async askAll() {
+        if (this.run === null)
+            return;
         await this.refresh();
         if (!this.model.base)
             await this.ask(["base"]);

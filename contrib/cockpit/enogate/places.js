@@ -43,12 +43,24 @@ export function settingsIn(texts) {
 }
 
 /** The command that asks systemd for the state of a service. */
-export const stateCommand = name => ["systemctl", "show", "--property=ActiveState,SubState", unitOf(name)];
+export const stateCommand = name =>
+    ["systemctl", "show", "--property=ActiveState,SubState,InvocationID", unitOf(name)];
 
 /** The properties that it prints. */
 export function propertiesIn(output) {
     return Object.fromEntries(output.split("\n").map(line => line.match(/^([A-Za-z]+)=(.*)$/)).filter(Boolean)
             .map(([, name, value]) => [name, value]));
+}
+
+/**
+ * The run of a gateway that can answer orders: another text after each start of the service. Null if it cannot answer.
+ */
+export function runOf(states, hasStick) {
+    if (hasStick === false)
+        return null;
+    if (!states)
+        return "unknown";
+    return states.ActiveState === "active" ? `run ${states.InvocationID || ""}` : null;
 }
 
 /** Why a gateway does not work, in a sentence; empty if it does. */

@@ -21,7 +21,8 @@ export class UnknownSection {
     paint() {
         const { model } = this.page;
         // The sender of the last packet comes first: whoever presses a button sees it on top.
-        this.rows.fill([...model.unknown].slice(-MOST_SHOWN).reverse(), id => model.unknown.get(id));
+        const find = id => model.devices.has(id) ? undefined : model.unknown.get(id);
+        this.rows.fill([...model.unknown].slice(-MOST_SHOWN).reverse(), find);
         setText(byId("unknown-note"), this.note(model));
     }
 
