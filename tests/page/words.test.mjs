@@ -36,6 +36,7 @@ test("each reason and each result of the guide has words", () => {
     for (const line of rowsOf(section(page("output"), "Results in teach lines")))
         assert.ok(words.REASONS.has(nameOf(line)), line);
     assert.equal(words.reason("new_one"), "new_one");
+    assert.deepEqual(["accepted", "deleted"].map(words.result), ["learned", "deleted"]);
 });
 
 test("each reading of the guide has a name", () => {
@@ -82,7 +83,7 @@ test("ages and times", () => {
     assert.deepEqual([0, 59, 60, 3599, 3600, 90000].map(seconds => words.age(0, seconds * 1000)),
                      ["0 s ago", "59 s ago", "1 min ago", "59 min ago", "1 h ago", "25 h ago"]);
     assert.equal(words.age(2000, 1000), "0 s ago");
-    assert.equal(words.age(null, 1000), "");
+    assert.equal(words.age(null, 1000), "earlier");
     assert.equal(words.clock(null), "earlier");
     assert.match(words.clock(0), /^\d\d:\d\d:\d\d$/);
 });

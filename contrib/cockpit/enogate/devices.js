@@ -122,9 +122,7 @@ class DeviceRow {
     }
 
     ageText({ received, readings }) {
-        if (received !== null)
-            return words.age(received, Date.now());
-        return readings.size ? "before the page was opened" : "not yet";
+        return readings.size ? words.age(received, Date.now()) : "none";
     }
 
     fillReadings({ readings }) {

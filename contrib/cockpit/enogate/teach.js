@@ -85,7 +85,7 @@ class TaughtRow {
         setText(clock, words.clock(time));
         setText(id, line.id);
         setText(profile, line.eep === null ? "not sent" : words.profileWithName(line.eep));
-        setText(result, words.reason(line.result));
+        setText(result, words.result(line.result));
     }
 
     fill() {

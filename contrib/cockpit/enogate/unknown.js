@@ -55,7 +55,7 @@ class SenderRow {
         setText(this.kind, words.kind(sender.rorg));
         setText(this.count, String(sender.count));
         setText(this.best, words.signal(sender.best));
-        setText(this.received, words.age(sender.received, Date.now()) || "before the page was opened");
+        setText(this.received, words.age(sender.received, Date.now()));
         setText(this.reason, words.reason(sender.why));
     }
 }

@@ -63,6 +63,7 @@ const READINGS = new Map([
     ["POS", "position"], ["R1", "rocker"], ["R2", "second rocker"], ["SP", "set point"], ["SVC", "supply voltage"],
     ["TI", "tariff"], ["TMP", "temperature"], ["UN", "unit"],
 ]);
+const EARLIER = "earlier";
 const UNITS = new Map([["C", "°C"], ["m3", "m³"]]);
 
 // Readings that are only shown if a device has no others, and values that say that nothing is wrong.
@@ -77,6 +78,8 @@ export const profileWithName = eep => [eep, profile(eep)].filter(Boolean).join("
 
 export const kind = rorg => KINDS.get(rorg) || `telegram ${rorg}`;
 export const reason = why => REASONS.get(why) || why;
+/** A result of teaching. A device may also be deleted by an order. */
+export const result = text => text === "deleted" ? "deleted" : reason(text);
 
 /** A number with at most two decimals. */
 export function decimal(number) {
@@ -117,7 +120,7 @@ export const signal = dbm => dbm === null ? "" : `${dbm} dBm`;
 /** How long ago something was; null is before the page was opened. */
 export function age(time, now) {
     if (time === null)
-        return "";
+        return EARLIER;
     const seconds = Math.max(0, Math.floor((now - time) / 1000));
     if (seconds < 60)
         return `${seconds} s ago`;
@@ -126,7 +129,7 @@ export function age(time, now) {
 }
 
 /** The time of day; null is before the page was opened. */
-export const clock = time => time === null ? "earlier" : new Date(time).toLocaleTimeString("en-GB");
+export const clock = time => time === null ? EARLIER : new Date(time).toLocaleTimeString("en-GB");
 
 /** The state of a service in words. */
 export function service(states) {
