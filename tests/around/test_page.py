@@ -169,6 +169,7 @@ class Reads(PageTest):
         self.wait_for_text(self.row("01800A02"), "temperature 23.69 °C")
         points = "return document.querySelector(arguments[0]).getAttribute('points').split(' ').length"
         self.wait(lambda: browser.run(points, self.row("01800A02") + " polyline"), lambda count: count == 4)
+        self.shoot("devices")
 
     def test_devices_are_sorted_filtered_and_highlighted(self):
         for device, label in (("01800A11", "zz 2"), ("01800A12", "zz 1"), ("01800A13", "zz 3")):

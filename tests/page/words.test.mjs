@@ -74,7 +74,7 @@ test("details are left out if there is more", () => {
     const bad = state(1, ...faults, { name: "OV", word: "not_applicable" });
     assert.equal(words.readingsText(bad), "power failure 1, error level failure, output not_applicable");
     assert.equal(words.readingsText([...normal, ...state(1, output(0))]),
-                 "output 0 100 %, output 1 0 %");
+                 "channel 0: output 100 %, channel 1: output 0 %");
     assert.equal(words.readingsText(state(0, { name: "IO", raw: 0 })), "channel 0");
     assert.equal(words.readingsText([]), "");
 });

@@ -20,7 +20,7 @@ export class GatewaySection {
         setText(byId("gateway-devices"), model.isListed ? String(model.devices.size) : "not known yet");
         for (const name of ["readings", "teach", "responses", "ignored", "refused"])
             setText(byId(`counter-${name}`), model.counters ? String(model.counters[name]) : "–");
-        setText(byId("counters-time"), model.counters ? `at ${words.clock(model.counters.time)}` : "");
+        setText(byId("counters-time"), model.counters ? `(counted at ${words.clock(model.counters.time)})` : "");
         byId("gateway-refresh").disabled = !this.page.mayAct;
     }
 

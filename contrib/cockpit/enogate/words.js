@@ -95,10 +95,10 @@ export function value(reading) {
     return reading.raw !== undefined ? String(reading.raw) : "out of range";
 }
 
-/** A reading with its name. */
+/** A reading with its name, and with its channel if the device has several. */
 export function reading({ reading: members, channel }, hasChannels = false) {
-    const number = hasChannels && channel !== null ? ` ${channel}` : "";
-    return `${READINGS.get(members.name) || members.name}${number} ${value(members)}`;
+    const before = hasChannels && channel !== null ? `channel ${channel}: ` : "";
+    return `${before}${READINGS.get(members.name) || members.name} ${value(members)}`;
 }
 
 const isShown = ({ reading: { name, word, raw } }) => !MINOR.has(name) && !NORMAL.has(`${name} ${word ?? raw}`);
