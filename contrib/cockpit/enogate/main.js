@@ -205,12 +205,13 @@ class Page {
         const { model, health, feedState, settings } = this;
         setText(byId("window"), words.learnWindow(model.mode));
         byId("window").classList.toggle("open", model.mode !== null && model.mode !== "closed");
-        setText(byId("feed"), feedState.state);
-        byId("feed").dataset.state = feedState.state;
         const { size } = model.unknown;
         setText(byId("unknown-count"), size ? `(${size}${model.unknownLeftOut ? " or more" : ""})` : "");
-        const reasons = [feedState.why, trouble(this.gateway, health.states, health.hasStick, settings.get("SERIAL"))];
-        show(byId("trouble"), reasons.filter(Boolean).join(" "));
+        const stopped = trouble(this.gateway, health.states, health.hasStick, settings.get("SERIAL"));
+        show(byId("trouble"), [feedState.why, stopped].filter(Boolean).join(" "));
+        const state = feedState.state === "live" && stopped ? "waiting" : feedState.state;
+        setText(byId("feed"), state);
+        byId("feed").dataset.state = state;
         this.sections[this.section].paint();
         this.sections.unknown.dialog.paint();
     }
