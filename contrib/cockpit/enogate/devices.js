@@ -122,7 +122,7 @@ class DeviceRow {
     }
 
     ageText({ received, readings }) {
-        return readings.size ? words.age(received, Date.now()) : "none";
+        return readings.size ? words.age(received, Date.now()) : "not known";
     }
 
     fillReadings({ readings }) {
