@@ -5,13 +5,15 @@
 #   make test        run the whole gate: all proofs, mutants, tests and programs, then the shell tests
 #   make mutants     try all mutants of crates/NAME/mutants, and record which are refused
 #   make build       verify and build the program
-#   make package     create the Debian package of the built program, in $(PACKAGES)
+#   make package     create the Debian package of the built program and that of the page in Cockpit, in
+#                    $(PACKAGES)
 #   make package-arm64   create the package for 64-bit ARM there, from what `make build` verified; this
 #                    downloads Debian's cross-compilation packages, and takes a few minutes
 #   make install     install the built program and its files under $(DESTDIR)$(PREFIX); packaging/files
 #                    lists them
 #   make install-system   install the units and their system files there, and their settings in
 #                    $(DESTDIR)/etc; existing settings are kept
+#   make install-page   install the page in Cockpit there
 #   make uninstall   remove the installed files from $(DESTDIR)$(PREFIX); settings and devices are kept
 #   make clean       remove all generated files
 #
@@ -23,7 +25,8 @@ PROGRAM = crates/enogate/out/enogate
 ARM64 = target/arm64
 SOURCES = crates.txt $(shell find crates -name out -prune -o -name '*.rt' -print -o -name '*.antt' -print)
 
-.PHONY: demo build test mutants package package-arm64 install install-system uninstall clean
+.PHONY: demo build test mutants package package-arm64 install install-system install-page \
+    uninstall clean
 
 demo:
 	@scripts/demo $$($(MAKE) -s --no-print-directory --question $(PROGRAM) && echo $(PROGRAM))
@@ -61,9 +64,12 @@ install: $(PROGRAM)
 install-system:
 	packaging/place put system "$(DESTDIR)" "$(PREFIX)"
 
+install-page:
+	packaging/place put page "$(DESTDIR)" "$(PREFIX)"
+
 uninstall:
 	packaging/place away "$(DESTDIR)" "$(PREFIX)"
 
 clean:
 	rm -rf crates/*/out target */__pycache__ */*/__pycache__
-	rm -f enogate_*.deb
+	rm -f enogate_*.deb cockpit-enogate_*.deb

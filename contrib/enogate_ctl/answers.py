@@ -19,7 +19,10 @@ orders and from packets; the counter `teach` of two status lines says how many c
    or `store` that does not directly follow the packet line of a packet that failed.
 3. Otherwise these were status lines of another program, and the search continues with the last of them.
 
-The order `status` needs no fences: each status line after it is written answers it."""
+Several orders are written with a `status` order after each one. Their answers are in windows that follow each other: as
+many as there are orders, each with an answer that its order can have.
+
+The order `status` is given alone and needs no fences: each status line after it is written answers it."""
 from __future__ import annotations
 
 from dataclasses import dataclass, field
@@ -121,23 +124,30 @@ def is_of_order(raw: bytes) -> bool:
 
 
 class AnswerFinder:
-    """Finds the answer to an order among the lines that come after it was written."""
+    """Finds the answers to orders among the lines that come after they were written."""
 
-    def __init__(self, order: str):
-        self.words = order.split(" ")
-        self.verb = self.words[0]
+    def __init__(self, *orders: str):
+        self.orders = [Order(order) for order in orders]
         # How many status lines have come without a line of an order between them.
         self.fences = 0
         self.window: Window | None = None
+        # The answers to the first orders, for each place where they may have begun.
+        self.begun: list[list[Answer]] = []
 
     @property
     def text(self) -> bytes:
         """The text for the desk."""
-        order = " ".join(self.words).encode("ascii") + b"\n"
-        return CLOSING if self.verb == "status" else OPENING + order + CLOSING
+        if self.is_status:
+            return CLOSING
+        return OPENING + b"".join(order.text + CLOSING for order in self.orders)
 
-    def take(self, raw: bytes) -> Answer | None:
-        """The answer, if it ends with this line."""
+    @property
+    def is_status(self) -> bool:
+        """Whether the order is `status`."""
+        return self.orders[0].verb == "status"
+
+    def take(self, raw: bytes) -> list[Answer] | None:
+        """The answers, if the last one ends with this line."""
         line = line_of(raw)
         if line is None:
             return None
@@ -147,18 +157,34 @@ class AnswerFinder:
             self.window.take(line)
         return None
 
-    def take_status(self, line: Line, closing: Status) -> Answer | None:
-        """The answer, if this status line is the closing fence."""
-        if self.verb == "status":
-            return Answer([line])
+    def take_status(self, line: Line, closing: Status) -> list[Answer] | None:
+        """The answers, if this status line is the closing fence of the last order."""
+        if self.is_status:
+            return [Answer([line])]
         window, self.window = self.window, Window(closing)
         if window is None:
             self.fences = 1
             return None
-        answer = self.answer_in(window, closing) if self.fences >= 2 else None
+        if self.fences >= 2:
+            self.begun.append([])
+        self.begun = [[*answers, answer] for answers in self.begun
+                      if (answer := self.orders[len(answers)].answer_in(window, closing))]
         has_order = bool(window.own) or window.taught_by_orders(closing) != 0
         self.fences = 1 if has_order else self.fences + 1
-        return answer
+        return next((answers for answers in self.begun if len(answers) == len(self.orders)), None)
+
+
+class Order:
+    """An order, and which lines can answer it."""
+
+    def __init__(self, order: str):
+        self.words = order.split(" ")
+        self.verb = self.words[0]
+
+    @property
+    def text(self) -> bytes:
+        """The order as a line."""
+        return " ".join(self.words).encode("ascii") + b"\n"
 
     def answer_in(self, window: Window, closing: Status) -> Answer | None:
         """The answer between two status lines, if they are those next to the order."""

@@ -15,7 +15,8 @@ TIMEOUT = 10.0
 USAGE = """enogatectl [--timeout SECONDS] [--json] [--desk PATH] [--lines PATH] GATEWAY ORDER..
        enogatectl [..] GATEWAY learn on|on answer|as EEP --for SECONDS
        enogatectl [..] GATEWAY devices --export|--import
-       enogatectl base PORT"""
+       enogatectl base PORT
+       enogatectl paths"""
 EPILOG = ("GATEWAY is the name of a gateway, for example `hall` for enogate@hall.service. ORDER is one of: "
           f"{', '.join(grammar.FORMS)}. Words after -- are part of the order, even if they begin with -. "
           "The exit status is 0 if the order was carried out, 1 if the gateway refused it or it failed, 2 if the "
@@ -26,6 +27,11 @@ EPILOG = ("GATEWAY is the name of a gateway, for example `hall` for enogate@hall
 class AskBase:
     """Asks the radio module at this port for its base ID."""
     port: str
+
+
+@dataclass(frozen=True)
+class ShowPaths:
+    """Prints where the files of the gateways are."""
 
 
 @dataclass(frozen=True)
@@ -52,7 +58,7 @@ class Import:
     timeout: float
 
 
-Command = AskBase | Give | Export | Import
+Command = AskBase | ShowPaths | Give | Export | Import
 
 
 def seconds_of(text: str) -> float:
@@ -114,6 +120,9 @@ class CommandLine:
         if words.gateway == "base" and len(words.order) == 1 and "/" in words.order[0]:
             self.forbid("base", "json", "seconds", "exports", "imports", "desk", "lines")
             return AskBase(words.order[0])
+        if words.gateway == "paths" and not words.order:
+            self.forbid("paths", "json", "seconds", "exports", "imports", "desk", "lines")
+            return ShowPaths()
         if words.order == ["devices"]:
             return self.devices()
         if hint := self.hint():

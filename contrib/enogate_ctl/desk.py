@@ -1,9 +1,9 @@
-"""Gives one order to a gateway, and waits for its answer."""
+"""Gives orders to a gateway, and waits for their answers."""
 from __future__ import annotations
 
 import os
 import time
-from typing import Callable
+from typing import Callable, Sequence
 
 from enogate_mqtt.follow import Follower, end_of
 
@@ -64,15 +64,19 @@ class Desk:
         self.places, self.timeout, self.clock, self.sleep, self.fork = places, timeout, clock, sleep, fork
 
     def ask(self, order: str) -> Answer:
-        """The answer to this order, or NoAnswer. The desk is locked until then. If the order gets no answer in time, or
-        if a signal stops the command, another process keeps the lock until no answer can come any more: otherwise the
-        next order could get this one's answer."""
+        """The answer to this order, or NoAnswer."""
+        return self.ask_all([order])[0]
+
+    def ask_all(self, orders: Sequence[str]) -> list[Answer]:
+        """The answers to these orders, which are written at once, or NoAnswer. The desk is locked until then. If they
+        get no answers in time, or if a signal stops the command, another process keeps the lock until no answer can
+        come any more: otherwise the next order could get the answer of one of these."""
         limit = self.clock() + self.timeout
         try:
             file = DeskFile(self.places.desk)
             try:
                 self.lock(file, limit)
-                return self.ask_locked(file, AnswerFinder(order), limit)
+                return self.ask_locked(file, AnswerFinder(*orders), limit)
             finally:
                 file.close()
         except Unusable as error:
@@ -86,8 +90,8 @@ class Desk:
                                "a restart of the gateway ends the wait")
             self.sleep(PAUSE)
 
-    def ask_locked(self, file: DeskFile, finder: AnswerFinder, limit: float) -> Answer:
-        """Writes the order and waits for its answer."""
+    def ask_locked(self, file: DeskFile, finder: AnswerFinder, limit: float) -> list[Answer]:
+        """Writes the orders and waits for their answers."""
         lines = Lines(self.places.lines)
         try:
             file.append(finder.text)
@@ -103,13 +107,13 @@ class Desk:
         finally:
             lines.close()
 
-    def wait(self, file: DeskFile, lines: Lines, finder: AnswerFinder, limit: float) -> Answer:
-        """The answer, if it comes in time and the desk still has the order then."""
+    def wait(self, file: DeskFile, lines: Lines, finder: AnswerFinder, limit: float) -> list[Answer]:
+        """The answers, if they come in time and the desk still has the orders then."""
         while True:
-            answer = next(filter(None, map(finder.take, lines.read())), None)
+            answers = next(filter(None, map(finder.take, lines.read())), None)
             file.check()
-            if answer:
-                return answer
+            if answers:
+                return answers
             if self.clock() >= limit:
                 raise TooLate
             self.sleep(PAUSE)

@@ -1,6 +1,7 @@
 """The program: gives an order, and prints its answer."""
 from __future__ import annotations
 
+import json
 import logging
 import os
 import sys
@@ -11,9 +12,10 @@ from enogate_mqtt.lines import Listed
 from enogate_tools import port as ports
 
 from . import sheet, words
-from .answers import Answer
-from .command_line import AskBase, Command, Export, Give, Import, parsed
+from .answers import SHARED, Answer
+from .command_line import AskBase, Command, Export, Give, Import, ShowPaths, parsed
 from .desk import Desk, NoAnswer
+from .places import Unreadable, paths
 from .shown import shown
 from .stops import Stopped, Stops
 from .window import LearnWindow
@@ -39,7 +41,7 @@ def main(arguments: Sequence[str] | None = None) -> int:
         status = run(command, stops)
         sys.stdout.flush()
         return status
-    except (Refused, ports.PortError) as error:
+    except (Refused, Unreadable, ports.PortError) as error:
         return complain(error, REFUSED)
     except NoAnswer as error:
         return complain(error, SILENT)
@@ -62,6 +64,9 @@ def run(command: Command, stops: Stops) -> int:
     match command:
         case AskBase(port):
             return ask_base(port)
+        case ShowPaths():
+            print(json.dumps(paths(), separators=(",", ":"), sort_keys=True))
+            return OK
         case Export(places, timeout):
             print(sheet.exported(listed(Desk(places, timeout))), end="")
             return OK
@@ -113,9 +118,12 @@ def import_devices(desk: Desk) -> int:
     text = sys.stdin.buffer.read().decode("utf-8", "replace")
     known = {device.device: device for device in listed(desk)}
 
-    def give(order: str) -> str | None:
-        error = desk.ask(order).error
-        return words.advice(error) if error else None
+    def give(orders: list[str]) -> list[str | None]:
+        answers = desk.ask_all(orders)
+        if any(answer.error in SHARED for answer in answers):
+            # The error may be that of a telegram, and the answers those of other orders.
+            answers = [desk.ask(order) for order in orders]
+        return [words.advice(answer.error) if answer.error else None for answer in answers]
 
     def report(line: str) -> None:
         print(words.printable(line), flush=True)

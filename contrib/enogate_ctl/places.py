@@ -1,14 +1,21 @@
 """Where the units of a gateway have its files."""
 from __future__ import annotations
 
+import os
 import re
 from dataclasses import dataclass
 
 NAME = re.compile(r"(?!mqtt)[A-Za-z0-9_-]+")
+SETTINGS, RUNNING = "/etc/default", "/run/enogate"
+PREFIX = "enogate-"
 
 
 class NoName(ValueError):
     """A text is not the name of a gateway."""
+
+
+class Unreadable(Exception):
+    """A directory cannot be read. The text is a sentence that says why, and what to do."""
 
 
 @dataclass(frozen=True)
@@ -26,3 +33,36 @@ def places_of(name: str, root: str = "") -> Places:
                      "mqtt")
     return Places(f"{root}/run/enogate/{name}/desk", f"{root}/var/log/enogate/{name}.lines",
                   f"{root}/var/lib/enogate-mqtt/{name}.db")
+
+
+def paths(root: str = "") -> dict[str, dict[str, str]]:
+    """The files of each gateway that has settings of its own, or was started since the computer was, by their names.
+    Each of these files may be missing."""
+    found = {}
+    for name in sorted({*configured(root + SETTINGS), *started(root + RUNNING)}):
+        places = places_of(name, root)
+        found[name] = {"desk": places.desk, "lines": places.lines, "settings": f"{root}{SETTINGS}/{PREFIX}{name}"}
+    return found
+
+
+def configured(folder: str) -> list[str]:
+    """The names of the gateways with settings of their own in this directory. Bridges have other files there."""
+    names = [name.removeprefix(PREFIX) for name in names_in(folder)
+             if name.startswith(PREFIX) and os.path.isfile(f"{folder}/{name}")]
+    return list(filter(NAME.fullmatch, names))
+
+
+def started(folder: str) -> list[str]:
+    """The names of the gateways with a directory in this one, which is made when they are started."""
+    return [name for name in names_in(folder) if NAME.fullmatch(name) and os.path.isdir(f"{folder}/{name}")]
+
+
+def names_in(folder: str) -> list[str]:
+    """The names of the files in this directory; none if it is missing."""
+    try:
+        return os.listdir(folder)
+    except FileNotFoundError:
+        return []
+    except OSError as error:
+        raise Unreadable(f"{folder} cannot be read: {error.strerror}; become root, or a member of the group enogate "
+                         "(log in again afterwards)") from error

@@ -20,6 +20,9 @@ SEPARATORS = ",;\t"
 # A number that a spreadsheet makes of an ID with the letter E.
 FLOAT = re.compile("[0-9.,]+[Ee][+-]?[0-9]+")
 
+# How many rows are handled at once.
+MOST_ROWS = 16
+
 
 class BadRow(ValueError):
     """A row does not describe a device. The text is a sentence that says why."""
@@ -92,44 +95,71 @@ def relabel(row: Row) -> str:
     return f"label {row.device} {row.label}".rstrip(" ")
 
 
-class Import:
-    """Learns devices and gives them labels. `known` has the learned ones by their IDs, `give` gives an order and
-    returns the sentence of an error or None, `report` prints a line."""
+def groups(rows: Iterable[tuple[int, Row | BadRow]]) -> Iterator[list[tuple[int, Row | BadRow]]]:
+    """The rows in groups, which are not too large, and have no device twice."""
+    group: list[tuple[int, Row | BadRow]] = []
+    devices: set[str] = set()
+    for number, row in rows:
+        device = row.device if isinstance(row, Row) else ""
+        if len(group) == MOST_ROWS or device in devices:
+            yield group
+            group, devices = [], set()
+        group.append((number, row))
+        devices |= {device} - {""}
+    if group:
+        yield group
 
-    def __init__(self, known: dict[str, Listed], give: Callable[[str], str | None], report: Callable[[str], None]):
+
+class Import:
+    """Learns devices and gives them labels. `known` has the learned ones by their IDs, `give` gives orders at once and
+    returns for each the sentence of an error or None, `report` prints a line."""
+
+    def __init__(self, known: dict[str, Listed], give: Callable[[list[str]], list[str | None]],
+                 report: Callable[[str], None]):
         self.known, self.give, self.report = known, give, report
 
     def run(self, text: str) -> bool:
         """Handles each row, whatever became of the others. Returns whether all succeeded. An empty input is a failure:
         the export that should have written it failed."""
-        results = [self.take(number, row) for number, row in rows_in(text)]
+        results = [self.take(group) for group in groups(rows_in(text))]
         if not results:
             self.report("the input has no devices")
         return all(results) and text.strip() != ""
 
-    def take(self, number: int, row: Row | BadRow) -> bool:
-        """Handles a row, and reports the result. Returns whether it succeeded."""
+    def take(self, group: list[tuple[int, Row | BadRow]]) -> bool:
+        """Handles a group of rows, and reports the results. Returns whether all succeeded. A device that is not learned
+        gets no label."""
+        rows = [row for _, row in group if isinstance(row, Row)]
+        done: dict[str, list[str]] = {row.device: [] for row in rows}
+        errors: dict[str, str] = {}
+        for result, order_of in (("learned", self.learning), ("labelled", self.labelling)):
+            orders = {row.device: order for row in rows if row.device not in errors and (order := order_of(row))}
+            for (device, order), error in zip(orders.items(), self.give(list(orders.values())) if orders else []):
+                if error:
+                    errors[device] = f"`{order}` was refused: {error}"
+                else:
+                    done[device].append(result)
+        for number, row in group:
+            self.finish(number, row, "" if isinstance(row, BadRow) else errors.get(row.device, ""), done)
+        return not errors and len(rows) == len(group)
+
+    def finish(self, number: int, row: Row | BadRow, error: str, done: dict[str, list[str]]) -> None:
+        """Notes and reports the result of a row."""
         if isinstance(row, BadRow):
             self.report(f"line {number}: {row}")
-            return False
-        for order in (orders := self.orders(row)):
-            error = self.give(order)
-            if error:
-                self.report(f"line {number}: {row.device}: `{order}` was refused: {error}")
-                return False
-        label = row.label or (self.known[row.device].label if row.device in self.known else "")
-        self.known[row.device] = Listed(row.device, row.eep, label, None)
-        self.report(f"line {number}: {row.device}: {' and '.join(map(done, orders)) or 'unchanged'}")
-        return True
+            return
+        if not error:
+            label = row.label or (self.known[row.device].label if row.device in self.known else "")
+            self.known[row.device] = Listed(row.device, row.eep, label, None)
+        self.report(f"line {number}: {row.device}: {error or ' and '.join(done[row.device]) or 'unchanged'}")
 
-    def orders(self, row: Row) -> list[str]:
-        """The orders for a row. A device that is learned with this profile is not learned again, which would remove its
-        manufacturer ID. A row without a label leaves the label as it is."""
+    def learning(self, row: Row) -> str | None:
+        """The order that learns the device, if it needs one. A device that is learned with this profile is not learned
+        again, which would remove its manufacturer ID."""
         known = self.known.get(row.device)
-        orders = [] if known and known.eep == row.eep else [add(row)]
-        return orders + ([relabel(row)] if row.label and row.label != (known.label if known else "") else [])
+        return None if known and known.eep == row.eep else add(row)
 
-
-def done(order: str) -> str:
-    """The result of an order in a word."""
-    return "learned" if order.startswith("add ") else "labelled"
+    def labelling(self, row: Row) -> str | None:
+        """The order for its label, if it needs one. A row without a label leaves the label as it is."""
+        known = self.known.get(row.device)
+        return relabel(row) if row.label and row.label != (known.label if known else "") else None

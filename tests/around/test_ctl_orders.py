@@ -155,6 +155,20 @@ class Several(CtlTest):
         self.run_at_once(*[self.give] * 3)
         self.assertEqual(self.wrong, [])
 
+    def bring_in(self, number: int) -> None:
+        """A program imports devices."""
+        devices = [f"01A{number:02X}{row:03X}" for row in range(20)]
+        text = "".join(f"{device},F6-02-01,Lamp {device}\n" for device in devices)
+        run = self.ctl("devices", "--import", text=text)
+        wanted = [f"line {row}: {device}: learned and labelled" for row, device in enumerate(devices, 1)]
+        if (run.status, run.out.splitlines()) != (OK, wanted) or text not in self.ctl("devices", "--export").out:
+            self.wrong.append((text, run))
+
+    def test_two_imports_at_once(self):
+        """Each gives several orders at once."""
+        self.run_at_once(*[self.bring_in] * 2)
+        self.assertEqual(self.wrong, [])
+
 
 class Sheets(CtlTest):
     """Export and import."""

@@ -1,6 +1,7 @@
-"""The learn window for a time, and the base ID of a stick."""
+"""The learn window for a time, the base ID of a stick, and the files of the gateways."""
 from __future__ import annotations
 
+import json
 import pathlib
 import signal
 import subprocess
@@ -128,3 +129,15 @@ class Base(unittest.TestCase):
         self.assertEqual(self.base("--desk", "/none/desk", "--lines", "/none/lines", "base"), (
             SILENT, "", "enogatectl: there is no desk /none/desk: correct the name of the gateway, or start it; its "
             "unit makes the desk\n"))
+
+
+class Paths(unittest.TestCase):
+    """`enogatectl paths`, with the directories of this computer."""
+
+    def test_each_gateway_has_its_files(self):
+        words = (sys.executable, "-B", COMMAND, "paths")
+        done = subprocess.run(words, capture_output=True, text=True, timeout=60)
+        self.assertEqual((done.returncode, done.stderr), (OK, ""))
+        self.assertEqual(json.loads(done.stdout), {
+            name: {"desk": f"/run/enogate/{name}/desk", "lines": f"/var/log/enogate/{name}.lines",
+                   "settings": f"/etc/default/enogate-{name}"} for name in json.loads(done.stdout)})

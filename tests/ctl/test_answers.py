@@ -11,14 +11,20 @@ ACCEPTED = teach("01800ABC")
 DELETED = teach("01800ABC", result="deleted")
 
 
-def found(order, *lines):
-    """The answer to an order in these lines, and how many lines were read for it; None if there is none."""
-    finder = AnswerFinder(order)
+def all_found(orders, *lines):
+    """The answers to these orders in these lines, and how many lines were read for them; None if there are none."""
+    finder = AnswerFinder(*orders)
     for number, line in enumerate(lines, 1):
         raw = line if isinstance(line, bytes) else json.dumps(line).encode()
-        if answer := finder.take(raw):
-            return [one.members for one in answer.lines], number
+        if answers := finder.take(raw):
+            return [[one.members for one in answer.lines] for answer in answers], number
     return None
+
+
+def found(order, *lines):
+    """The same for one order and its answer."""
+    answers = all_found([order], *lines)
+    return answers and (answers[0][0], answers[1])
 
 
 def between(order, *lines, before=0, after=0):
@@ -158,7 +164,56 @@ class Rule(unittest.TestCase):
         finder = AnswerFinder("learn on")
         lines = [status(), status(), error("unsupported_profile"), status()]
         answers = [finder.take(json.dumps(line).encode()) for line in lines]
-        self.assertEqual([answer and answer.error for answer in answers], [None, None, None, "unsupported_profile"])
+        self.assertEqual([answer and answer[0].error for answer in answers], [None, None, None, "unsupported_profile"])
+
+
+class SeveralOrders(unittest.TestCase):
+    """Several orders in a single write."""
+
+    LABELS = ("label 01800ABC x", "label 01800ABD x", "label 01800ABE x")
+    ADDS = (ADD, "add 01800abd D5-00-01")
+
+    def test_text(self):
+        self.assertEqual(AnswerFinder(*self.LABELS[:2]).text,
+                         b"status\nstatus\nlabel 01800ABC x\nstatus\nlabel 01800ABD x\nstatus\n")
+
+    def test_each_has_its_own_answer(self):
+        lines = status(), status(), OK, status(), error("unknown_device"), status(), OK, status()
+        self.assertEqual(all_found(self.LABELS, *lines), ([[OK], [error("unknown_device")], [OK]], 8))
+        self.assertIsNone(all_found(self.LABELS, *lines[:-1]))
+        other = teach("01800ABD")
+        self.assertEqual(all_found(self.ADDS, status(), status(), ACCEPTED, status(), other, status()),
+                         ([[ACCEPTED], [other]], 6))
+
+    def test_no_answer_is_left_out_or_there_twice(self):
+        start = status(), status(), OK
+        for lines in (
+            (OK, status(), OK, status(), status()), (status(), status(), OK, status(), OK, status()),
+            (status(), OK, OK, status(), OK, status()), (status(), error("range"), error("range"), status()),
+            (status(), error("full"), status(), OK, status()), (status(), teach("01800ABC"), status(), OK, status()),
+        ):
+            with self.subTest(lines):
+                self.assertIsNone(all_found(self.LABELS, *start, *lines))
+        self.assertIsNone(all_found(self.ADDS, status(), status(), teach("01800ABD"), status(), ACCEPTED, status()))
+
+    def test_each_window_counts_its_packets(self):
+        other = teach("01800ABD")
+        one, two = status(teach=1), status(teach=2)
+        self.assertEqual(all_found(self.ADDS, status(), status(), ACCEPTED, other, one, other, one),
+                         ([[ACCEPTED], [other]], 7))
+        self.assertEqual(all_found(self.ADDS, status(), status(), ACCEPTED, status(), other, error("full"), one),
+                         ([[ACCEPTED], [error("full")]], 7))
+        self.assertIsNone(all_found(self.ADDS, status(), status(), ACCEPTED, one, other, one))
+        self.assertIsNone(all_found(self.ADDS, status(), status(), ACCEPTED, status(), other, two))
+
+    def test_orders_of_others_before(self):
+        """Of another program are an answer that the first order can have, and one that it cannot have."""
+        own = status(), status(), OK, status(), OK, status(), error("range"), status()
+        wanted = [[OK], [OK], [error("range")]]
+        for lines in ((status(), status(), OK), (status(), status(), error("full")), (status(),), (status(), OK),
+                      (status(), status(), OK, status(), OK)):
+            with self.subTest(lines):
+                self.assertEqual(all_found(self.LABELS, *lines, *own), (wanted, len(lines) + len(own)))
 
 
 if __name__ == "__main__":

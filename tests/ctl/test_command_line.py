@@ -8,9 +8,9 @@ from unittest import mock
 
 from enogate_ctl import command_line, grammar, main as program
 from enogate_ctl.answers import Answer, line_of
-from enogate_ctl.command_line import AskBase, Export, Give, Import, parsed
+from enogate_ctl.command_line import AskBase, Export, Give, Import, ShowPaths, parsed
 from enogate_ctl.desk import NoAnswer
-from enogate_ctl.places import Places, places_of
+from enogate_ctl.places import Places, Unreadable, places_of
 from enogate_ctl.stops import Stopped
 from enogate_tools import VERSION, port as ports
 
@@ -44,7 +44,10 @@ class CommandLines(unittest.TestCase):
             ("--desk d --lines l hall status", Give(Places("d", "l", HALL.bridge), 10.0, False, "status", None)),
             ("base base", Give(places_of("base"), 10.0, False, "base", None)),
             ("base status", Give(places_of("base"), 10.0, False, "status", None)),
-            ("base /dev/enocean", AskBase("/dev/enocean")),
+            ("base /dev/enocean", AskBase("/dev/enocean")), ("paths", ShowPaths()),
+            ("paths list", Give(places_of("paths"), 10.0, False, "list", None)),
+            ("paths list --json", Give(places_of("paths"), 10.0, True, "list", None)),
+            ("paths devices --export", Export(places_of("paths"), 10.0)),
             ("hall devices --export", Export(HALL, 10.0)), ("--timeout 3 hall devices --export", Export(HALL, 3.0)),
             ("hall devices --import", Import(HALL, 10.0)), ("hall --timeout 3 devices --import", Import(HALL, 3.0)),
         ):
@@ -78,6 +81,10 @@ class CommandLines(unittest.TestCase):
              "GATEWAY base"), ("base status now", "'status now' is not an order"),
             ("hall list --desk d", "--desk and --lines must be used together"),
             ("hall devices --export --lines l", "--desk and --lines must be used together"),
+            ("paths paths", "'paths' is not an order"), ("hall paths", "'paths' is not an order"),
+            ("paths --json", "--json cannot be used with paths"), ("paths --for 5", "--for cannot be used with paths"),
+            ("paths --export", "--export cannot be used with paths"), ("paths --import", "--import cannot be used"),
+            ("paths --desk d", "--desk cannot be used with paths"), ("paths --lines d", "--lines cannot be used"),
             ("--time 5 hall list", "unrecognized arguments: --time"), ("-- hall list", "required: GATEWAY"),
         ):
             with self.subTest(words):
@@ -108,13 +115,20 @@ class Programs(unittest.TestCase):
         """Each order gets the next of these: lines, or an exception."""
         self.orders = []
 
-        def ask(_desk, order):
-            self.orders.append(order)
-            answer = answers[min(len(self.orders), len(answers)) - 1]
-            if isinstance(answer, BaseException):
-                raise answer
-            return Answer([line_of(line.encode()) for line in answer])
-        return mock.patch.object(program.Desk, "ask", ask)
+        def answer():
+            lines = answers[min(sum(map(len, self.orders)), len(answers)) - 1]
+            if isinstance(lines, BaseException):
+                raise lines
+            return Answer([line_of(line.encode()) for line in lines])
+
+        def ask_all(_desk, orders):
+            found = []
+            self.orders.append([])
+            for order in orders:
+                self.orders[-1].append(order)
+                found.append(answer())
+            return found
+        return mock.patch.object(program.Desk, "ask_all", ask_all)
 
     def test_statuses(self):
         ok, store = ['{"type":"ok"}'], ['{"error":"store","type":"error"}']
@@ -152,6 +166,31 @@ class Programs(unittest.TestCase):
             status, out, _ = run("hall", "devices", "--import", text="01800ABE,D5-00-01\n")
             self.assertEqual((status, out[:57]), (1, "line 1: 01800ABE: `add 01800ABE D5-00-01` was refused: fu"))
 
+    def test_an_import_gives_orders_together(self):
+        """If one of them fails with an error that telegrams have too, they are given again, one by one."""
+        text = "01800ABC,D5-00-01,Door\n01800ABD,D5-00-01\n"
+        adds = ["add 01800ABC D5-00-01", "add 01800ABD D5-00-01"]
+        nothing, ok, accepted = ['{"count":0,"type":"list"}'], ['{"type":"ok"}'], [
+            '{"eep":"D5-00-01","id":"01800ABC","maker":null,"result":"accepted","type":"teach"}']
+        with self.ask(nothing, accepted, accepted, ok):
+            status, out, _ = run("hall", "devices", "--import", text=text)
+            self.assertEqual(self.orders, [["list"], adds, ["label 01800ABC Door"]])
+            self.assertEqual((status, out.splitlines()), (0, ["line 1: 01800ABC: learned and labelled",
+                                                              "line 2: 01800ABD: learned"]))
+        for name in ("memory", "store"):
+            failed = ['{"error":"%s","type":"error"}' % name]
+            with self.ask(nothing, failed, accepted, accepted, failed, ok):
+                status, out, _ = run("hall", "devices", "--import", text=text)
+                self.assertEqual(self.orders, [["list"], adds, adds[:1], adds[1:], ["label 01800ABC Door"]])
+                self.assertEqual((status, out.splitlines()[0]), (1, "line 1: 01800ABC: learned and labelled"))
+                self.assertIn(f"line 2: 01800ABD: `add 01800ABD D5-00-01` was refused: {name}: ", out)
+            with self.ask(nothing, accepted, failed, accepted, accepted, ok):
+                self.assertEqual(run("hall", "devices", "--import", text=text)[0], 0)
+                self.assertEqual(self.orders, [["list"], adds, adds[:1], adds[1:], ["label 01800ABC Door"]])
+        with self.ask(nothing, ['{"error":"full","type":"error"}']):
+            self.assertEqual(run("hall", "devices", "--import", text=text)[0], 1)
+            self.assertEqual(self.orders, [["list"], adds])
+
     def test_base(self):
         with mock.patch.object(ports, "open_port", return_value=99), mock.patch("os.close") as close, \
                 mock.patch.object(ports, "configure") as configure:
@@ -164,6 +203,14 @@ class Programs(unittest.TestCase):
                 self.assertEqual(run("base", "/dev/x"), (1, "", "enogatectl: why\n"))
             configure.assert_called_with(99, "/dev/x")
             self.assertEqual(close.call_count, 3)
+
+    def test_paths(self):
+        with mock.patch.object(program, "paths", return_value={"hall": {"lines": "l", "desk": "d"}, "attic": {}}):
+            self.assertEqual(run("paths"), (0, '{"attic":{},"hall":{"desk":"d","lines":"l"}}\n', ""))
+        with mock.patch.object(program, "paths", return_value={}):
+            self.assertEqual(run("paths"), (0, "{}\n", ""))
+        with mock.patch.object(program, "paths", side_effect=Unreadable("why\n")):
+            self.assertEqual(run("paths"), (1, "", "enogatectl: why?\n"))
 
     def test_nobody_reads(self):
         with self.ask(['{"type":"ok"}']), mock.patch("builtins.print", side_effect=BrokenPipeError), \

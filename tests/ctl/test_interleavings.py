@@ -24,6 +24,13 @@ def some_order(source: random.Random) -> str:
         f"learn as {eep}", f"central {source.choice((5, 128))} on", "status"))
 
 
+def some_orders(source: random.Random) -> list[str]:
+    """Orders of an import, all of one kind, for different devices."""
+    count, kind = source.randrange(2, 5), source.choice(("add", "label"))
+    words = [*EEPS, UNSUPPORTED] if kind == "add" else ["Lamp", "Lamp 2"]
+    return [f"{kind} {name} {source.choice(words)}" for name in source.sample(IDS, count)]
+
+
 def of_others(source: random.Random) -> list[str]:
     """What another program gives at once."""
     order = some_order(source)
@@ -50,8 +57,11 @@ class Event:
 class Case:
     """An interleaving of packets and of the orders of the command with those of other programs."""
 
-    def __init__(self, source: random.Random, failing: float, fences_fail: bool, has_pair: bool):
+    def __init__(self, source: random.Random, failing: float, fences_fail: bool, has_pair: bool,
+                 orders: list[str] | None = None):
         self.source, self.explains, self.order = source, source.random() < 0.5, some_order(source)
+        self.orders = orders or [self.order]
+        self.order = self.orders[0]
         self.model = Model(source, self.explains, failing, fences_fail)
         self.model.mode = source.choice(("closed", "on", "on"))
         for name in source.sample(IDS, source.randrange(len(IDS))):
@@ -59,7 +69,11 @@ class Case:
         self.before = [text for _ in range(source.choice((0, 0, 1, 2))) for text in of_others(source)]
         if has_pair:
             self.before += ["status", "status", some_order(source)]
-        self.own = AnswerFinder(self.order).text.decode().split("\n")[:-1]
+        self.own = AnswerFinder(*self.orders).text.decode().split("\n")[:-1]
+        if orders:
+            # another program gives orders that look like a part of these
+            self.before += [text for order in source.choices(orders, k=source.randrange(3))
+                            for text in source.choice(([order], [order, "status"], ["status", "status", order]))]
         self.after = [text for _ in range(source.choice((0, 1, 2))) for text in of_others(source)]
         self.events = list(self.play())
         # the command finds the end of the lines before its orders are handled
@@ -116,12 +130,24 @@ class Case:
             pieces[-1].append(event)
         return pieces
 
+    @property
+    def answers(self) -> list[list[bytes]]:
+        """The right answers to several orders."""
+        own = [event.lines for event in self.events if event.who == "own"]
+        return own[2::2][:len(self.orders)]
+
     def run(self) -> list[bytes] | str:
-        """The answer that the command finds, or why it finds none."""
+        """The answer that the command finds to its order, or why it finds none."""
+        found = self.run_all()
+        return found if isinstance(found, str) else found[0]
+
+    def run_all(self) -> list[list[bytes]] | str:
+        """The answers that the command finds, or why it finds none."""
         self.left, self.read_events = self.pieces(), []
         desk = Desk(places_of("hall"), 10.0, lambda: 0.0 if self.left else 99.0, lambda _: None)
         try:
-            return [line.raw for line in desk.wait(self, self, AnswerFinder(self.order), 10.0).lines]
+            found = desk.wait(self, self, AnswerFinder(*self.orders), 10.0)
+            return [[line.raw for line in answer.lines] for answer in found]
         except TooLate:
             return "late"
         except Unusable:
@@ -200,6 +226,62 @@ class Interleavings(unittest.TestCase):
         found = self.results(4000, 4, failing=0.1, fences_fail=True)
         self.assertEqual(self.wrong[:1], [])
         self.assertGreater(found["right"], 2500)
+        self.assertGreater(found["late"], 100)
+
+
+class SeveralOrders(unittest.TestCase):
+    """The command finds the right answers to several orders, or none. If one of them is an error that packets have too,
+    it gives the orders again, one by one."""
+
+    def results(self, count: int, seed: int, failing: float = 0.05, fences_fail: bool = False,
+                has_pair: bool = False) -> collections.Counter:
+        """How many of so many interleavings have which result. A wrong one is shown."""
+        source, found = random.Random(seed), collections.Counter()
+        self.wrong: list[tuple] = []
+        for _ in range(count):
+            orders = some_orders(source)
+            case = Case(source, failing, fences_fail, has_pair, orders)
+            result = case.run_all()
+            found[self.result(case, result)] += 1
+        return found
+
+    def result(self, case: Case, result: list[list[bytes]] | str) -> str:
+        """What became of the orders of a case."""
+        if isinstance(result, str):
+            return result
+        if any(is_shared(lines[-1]) for lines in result):
+            return "again"
+        if result == case.answers:
+            return "right"
+        if case.is_ambiguous:
+            return "ambiguous"
+        self.wrong.append((case.orders, result, case.answers, [(event.who, event.lines) for event in case.seen]))
+        return "wrong"
+
+    def test_no_answer_is_wrong_or_late(self):
+        """Another program would have to give as many orders that these answers fit, each between status orders."""
+        found = self.results(6000, 5)
+        self.assertEqual((self.wrong[:1], found["late"]), ([], 0))
+        self.assertLess(found["ambiguous"], 3)
+        self.assertGreater(found["right"], 4200)
+        self.assertGreater(found["again"], 100)
+
+    def test_without_failures(self):
+        found = self.results(2000, 6, failing=0)
+        self.assertEqual((self.wrong[:1], found["late"], found["again"], found["ambiguous"]), ([], 0, 0, 0))
+        self.assertGreater(found["right"], 1500)
+
+    def test_many_failures_and_pairs_of_status_orders(self):
+        found = self.results(2000, 7, failing=0.3, has_pair=True)
+        self.assertEqual((self.wrong[:1], found["late"]), ([], 0))
+        self.assertLess(found["ambiguous"], 10)
+        self.assertGreater(found["right"], 500)
+
+    def test_fences_that_fail(self):
+        """Such orders may be late."""
+        found = self.results(2000, 8, failing=0.1, fences_fail=True)
+        self.assertEqual(self.wrong[:1], [])
+        self.assertLess(found["ambiguous"], 30)
         self.assertGreater(found["late"], 100)
 
 

@@ -2,7 +2,7 @@
 import unittest
 
 from enogate_ctl import sheet
-from enogate_ctl.sheet import BadRow, Row
+from enogate_ctl.sheet import MOST_ROWS, BadRow, Row
 from enogate_mqtt.lines import Listed
 
 ADD = "the form is add ID EEP (ID: 8 hexadecimal digits; EEP: a profile such as D5-00-01)"
@@ -77,11 +77,13 @@ class Sheets(unittest.TestCase):
 
 class Importing(unittest.TestCase):
     def setUp(self):
-        self.orders, self.lines, self.refused = [], [], {}
+        self.orders, self.lines, self.refused, self.groups = [], [], {}, []
 
-    def give(self, order):
-        self.orders.append(order)
-        return self.refused.get(order)
+    def give(self, orders):
+        self.assertNotEqual(orders, [])
+        self.orders += orders
+        self.groups.append(len(orders))
+        return [self.refused.get(order) for order in orders]
 
     def run_import(self, text, *known):
         devices = {device.device: device for device in known}
@@ -89,7 +91,7 @@ class Importing(unittest.TestCase):
 
     def test_new_devices(self):
         self.assertTrue(self.run_import("01800ABC,D5-00-01,Door\n01800ABD,F6-02-01\n"))
-        self.assertEqual(self.orders, ["add 01800ABC D5-00-01", "label 01800ABC Door", "add 01800ABD F6-02-01"])
+        self.assertEqual(self.orders, ["add 01800ABC D5-00-01", "add 01800ABD F6-02-01", "label 01800ABC Door"])
         self.assertEqual(self.lines, ["line 1: 01800ABC: learned and labelled", "line 2: 01800ABD: learned"])
 
     def test_known_devices(self):
@@ -109,13 +111,31 @@ class Importing(unittest.TestCase):
     def test_it_goes_on_after_an_error(self):
         self.refused = {"add 01800ABC D5-00-99": "unsupported_profile: why", "label 01800ABD x": "store: why"}
         self.assertFalse(self.run_import("01800ABC,D5-00-99,x\n01800ABD,D5-00-01,x\nx\n01800ABE,D5-00-01\n"))
-        self.assertEqual(self.orders, ["add 01800ABC D5-00-99", "add 01800ABD D5-00-01", "label 01800ABD x",
-                                       "add 01800ABE D5-00-01"])
+        self.assertEqual(self.orders, ["add 01800ABC D5-00-99", "add 01800ABD D5-00-01", "add 01800ABE D5-00-01",
+                                       "label 01800ABD x"])
         self.assertEqual(self.lines, [
             "line 1: 01800ABC: `add 01800ABC D5-00-99` was refused: unsupported_profile: why",
             "line 2: 01800ABD: `label 01800ABD x` was refused: store: why",
             f"line 3: 'add X ' is not an order: {ADD}", "line 4: 01800ABE: learned"])
         self.assertFalse(self.run_import("x\n01800ABE,D5-00-01\n"))
+        self.assertFalse(self.run_import("x\n"))
+
+    def test_groups(self):
+        """So many rows are handled at once. A device that occurs again begins a group."""
+        self.assertEqual(MOST_ROWS, 16)
+        rows = [f"{number:08X},D5-00-01,Lamp {number}" for number in range(35)]
+        self.assertTrue(self.run_import("\n".join(rows)))
+        self.assertEqual(self.groups, [16, 16, 16, 16, 3, 3])
+        self.assertEqual(self.lines, [f"line {number + 1}: {number:08X}: learned and labelled" for number in range(35)])
+        self.assertEqual((self.orders[16], self.orders[-1]), ("label 00000000 Lamp 0", "label 00000022 Lamp 34"))
+        self.setUp()
+        rows = ["01800ABC,D5-00-01,Door", "x", "01800ABD,D5-00-01", "01800ABC,F6-02-01,Gate", "01800ABD,F6-02-01"]
+        self.assertFalse(self.run_import("\n".join(rows)))
+        self.assertEqual(self.groups, [2, 1, 2, 1])
+        self.assertEqual(self.orders, ["add 01800ABC D5-00-01", "add 01800ABD D5-00-01", "label 01800ABC Door",
+                                       "add 01800ABC F6-02-01", "add 01800ABD F6-02-01", "label 01800ABC Gate"])
+        self.assertEqual([line[:16] for line in self.lines], [
+            "line 1: 01800ABC", "line 2: 'add X '", "line 3: 01800ABD", "line 4: 01800ABC", "line 5: 01800ABD"])
 
     def test_no_devices(self):
         """An export writes the heading even without devices: an empty input is that of an export that failed."""

@@ -1,0 +1,3 @@
+// The object of base1/cockpit.js, which index.html loads before the modules.
+
+export const cockpit = window.cockpit;

@@ -1,0 +1,143 @@
+// Makes and fills elements. Texts only become text nodes and attributes, so nothing that is received can become markup.
+
+export const byId = id => document.getElementById(id);
+
+/** An element with these properties and children; strings become text nodes. */
+export function element(name, properties = {}, ...children) {
+    const made = document.createElement(name);
+    Object.assign(made, properties);
+    made.append(...children);
+    return made;
+}
+
+/** A button with this text. */
+export function button(text, onClick) {
+    const made = element("button", { type: "button" }, text);
+    made.addEventListener("click", onClick);
+    return made;
+}
+
+/** Sets the text of an element, if it is another one. */
+export function setText(node, text) {
+    if (node.textContent !== text)
+        node.textContent = text;
+}
+
+/** Shows an element with this text, or hides it if the text is empty. */
+export function show(node, text) {
+    node.hidden = text === "";
+    setText(node, text);
+}
+
+/** The options of a list, each a value and a text. */
+export function setOptions(select, options, selected) {
+    select.replaceChildren(...options.map(([value, text]) =>
+        element("option", { value, selected: value === selected }, text)));
+}
+
+/**
+ * Calls `paint` in the next frame, however often it is asked, and not again within `pause` ms. A hidden page has no
+ * frames, so it uses a timer.
+ */
+export class Painter {
+    constructor(paint, pause) {
+        Object.assign(this, { paint, pause, isWaiting: false, last: -Infinity });
+    }
+
+    /** The page has to be painted soon. */
+    ask() {
+        if (this.isWaiting)
+            return;
+        this.isWaiting = true;
+        setTimeout(() => this.inNextFrame(), Math.max(0, this.last + this.pause - performance.now()));
+    }
+
+    inNextFrame() {
+        if (document.hidden)
+            setTimeout(() => this.now(), this.pause);
+        else
+            requestAnimationFrame(() => this.now());
+    }
+
+    /** Paints at once: somebody has clicked. */
+    now() {
+        this.isWaiting = false;
+        this.last = performance.now();
+        this.paint();
+    }
+}
+
+/**
+ * The rows of a table, each with a key. A row is made once and then filled again. While the pointer or the focus is
+ * among them, no row moves or disappears: a click must mean the row that was there.
+ */
+export class Rows {
+    /**
+     * @param {Element} body
+     * @param {function(string, Object): {element: Element, fill: function(Object): void}} make
+     */
+    constructor(body, make) {
+        Object.assign(this, { body, make, rows: new Map(), shown: [] });
+    }
+
+    isInUse() {
+        return this.body.matches(":hover") || this.body.querySelector(":focus-visible") !== null;
+    }
+
+    /**
+     * Shows these rows. A row that only remains because it is in use is marked as gone if `find` has no item for it.
+     * @param {Array} entries - pairs of key and item
+     * @param {function(string): ?Object} [find] - the item with a key, also if it is not in `entries`
+     */
+    fill(entries, find = null) {
+        if (this.isInUse() && this.shown.length)
+            entries = this.inPlace(new Map(entries), find);
+        this.shown = entries;
+        const wanted = new Set(entries.map(([key]) => key));
+        for (const [key, row] of this.rows) {
+            if (!wanted.has(key)) {
+                row.element.remove();
+                this.rows.delete(key);
+            }
+        }
+        let place = this.body.firstChild;
+        for (const [key, item, isGone] of entries) {
+            const row = this.row(key, item);
+            if (row.element === place)
+                place = place.nextSibling;
+            else
+                this.body.insertBefore(row.element, place);
+            row.element.classList.toggle("gone", isGone === true);
+            row.fill(item);
+        }
+    }
+
+    /** The rows that are shown, with their present items. */
+    inPlace(items, find) {
+        return this.shown.map(([key, item]) => {
+            const present = items.get(key) ?? (find ? find(key) : item);
+            return [key, present ?? item, present === undefined];
+        });
+    }
+
+    row(key, item) {
+        let row = this.rows.get(key);
+        if (!row) {
+            row = this.make(key, item);
+            this.rows.set(key, row);
+        }
+        return row;
+    }
+
+    /** Removes all rows. */
+    clear() {
+        this.shown = [];
+        this.fill([]);
+    }
+}
+
+/** A row with this number of cells. */
+export function cells(count) {
+    const made = Array.from({ length: count }, () => element("td"));
+    return [element("tr", {}, ...made), made];
+}

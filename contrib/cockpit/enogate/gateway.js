@@ -1,0 +1,33 @@
+// The section of the gateway itself.
+
+import { byId, setText } from "./dom.js";
+import * as words from "./words.js";
+
+export class GatewaySection {
+    constructor(page) {
+        this.page = page;
+        byId("gateway-refresh").addEventListener("click", () => page.refresh());
+    }
+
+    paint() {
+        const { model, health, settings } = this.page;
+        const stick = new Map([[true, "plugged in"], [false, "not plugged in"]]).get(health.hasStick) || "unknown";
+        const serial = settings.get("SERIAL") || "";
+        setText(byId("gateway-service"), words.service(health.states));
+        setText(byId("gateway-stick"), serial ? `${stick} (${serial})` : stick);
+        setText(byId("gateway-base"), this.base(model, settings));
+        setText(byId("gateway-window"), model.mode ?? "not known yet");
+        setText(byId("gateway-devices"), model.isListed ? String(model.devices.size) : "not known yet");
+        for (const name of ["readings", "teach", "responses", "ignored", "refused"])
+            setText(byId(`counter-${name}`), model.counters ? String(model.counters[name]) : "–");
+        setText(byId("counters-time"), model.counters ? `(counted at ${words.clock(model.counters.time)})` : "");
+        byId("gateway-refresh").disabled = !this.page.mayAct;
+    }
+
+    base(model, settings) {
+        const set = (settings.get("BASE") || "").toUpperCase();
+        if (model.base && set && model.base !== set)
+            return `${model.base}, but the setting BASE is ${set}`;
+        return model.base || set || "not known yet";
+    }
+}

@@ -1,0 +1,207 @@
+// Stores the contents of the lines of a gateway. Nothing here touches the page.
+
+import { COUNTERS } from "./lines.js";
+
+export const MOST_DEVICES = 1000;
+export const MOST_UNKNOWN = 500;
+export const MOST_PACKETS = 500;
+export const MOST_TAUGHT = 200;
+export const MOST_VALUES = 60;
+
+// The reasons of packets whose sender can be learned.
+const LEARNABLE = new Set(["unknown_sender", "window_closed", "other_mode", "no_profile", "unsupported", "full"]);
+// Readings with one of these names are in several units, each a value of its own.
+const BY_UNIT = new Set(["MR", "MV"]);
+
+/**
+ * @typedef {Object} Value          the last value of a reading
+ * @property {Object} reading       as the line has it
+ * @property {?number} channel      of an actuator with channels
+ * @property {number[][]} values    the numbers since the page was opened, each with its time
+ *
+ * @typedef {Object} Device
+ * @property {string} eep
+ * @property {string} label
+ * @property {Map<string, Value>} readings
+ * @property {?number} dbm
+ * @property {?number} received        the time in ms; null if it was before the page was opened
+ *
+ * @typedef {Object} Sender         a sender that is not learned
+ * @property {string} rorg
+ * @property {?string} eep          which it has sent itself
+ * @property {number} count
+ * @property {?number} best         its strongest signal
+ * @property {?number} received
+ * @property {string} why
+ */
+
+/** The channel that a telegram of an actuator is about. */
+function channelOf(readings) {
+    const io = readings.find(({ name }) => name === "IO");
+    return io && io.raw !== undefined ? io.raw : null;
+}
+
+/** Under which key a reading replaces an earlier one. */
+function keyOf({ name, unit }, channel) {
+    const base = name.startsWith("ILL") ? "ILL" : name;
+    return [base, BY_UNIT.has(name) ? unit : "", channel ?? ""].join(" ");
+}
+
+/** Removes the oldest elements of an array that grows at its end. */
+function limit(list, most) {
+    if (list.length > most)
+        list.splice(0, list.length - most);
+}
+
+export class Model {
+    /** @param {number} opened - when the page was opened, in ms */
+    constructor(opened) {
+        this.opened = opened;
+        /** @type {Map<string, Device>} */
+        this.devices = new Map();
+        this.devicesLeftOut = 0;
+        /** @type {Map<string, Sender>} the sender of the last packet is the last one */
+        this.unknown = new Map();
+        this.unknownLeftOut = 0;
+        this.packets = [];
+        this.taught = [];
+        this.counters = null;
+        this.mode = null;
+        this.base = null;
+        this.listing = null;
+        this.isListed = false;
+        this.hasPackets = false;
+        this.taken = 0;
+    }
+
+    /**
+     * Takes the members of a line that `parse` has checked.
+     * @param {Object} line
+     * @param {?number} now - the time in ms; null for a line from before the page was opened
+     */
+    take(line, now) {
+        this.taken++;
+        switch (line.type) {
+        case "reading":
+            this.takeReading(line, now);
+            break;
+        case "packet":
+            this.takePacket(line, now);
+            break;
+        case "teach":
+            this.takeTaught(line, now);
+            break;
+        case "device":
+            this.takeListed(line);
+            break;
+        case "list":
+            this.takeList(line);
+            break;
+        case "status":
+            this.mode = line.mode;
+            this.counters = { time: now, ...Object.fromEntries(COUNTERS.map(name => [name, line[name]])) };
+            break;
+        case "response":
+            this.takeResponse(line);
+            break;
+        }
+    }
+
+    /** The device with this ID, which is new if it is not known; undefined if there are too many. */
+    device(id, eep) {
+        let device = this.devices.get(id);
+        if (!device && this.devices.size >= MOST_DEVICES) {
+            this.devicesLeftOut++;
+            return undefined;
+        }
+        if (!device || device.eep !== eep) {
+            device = { label: "", dbm: null, received: null, ...device, eep, readings: new Map() };
+            this.devices.set(id, device);
+        }
+        this.unknown.delete(id);
+        return device;
+    }
+
+    takeReading({ id, eep, dbm, readings }, now) {
+        const device = this.device(id, eep);
+        if (!device)
+            return;
+        // A switch has no state: each telegram replaces all of the one before.
+        if (eep.startsWith("F6"))
+            device.readings.clear();
+        const channel = channelOf(readings);
+        for (const reading of readings) {
+            const key = keyOf(reading, channel);
+            const value = device.readings.get(key) || { values: [] };
+            Object.assign(value, { reading, channel });
+            if (now !== null && reading.num !== undefined) {
+                value.values.push([now, reading.num / reading.den]);
+                limit(value.values, MOST_VALUES);
+            }
+            device.readings.set(key, value);
+        }
+        device.dbm = dbm;
+        device.received = now;
+    }
+
+    takePacket(line, now) {
+        this.hasPackets = true;
+        this.packets.push({ number: this.taken, line, time: now });
+        if (this.packets.length > 2 * MOST_PACKETS)
+            limit(this.packets, MOST_PACKETS);
+        if (LEARNABLE.has(line.why) && !this.devices.has(line.id))
+            this.takeUnknown(line, now);
+    }
+
+    takeUnknown({ id, rorg, eep, dbm, why }, now) {
+        const before = this.unknown.get(id);
+        this.unknown.delete(id);
+        const best = dbm === null ? before?.best ?? null : Math.max(dbm, before?.best ?? dbm);
+        this.unknown.set(id, {
+            rorg, why, best, eep: eep || before?.eep || null, count: (before?.count ?? 0) + 1, received: now,
+        });
+        if (this.unknown.size > MOST_UNKNOWN) {
+            this.unknown.delete(this.unknown.keys().next().value);
+            this.unknownLeftOut++;
+        }
+    }
+
+    takeTaught(line, now) {
+        this.taught.push({ number: this.taken, line, time: now });
+        limit(this.taught, MOST_TAUGHT);
+        if (line.result === "accepted" && line.eep !== null)
+            this.device(line.id, line.eep);
+        else if (line.result === "deleted")
+            this.devices.delete(line.id);
+    }
+
+    takeListed(line) {
+        this.listing ??= [];
+        if (this.listing.length < MOST_DEVICES)
+            this.listing.push(line);
+    }
+
+    takeList({ count }) {
+        const listed = this.listing || [];
+        this.listing = null;
+        // The beginning of an old list may be missing. Such a list does not show what is gone.
+        if (listed.length !== count)
+            return;
+        this.isListed = true;
+        this.devicesLeftOut = 0;
+        const learned = new Set(listed.map(({ id }) => id));
+        for (const id of this.devices.keys()) {
+            if (!learned.has(id))
+                this.devices.delete(id);
+        }
+        for (const { id, eep, label } of listed)
+            this.device(id, eep).label = label;
+    }
+
+    /** Only the answer to the order `base` has four bytes of data. */
+    takeResponse({ code, data }) {
+        const number = parseInt(data, 16);
+        if (code === 0 && data.length === 8 && number >= 0xFF800000 && number <= 0xFFFFFF80 && number % 128 === 0)
+            this.base = data;
+    }
+}

@@ -1,0 +1,66 @@
+// Orders as arguments of enogatectl. They are arrays, never the text of a shell.
+
+export const LONGEST_LABEL = 32;
+// The channel that stands for all channels of an actuator.
+export const ALL_CHANNELS = 30;
+
+const DIMMERS = new Set(["02", "03", "04", "05", "09"]);
+const TWO_CHANNELS = new Set(["10", "11", "12"]);
+
+/** The command that gives an order. @param {string[]} order */
+export const command = (gateway, order) => ["enogatectl", "--json", gateway, "--", ...order];
+
+/** The command that opens the learn window, and closes it after this time or when it is ended. */
+export const windowCommand = (gateway, order, seconds) =>
+    ["enogatectl", "--for", String(seconds), gateway, "--", ...order];
+
+export const add = (id, eep) => ["add", id, eep];
+export const remove = id => ["remove", id];
+export const label = (id, text) => text === "" ? ["label", id] : ["label", id, text];
+
+/** Whether the gateway accepts a text as a label. The empty text removes it. */
+export const isLabel = text => /^(?:[!-~](?:[ -~]{0,30}[!-~])?)?$/.test(text);
+
+/**
+ * The abilities of an actuator with this profile.
+ * @returns {?{kind: "switch"|"dimmer"|"blind", channels: number[]}} null if it is no actuator
+ */
+export function abilities(eep) {
+    const [rorg, func, type] = eep.split("-");
+    if (rorg !== "D2")
+        return null;
+    if (func === "05")
+        return { kind: "blind", channels: [0] };
+    if (func !== "01")
+        return null;
+    const kind = DIMMERS.has(type) ? "dimmer" : "switch";
+    return { kind, channels: TWO_CHANNELS.has(type) ? [0, 1, ALL_CHANNELS] : [0] };
+}
+
+/** Orders for a channel of a switch or dimmer. */
+export const switchOrder = (id, channel, isOn) => ["switch", id, String(channel), isOn ? "on" : "off"];
+export const dimOrder = (id, channel, percent) => ["dim", id, String(channel), String(percent)];
+export const queryOrder = (id, channel) => ["query", id, String(channel)];
+
+/** Orders for a blind. It is open at 0 % and closed at 100 %. */
+export const blindOrder = (id, percent) => ["blind", id, String(percent)];
+export const stopOrder = id => ["stop", id];
+
+/** A value in percent that an order accepts, or null. */
+export function percentOf(text) {
+    const number = Number(text);
+    return /^[0-9]{1,3}$/.test(text) && number <= 100 ? number : null;
+}
+
+/**
+ * Why a command failed, in a sentence.
+ * @param {{message?: string, problem?: string}} error - as cockpit.spawn reports it
+ */
+export function sentence(error) {
+    if (error.problem === "access-denied")
+        return "You have no administrative access: turn it on at the top of Cockpit.";
+    if (error.problem === "not-found")
+        return "The command enogatectl is not installed: install the package enogate.";
+    const lines = String(error.message || error).trim().split("\n");
+    return lines[lines.length - 1].replace(/^enogatectl: /, "");
+}

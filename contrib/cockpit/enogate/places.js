@@ -1,0 +1,75 @@
+// The names of the gateways of this machine, their files, and their settings.
+
+const NAME = /^(?!mqtt)[A-Za-z0-9_][A-Za-z0-9_-]*$/;
+// Where a gateway leaves its name: its settings, its unit if it is started at boot, and its desk once it has run.
+const TRACES = [
+    /^\/etc\/default\/enogate-(.*)$/,
+    /^\/etc\/systemd\/system\/[^/]+\.wants\/enogate@(.*)\.service$/,
+    /^\/run\/enogate\/([^/]*)$/,
+];
+
+/** The command that lists the traces. It fails if a directory is missing, but lists the others. */
+export const FIND = ["find", "/etc/default", "/etc/systemd/system/multi-user.target.wants", "/run/enogate",
+    "-mindepth", "1", "-maxdepth", "1"];
+
+/** The names in the output of this command. */
+export function namesIn(output) {
+    const names = new Set();
+    for (const path of output.split("\n")) {
+        for (const trace of TRACES) {
+            const name = path.match(trace)?.[1];
+            if (name && NAME.test(name))
+                names.add(name);
+        }
+    }
+    return [...names].sort();
+}
+
+export const linesOf = name => `/var/log/enogate/${name}.lines`;
+export const unitOf = name => `enogate@${name}.service`;
+
+/** The files with the settings of a gateway. The second one overrides the first one. */
+export const settingsFiles = name => ["/etc/default/enogate", `/etc/default/enogate-${name}`];
+
+/** The settings in these files, as systemd reads them: a line NAME=VALUE for each, maybe with quotation marks. */
+export function settingsIn(texts) {
+    const settings = new Map();
+    for (const line of texts.flatMap(text => (text || "").split("\n"))) {
+        const [, name, value] = line.match(/^\s*([A-Za-z_][A-Za-z0-9_]*)=(.*)$/) || [];
+        if (name)
+            settings.set(name, value.trim().replace(/^(["'])(.*)\1$/, "$2"));
+    }
+    return settings;
+}
+
+/** The command that asks systemd for the state of a service. */
+export const stateCommand = name =>
+    ["systemctl", "show", "--property=ActiveState,SubState,InvocationID", unitOf(name)];
+
+/** The properties that it prints. */
+export function propertiesIn(output) {
+    return Object.fromEntries(output.split("\n").map(line => line.match(/^([A-Za-z]+)=(.*)$/)).filter(Boolean)
+            .map(([, name, value]) => [name, value]));
+}
+
+/**
+ * The run of a gateway that can answer orders: another text after each start of the service. Null if it cannot answer.
+ */
+export function runOf(states, hasStick) {
+    if (hasStick === false)
+        return null;
+    if (!states)
+        return "unknown";
+    return states.ActiveState === "active" ? `run ${states.InvocationID || ""}` : null;
+}
+
+/** Why a gateway does not work, in a sentence; empty if it does. */
+export function trouble(name, states, hasStick, serial) {
+    if (states && states.ActiveState && states.ActiveState !== "active" && states.ActiveState !== "activating")
+        return `The gateway ${name} is stopped. Start it with: systemctl start ${unitOf(name)}`;
+    if (hasStick === false)
+        return `No stick at ${serial}: plug it in. The gateway continues by itself.`;
+    if (states && states.SubState === "auto-restart")
+        return `The gateway ${name} is restarting. The journal of ${unitOf(name)} has the reason.`;
+    return "";
+}

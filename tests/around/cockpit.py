@@ -1,0 +1,150 @@
+"""Cockpit with the page on the loopback address, a machine with gateways for it, and a browser."""
+from __future__ import annotations
+
+import os
+import pathlib
+import shutil
+import socket
+import subprocess
+from typing import Sequence
+
+from selenium import webdriver
+from selenium.webdriver.chrome.options import Options
+from selenium.webdriver.chrome.service import Service
+from selenium.webdriver.common.by import By
+from selenium.webdriver.remote.webelement import WebElement
+
+from programs import Program, wait_for
+from services import CONTRIB
+
+PAGE = CONTRIB / "cockpit/enogate"
+SERVER = "/usr/lib/cockpit/cockpit-ws"
+# A stand-in for systemctl: the state of each service is in a file.
+SYSTEMCTL = """#!/bin/sh
+for unit; do :; done
+cat "{folder}/$unit" 2>/dev/null || printf 'ActiveState=inactive\\nSubState=dead\\n'
+"""
+
+
+def mount(*words: str | pathlib.Path) -> None:
+    subprocess.run(["mount", *words], check=True)
+
+
+class Machine:
+    """The directories of a machine with gateways, below a folder: they are mounted where the page and enogatectl look
+    for them. The process must have mounts of its own."""
+
+    def __init__(self, work: pathlib.Path):
+        self.work, self.services = work, work / "services"
+        for folder in (self.services, work / "bin"):
+            folder.mkdir(exist_ok=True)
+        for place, part in (("/run", "run/enogate"), ("/var/log", "log/enogate")):
+            mount("-t", "tmpfs", "test", place)
+            os.mkdir(f"{place}/enogate")
+            mount("--bind", work / part, f"{place}/enogate")
+        mount("-t", "tmpfs", "test", "/etc/default")
+        shutil.copy(CONTRIB / "enogate.default", "/etc/default/enogate")
+        (work / "bin/enogatectl").symlink_to(CONTRIB / "enogatectl")
+        systemctl = work / "bin/systemctl"
+        systemctl.write_text(SYSTEMCTL.format(folder=self.services))
+        systemctl.chmod(0o755)
+
+    def add(self, name: str, serial: pathlib.Path) -> None:
+        """Adds the settings of a gateway."""
+        pathlib.Path(f"/etc/default/enogate-{name}").write_text(f"SERIAL={serial}\n")
+
+    def set_state(self, name: str, active: str, sub: str) -> None:
+        """Sets the state of its service."""
+        (self.services / f"enogate@{name}.service").write_text(f"ActiveState={active}\nSubState={sub}\n")
+
+
+class Cockpit(Program):
+    """Cockpit, with the page of this tree. `words` are put before its command."""
+
+    def __init__(self, work: pathlib.Path, words: Sequence[str] = ()):
+        super().__init__(work / "cockpit.journal")
+        self.work, self.words = work, words
+        self.port = 0
+
+    def start(self) -> None:
+        """Starts it, and waits until it answers. The bridge takes the home of the user from the list of users, so
+        XDG_DATA_HOME names the folder of the page. Two variables keep the bridge from starting programs that stay."""
+        pages = self.work / "share/cockpit/enogate"
+        shutil.copytree(PAGE, pages, dirs_exist_ok=True)
+        with socket.socket() as free:
+            free.bind(("127.0.0.1", 0))
+            self.port = free.getsockname()[1]
+        address = ["--address", "127.0.0.1", "--port", str(self.port)]
+        command = [SERVER, "--no-tls", *address, "--local-session=cockpit-bridge"]
+        path = f"{self.work / 'bin'}:/usr/sbin:/usr/bin:/sbin:/bin"
+        variables = {"XDG_DATA_HOME": str(self.work / "share"), "PATH": path,
+                     "DBUS_SESSION_BUS_ADDRESS": "unix:path=/nonexistent", "SSH_AUTH_SOCK": "/nonexistent"}
+        self.run([*self.words, *command], **variables)
+        assert wait_for(self.answers, bool), self.journal()
+
+    def answers(self) -> bool:
+        try:
+            socket.create_connection(("127.0.0.1", self.port)).close()
+        except OSError:
+            return False
+        return True
+
+    @property
+    def address(self) -> str:
+        return f"http://127.0.0.1:{self.port}/cockpit/@localhost/enogate/index.html"
+
+
+class Browser:
+    """A headless browser."""
+
+    def __enter__(self) -> Browser:
+        options = Options()
+        for word in ("--headless=new", "--no-sandbox", "--disable-gpu", "--disable-dev-shm-usage",
+                     "--window-size=1300,850"):
+            options.add_argument(word)
+        options.binary_location = "/usr/bin/chromium"
+        options.set_capability("goog:loggingPrefs", {"browser": "ALL"})
+        self.driver = webdriver.Chrome(service=Service("/usr/bin/chromedriver"), options=options)
+        return self
+
+    def __exit__(self, *_: object) -> None:
+        self.driver.quit()
+
+    def open(self, address: str) -> None:
+        self.driver.get(address)
+
+    def find(self, selector: str) -> WebElement:
+        return self.driver.find_element(By.CSS_SELECTOR, selector)
+
+    def run(self, script: str, *values: object) -> object:
+        """The value that a script returns."""
+        return self.driver.execute_script(script, *values)
+
+    def text(self, selector: str) -> str:
+        """The text of the first element, also if it is not visible; empty if there is none."""
+        return str(self.run("return document.querySelector(arguments[0])?.textContent.trim() ?? ''", selector))
+
+    def click(self, selector: str) -> None:
+        self.find(selector).click()
+
+    def type(self, selector: str, text: str) -> None:
+        """Replaces the text of a field."""
+        field = self.find(selector)
+        field.clear()
+        field.send_keys(text)
+
+    def complaints(self) -> list[str]:
+        """What the browser has complained about since the last call."""
+        entries = self.driver.get_log("browser")
+        return [entry["message"] for entry in entries if entry["level"] in ("SEVERE", "WARNING")]
+
+    def heap(self) -> int:
+        """How many bytes the scripts use."""
+        self.driver.execute_cdp_cmd("HeapProfiler.collectGarbage", {})
+        found = self.driver.execute_cdp_cmd("Performance.getMetrics", {})["metrics"]
+        return next(int(metric["value"]) for metric in found if metric["name"] == "JSHeapUsedSize")
+
+    def shoot(self, path: pathlib.Path) -> None:
+        self.driver.save_screenshot(str(path))
+
+

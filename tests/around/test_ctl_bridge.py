@@ -1,0 +1,204 @@
+"""Orders with enogatectl to a gateway that has a bridge, which gives orders, too."""
+from __future__ import annotations
+
+import contextlib
+import json
+import re
+import sqlite3
+import subprocess
+import sys
+import threading
+import time
+from typing import Callable
+
+from bridge_testcase import OWN, GatewayTest
+from ctl_testcase import OK, REFUSED, Run
+from oracle.esp3 import sent
+from programs import WITHIN, lines_of, wait_for
+from services import BASE, CONTRIB, of_type
+
+# The command, with the files of its gateway and its bridge below a directory.
+COMMAND = """import functools, sys
+from enogate_ctl import command_line, main
+command_line.places_of = functools.partial(command_line.places_of, root=sys.argv.pop(1))
+sys.exit(main.main())"""
+ROUNDS, MESSAGES = 3, 6
+# The pause between two messages, in seconds.
+PAUSE = 1.0
+SWITCH = "D2-01-12"
+# The types of the lines that end an answer.
+ENDS = ("ok", "teach", "error", "list", "status")
+SENSOR, NEVER_HEARD = "01800A02", "01800A03"
+
+
+
+class WithBridge(GatewayTest):
+    """The places of the units are below `work`."""
+
+    def setUp(self):
+        super().setUp()
+        (self.work / "var").symlink_to(self.work)
+        self.order(f"add {SENSOR} A5-02-05", f"add {NEVER_HEARD} A5-02-05", f"label {SENSOR} Attic")
+        self.start_bridge()
+        self.settle()
+
+    def ctl(self, *words: str) -> Run:
+        """Runs a command for the gateway."""
+        program = [sys.executable, "-B", "-c", COMMAND, self.work, "hall", *words]
+        done = subprocess.run(program, capture_output=True, text=True, timeout=60, env={"PYTHONPATH": str(CONTRIB)})
+        return Run(done.returncode, done.stdout, done.stderr)
+
+
+class Orders(WithBridge):
+    """Two programs that give orders with enogatectl, messages that the bridge receives, orders that the bridge gives by
+    itself, and telegrams."""
+
+    def setUp(self):
+        super().setUp()
+        self.wrong: list[tuple[str, Run]] = []
+        self.given: list[str] = []
+
+    def give(self, order: str, status: int = OK, text: str | None = None) -> str:
+        """Gives an order with enogatectl. It has this exit status and prints this text, or an error with it."""
+        self.given.append(order)
+        run = self.ctl(*order.split(" "))
+        shown = run.out if status == OK else run.err
+        if run.status != status or (text and text not in shown) or (run.err if status == OK else run.out):
+            self.wrong.append((order, run))
+        return run.out
+
+    def give_all(self, number: int) -> None:
+        """What a program gives, in rounds. Its devices are its own."""
+        for turn in range(ROUNDS):
+            device = f"0190{number:02X}{turn:02X}"
+            self.give(f"add {device} {SWITCH}", OK, "accepted\n")
+            self.give(f"label {device} Lamp {number} {turn}", OK, "ok\n")
+            listed = {"eep": SWITCH, "id": device, "label": f"Lamp {number} {turn}", "maker": None, "type": "device"}
+            lines = self.give("list --json").splitlines()
+            if listed not in map(json.loads, lines) or f'"count":{len(lines) - 1},' not in lines[-1]:
+                self.wrong.append((f"list after {device}", Run(OK, "\n".join(lines), "")))
+            self.give(f"switch {device} {turn} on", OK, "ok\n")
+            self.give(f"switch {device} 31 on", REFUSED, "range: ")
+            self.give("status --json", OK, '"type":"status"')
+            self.give(f"label 0190FF{number:02X} x", REFUSED, "unknown_device: ")
+            if turn % 2:
+                self.give(f"remove {device}", OK, "deleted\n")
+
+    def publish(self) -> None:
+        """Messages to the bridge while the programs give orders, and telegrams. Each message to the learn window makes
+        the bridge ask for the status, and each label for the list."""
+        for turn in range(MESSAGES):
+            device = f"0190AA{turn:02X}"
+            orders = f"add {device} {SWITCH}", f"label {device} Message {turn}", "status", "status"
+            self.broker.publish(f"{OWN}/orders", "\n".join(orders))
+            self.broker.publish(f"{OWN}/{device}/OV/{turn}/set", "ON")
+            self.broker.publish(f"{OWN}/learn/set", "OFF" if turn % 2 else "ON")
+            self.stick.bring(SENSOR, "A5 00007F08", "A5 00007F08")
+            time.sleep(PAUSE)
+
+    def at_once(self, *acts: Callable[[], None]) -> None:
+        """Does these at the same time."""
+        threads = [threading.Thread(target=act) for act in acts]
+        for thread in threads:
+            thread.start()
+        for thread in threads:
+            thread.join()
+
+    def test_orders_of_the_bridge_and_of_two_programs_at_once(self):
+        """The programs give 44 orders, and the bridge receives 36."""
+        self.at_once(lambda: self.give_all(1), lambda: self.give_all(2), self.publish)
+        self.settle()
+        with self.subTest("each exit status and each answer is right"):
+            self.assert_seen(self.wrong, [])
+        with self.subTest("the bridge has given orders of its own"):
+            lists, statuses = self.bridge_orders()
+            self.assertGreater(lists, 1)
+            self.assertGreater(statuses, lists + 2)
+        with self.subTest("no order is lost"):
+            self.assert_answered()
+            packets = self.packets()
+            self.assert_soon(lambda: [self.stick.sent().count(packet) for packet in packets], [1] * len(packets))
+            self.assert_soon(self.listed, self.wanted())
+        with self.subTest("the state of the bridge is right"):
+            self.assert_state()
+        with self.subTest("the journal of the bridge"):
+            self.assert_seen(self.bridge.journal()[2:], [])
+
+    def packets(self) -> list[str]:
+        """The packets of the orders `switch` that are not refused."""
+        counts = {"01": ROUNDS, "02": ROUNDS, "AA": MESSAGES}
+        pairs = [(f"0190{number}{turn:02X}", turn) for number, count in counts.items() for turn in range(count)]
+        return [sent(0xD2, bytes([1, channel, 100]), int(BASE, 16), int(device, 16)).hex() for device, channel in pairs]
+
+    def wanted(self) -> dict[str, str]:
+        """The labels of the devices that are learned in the end."""
+        own = {f"0190{number:02X}{turn:02X}": f"Lamp {number} {turn}" for number in (1, 2)
+               for turn in range(0, ROUNDS, 2)}
+        return {SENSOR: "Attic", NEVER_HEARD: "", **own, **{f"0190AA{turn:02X}": f"Message {turn}"
+                                                            for turn in range(MESSAGES)}}
+
+    def listed(self) -> dict[str, str]:
+        """The labels of the devices that the gateway lists."""
+        lines = map(json.loads, self.give("list --json").splitlines())
+        return {line["id"]: line["label"] for line in lines if line["type"] == "device"}
+
+    def bridge_orders(self) -> tuple[int, int]:
+        """How many orders `list` and `status` the bridge has given by itself. Each order of a program that is not
+        `status` is between three."""
+        on_desk, given = lines_of(self.gateway.desk), [order.split(" ")[0] for order in self.given]
+        fenced = sum(verb != "status" for verb in given)
+        statuses = given.count("status") + 3 * fenced + MESSAGES * 2
+        return on_desk.count("list") - given.count("list"), on_desk.count("status") - statuses
+
+    def assert_answered(self) -> None:
+        """Each order on the desk has one answer."""
+        def count() -> tuple[int, int]:
+            answers = sum(len(of_type(self.gateway.lines(), kind)) for kind in ENDS)
+            return answers - len(lines_of(self.gateway.desk)), len(of_type(self.gateway.lines(), "reading"))
+        self.assert_soon(count, (0, 2 * MESSAGES))
+
+    def state(self) -> dict[str, str]:
+        """The labels of the devices in the state file of the bridge."""
+        with contextlib.closing(sqlite3.connect(f"file:{self.bridge.state}?mode=ro", uri=True)) as connection:
+            return dict(connection.execute("SELECT id, label FROM device"))
+
+    def assert_state(self) -> None:
+        """The bridge has published each line, and has the devices with their labels. The learn window is closed, as the
+        last message wanted. A bridge that begins without a state file makes the broker retain the same."""
+        self.assert_soon(self.state, self.wanted())
+        self.assert_soon(lambda: self.gateway.size() - self.bridge.saved(), 0)
+        printed = self.gateway.lines()
+        self.assert_soon(lambda: self.published_lines()[-100:], printed[-100:])
+        retained = self.retained()
+        self.assert_seen({topic: retained.get(f"{OWN}/{topic}") for topic in ("status", "gateway", "module", "learn")},
+                         {"status": "online", "gateway": "online", "module": "online", "learn": "OFF"})
+        self.bridge.end()
+        for file in self.bridge.state.parent.iterdir():
+            file.unlink()
+        self.heard.forget()
+        self.start_bridge()
+        self.settle()
+        self.assert_seen(self.retained(), retained)
+
+
+class LastSeen(WithBridge):
+    """The times of telegrams, which `list` takes from the state of the bridge."""
+
+    def row(self) -> str:
+        """The row of the sensor, after its readings."""
+        found = re.search(rf"Attic +{SENSOR} .* dBm(.*)", self.ctl("list").out)
+        return found[1].strip() if found else "no row"
+
+    def test_they_are_shown_while_the_bridge_runs(self):
+        self.assertNotIn("LAST SEEN", self.ctl("list").out)
+        self.bring(SENSOR, "A5 00007F08")
+        age = wait_for(self.row, lambda row: row.endswith(" ago"))
+        self.assertRegex(age, "^[0-9]+ s ago$")
+        self.assertLess(int(age.split(" ")[0]), 2 * WITHIN)
+        heading, seen, unseen = self.ctl("list").out.splitlines()
+        self.assertRegex(heading, "SIGNAL +LAST SEEN$")
+        self.assertRegex(seen, rf"^Attic +{SENSOR} .*Temperature 20.08 °C +-45 dBm +[0-9]+ s ago$")
+        self.assertRegex(unseen, f"{NEVER_HEARD} +A5-02-05 +temperature$")
+        self.bridge.end()
+        self.assertEqual(self.row(), "")
+        self.assertNotIn("LAST SEEN", self.ctl("list").out)

@@ -1,0 +1,167 @@
+import assert from "node:assert/strict";
+import { test } from "node:test";
+
+import * as limits from "../../contrib/cockpit/enogate/model.js";
+import { DEVICE, ERROR, LIST, OK, OTHER_PACKET, PACKET, READING, RESPONSE, STATUS, TAUGHT } from "./samples.mjs";
+
+const { Model, MOST_DEVICES, MOST_PACKETS, MOST_TAUGHT, MOST_UNKNOWN, MOST_VALUES } = limits;
+const hexId = number => number.toString(16).toUpperCase().padStart(8, "0");
+
+/** A model that has taken these lines, one each second. */
+function modelOf(...lines) {
+    const model = new Model(0);
+    lines.forEach((line, index) => model.take(line, 1000 * (index + 1)));
+    return model;
+}
+
+const values = (model, id) => [...model.devices.get(id).readings.values()].map(({ reading }) => reading.name);
+
+test("a reading makes a device, which was received now", () => {
+    const model = modelOf(READING);
+    const device = model.devices.get("01800ABC");
+    assert.deepEqual([device.eep, device.dbm, device.received, device.label], ["A5-02-05", -45, 1000, ""]);
+    assert.deepEqual([...device.readings.values()][0].values, [[1000, 1024 / 51]]);
+});
+
+test("an earlier reading has neither a time nor a place in the plot", () => {
+    const model = new Model(0);
+    model.take(READING, null);
+    const device = model.devices.get("01800ABC");
+    assert.equal(device.received, null);
+    assert.deepEqual([...device.readings.values()][0].values, []);
+});
+
+test("a plot keeps the last values", () => {
+    const model = modelOf(...Array(MOST_VALUES + 5).fill(READING));
+    const [{ values: kept }] = model.devices.get("01800ABC").readings.values();
+    assert.equal(kept.length, MOST_VALUES);
+    assert.equal(kept[0][0], 6000);
+});
+
+test("the channels of an actuator have readings of their own", () => {
+    const state = channel => {
+        const readings = [{ name: "IO", raw: channel }, { name: "OV", num: 10 * channel, den: 1, unit: "%" }];
+        return { ...READING, eep: "D2-01-12", readings };
+    };
+    const device = modelOf(state(0), state(1), state(0)).devices.get("01800ABC");
+    const outputs = [...device.readings.values()].filter(({ reading }) => reading.name === "OV");
+    assert.deepEqual(outputs.map(({ channel, reading }) => [channel, reading.num]), [[0, 0], [1, 10]]);
+});
+
+test("a meter's total and its power are two readings, and the light of a sensor is one", () => {
+    const meter = unit => ({ ...READING, eep: "A5-12-01", readings: [{ name: "MR", num: 1, den: 1, unit }] });
+    assert.deepEqual(values(modelOf(meter("kWh"), meter("W")), "01800ABC"), ["MR", "MR"]);
+    const light = name => ({ ...READING, eep: "A5-06-01", readings: [{ name, num: 1, den: 1, unit: "lx" }] });
+    assert.deepEqual(values(modelOf(light("ILL1"), light("ILL2")), "01800ABC"), ["ILL2"]);
+});
+
+test("a telegram of a switch replaces the one before", () => {
+    const telegram = (...readings) => ({ ...READING, eep: "F6-02-01", readings });
+    const press = telegram({ name: "R1", word: "BI" }, { name: "EB", word: "pressed" });
+    const release = telegram({ name: "buttons", word: "none" }, { name: "EB", word: "released" });
+    assert.deepEqual(values(modelOf(press, release), "01800ABC"), ["buttons", "EB"]);
+});
+
+test("another profile removes the readings and keeps the label", () => {
+    const model = modelOf(DEVICE, LIST, { ...TAUGHT, eep: "A5-02-05" }, READING, TAUGHT);
+    const device = model.devices.get("01800ABC");
+    assert.deepEqual([device.eep, device.label, device.readings.size], ["D5-00-01", "Front door", 0]);
+});
+
+test("a complete list is what is learned", () => {
+    const model = modelOf({ ...READING, id: "01800AC9" }, DEVICE, LIST);
+    assert.deepEqual([...model.devices.keys()], ["01800ABC"]);
+    assert.equal(model.isListed, true);
+});
+
+test("a list whose beginning is missing changes nothing", () => {
+    const model = modelOf(READING, DEVICE, { ...LIST, count: 2 });
+    assert.deepEqual([...model.devices.keys()], ["01800ABC"]);
+    assert.deepEqual([model.isListed, model.devices.get("01800ABC").label], [false, ""]);
+    model.take({ ...LIST, count: 1 }, 9000);
+    assert.equal(model.isListed, false);
+});
+
+test("an ID that is the name of a member is a device like all others", () => {
+    const model = modelOf({ ...DEVICE, id: "__proto__", label: "x" }, LIST);
+    assert.equal(model.devices.get("__proto__").label, "x");
+    assert.equal({}.label, undefined);
+});
+
+test("more devices than a gateway can learn are counted and left out", () => {
+    const model = new Model(0);
+    for (let number = 0; number < MOST_DEVICES + 7; number++)
+        model.take({ ...READING, id: hexId(number) }, 1);
+    assert.deepEqual([model.devices.size, model.devicesLeftOut], [MOST_DEVICES, 7]);
+});
+
+test("a list that replaces all devices of a full model is shown as a whole", () => {
+    const model = new Model(0);
+    for (let number = 0; number < MOST_DEVICES; number++)
+        model.take({ ...READING, id: hexId(number) }, 1);
+    model.take(DEVICE, 2);
+    model.take(LIST, 2);
+    assert.deepEqual([...model.devices.keys()], ["01800ABC"]);
+});
+
+test("a list of more devices than a gateway can have is not read", () => {
+    const model = new Model(0);
+    for (let number = 0; number <= MOST_DEVICES; number++)
+        model.take({ ...DEVICE, id: hexId(number) }, 1);
+    model.take({ ...LIST, count: MOST_DEVICES + 1 }, 1);
+    assert.deepEqual([model.devices.size, model.isListed], [0, false]);
+});
+
+test("an unknown sender has its strongest signal, its count and its last reason", () => {
+    const query = { ...PACKET, dbm: null, why: "window_closed", eep: "F6-02-01" };
+    const model = modelOf({ ...PACKET, dbm: -80 }, { ...PACKET, dbm: -50 }, query, PACKET);
+    assert.deepEqual(model.unknown.get("01800AC1"),
+                     { rorg: "F6", why: "unknown_sender", best: -45, eep: "F6-02-01", count: 4, received: 4000 });
+});
+
+test("a learned sender is not unknown, and is none after it was learned", () => {
+    const taught = { ...TAUGHT, id: PACKET.id };
+    assert.equal(modelOf(taught, PACKET).unknown.size, 0);
+    assert.equal(modelOf(PACKET, taught).unknown.size, 0);
+    assert.equal(modelOf(PACKET, { ...DEVICE, id: PACKET.id }, LIST).unknown.size, 0);
+    assert.equal(modelOf(taught, { ...taught, result: "deleted" }, PACKET).unknown.size, 1);
+});
+
+test("packets that cannot be learned are no unknown senders", () => {
+    for (const why of ["for_others", "no_telegram", "teach_in_reply", "read", "wrong_kind"])
+        assert.equal(modelOf({ ...PACKET, why }).unknown.size, 0, why);
+    const model = modelOf(OTHER_PACKET);
+    assert.deepEqual([model.unknown.size, model.packets.length, model.hasPackets], [0, 1, true]);
+});
+
+test("lists are limited, and the oldest entries are left out", () => {
+    const model = new Model(0);
+    for (let number = 0; number < 3000; number++) {
+        model.take({ ...PACKET, id: hexId(number) }, number);
+        model.take({ ...TAUGHT, id: hexId(number), result: "full" }, number);
+    }
+    assert.deepEqual([model.unknown.size, model.unknownLeftOut], [MOST_UNKNOWN, 3000 - MOST_UNKNOWN]);
+    assert.ok(model.packets.length >= MOST_PACKETS && model.packets.length <= 2 * MOST_PACKETS);
+    assert.equal(model.taught.length, MOST_TAUGHT);
+    assert.equal([...model.unknown.keys()].at(-1), hexId(2999));
+    assert.equal(model.packets.at(-1).line.id, hexId(2999));
+});
+
+test("status has the learn window and the counters", () => {
+    const model = modelOf(STATUS);
+    assert.equal(model.mode, "as F6-02-01");
+    assert.deepEqual(model.counters, { time: 1000, readings: 2, teach: 5, responses: 4, ignored: 1, refused: 3 });
+});
+
+test("only a base ID is the base ID", () => {
+    assert.equal(modelOf(RESPONSE).base, "FFA1B280");
+    for (const data of ["", "00", "FFA1B281", "01800ABC", "FFFFFFFF", "FFFFFF80FF", "FF7FFF80"])
+        assert.equal(modelOf({ ...RESPONSE, data }).base, null, data);
+    assert.equal(modelOf({ ...RESPONSE, code: 1 }).base, null);
+});
+
+test("a teach line without a profile, an error and ok change no device", () => {
+    const model = modelOf({ ...TAUGHT, eep: null, result: "no_profile" }, { ...TAUGHT, eep: null }, ERROR, OK);
+    assert.equal(model.devices.size, 0);
+    assert.equal(model.taught.length, 2);
+});

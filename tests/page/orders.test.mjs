@@ -1,0 +1,89 @@
+import assert from "node:assert/strict";
+import { execFileSync } from "node:child_process";
+import { test } from "node:test";
+
+import * as orders from "../../contrib/cockpit/enogate/orders.js";
+import { HOSTILE } from "./samples.mjs";
+
+const ID = "01800ABC";
+
+/** What enogatectl would write to the desk for these commands, each an array of words, or null if it refuses them. */
+function ordersOfCommands(commands) {
+    const program = [
+        "import contextlib, io, json, sys",
+        "from enogate_ctl.command_line import parsed",
+        "def order(words):",
+        "    try:",
+        "        with contextlib.redirect_stderr(io.StringIO()):",
+        "            give = parsed(words[1:])",
+        "        return [give.order, give.seconds, give.is_json]",
+        "    except SystemExit:",
+        "        return None",
+        "print(json.dumps([order(words) for words in json.load(sys.stdin)]))",
+    ].join("\n");
+    const contrib = new URL("../../contrib", import.meta.url).pathname;
+    const options = { input: JSON.stringify(commands), env: { ...process.env, PYTHONPATH: contrib } };
+    return JSON.parse(execFileSync("python3", ["-B", "-c", program], options));
+}
+
+test("enogatectl takes each command of the page for the order that is meant", () => {
+    const wanted = new Map([
+        ["add 01800ABC D5-00-01", orders.add(ID, "D5-00-01")],
+        ["remove 01800ABC", orders.remove(ID)],
+        ["label 01800ABC Front door, \"A\"", orders.label(ID, "Front door, \"A\"")],
+        ["label 01800ABC --json", orders.label(ID, "--json")],
+        ["label 01800ABC -- x", orders.label(ID, "-- x")],
+        ["label 01800ABC", orders.label(ID, "")],
+        ["switch 01800ABC 0 on", orders.switchOrder(ID, 0, true)],
+        ["switch 01800ABC 30 off", orders.switchOrder(ID, orders.ALL_CHANNELS, false)],
+        ["dim 01800ABC 1 50", orders.dimOrder(ID, 1, 50)],
+        ["query 01800ABC 0", orders.queryOrder(ID, 0)],
+        ["blind 01800ABC 100", orders.blindOrder(ID, 100)],
+        ["stop 01800ABC", orders.stopOrder(ID)],
+        ["list", ["list"]], ["base", ["base"]], ["learn off", ["learn", "off"]],
+    ]);
+    const commands = [...wanted.values()].map(order => orders.command("hall", order));
+    assert.deepEqual(ordersOfCommands(commands), [...wanted.keys()].map(order => [order, null, true]));
+    const windows = [["learn", "on"], ["learn", "on", "answer"], ["learn", "as", "F6-02-01"]];
+    assert.deepEqual(ordersOfCommands(windows.map(order => orders.windowCommand("hall", order, 120))),
+                     windows.map(order => [order.join(" "), 120, false]));
+});
+
+test("a hostile label is one argument, which is a label of enogatectl or refused by it", () => {
+    for (const text of HOSTILE.filter(Boolean))
+        assert.equal(orders.command("hall", orders.label(ID, text)).filter(word => word === text).length, 1, text);
+    const results = ordersOfCommands(HOSTILE.map(text => orders.command("hall", orders.label(ID, text))));
+    results.forEach((result, index) => {
+        const text = HOSTILE[index];
+        assert.deepEqual(result, orders.isLabel(text) ? [`label ${ID}${text && ` ${text}`}`, null, true] : null, text);
+    });
+});
+
+test("labels have 1 to 32 printable ASCII characters, and no spaces at their ends", () => {
+    for (const text of ["", "x", "a b", "~", "x".repeat(32), "<b>"])
+        assert.ok(orders.isLabel(text), text);
+    for (const text of [" ", " x", "x ", "ä", "a\tb", "a\nb", "x".repeat(33), "x\n"])
+        assert.ok(!orders.isLabel(text), text);
+});
+
+test("what actuators can do", () => {
+    assert.equal(orders.abilities("D5-00-01"), null);
+    assert.equal(orders.abilities("D2-06-01"), null);
+    assert.deepEqual(orders.abilities("D2-01-00"), { kind: "switch", channels: [0] });
+    assert.deepEqual(orders.abilities("D2-01-02"), { kind: "dimmer", channels: [0] });
+    assert.deepEqual(orders.abilities("D2-01-12"), { kind: "switch", channels: [0, 1, 30] });
+    assert.deepEqual(orders.abilities("D2-05-00"), { kind: "blind", channels: [0] });
+});
+
+test("percentages", () => {
+    assert.deepEqual(["0", "50", "100", "007"].map(orders.percentOf), [0, 50, 100, 7]);
+    assert.deepEqual(["", " 5", "-1", "101", "1e2", "5.0", "x"].map(orders.percentOf), Array(7).fill(null));
+});
+
+test("the sentence of an error", () => {
+    assert.equal(orders.sentence({ message: "enogatectl: unknown_device: learn it\n" }), "unknown_device: learn it");
+    assert.equal(orders.sentence({ message: "usage: enogatectl\nenogatectl: error: an order is required" }),
+                 "error: an order is required");
+    assert.match(orders.sentence({ problem: "access-denied", message: "Not permitted" }), /administrative access/);
+    assert.match(orders.sentence({ problem: "not-found" }), /not installed/);
+});

@@ -1,0 +1,56 @@
+import assert from "node:assert/strict";
+import { test } from "node:test";
+
+import * as places from "../../contrib/cockpit/enogate/places.js";
+
+test("gateways have settings, are started at boot, or have run", () => {
+    const settings = ["enogate", "enogate-hall", "enogate-mqtt", "enogate-mqtt-hall", "locale"];
+    const units = ["enogate@attic.service", "enogate-mqtt@attic.service"];
+    const output = [
+        ...settings.map(name => `/etc/default/${name}`),
+        ...units.map(name => `/etc/systemd/system/multi-user.target.wants/${name}`),
+        "/run/enogate/hall", "/run/enogate/cellar_2", "",
+    ];
+    assert.deepEqual(places.namesIn(output.join("\n")), ["attic", "cellar_2", "hall"]);
+    assert.deepEqual(places.namesIn(""), []);
+});
+
+test("other names are left out", () => {
+    const names = ["<b>", "a b", "-x", "--desk", "a/b", "ä", "mqttx", "a\\x2db", ""];
+    assert.deepEqual(places.namesIn(names.map(name => `/etc/default/enogate-${name}`).join("\n")), []);
+});
+
+test("settings: the last line counts, and quotation marks are removed", () => {
+    const all = "# SERIAL=/dev/x\nSERIAL=/dev/enocean\nBASE=\nTURNS=1\n";
+    const own = "SERIAL=\"/dev/tty USB0\"\nBASE='FF800000'\n";
+    const settings = places.settingsIn([all, own]);
+    assert.deepEqual([...settings], [["SERIAL", "/dev/tty USB0"], ["BASE", "FF800000"], ["TURNS", "1"]]);
+    assert.equal(places.settingsIn([null, "__proto__=1\nx y=2\n"]).get("__proto__"), "1");
+});
+
+test("the properties of systemd", () => {
+    const states = { ActiveState: "active", SubState: "running" };
+    assert.deepEqual(places.propertiesIn("ActiveState=active\nSubState=running\n"), states);
+    assert.deepEqual(places.propertiesIn("Failed to connect to bus\n"), {});
+});
+
+test("each start of a gateway that can answer is another run", () => {
+    const active = { ActiveState: "active", SubState: "running" };
+    assert.equal(places.runOf(null, null), "unknown");
+    assert.equal(places.runOf(active, true), places.runOf(active, null));
+    const runs = ["1", "2"].map(InvocationID => places.runOf({ ...active, InvocationID }, true));
+    assert.notEqual(runs[0], runs[1]);
+    for (const [state, hasStick] of [["inactive", true], ["failed", true], ["activating", true], ["active", false]])
+        assert.equal(places.runOf({ ActiveState: state }, hasStick), null, state);
+});
+
+test("what is wrong with a gateway", () => {
+    const trouble = (ActiveState, SubState, hasStick) =>
+        places.trouble("hall", ActiveState && { ActiveState, SubState }, hasStick, "/dev/enocean");
+    assert.equal(trouble("active", "running", true), "");
+    assert.equal(trouble(null, null, null), "");
+    assert.match(trouble("inactive", "dead", true), /stopped.*systemctl start enogate@hall/);
+    assert.match(trouble("failed", "failed", true), /stopped/);
+    assert.match(trouble("active", "running", false), /No stick at \/dev\/enocean/);
+    assert.match(trouble("activating", "auto-restart", true), /restarting/);
+});
