@@ -26,7 +26,7 @@ FORMS = {
     "level": (f"level {NUMBER} {NUMBER} {NUMBER}", "level OFF VAL RAMP"),
     "teach": (f"teach {NUMBER}", "teach OFF"),
 }
-# What the words in capital letters of these forms stand for.
+# The meanings of the words in capital letters in these forms.
 PARAMETERS = {
     "ID": "8 hexadecimal digits", "EEP": "a profile such as D5-00-01", "TEXT": "1 to 32 ASCII characters",
     "CH": "a channel, 0 to 30", "OFF": "an offset, 0 to 127", "VAL": "percent, 0 to 100", "RAMP": "seconds, 0 to 255",

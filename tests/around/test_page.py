@@ -1,5 +1,5 @@
 """The page in Cockpit at a gateway. All tests share the gateway, Cockpit and the browser; each has devices of its own,
-and opens the page anew."""
+and opens the page again."""
 from __future__ import annotations
 
 import contextlib

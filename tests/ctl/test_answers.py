@@ -106,7 +106,7 @@ class Rule(unittest.TestCase):
                          [teach("01800ABC", "A5-02-05", 70, "deleted")])
 
     def test_teach_lines_of_packets(self):
-        """The counter tells them from those of orders."""
+        """The counter distinguishes them from those of orders."""
         self.assertIsNone(between(ADD, ACCEPTED, after=1))
         self.assertEqual(between(ADD, ACCEPTED, ACCEPTED, after=1), [ACCEPTED])
         self.assertEqual(between(ADD, ACCEPTED, error("full"), before=5, after=6), [error("full")])

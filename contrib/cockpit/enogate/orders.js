@@ -1,7 +1,7 @@
 // Orders as arguments of enogatectl. They are arrays, never the text of a shell.
 
 export const LONGEST_LABEL = 32;
-// The channel that stands for all channels of an actuator.
+// The channel number that means all channels of an actuator.
 export const ALL_CHANNELS = 30;
 
 const DIMMERS = new Set(["02", "03", "04", "05", "09"]);
