@@ -14,7 +14,7 @@ use Rattle.actuator_commands.specs.Words.{Literal, Id, Text, SpellsWord, id_in, 
 use Rattle.actuator_commands.specs.Words.{label_text_in}
 use Rattle.actuator_commands.specs.declared.orders.Order.TheVariants.{Label}
 use Rattle.actuator_commands.specs.declared.orders.OrderFault.TheVariants.{Range}
-use Rattle.actuator_commands.specs.Orders.{HasShape, is_in_range, label_order, label_words, result_of}
+use Rattle.actuator_commands.specs.Orders.{HasShape, is_in_range, label_order, label_words, order_or_fault}
 use Rattle.actuator_commands.proofs.SpellingLemmas.{id_spelled, text_spelled}
 
 -- ---- its text
@@ -54,10 +54,10 @@ too_long id (first ∷ more) long =
     ap (λ b. not (id == 0xFFFF_FFFF) && (b && true)) long ∙ and-false (not (id == 0xFFFF_FFFF))
 
 not_taken : (id : ℕ) (more : List (List ℕ)) (text : List ℕ) → label_in more ≡ Some text
-    → (is_label text ≡ true → ⊥) → result_of (Some (Label id text)) ≡ Err Range
+    → (is_label text ≡ true → ⊥) → order_or_fault (Some (Label id text)) ≡ Err Range
 not_taken id more text e none = by_test (nat_le (length text) max_label) refl
   where
-    by_test : (b : Bool) → nat_le (length text) max_label ≡ b → result_of (Some (Label id text)) ≡ Err Range
+    by_test : (b : Bool) → nat_le (length text) max_label ≡ b → order_or_fault (Some (Label id text)) ≡ Err Range
     by_test true short =
         absurd (none (ap (λ b. b && nat_le (length text) max_label) (label_named more text e) ∙ short))
     by_test false long = ap (λ b. cond b (Ok (Label id text)) (Err Range)) (too_long id text long)
@@ -65,18 +65,18 @@ not_taken id more text e none = by_test (nat_le (length text) max_label) refl
 -- and so is one that is no label
 pub label-not_taken : (left : List (List ℕ)) (digits : List ℕ) (more : List (List ℕ)) (id : ℕ) (text : List ℕ)
     → left ≡ digits ∷ more → id_in digits ≡ Some id → label_in more ≡ Some text → (is_label text ≡ true → ⊥)
-    → result_of (label_order left) ≡ Err Range
+    → order_or_fault (label_order left) ≡ Err Range
 label-not_taken left digits more id text whole i t none =
-    ap (λ ws. result_of (label_order ws)) whole
-    ∙ ap (λ o. result_of (map_two (λ id label. Label id label) o (label_in more))) i
-    ∙ ap (λ o. result_of (map_two (λ id label. Label id label) (Some id) o)) t ∙ not_taken id more text t none
+    ap (λ ws. order_or_fault (label_order ws)) whole
+    ∙ ap (λ o. order_or_fault (map_two (λ id label. Label id label) o (label_in more))) i
+    ∙ ap (λ o. order_or_fault (map_two (λ id label. Label id label) (Some id) o)) t ∙ not_taken id more text t none
 
 -- ---- its line
 
 -- a text that has bytes is a word
-one_word : (text : List ℕ) → is_label_word text ≡ true → label_words text ≡ Text text ∷ []
-one_word [] may = absurd cc
-one_word (first ∷ more) may = refl
+one_word_order : (text : List ℕ) → is_label_word text ≡ true → label_words text ≡ Text text ∷ []
+one_word_order [] may = absurd cc
+one_word_order (first ∷ more) may = refl
 
 -- what is read after the name has the shape of the order
 pub label_shaped : (digits : List ℕ) (more : List (List ℕ)) (id : ℕ) (label : List ℕ) → id_in digits ≡ Some id
@@ -91,6 +91,6 @@ label_shaped digits (first ∷ more) id label i t =
     let texts : List (List ℕ) = codes "label" ∷ digits ∷ text ∷ [] in (
       texts,
       refl,
-      subst (λ ws. AllZip SpellsWord texts (Literal (codes "label") ∷ Id id ∷ ws)) (sym (one_word label spelled.1))
+      subst (λ ws. AllZip SpellsWord texts (Literal (codes "label") ∷ Id id ∷ ws)) (sym (one_word_order label spelled.1))
           (refl, (id_spelled digits id i, (spelled, tt))),
     )

@@ -18,8 +18,8 @@ use Rattle.actuator_commands.specs.declared.orders.Order.TheVariants.{Central, L
 use Rattle.actuator_commands.specs.declared.orders.OrderFault.{OrderFault}
 use Rattle.actuator_commands.specs.declared.orders.OrderFault.TheVariants.{Syntax, Range}
 use Rattle.actuator_commands.specs.Orders.{words_of, HasShape, IsInRange, Spells, is_in_range}
-use Rattle.actuator_commands.specs.Orders.{one_word, two_words, three_words, four_words, plain_order, label_order}
-use Rattle.actuator_commands.specs.Orders.{order_in, result_of, order_of, OrdersAreSpelled}
+use Rattle.actuator_commands.specs.Orders.{one_word_order, two_word_order, three_word_order, four_word_order, order_without_label, label_order}
+use Rattle.actuator_commands.specs.Orders.{order_of_words, order_or_fault, order_of, OrdersAreSpelled}
 use Rattle.actuator_commands.proofs.LabelLemmas.{label_shaped}
 use Rattle.actuator_commands.proofs.NumberLemmas.{number_spelled, number_read}
 use Rattle.actuator_commands.proofs.SpaceLemmas.{plain-words, words-joined, id-lacks, label-apart, label-alone}
@@ -72,7 +72,7 @@ module _ {A B C : Type 0} where
   fits_of_three ws make None b c h = tt
   fits_of_three ws make (Some x) b c h = fits_of_two ws (make x) b c (λ y z e k. h x y z refl e k)
 
-fits_one_word : (name : List ℕ) → Fits (name ∷ []) (one_word name)
+fits_one_word : (name : List ℕ) → Fits (name ∷ []) (one_word_order name)
 unfolding Fits
 fits_one_word name =
     let ws : List (List ℕ) = name ∷ [] in
@@ -80,7 +80,7 @@ fits_one_word name =
     (fits_named ws name (codes "status") _ _ (λ is. (is, tt))
     (fits_named ws name (codes "base") _ None (λ is. (is, tt)) tt))
 
-fits_two_words : (name second : List ℕ) → Fits (name ∷ second ∷ []) (two_words name second)
+fits_two_words : (name second : List ℕ) → Fits (name ∷ second ∷ []) (two_word_order name second)
 unfolding Fits
 fits_two_words name second =
     let ws : List (List ℕ) = name ∷ second ∷ [] in
@@ -96,7 +96,7 @@ fits_two_words name second =
     (λ is. fits_map ws (λ offset. Teach offset) _ (λ n k. (is, (number_spelled second n k, tt))))
     tt))))
 
-fits_three_words : (name second third : List ℕ) → Fits (name ∷ second ∷ third ∷ []) (three_words name second third)
+fits_three_words : (name second third : List ℕ) → Fits (name ∷ second ∷ third ∷ []) (three_word_order name second third)
 unfolding Fits
 fits_three_words name second third =
     let ws : List (List ℕ) = name ∷ second ∷ third ∷ [] in
@@ -122,7 +122,7 @@ fits_three_words name second third =
     tt)))))
 
 fits_four_words : (name second third fourth : List ℕ)
-    → Fits (name ∷ second ∷ third ∷ fourth ∷ []) (four_words name second third fourth)
+    → Fits (name ∷ second ∷ third ∷ fourth ∷ []) (four_word_order name second third fourth)
 unfolding Fits
 fits_four_words name second third fourth =
     let ws : List (List ℕ) = name ∷ second ∷ third ∷ fourth ∷ [] in
@@ -140,7 +140,7 @@ fits_four_words name second third fourth =
     (λ n v r k o p. (is, (number_spelled second n k, (number_spelled third v o, (number_spelled fourth r p, tt))))))
     tt)))
 
-fits : (ws : List (List ℕ)) → Fits ws (plain_order ws)
+fits : (ws : List (List ℕ)) → Fits ws (order_without_label ws)
 unfolding Fits
 fits [] = tt
 fits (name ∷ []) = fits_one_word name
@@ -172,19 +172,19 @@ unfolding Shaped
 shaped_label [] = tt
 shaped_label (digits ∷ more) = shaped_by digits more (id_in digits) (label_in more) refl refl
 
-shaped : (ws : List (List ℕ)) → Shaped ws (order_in ws)
+shaped : (ws : List (List ℕ)) → Shaped ws (order_of_words ws)
 unfolding Shaped
 shaped [] = tt
 shaped (name ∷ more) = by_name (bytes_eq name (codes "label")) refl
   where
     by_name : (b : Bool) → bytes_eq name (codes "label") ≡ b
-        → Shaped (name ∷ more) (cond b (label_order more) (plain_order (name ∷ more)))
+        → Shaped (name ∷ more) (cond b (label_order more) (order_without_label (name ∷ more)))
     by_name true is =
         subst (λ n. Shaped (n ∷ more) (label_order more)) (sym (named name (codes "label") is)) (shaped_label more)
-    by_name false is = shaped_words (name ∷ more) (plain_order (name ∷ more)) (fits (name ∷ more))
+    by_name false is = shaped_words (name ∷ more) (order_without_label (name ∷ more)) (fits (name ∷ more))
 
 -- words that spell those of an order are read as this order
-read : (order : Order) (ws : List (List ℕ)) → AllZip SpellsWord ws (words_of order) → order_in ws ≡ Some order
+read : (order : Order) (ws : List (List ℕ)) → AllZip SpellsWord ws (words_of order) → order_of_words ws ≡ Some order
 read LearnOn (a ∷ b ∷ []) (is_a, (is_b, _)) = rw (is_a, is_b) refl
 read LearnOnAnswer (a ∷ b ∷ c ∷ []) (is_a, (is_b, (is_c, _))) = rw (is_a, is_b, is_c) refl
 read (LearnAs eep) (a ∷ b ∷ c ∷ []) (is_a, (is_b, (is_c, _))) = rw (is_a, is_b, eep_read c eep is_c) refl
@@ -257,7 +257,7 @@ speaks_by_range line order true e shape = (shape, in_range (words_of order) e)
 speaks_by_range line order false e shape =
     (order, shape, λ h. let tested = all_tested (words_of order) h in cc)
 
-speaks_by_shape : (line : List ℕ) (o : Option Order) → Shaped (words line) o → Speaks line (result_of o)
+speaks_by_shape : (line : List ℕ) (o : Option Order) → Shaped (words line) o → Speaks line (order_or_fault o)
 unfolding Speaks Shaped
 speaks_by_shape line None shape = tt
 speaks_by_shape line (Some order) shape =
@@ -265,34 +265,34 @@ speaks_by_shape line (Some order) shape =
     (subst (λ l. HasShape l order) (join_with_byte-slice_split 32 line) shape)
 
 speaks : (line : List ℕ) → Speaks line (order_of line)
-speaks line = speaks_by_shape line (order_in (words line)) (shaped (words line))
+speaks line = speaks_by_shape line (order_of_words (words line)) (shaped (words line))
 
 -- the words of a line with the shape of `label` are read as its texts
 label_joined : (id : ℕ) (label : List ℕ) (texts : List (List ℕ))
     → AllZip SpellsWord texts (words_of (Label id label))
-    → order_in (words (join_with_byte 32 texts)) ≡ order_in texts
+    → order_of_words (words (join_with_byte 32 texts)) ≡ order_of_words texts
 label_joined id [] (a ∷ b ∷ []) (is_a, (is_b, _)) =
-    rw is_a (ap order_in (label-alone b (id-lacks b id is_b)))
+    rw is_a (ap order_of_words (label-alone b (id-lacks b id is_b)))
 label_joined id (first ∷ more) (a ∷ b ∷ c ∷ []) (is_a, (is_b, (is_c, _))) =
     rw is_a
-    (ap order_in (label-apart b c (id-lacks b id is_b))
+    (ap order_of_words (label-apart b c (id-lacks b id is_b))
     ∙ ap (λ o. map_two (λ id label. Label id label) (id_in b) o) (label_whole c))
 label_joined id label texts h = absurd (omega (arith, AllZip-long SpellsWord texts (words_of (Label id label)) h))
 
 -- and those of any order
 read_joined : (order : Order) (texts : List (List ℕ)) → AllZip SpellsWord texts (words_of order)
-    → order_in (words (join_with_byte 32 texts)) ≡ order_in texts
+    → order_of_words (words (join_with_byte 32 texts)) ≡ order_of_words texts
 read_joined order texts spell =
     elim (plain-words order) [
-      | inl plain ↦ ap order_in (words-joined order texts plain spell)
+      | inl plain ↦ ap order_of_words (words-joined order texts plain spell)
       | inr it ↦
           label_joined it.id it.label texts (subst (λ o. AllZip SpellsWord texts (words_of o)) it.is spell)
     ]
 
 -- a line with the shape of an order is read as its range requires
-in_shape : (line : List ℕ) (order : Order) → HasShape line order → order_of line ≡ result_of (Some order)
+in_shape : (line : List ℕ) (order : Order) → HasShape line order → order_of line ≡ order_or_fault (Some order)
 in_shape line order (texts, is, spell) =
-    ap order_of is ∙ ap result_of (read_joined order texts spell) ∙ ap result_of (read order texts spell)
+    ap order_of is ∙ ap order_or_fault (read_joined order texts spell) ∙ ap order_or_fault (read order texts spell)
 
 no_syntax : (order : Order) (b : Bool) → cond b (Ok order) (Err Range) ≡ Err Syntax → ⊥
 no_syntax order true e = cc
@@ -318,13 +318,13 @@ parsed-in_range line order e = (orders_are_spelled.spelled line order e).1
 -- and a rejected line has one of two faults
 pub parsed-fault : (line : List ℕ) (fault : OrderFault) → order_of line ≡ Err fault
     → (fault ≡ Syntax) ⊎ (fault ≡ Range)
-parsed-fault line fault e = by_order (order_in (words line)) e
+parsed-fault line fault e = by_order (order_of_words (words line)) e
   where
     by_range : (order : Order) (b : Bool) → cond b (Ok order) (Err Range) ≡ Err fault
         → (fault ≡ Syntax) ⊎ (fault ≡ Range)
     by_range order true e = absurd cc
     by_range order false e = inr (cc)
 
-    by_order : (o : Option Order) → result_of o ≡ Err fault → (fault ≡ Syntax) ⊎ (fault ≡ Range)
+    by_order : (o : Option Order) → order_or_fault o ≡ Err fault → (fault ≡ Syntax) ⊎ (fault ≡ Range)
     by_order None e = inl (cc)
     by_order (Some order) e = by_range order (is_in_range order) e

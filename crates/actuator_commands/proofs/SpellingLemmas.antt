@@ -12,20 +12,20 @@ use Rattle.hex.proofs.HexLemmas.{decode_of-ok, decode_sized-ok, decode_sized-twi
 use Rattle.erp1_telegrams.specs.declared.eep.Eep.{Eep}
 use Rattle.actuator_commands.specs.declared.orders.Quantity.{Quantity}
 use Rattle.actuator_commands.specs.declared.orders.Quantity.TheVariants.{Energy, Power}
-use Rattle.actuator_commands.specs.Words.{SpellsId, SpellsEep, byte_from, byte_in, id_from, id_in, eep_from, eep_in}
+use Rattle.actuator_commands.specs.Words.{SpellsId, SpellsEep, byte_of_decoded, byte_in, id_of_decoded, id_in, eep_of_bytes, eep_in}
 use Rattle.actuator_commands.specs.Words.{state_name, state_in, quantity_name, quantity_in, is_label_word}
 use Rattle.actuator_commands.specs.Words.{label_text_in}
 
 -- ---- an ID
 
-id_from-some : (r : Result (List ℕ) FromHexError) (id : ℕ) → id_from r ≡ Some id
+id_of_decoded-some : (r : Result (List ℕ) FromHexError) (id : ℕ) → id_of_decoded r ≡ Some id
     → (bytes : List ℕ) × (r ≡ Ok bytes) × (id ≡ from_be_bytes w32 bytes)
-id_from-some (Ok bytes) id e = (bytes, refl, cc)
-id_from-some (Err fault) id e = absurd cc
+id_of_decoded-some (Ok bytes) id e = (bytes, refl, cc)
+id_of_decoded-some (Err fault) id e = absurd cc
 
 pub id_spelled : (digits : List ℕ) (id : ℕ) → id_in digits ≡ Some id → SpellsId digits id
 id_spelled digits id e =
-    let r = id_from-some (decode_sized digits 4) id e in
+    let r = id_of_decoded-some (decode_sized digits 4) id e in
     let long = decode_sized-ok digits 4 r.0 r.1 in
     let decoded = sym (decode_sized-twice digits 4 long) ∙ r.1 in
     let ok = decode_of-ok digits r.0 decoded in
@@ -35,17 +35,17 @@ pub id_read : (digits : List ℕ) (id : ℕ) → SpellsId digits id → id_in di
 id_read digits id (bytes, four, decoded, is) =
     let ok = decode_of-ok digits bytes decoded in
     let long : length digits ≡ 8 = omega (arith, ok.2, four) in
-    ap id_from (decode_sized-twice digits 4 long ∙ decoded) ∙ ap (λ n. Some n) (sym is)
+    ap id_of_decoded (decode_sized-twice digits 4 long ∙ decoded) ∙ ap (λ n. Some n) (sym is)
 
 -- ---- a profile
 
-byte_from-some : (r : Result (List ℕ) FromHexError) (byte : ℕ) → byte_from r ≡ Some byte → r ≡ Ok (byte ∷ [])
-byte_from-some (Ok (x ∷ [])) byte e = let same : x ≡ byte = cc in ap (λ n. Ok (n ∷ [])) same
-byte_from-some decoded byte e = absurd cc
+byte_of_decoded-some : (r : Result (List ℕ) FromHexError) (byte : ℕ) → byte_of_decoded r ≡ Some byte → r ≡ Ok (byte ∷ [])
+byte_of_decoded-some (Ok (x ∷ [])) byte e = let same : x ≡ byte = cc in ap (λ n. Ok (n ∷ [])) same
+byte_of_decoded-some decoded byte e = absurd cc
 
 byte_spelled : (a b byte : ℕ) → byte_in (a ∷ b ∷ []) ≡ Some byte → decode_of (a ∷ b ∷ []) ≡ Ok (byte ∷ [])
 byte_spelled a b byte e =
-    sym (decode_sized-twice (a ∷ b ∷ []) 1 refl) ∙ byte_from-some (decode_sized (a ∷ b ∷ []) 1) byte e
+    sym (decode_sized-twice (a ∷ b ∷ []) 1 refl) ∙ byte_of_decoded-some (decode_sized (a ∷ b ∷ []) 1) byte e
 
 pair : (digits : List ℕ) → length digits ≡ 2 → (a : ℕ) × (b : ℕ) × (digits ≡ a ∷ b ∷ [])
 pair (a ∷ b ∷ []) e = (a, b, refl)
@@ -58,14 +58,14 @@ byte_read digits byte e =
     let ok = decode_of-ok digits (byte ∷ []) e in
     let long : length digits ≡ 2 = omega (arith, ok.2) in
     let p = pair digits long in
-    (p.0, p.1, p.2, ap byte_in (sym p.2) ∙ ap byte_from (decode_sized-twice digits 1 long ∙ e))
+    (p.0, p.1, p.2, ap byte_in (sym p.2) ∙ ap byte_of_decoded (decode_sized-twice digits 1 long ∙ e))
 
-eep_from-some : (r f t : Option ℕ) (eep : Eep) → eep_from r f t ≡ Some eep
+eep_of_bytes-some : (r f t : Option ℕ) (eep : Eep) → eep_of_bytes r f t ≡ Some eep
     → (r ≡ Some eep.rorg) × (f ≡ Some eep.func) × (t ≡ Some eep.typ)
-eep_from-some (Some r) (Some f) (Some t) eep e =
+eep_of_bytes-some (Some r) (Some f) (Some t) eep e =
     let is : record { rorg = r; func = f; typ = t } ≡ eep = cc in
     (ap (λ (x : Eep). Some x.rorg) is, ap (λ (x : Eep). Some x.func) is, ap (λ (x : Eep). Some x.typ) is)
-eep_from-some r f t eep e = absurd cc
+eep_of_bytes-some r f t eep e = absurd cc
 
 chosen : {A : Type 0} (b : Bool) (o : Option A) (x : A) → cond b o None ≡ Some x → (b ≡ true) × (o ≡ Some x)
 chosen true o x e = (refl, e)
@@ -75,7 +75,7 @@ pub eep_spelled : (text : List ℕ) (eep : Eep) → eep_in text ≡ Some eep →
 eep_spelled (a ∷ b ∷ x ∷ c ∷ d ∷ y ∷ e ∷ f ∷ []) eep h =
     let g = chosen _ _ eep h in
     let dashes = and_parts _ _ g.0 in
-    let parts = eep_from-some _ _ _ eep g.1 in
+    let parts = eep_of_bytes-some _ _ _ eep g.1 in
     record {
       rorg = a ∷ b ∷ [];
       func = c ∷ d ∷ [];
@@ -98,9 +98,9 @@ eep_read text eep s =
     ∙ ap (λ (w : List ℕ). (r.0 ∷ r.1 ∷ []) ++ codes "-" ++ w ++ codes "-" ++ s.typ) f.2
     ∙ ap (λ (w : List ℕ). (r.0 ∷ r.1 ∷ []) ++ codes "-" ++ (f.0 ∷ f.1 ∷ []) ++ codes "-" ++ w) t.2 in
     ap eep_in cells
-    ∙ ap (λ (o : Option ℕ). eep_from o (byte_in (f.0 ∷ f.1 ∷ [])) (byte_in (t.0 ∷ t.1 ∷ []))) r.3
-    ∙ ap (λ (o : Option ℕ). eep_from (Some eep.rorg) o (byte_in (t.0 ∷ t.1 ∷ []))) f.3
-    ∙ ap (λ (o : Option ℕ). eep_from (Some eep.rorg) (Some eep.func) o) t.3
+    ∙ ap (λ (o : Option ℕ). eep_of_bytes o (byte_in (f.0 ∷ f.1 ∷ [])) (byte_in (t.0 ∷ t.1 ∷ []))) r.3
+    ∙ ap (λ (o : Option ℕ). eep_of_bytes (Some eep.rorg) o (byte_in (t.0 ∷ t.1 ∷ []))) f.3
+    ∙ ap (λ (o : Option ℕ). eep_of_bytes (Some eep.rorg) (Some eep.func) o) t.3
 
 -- ---- a state, and a quantity
 

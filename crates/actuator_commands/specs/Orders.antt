@@ -66,15 +66,15 @@ abbrev pub is_in_range : Order → Bool
 is_in_range order = list_all is_word_in_range (words_of order)
 
 -- the order, except `label`, whose shape the words have
-abbrev pub one_word : List ℕ → Option Order
-one_word name =
+abbrev pub one_word_order : List ℕ → Option Order
+one_word_order name =
     if bytes_eq name (codes "list") then Some ListAll
     else if bytes_eq name (codes "status") then Some Status
     else if bytes_eq name (codes "base") then Some Base
     else None
 
-abbrev pub two_words : List ℕ → List ℕ → Option Order
-two_words name second =
+abbrev pub two_word_order : List ℕ → List ℕ → Option Order
+two_word_order name second =
     if bytes_eq name (codes "learn") && bytes_eq second (codes "on") then Some LearnOn
     else if bytes_eq name (codes "learn") && bytes_eq second (codes "off") then Some LearnOff
     else if bytes_eq name (codes "remove") then option_map (λ id. Remove id) (id_in second)
@@ -82,8 +82,8 @@ two_words name second =
     else if bytes_eq name (codes "teach") then option_map (λ offset. Teach offset) (number_in second)
     else None
 
-abbrev pub three_words : List ℕ → List ℕ → List ℕ → Option Order
-three_words name second third =
+abbrev pub three_word_order : List ℕ → List ℕ → List ℕ → Option Order
+three_word_order name second third =
     if bytes_eq name (codes "learn") && bytes_eq second (codes "on") && bytes_eq third (codes "answer")
     then Some LearnOnAnswer
     else if bytes_eq name (codes "learn") && bytes_eq second (codes "as")
@@ -95,8 +95,8 @@ three_words name second third =
     then map_two (λ offset on. Central offset on) (number_in second) (state_in third)
     else None
 
-abbrev pub four_words : List ℕ → List ℕ → List ℕ → List ℕ → Option Order
-four_words name second third fourth =
+abbrev pub four_word_order : List ℕ → List ℕ → List ℕ → List ℕ → Option Order
+four_word_order name second third fourth =
     if bytes_eq name (codes "switch")
     then map_three (λ id channel on. Switch id channel on) (id_in second) (number_in third) (state_in fourth)
     else if bytes_eq name (codes "dim")
@@ -109,30 +109,30 @@ four_words name second third fourth =
     (number_in fourth)
     else None
 
-abbrev pub plain_order : List (List ℕ) → Option Order
-plain_order (name ∷ []) = one_word name
-plain_order (name ∷ second ∷ []) = two_words name second
-plain_order (name ∷ second ∷ third ∷ []) = three_words name second third
-plain_order (name ∷ second ∷ third ∷ fourth ∷ []) = four_words name second third fourth
-plain_order texts = None
+abbrev pub order_without_label : List (List ℕ) → Option Order
+order_without_label (name ∷ []) = one_word_order name
+order_without_label (name ∷ second ∷ []) = two_word_order name second
+order_without_label (name ∷ second ∷ third ∷ []) = three_word_order name second third
+order_without_label (name ∷ second ∷ third ∷ fourth ∷ []) = four_word_order name second third fourth
+order_without_label texts = None
 
 -- the order that begins with `label`, by the words after it: those of its text are joined again
 abbrev pub label_order : List (List ℕ) → Option Order
 label_order [] = None
 label_order (digits ∷ more) = map_two (λ id label. Label id label) (id_in digits) (label_in more)
 
-abbrev pub order_in : List (List ℕ) → Option Order
-order_in [] = None
-order_in (name ∷ more) = if bytes_eq name (codes "label") then label_order more else plain_order (name ∷ more)
+abbrev pub order_of_words : List (List ℕ) → Option Order
+order_of_words [] = None
+order_of_words (name ∷ more) = if bytes_eq name (codes "label") then label_order more else order_without_label (name ∷ more)
 
 -- an order of this shape is accepted if it is in range
-abbrev pub result_of : Option Order → Result Order OrderFault
-result_of (Some order) = if is_in_range order then Ok order else Err Range
-result_of None = Err Syntax
+abbrev pub order_or_fault : Option Order → Result Order OrderFault
+order_or_fault (Some order) = if is_in_range order then Ok order else Err Range
+order_or_fault None = Err Syntax
 
 -- the order that a line spells, or why it spells none
 abbrev pub order_of : List ℕ → Result Order OrderFault
-order_of line = result_of (order_in (words line))
+order_of line = order_or_fault (order_of_words (words line))
 
 -- A line spells at most one order, by `only`. A line that spells none is out of range if it has the shape of one, and
 -- otherwise no order.

@@ -15,9 +15,9 @@ use Rattle.actuator_commands.specs.declared.packets.Actuator.{Actuator}
 use Rattle.actuator_commands.specs.declared.packets.Actuator.TheVariants as actuator
 
 -- the profiles of an actuator: of switches and dimmers ("D2-01", with any TYPE), and of blinds ("D2-05-00")
-abbrev pub has_profile : Actuator → Eep → Bool
-has_profile actuator.Switch eep = eep.rorg == 0xD2 && eep.func == 0x01
-has_profile actuator.Blind eep = eep.rorg == 0xD2 && eep.func == 0x05 && eep.typ == 0x00
+abbrev pub accepts_profile : Actuator → Eep → Bool
+accepts_profile actuator.Switch eep = eep.rorg == 0xD2 && eep.func == 0x01
+accepts_profile actuator.Blind eep = eep.rorg == 0xD2 && eep.func == 0x05 && eep.typ == 0x00
 
 -- The message of an order: to the device with an ID, a payload by the device's profile, or none if that has no such
 -- order; or to all, from the sender with this offset from the base ID.
@@ -27,20 +27,20 @@ pub data Message : Type 0 where
 
 -- a payload to these actuators, and none to other devices
 abbrev pub payload_for : Actuator → List ℕ → Eep → Option (List ℕ)
-payload_for actuator payload eep = if has_profile actuator eep then Some payload else None
+payload_for actuator payload eep = if accepts_profile actuator eep then Some payload else None
 
 -- "D2-01", command 3, is followed by the channel; in "D2-05-00", command 3, the high bits of the command's own byte are
 -- the channel, which is 0
 abbrev pub query_payload : ℕ → Eep → Option (List ℕ)
 query_payload channel eep =
-    if has_profile actuator.Switch eep then Some (0x03 ∷ channel ∷ [])
-    else if has_profile actuator.Blind eep && channel == 0 then Some (0x03 ∷ [])
+    if accepts_profile actuator.Switch eep then Some (0x03 ∷ channel ∷ [])
+    else if accepts_profile actuator.Blind eep && channel == 0 then Some (0x03 ∷ [])
     else None
 
 -- "D2-01", command 6, has the channel in the low bits; its highest bit asks for power
-abbrev pub meter_byte : ℕ → Quantity → ℕ
-meter_byte channel Energy = channel
-meter_byte channel Power = channel + 128
+abbrev pub meter_query_byte : ℕ → Quantity → ℕ
+meter_query_byte channel Energy = channel
+meter_query_byte channel Power = channel + 128
 
 -- The table: the message of each order to devices.
 abbrev pub message_of : Order → Option Message
@@ -51,7 +51,7 @@ message_of (Dim id channel value) = Some (ToOne id (payload_for actuator.Switch 
 message_of (Query id channel) = Some (ToOne id (query_payload channel))
 -- "D2-01", command 6
 message_of (Meter id channel quantity) =
-    Some (ToOne id (payload_for actuator.Switch (0x06 ∷ meter_byte channel quantity ∷ [])))
+    Some (ToOne id (payload_for actuator.Switch (0x06 ∷ meter_query_byte channel quantity ∷ [])))
 -- "D2-05-00", command 1: the position in percent; the angle, which 127 leaves unchanged; REPO and LOCK, which are 0;
 -- and the channel 0 with the command
 message_of (Blind id value) = Some (ToOne id (payload_for actuator.Blind (value ∷ 0x7F ∷ 0x00 ∷ 0x01 ∷ [])))

@@ -85,8 +85,8 @@ abbrev pub words : List ℕ → List (List ℕ)
 words = slice_split (λ b. b == 32)
 
 -- the words of the rest of a line, if there is one
-abbrev pub words_left : Option (Bor (List ℕ)) → List (List ℕ)
-words_left left = option_map_or (λ rest. words rest.now) left []
+abbrev pub remaining_words : Option (Bor (List ℕ)) → List (List ℕ)
+remaining_words left = option_map_or (λ rest. words rest.now) left []
 
 -- whether the word's number, or its length, is in range
 abbrev pub is_word_in_range : Word → Bool
@@ -97,29 +97,29 @@ is_word_in_range (Number most n) = nat_le n most
 is_word_in_range (Text name) = nat_le (length name) max_label
 
 -- the number of two hexadecimal digits
-abbrev pub byte_from : Result (List ℕ) FromHexError → Option ℕ
-byte_from (Ok (byte ∷ [])) = Some byte
-byte_from decoded = None
+abbrev pub byte_of_decoded : Result (List ℕ) FromHexError → Option ℕ
+byte_of_decoded (Ok (byte ∷ [])) = Some byte
+byte_of_decoded decoded = None
 
 abbrev pub byte_in : List ℕ → Option ℕ
-byte_in digits = byte_from (decode_sized digits 1)
+byte_in digits = byte_of_decoded (decode_sized digits 1)
 
-abbrev pub id_from : Result (List ℕ) FromHexError → Option ℕ
-id_from (Ok bytes) = Some (from_be_bytes w32 bytes)
-id_from (Err fault) = None
+abbrev pub id_of_decoded : Result (List ℕ) FromHexError → Option ℕ
+id_of_decoded (Ok bytes) = Some (from_be_bytes w32 bytes)
+id_of_decoded (Err fault) = None
 
 -- the ID that a text spells
 abbrev pub id_in : List ℕ → Option ℕ
-id_in digits = id_from (decode_sized digits 4)
+id_in digits = id_of_decoded (decode_sized digits 4)
 
-abbrev pub eep_from : Option ℕ → Option ℕ → Option ℕ → Option Eep
-eep_from (Some rorg) (Some func) (Some typ) = Some (record { rorg = rorg; func = func; typ = typ })
-eep_from rorg func typ = None
+abbrev pub eep_of_bytes : Option ℕ → Option ℕ → Option ℕ → Option Eep
+eep_of_bytes (Some rorg) (Some func) (Some typ) = Some (record { rorg = rorg; func = func; typ = typ })
+eep_of_bytes rorg func typ = None
 
 -- the profile that a text spells
 abbrev pub eep_in : List ℕ → Option Eep
 eep_in (a ∷ b ∷ x ∷ c ∷ d ∷ y ∷ e ∷ f ∷ []) =
-    if x == 45 && y == 45 then eep_from (byte_in (a ∷ b ∷ [])) (byte_in (c ∷ d ∷ [])) (byte_in (e ∷ f ∷ [])) else None
+    if x == 45 && y == 45 then eep_of_bytes (byte_in (a ∷ b ∷ [])) (byte_in (c ∷ d ∷ [])) (byte_in (e ∷ f ∷ [])) else None
 eep_in text = None
 
 -- the state and the quantity that a text spells

@@ -1,15 +1,15 @@
 //! The parser of orders.
 ghost use Rattle.std.specs.Prelude.{◌≡◌, ◌∷◌, Some};
-ghost use Rattle.actuator_commands.specs.Orders.{one_word, two_words, three_words, four_words, plain_order};
-ghost use Rattle.actuator_commands.specs.Orders.{label_order, order_of, result_of};
-ghost use Rattle.actuator_commands.specs.Words.{words_left};
+ghost use Rattle.actuator_commands.specs.Orders.{one_word_order, two_word_order, three_word_order, four_word_order, order_without_label};
+ghost use Rattle.actuator_commands.specs.Orders.{label_order, order_of, order_or_fault};
+ghost use Rattle.actuator_commands.specs.Words.{remaining_words};
 
 use crate::orders::{Order, OrderFault, is_in_range};
 use crate::words::{eep_of, id_of, label_of, next_word, number_of, quantity_of, state_of};
 use learned_devices::Label;
 
-fn one_word(name: &[u8]) -> Option<Order>
-    ensures { result ≡ one_word name.now }
+fn one_word_order(name: &[u8]) -> Option<Order>
+    ensures { result ≡ one_word_order name.now }
 {
     if name == b"list".as_slice() {
         Some(Order::List)
@@ -22,8 +22,8 @@ fn one_word(name: &[u8]) -> Option<Order>
     }
 }
 
-fn two_words(name: &[u8], second: &[u8]) -> Option<Order>
-    ensures { result ≡ two_words name.now second.now }
+fn two_word_order(name: &[u8], second: &[u8]) -> Option<Order>
+    ensures { result ≡ two_word_order name.now second.now }
 {
     if name == b"learn".as_slice() && second == b"on".as_slice() {
         Some(Order::LearnOn)
@@ -42,8 +42,8 @@ fn two_words(name: &[u8], second: &[u8]) -> Option<Order>
     }
 }
 
-fn three_words(name: &[u8], second: &[u8], third: &[u8]) -> Option<Order>
-    ensures { result ≡ three_words name.now second.now third.now }
+fn three_word_order(name: &[u8], second: &[u8], third: &[u8]) -> Option<Order>
+    ensures { result ≡ three_word_order name.now second.now third.now }
 {
     if name == b"learn".as_slice() && second == b"on".as_slice() && third == b"answer".as_slice() {
         Some(Order::LearnOnAnswer)
@@ -71,8 +71,8 @@ fn three_words(name: &[u8], second: &[u8], third: &[u8]) -> Option<Order>
     }
 }
 
-fn four_words(name: &[u8], second: &[u8], third: &[u8], fourth: &[u8]) -> Option<Order>
-    ensures { result ≡ four_words name.now second.now third.now fourth.now }
+fn four_word_order(name: &[u8], second: &[u8], third: &[u8], fourth: &[u8]) -> Option<Order>
+    ensures { result ≡ four_word_order name.now second.now third.now fourth.now }
 {
     if name == b"switch".as_slice() {
         Some(Order::Switch {
@@ -105,8 +105,8 @@ fn four_words(name: &[u8], second: &[u8], third: &[u8], fourth: &[u8]) -> Option
 
 // The order, except `label`, whose shape a line has, whatever its numbers. `name` is the line's first word, and `left`
 // the rest after it.
-fn plain_order(name: &[u8], mut left: Option<&[u8]>) -> Option<Order>
-    ensures { result ≡ plain_order (name.now ∷ words_left left.entry) }
+fn order_without_label(name: &[u8], mut left: Option<&[u8]>) -> Option<Order>
+    ensures { result ≡ order_without_label (name.now ∷ remaining_words left.entry) }
 {
     let words = (
         next_word(&mut left),
@@ -115,17 +115,17 @@ fn plain_order(name: &[u8], mut left: Option<&[u8]>) -> Option<Order>
         next_word(&mut left),
     );
     match words {
-        (None, ..) => one_word(name),
-        (Some(second), None, ..) => two_words(name, second),
-        (Some(second), Some(third), None, _) => three_words(name, second, third),
-        (Some(second), Some(third), Some(fourth), None) => four_words(name, second, third, fourth),
+        (None, ..) => one_word_order(name),
+        (Some(second), None, ..) => two_word_order(name, second),
+        (Some(second), Some(third), None, _) => three_word_order(name, second, third),
+        (Some(second), Some(third), Some(fourth), None) => four_word_order(name, second, third, fourth),
         _ => None,
     }
 }
 
 // The order whose shape a line has, if it is in range.
 fn in_range(order: Order) -> Result<Order, OrderFault>
-    ensures { result ≡ result_of (Some order) }
+    ensures { result ≡ order_or_fault (Some order) }
 {
     if !is_in_range(&order) {
         return Err(OrderFault::Range);
@@ -135,7 +135,7 @@ fn in_range(order: Order) -> Result<Order, OrderFault>
 
 // The order of a line that begins with the word `label`; `left` is the rest after it.
 fn label_order(mut left: Option<&[u8]>) -> Result<Order, OrderFault>
-    ensures { result ≡ result_of (label_order (words_left left.entry)) }
+    ensures { result ≡ order_or_fault (label_order (remaining_words left.entry)) }
 {
     let digits = next_word(&mut left).ok_or(OrderFault::Syntax)?;
     let id = id_of(digits).ok_or(OrderFault::Syntax)?;
@@ -161,6 +161,6 @@ pub fn parse(line: &[u8]) -> Result<Order, OrderFault>
     if name == b"label".as_slice() {
         return label_order(left);
     }
-    let order = plain_order(name, left).ok_or(OrderFault::Syntax)?;
+    let order = order_without_label(name, left).ok_or(OrderFault::Syntax)?;
     in_range(order)
 }

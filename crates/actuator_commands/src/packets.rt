@@ -1,11 +1,11 @@
 //! The telegrams of orders to devices.
 ghost use Rattle.std.specs.Prelude.{◌≡◌, ◌+◌, ◌^◌, ◌<◌, ◌≤◌, IsTrue, Ok, Some, length, true};
 ghost use Rattle.std.specs.Option.{option_copied};
-ghost use Rattle.erp1_telegrams.specs.Address.{is_base};
-ghost use Rattle.erp1_telegrams.specs.Telegram.{payload_fits};
+ghost use Rattle.erp1_telegrams.specs.Address.{is_base_id};
+ghost use Rattle.erp1_telegrams.specs.Telegram.{payload_length_fits};
 ghost use Rattle.actuator_commands.specs.Limits.{max_channel};
 ghost use Rattle.actuator_commands.specs.Orders.{IsInRange};
-ghost use Rattle.actuator_commands.specs.Packets.{ToOne, has_profile, meter_byte, order_telegram, payload_for};
+ghost use Rattle.actuator_commands.specs.Packets.{ToOne, accepts_profile, meter_query_byte, order_telegram, payload_for};
 ghost use Rattle.actuator_commands.specs.Packets.{query_payload, sends, telegram_for, telegram_to_all, telegram_to_one};
 
 use crate::orders::{Order, OrderFault, Quantity};
@@ -23,8 +23,8 @@ enum Actuator {
 
 impl Actuator {
     // Whether devices with this profile are such actuators.
-    fn has_profile(self, eep: Eep) -> bool
-        ensures { result ≡ has_profile self eep }
+    fn accepts_profile(self, eep: Eep) -> bool
+        ensures { result ≡ accepts_profile self eep }
     {
         match self {
             Actuator::Switch => eep.rorg == rorg::VLD && eep.func == 0x01,
@@ -40,11 +40,11 @@ impl Actuator {
         device: Option<&Device>,
         base: u32,
     ) -> Result<Telegram, OrderFault>
-        requires { IsTrue (payload_fits 0xD2 (length payload.now)) }
+        requires { IsTrue (payload_length_fits 0xD2 (length payload.now)) }
         ensures { result ≡ telegram_for (ToOne id (payload_for self payload.now)) (option_copied device.entry) base }
     {
         let known = device.ok_or(OrderFault::UnknownDevice)?;
-        if !self.has_profile(known.eep) {
+        if !self.accepts_profile(known.eep) {
             return Err(OrderFault::WrongProfile);
         }
         Ok(to_one(id, payload, base))
@@ -53,7 +53,7 @@ impl Actuator {
 
 // A VLD telegram from the base ID to a device.
 fn to_one(id: u32, payload: &[u8], base: u32) -> Telegram
-    requires { IsTrue (payload_fits 0xD2 (length payload.now)) }
+    requires { IsTrue (payload_length_fits 0xD2 (length payload.now)) }
     ensures { Ok result ≡ telegram_to_one base id (Some payload.now) }
 {
     match Telegram::new(rorg::VLD, payload, base, 0, id, None) {
@@ -68,9 +68,9 @@ fn query(id: u32, channel: u32, device: Option<&Device>, base: u32) -> Result<Te
     ensures { result ≡ telegram_for (ToOne id (query_payload channel)) (option_copied device.entry) base }
 {
     let device = device.ok_or(OrderFault::UnknownDevice)?;
-    if Actuator::Switch.has_profile(device.eep) {
+    if Actuator::Switch.accepts_profile(device.eep) {
         Ok(to_one(id, &[0x03, channel as u8], base))
-    } else if Actuator::Blind.has_profile(device.eep) && channel == 0 {
+    } else if Actuator::Blind.accepts_profile(device.eep) && channel == 0 {
         Ok(to_one(id, &[0x03], base))
     } else {
         Err(OrderFault::WrongProfile)
@@ -78,9 +78,9 @@ fn query(id: u32, channel: u32, device: Option<&Device>, base: u32) -> Result<Te
 }
 
 // The byte that asks for a quantity of a channel.
-fn meter_byte(channel: u32, quantity: Quantity) -> u8
+fn meter_query_byte(channel: u32, quantity: Quantity) -> u8
     requires { channel ≤ max_channel }
-    ensures { result ≡ meter_byte channel quantity }
+    ensures { result ≡ meter_query_byte channel quantity }
 {
     match quantity {
         Quantity::Energy => channel as u8,
@@ -116,7 +116,7 @@ fn to_all(offset: u32, payload: [u8; 4], base: u32) -> Result<Telegram, OrderFau
 pub fn packet_of(order: &Order, device: Option<&Device>, base: u32) -> Result<Telegram, OrderFault>
     requires sends { sends order.now ≡ true }
     requires in_range { IsInRange order.now }
-    requires base { is_base base ≡ true }
+    requires base { is_base_id base ≡ true }
     ensures { Some result ≡ order_telegram order.now (option_copied device.entry) base }
 {
     match *order {
@@ -132,7 +132,7 @@ pub fn packet_of(order: &Order, device: Option<&Device>, base: u32) -> Result<Te
             id,
             channel,
             quantity,
-        } => Actuator::Switch.telegram(id, &[0x06, meter_byte(channel, quantity)], device, base),
+        } => Actuator::Switch.telegram(id, &[0x06, meter_query_byte(channel, quantity)], device, base),
         Order::Blind { id, value } => {
             let payload = [value as u8, 0x7F, 0x00, 0x01];
             Actuator::Blind.telegram(id, &payload, device, base)

@@ -3,7 +3,7 @@ ghost use Rattle.std.specs.Prelude.{◌≡◌, ◌==◌, [], ◌∷◌, MatchOpt
 ghost use Rattle.std.specs.Char.{is_ascii_digit};
 ghost use Rattle.std.specs.List.{list_all};
 ghost use Rattle.actuator_commands.specs.Words.{has_no_leading_zero, byte_in, eep_in, id_in, is_number, number_in};
-ghost use Rattle.actuator_commands.specs.Words.{label_text_in, quantity_in, state_in, label_in, words_left};
+ghost use Rattle.actuator_commands.specs.Words.{label_text_in, quantity_in, state_in, label_in, remaining_words};
 
 use crate::orders::Quantity;
 use erp1_telegrams::Eep;
@@ -11,7 +11,7 @@ use hex::FromHex;
 use learned_devices::has_label_form;
 
 // The index of the first space.
-fn space(line: &[u8]) -> Option<usize>
+fn find_space(line: &[u8]) -> Option<usize>
     ensures { result ≡ position (λ b. b == 32) line.now }
 {
     line.iter().position(|b| *b == b' ')
@@ -20,11 +20,11 @@ fn space(line: &[u8]) -> Option<usize>
 /// Splits off the next word of a line, whose rest is `left`. `left` becomes the rest after the word's space, or `None`
 /// at the end. Returns `None` after the last word.
 pub(crate) fn next_word<'a>(left: &mut Option<&'a [u8]>) -> Option<&'a [u8]>
-    ensures { MatchOption result (words_left left.old ≡ [])
-        (λ word. words_left left.old ≡ word.now ∷ words_left left.new) }
+    ensures { MatchOption result (remaining_words left.old ≡ [])
+        (λ word. remaining_words left.old ≡ word.now ∷ remaining_words left.new) }
 {
     let line = (*left)?;
-    match space(line) {
+    match find_space(line) {
         Some(at) => {
             *left = Some(&line[at + 1..]);
             Some(&line[..at])
@@ -137,7 +137,7 @@ fn text_of(text: &[u8]) -> Option<&str>
 /// Reads the rest of a line as the text of a label, of any length and with its spaces. The text is empty if there is no
 /// rest, and there is none if nothing follows a last space.
 pub(crate) fn label_of(left: Option<&[u8]>) -> Option<&str>
-    ensures { option_map (λ label. label.now) result ≡ label_in (words_left left.entry) }
+    ensures { option_map (λ label. label.now) result ≡ label_in (remaining_words left.entry) }
 {
     match left {
         Some(text) => text_of(text),

@@ -36,21 +36,21 @@ pub fn put<const N: usize, const O: usize, const L: usize>(bytes: &mut [u8; N], 
 }
 
 // The bytes that contain a field: from `first` to before `end`. Their last `below` bits are after the field.
-struct Span {
+struct ByteSpan {
     first: usize,
     end: usize,
     below: usize,
 }
 
 // The bytes that contain the field of `len` bits at `offset`.
-fn span_of(offset: usize, len: usize) -> Span
+fn byte_span_of(offset: usize, len: usize) -> ByteSpan
     requires { len ≤ 32 }
     ensures begins { (8 * result.first ≤ offset) × (offset < 8 * result.first + 8) }
     ensures ends { (8 * result.end ≡ offset + len + result.below) × (result.below < 8) }
 {
     let first = offset / 8;
     let count = (offset % 8 + len + 7) / 8;
-    Span {
+    ByteSpan {
         first,
         end: first + count,
         below: 8 * count - (offset % 8 + len),
@@ -64,7 +64,7 @@ fn field_at(bytes: &[u8], offset: usize, len: usize) -> u32
     ensures value { result ≡ field bytes.now offset len }
     ensures fits { result < 2 ^ len }
 {
-    let Span { first, end, below } = span_of(offset, len);
+    let ByteSpan { first, end, below } = byte_span_of(offset, len);
     let wide = big_endian::read(&bytes[first..end]);
     (wide >> below & ((1u64 << len) - 1)) as u32
 }
@@ -76,7 +76,7 @@ fn set_field_at(bytes: &mut [u8], offset: usize, len: usize, value: u32)
     requires fits { value < 2 ^ len }
     ensures { WithField bytes.old offset len value bytes.new }
 {
-    let Span { first, end, below } = span_of(offset, len);
+    let ByteSpan { first, end, below } = byte_span_of(offset, len);
     let part = &mut bytes[first..end];
     let wide = big_endian::read(part);
     let high = wide >> (below + len) << (below + len);

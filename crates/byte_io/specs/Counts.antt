@@ -7,8 +7,8 @@ use Rattle.std.specs.Prelude.{MatchResult}
 abbrev pub saturated_sum : ℕ → ℕ → ℕ
 saturated_sum count n = min (count + n) (2 ^ 64 - 1)
 
-abbrev pub saturated_next : ℕ → ℕ
-saturated_next count = saturated_sum count 1
+abbrev pub saturated_increment : ℕ → ℕ
+saturated_increment count = saturated_sum count 1
 
 -- the number of calls, of those that failed, and of those that returned 0 bytes; each counter stays at its maximum
 pub record Counts : Type 0 where
@@ -22,13 +22,13 @@ no_calls = record { calls = 0; failed = 0; empty = 0 }
 -- the counters after a call with this result
 abbrev pub count_call : {E : Type 0} → Counts → Result ℕ E → Counts
 count_call counts (Ok n) = record {
-  calls = saturated_next counts.calls;
+  calls = saturated_increment counts.calls;
   failed = counts.failed;
-  empty = if n == 0 then saturated_next counts.empty else counts.empty;
+  empty = if n == 0 then saturated_increment counts.empty else counts.empty;
 }
 count_call counts (Err e) = record {
-  calls = saturated_next counts.calls;
-  failed = saturated_next counts.failed;
+  calls = saturated_increment counts.calls;
+  failed = saturated_increment counts.failed;
   empty = counts.empty;
 }
 
@@ -41,21 +41,21 @@ abbrev pub NoneFailed : Counts → Counts → Type 0
 NoneFailed old new = new.failed ≡ old.failed
 
 -- one call failed
-abbrev pub OneMoreFailed : Counts → Counts → Type 0
-OneMoreFailed old new = new.failed ≡ saturated_next old.failed
+abbrev pub FailedOnceMore : Counts → Counts → Type 0
+FailedOnceMore old new = new.failed ≡ saturated_increment old.failed
 
 -- one call failed, and none returned 0 bytes
-abbrev pub OneFailed : Counts → Counts → Type 0
-OneFailed old new = (new.failed ≡ saturated_next old.failed) × (new.empty ≡ old.empty)
+abbrev pub OnlyFailedOnce : Counts → Counts → Type 0
+OnlyFailedOnce old new = (new.failed ≡ saturated_increment old.failed) × (new.empty ≡ old.empty)
 
 -- one call returned 0 bytes, and none failed
-abbrev pub OneEmpty : Counts → Counts → Type 0
-OneEmpty old new = (new.failed ≡ old.failed) × (new.empty ≡ saturated_next old.empty)
+abbrev pub OnlyEmptyOnce : Counts → Counts → Type 0
+OnlyEmptyOnce old new = (new.failed ≡ old.failed) × (new.empty ≡ saturated_increment old.empty)
 
 -- all calls succeeded for `Ok`, and all but one for `Err`
 abbrev pub CallsMatchResult : {A E : Type 0} → Result A E → Counts → Counts → Type 0
 CallsMatchResult result old new =
-    MatchResult result (λ _. NoneFailedOrEmpty old new) (λ _. OneFailed old new ⊎ OneEmpty old new)
+    MatchResult result (λ _. NoneFailedOrEmpty old new) (λ _. OnlyFailedOnce old new ⊎ OnlyEmptyOnce old new)
 
 -- n calls were made
 abbrev pub CallsMade : Counts → Counts → ℕ → Type 0

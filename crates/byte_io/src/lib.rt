@@ -2,11 +2,14 @@
 //! of it.
 #![tactic(auto)]
 
+pub mod laws;
+mod limits;
 mod sink;
 mod source;
 mod tally;
 mod writing;
 
+pub use limits::MAX_READ;
 pub use sink::{OverWrite, Sink};
 pub use source::{OverRead, Source};
 pub use tally::Failed;

@@ -12,7 +12,7 @@ use Rattle.sqlite.specs.State.{State, HasCleanDisk}
 use Rattle.learned_devices.specs.declared.Device.{Device}
 use Rattle.learned_devices.specs.Devices.{Devices, DeviceData, DeviceUpdate, apply_update, data_after, with_entry}
 use Rattle.learned_devices.specs.Devices.{device, device_of}
-use Rattle.learned_devices.specs.StoreState.{Keeps, Commits}
+use Rattle.learned_devices.specs.DeviceStoreState.{Keeps, Commits}
 use Rattle.device_registry.specs.Holding.{HasDevices, registry_state}
 use Rattle.device_registry.specs.Ready.{IsReady}
 use Rattle.device_registry.specs.private.Cached.{EntryAgrees, CacheAgrees}

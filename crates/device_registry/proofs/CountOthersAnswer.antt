@@ -26,7 +26,7 @@ use Rattle.sqlite_sql.specs.Group.{Grouping, IsSummary, value_over}
 use Rattle.sqlite_sql.specs.Aggregate.{count}
 use Rattle.sqlite_sql.specs.declared.aggregate.AggregateOp.TheVariants.{CountRows}
 use Rattle.sqlite.proofs.Callers.{IsPlain, reads_as, one_permutation}
-use Rattle.device_registry.specs.Table.{count_others_text}
+use Rattle.device_registry.specs.Table.{count_others_sql}
 use Rattle.sqlite.specs.Listing.{understood}
 use Rattle.device_registry.specs.Ready.{IsReady, IsReadyWith, WritesNothing}
 use Rattle.learned_devices.specs.Devices.{Devices, is_full, max_devices}
@@ -117,13 +117,13 @@ others_length id (row ∷ rows) all =
     (others id rows) row (without_rowid (pos id) rows) (others_length id rows all.1))
 
 pub counts : (old new : State) (id : ℕ) (rows : List Row) (devices : Devices) → IsRegistryOf old.now devices
-    → Shown count_others_text (asked id) old new rows → rows ≡ (count (len (remove devices id)) ∷ []) ∷ []
+    → Shown count_others_sql (asked id) old new rows → rows ≡ (count (len (remove devices id)) ∷ []) ∷ []
 counts old new id rows devices had h =
     let r = had.registry in
     let table = old.now.trees r.tables.devices in
     let it = count_means old.now.schema r.tables.devices_at r.tables.devices r.tables.devices_stand in
     let read =
-    reads_as count_others_text (asked id) old new old.now.schema refl
+    reads_as count_others_sql (asked id) old new old.now.schema refl
     (Select (program_of (others_query r.tables.devices)) (codes "count(*)" ∷ [])) it.is it.plain it.unlisted rows h in
     let size : length (others id table) ≡ len (remove devices id) =
     others_length id table r.whole.rows
@@ -132,7 +132,7 @@ counts old new id rows devices had h =
     ∙ ap len (devices_without table id r.whole.rows ∙ ap (λ m. remove m id) had.is) in
     counted r.tables.devices id old.now.trees rows (read.answer Null) ∙ ap (λ n. (count n ∷ []) ∷ []) size
 
-pub others_plain : (s : State) → IsReady s → IsPlain (understood s.now.schema count_others_text)
+pub others_plain : (s : State) → IsReady s → IsPlain (understood s.now.schema count_others_sql)
 others_plain s ready =
     let r = ready.shows.registers.registry in
     (count_means s.now.schema r.tables.devices_at r.tables.devices r.tables.devices_stand).plain
@@ -140,12 +140,12 @@ others_plain s ready =
 -- the query writes nothing
 pub others_stay : {V : Type 0} (id : ℕ) (text : List ℕ) (old mid new : State) (items : V → List Row)
     (r : Result V Error)
-    → WritesNothing old mid → (HasCleanDisk mid → text ≡ count_others_text) → (HasCleanDisk mid → IsReady mid)
+    → WritesNothing old mid → (HasCleanDisk mid → text ≡ count_others_sql) → (HasCleanDisk mid → IsReady mid)
     → Survives mid new (CommitsShowing text (asked id) mid)
     → (HasCleanDisk new → IfOk r (λ v. Shown text (asked id) mid new (items v)))
     → (HasCleanDisk new → IfErr r (FailsToQuery text (asked id) mid new)) → WritesNothing old new
 others_stay id text old mid new items r first is ready survives shown failed =
-    compiled_query_stays count_others_text text (asked id) old mid new items r first is
+    compiled_query_stays count_others_sql text (asked id) old mid new items r first is
     (λ clean. others_plain mid (ready clean))
     survives shown failed
 
@@ -164,7 +164,7 @@ full_told others n is few =
     ap (nat_le max_devices) (omega (arith, same, few))
 
 pub told_full : (old new : State) (id : ℕ) (rows : List Row) (n : ℕ) (row : Row) (more : List Row) (devices : Devices)
-    → IsReadyWith old devices → Shown count_others_text (asked id) old new rows → rows ≡ row ∷ more
+    → IsReadyWith old devices → Shown count_others_sql (asked id) old new rows → rows ≡ row ∷ more
     → column row 0 ≡ Int (pos n) → nat_le max_devices n ≡ is_full devices id
 told_full old new id rows n row more devices shows h are number =
     full_told (len (remove devices id)) n (shown_number (count (len (remove devices id))) n row more

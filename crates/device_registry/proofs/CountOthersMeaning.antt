@@ -17,10 +17,10 @@ use Rattle.device_registry.proofs.StatementTexts.{id_test, program_of, others_qu
 use Rattle.device_registry.proofs.TextMeaning.{Means, draft_of}
 use Rattle.device_registry.proofs.SelectMeaning.{IsPlainSelect, plain_select, select_means}
 use Rattle.device_registry.specs.declared.table.Version.TheVariants.{Second}
-use Rattle.device_registry.specs.Table.{count_others_text, device_name, device_table}
+use Rattle.device_registry.specs.Table.{count_others_sql, device_name, device_table}
 use Rattle.device_registry.specs.Stored.{IsTableAt}
 
-count_is : IsPlainSelect count_others_text
+count_is : IsPlainSelect count_others_sql
     (plain_select (device_name Second) (One (CallStar (codes "count")) None (codes "count(*)") ∷ []) (id_test Ne) [])
 unfolding everything
 count_is = record { read = record { parsed = _; read = refl; is = refl; timeless = refl } }
@@ -33,7 +33,7 @@ count_draft d =
     record (draft_of (device_table Second d) (others_query d)) { group = Some groups }
 
 pub count_means : (schema : Schema) (at d : ℕ) → IsTableAt schema (device_name Second) (device_table Second d) at
-    → Means schema count_others_text (Select (program_of (others_query d)) (codes "count(*)" ∷ []))
+    → Means schema count_others_sql (Select (program_of (others_query d)) (codes "count(*)" ∷ []))
 unfolding everything
 count_means schema at d it =
     select_means count_is it (count_draft d) (None ∷ [])

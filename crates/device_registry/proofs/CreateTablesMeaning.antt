@@ -16,7 +16,7 @@ use Rattle.sqlite_tied.specs.Compute.{everything}
 use Rattle.sqlite.proofs.Callers.{statement_of}
 use Rattle.device_registry.proofs.TextMeaning.{IsRead, Means, means, understood_as}
 use Rattle.device_registry.specs.declared.table.Version.TheVariants.{Second}
-use Rattle.device_registry.specs.Table.{meta_name, device_name, meta_text, device_text, device_table, meta_table}
+use Rattle.device_registry.specs.Table.{meta_name, device_name, create_meta_sql, create_device_sql, device_table, meta_table}
 
 -- nothing in the schema has the name
 pub unused : (schema : Schema) (name : List ℕ) → is_used schema name ≡ false
@@ -52,19 +52,19 @@ module _ {text : List ℕ} (table : Table) {def : Defined} (it : IsRead text (wr
       let meant = means schema _ it refl (λ base. refl) (λ base. created) in
       record { means = meant; alone = ap (statement_of text) known ∙ whole }
 
-unfoldable meta_read : (def : Defined) × IsRead meta_text (written.CreateTable def)
+unfoldable meta_read : (def : Defined) × IsRead create_meta_sql (written.CreateTable def)
 unfolding everything
 meta_read = (_, record { parsed = _; read = refl; is = refl; timeless = refl })
 
-pub meta_makes : (schema : Schema) → is_used schema meta_name ≡ false → Makes schema meta_text
+pub meta_makes : (schema : Schema) → is_used schema meta_name ≡ false → Makes schema create_meta_sql
 unfolding everything meta_read
 meta_makes = makes (meta_table 0) meta_read.1 refl refl refl refl refl
 
-unfoldable second_read : (def : Defined) × IsRead (device_text Second) (written.CreateTable def)
+unfoldable second_read : (def : Defined) × IsRead (create_device_sql Second) (written.CreateTable def)
 unfolding everything
 second_read = (_, record { parsed = _; read = refl; is = refl; timeless = refl })
 
 pub device_makes : (schema : Schema) → is_used schema (device_name Second) ≡ false
-    → Makes schema (device_text Second)
+    → Makes schema (create_device_sql Second)
 unfolding everything second_read
 device_makes = makes (device_table Second 0) second_read.1 refl refl refl refl refl

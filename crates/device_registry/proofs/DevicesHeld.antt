@@ -22,7 +22,7 @@ use Rattle.sqlite_catalog.proofs.LayoutLemmas.{zipped_left}
 use Rattle.sqlite_catalog.proofs.ReadLemmas.{lists_once}
 use Rattle.device_registry.specs.declared.table.Version.{Version}
 use Rattle.device_registry.specs.declared.table.Version.TheVariants.{Second}
-use Rattle.device_registry.specs.Table.{device_name, device_text, device_table, meta_name, meta_text, meta_table}
+use Rattle.device_registry.specs.Table.{device_name, create_device_sql, device_table, meta_name, create_meta_sql, meta_table}
 use Rattle.learned_devices.specs.Devices.{Devices, DeviceData, is_full, max_devices}
 use Rattle.device_registry.specs.Stored.{IsRegistry, IsRegistryOfVersion, HoldsAs, IsRegistryOf, Holds, IsTableAt}
 use Rattle.device_registry.specs.Stored.{AreListed, IsListedAs}
@@ -30,10 +30,10 @@ use Rattle.device_registry.specs.Table.Rows.{RowidsDiffer, IsDevice, IsVersion, 
 use Rattle.device_registry.specs.Opening.{DevicesAreLimited}
 use Rattle.device_registry.proofs.RowsAsMap.{IsShort, devices_replaced, put_are_devices, all_without_are_devices}
 use Rattle.device_registry.proofs.DistinctRows.{len_is, apart_put}
-use Rattle.device_registry.proofs.PutEffect.{IsPut}
+use Rattle.device_registry.proofs.UpsertEffect.{IsPut}
 use Rattle.device_registry.proofs.RowWrites.{SparesOthers, without_once}
 use Rattle.device_registry.proofs.ForgetEffect.{IsForgotten}
-use Rattle.device_registry.proofs.RenewEffect.{version_row}
+use Rattle.device_registry.proofs.RewriteVersionEffect.{version_row}
 
 -- ---- one database has one list of devices
 
@@ -83,7 +83,7 @@ held_once = held_by Second
 pub listed_still : (version : Version) (before after : Trees) → after catalog_tree ≡ before catalog_tree
     → AreListed version before → AreListed version after
 listed_still version before after same listed =
-    (still meta_name meta_text listed.0, still (device_name version) (device_text version) listed.1)
+    (still meta_name create_meta_sql listed.0, still (device_name version) (create_device_sql version) listed.1)
   where
     still : (name text : List ℕ) → IsListedAs before name text → IsListedAs after name text
     still name text it = record {

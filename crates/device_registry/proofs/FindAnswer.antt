@@ -14,7 +14,7 @@ use Rattle.sqlite.specs.Program.{overlay}
 use Rattle.sqlite.specs.State.{State, Shown}
 use Rattle.sqlite.specs.Command.TheVariants.{Select}
 use Rattle.sqlite.proofs.Callers.{IsPlain, reads_as, one_permutation}
-use Rattle.device_registry.specs.Table.{find_text}
+use Rattle.device_registry.specs.Table.{find_sql}
 use Rattle.learned_devices.specs.Devices.{Devices, DeviceData, device, device_of}
 use Rattle.device_registry.specs.Stored.{IsRegistryOf}
 use Rattle.device_registry.specs.Table.Rows.{devices_in, entry_of, natural_in, IsDeviceOrNone}
@@ -34,13 +34,13 @@ answered id devices table rows o is seen_is h = subst (λ m. IsDeviceOrNone (dev
     (sym (get-from_entries nat_cmp_total (map entry_of table) id ∙ seen_is)) h)
 
 pub finds : (old new : State) (id : ℕ) (rows : List Row) (devices : Devices) → IsRegistryOf old.now devices
-    → Shown find_text (asked id) old new rows → IsDeviceOrNone (device_of devices id) rows
+    → Shown find_sql (asked id) old new rows → IsDeviceOrNone (device_of devices id) rows
 finds old new id rows devices had h =
     let r = had.registry in
     let q = find_query r.tables.devices in
     let table = old.now.trees r.tables.devices in
     let it = find_means old.now.schema r.tables.devices_at r.tables.devices r.tables.devices_stand in
-    let read = reads_as find_text (asked id) old new old.now.schema refl
+    let read = reads_as find_sql (asked id) old new old.now.schema refl
     (Select (program_of q) shown_columns) it.is it.plain it.unlisted rows h in
     let a : IsAnswer q (overlay old.now.trees []) (asked id) rows = read.answer Null in
     let kept : a.kept ≡ map (output q) (hits id table) =
@@ -62,15 +62,15 @@ finds old new id rows devices had h =
           (shown some.0, are, ap (λ v. device (natural_in v) (entry_of some.0).1) some.3)
     ]
 
-pub find_plain : (s : State) → IsReady s → IsPlain (understood s.now.schema find_text)
+pub find_plain : (s : State) → IsReady s → IsPlain (understood s.now.schema find_sql)
 find_plain s ready =
     let r = ready.shows.registers.registry in
     (find_means s.now.schema r.tables.devices_at r.tables.devices r.tables.devices_stand).plain
 
-pub looked_up : (old new : State) (id : ℕ) (rows : List Row) → IsReady old → Shown find_text (asked id) old new rows
+pub looked_up : (old new : State) (id : ℕ) (rows : List Row) → IsReady old → Shown find_sql (asked id) old new rows
     → IsReady new × ((devices : Devices) → IsReadyWith old devices → IsDeviceOrNone (device_of devices id) rows)
 looked_up old new id rows ready h = (
-  query_ready find_text (asked id) old new rows (find_plain old ready) ready h,
+  query_ready find_sql (asked id) old new rows (find_plain old ready) ready h,
   λ devices shows. finds old new id rows devices shows.registers h,
 )
 

@@ -9,13 +9,13 @@ use Rattle.device_registry.proofs.StatementTexts.{column_read, id_test, program_
 use Rattle.device_registry.proofs.TextMeaning.{Means, draft_of}
 use Rattle.device_registry.proofs.SelectMeaning.{IsPlainSelect, plain_select, select_means}
 use Rattle.device_registry.specs.declared.table.Version.TheVariants.{Second}
-use Rattle.device_registry.specs.Table.{find_text, device_name, device_table}
+use Rattle.device_registry.specs.Table.{find_sql, device_name, device_table}
 use Rattle.device_registry.specs.Stored.{IsTableAt}
 
 abbrev pub shown_columns : List (List ℕ)
 shown_columns = codes "id" ∷ codes "eep" ∷ codes "maker" ∷ codes "label" ∷ []
 
-find_is : IsPlainSelect find_text
+find_is : IsPlainSelect find_sql
     (plain_select (device_name Second) (column_read (codes "id") ∷ column_read (codes "eep")
     ∷ column_read (codes "maker") ∷ column_read (codes "label") ∷ []) (id_test Eq) [])
 unfolding everything
@@ -23,7 +23,7 @@ find_is = record { read = record { parsed = _; read = refl; is = refl; timeless 
 
 -- The rowid has no collation.
 pub find_means : (schema : Schema) (at d : ℕ) → IsTableAt schema (device_name Second) (device_table Second d) at
-    → Means schema find_text (Select (program_of (find_query d)) shown_columns)
+    → Means schema find_sql (Select (program_of (find_query d)) shown_columns)
 unfolding everything
 find_means schema at d it =
     select_means find_is it (draft_of (device_table Second d) (find_query d))

@@ -17,7 +17,7 @@ use Rattle.sqlite_keyed.proofs.SortLemmas.{sorted_unique}
 use Rattle.sqlite.proofs.Callers.{IsPlain, reads_as}
 use Rattle.device_registry.specs.declared.table.Version.{Version}
 use Rattle.device_registry.specs.declared.table.Version.TheVariants.{First, Second}
-use Rattle.device_registry.specs.Table.{find_all_text}
+use Rattle.device_registry.specs.Table.{find_all_sql}
 use Rattle.learned_devices.specs.Devices.{Devices, device, all_of}
 use Rattle.device_registry.specs.Stored.{IsRegistryOf}
 use Rattle.device_registry.specs.Table.Rows.{RowidsDiffer, IsDevice, entry_of, device_in_row, with_label, rows_of}
@@ -84,13 +84,13 @@ shows_ranked version d db rows all apart a =
     a.shown ∙ ap (map (λ (o : Output). o.1)) ordered ∙ shown_are up
 
 pub lists : (old new : State) (rows : List Row) (devices : Devices) → IsRegistryOf old.now devices
-    → Shown (find_all_text Second) [] old new rows → map device_in_row rows ≡ all_of devices
+    → Shown (find_all_sql Second) [] old new rows → map device_in_row rows ≡ all_of devices
 lists old new rows devices had h =
     let r = had.registry in
     let table = old.now.trees r.tables.devices in
     let it = all_means Second old.now.schema r.tables.devices_at r.tables.devices r.tables.devices_stand in
     let read =
-    reads_as (find_all_text Second) [] old new old.now.schema refl
+    reads_as (find_all_sql Second) [] old new old.now.schema refl
     (Select (program_of (all_query Second r.tables.devices)) (shown_columns Second)) it.is it.plain it.unlisted
     rows h in
     ap (map device_in_row)
@@ -98,7 +98,7 @@ lists old new rows devices had h =
     ∙ listed_are (ranked table) ∙ ap (map (λ entry. device entry.0 entry.1))
     (sym (entries_ranked table r.whole.rows) ∙ ap entries had.is)
 
-pub all_plain : (s : State) → IsReady s → IsPlain (understood s.now.schema (find_all_text Second))
+pub all_plain : (s : State) → IsReady s → IsPlain (understood s.now.schema (find_all_sql Second))
 all_plain s ready =
     let r = ready.shows.registers.registry in
     (all_means Second s.now.schema r.tables.devices_at r.tables.devices r.tables.devices_stand).plain

@@ -12,7 +12,7 @@ use Rattle.device_registry.specs.declared.table.Version.TheVariants.{First, Seco
 use Rattle.device_registry.proofs.StatementTexts.{by_column, column_read, program_of, all_query}
 use Rattle.device_registry.proofs.TextMeaning.{Means, draft_of}
 use Rattle.device_registry.proofs.SelectMeaning.{IsPlainSelect, plain_select, select_means}
-use Rattle.device_registry.specs.Table.{find_all_text, device_name, device_table}
+use Rattle.device_registry.specs.Table.{find_all_sql, device_name, device_table}
 use Rattle.device_registry.specs.Stored.{IsTableAt}
 
 -- the label that is shown, and the name of its column
@@ -28,7 +28,7 @@ abbrev columns_read : Version → List Column
 columns_read version = column_read (codes "id") ∷ column_read (codes "eep") ∷ column_read (codes "maker")
     ∷ label_read version ∷ []
 
-all_is : (version : Version) → IsPlainSelect (find_all_text version)
+all_is : (version : Version) → IsPlainSelect (find_all_sql version)
     (plain_select (device_name version) (columns_read version) None (by_column (codes "id") ∷ []))
 unfolding everything
 all_is First = record { read = record { parsed = _; read = refl; is = refl; timeless = refl } }
@@ -37,7 +37,7 @@ all_is Second = record { read = record { parsed = _; read = refl; is = refl; tim
 -- The rowid has no collation, and neither has a literal text.
 pub all_means : (version : Version) (schema : Schema) (at d : ℕ)
     → IsTableAt schema (device_name version) (device_table version d) at
-    → Means schema (find_all_text version) (Select (program_of (all_query version d)) (shown_columns version))
+    → Means schema (find_all_sql version) (Select (program_of (all_query version d)) (shown_columns version))
 unfolding everything
 all_means First schema at d it =
     select_means (all_is First) it (draft_of (device_table First d) (all_query First d))

@@ -20,14 +20,14 @@ use Rattle.sqlite_tied.specs.Compute.{everything}
 use Rattle.sqlite.proofs.Callers.{IsPlain, command_of}
 use Rattle.device_registry.proofs.StatementTexts.{by_column, column_read, plain_query, program_of}
 use Rattle.device_registry.proofs.SelectMeaning.{PlainSelect, IsPlainSelect, plain_select, core_of, select_of, no_page}
-use Rattle.device_registry.specs.Table.{list_objects_text}
+use Rattle.device_registry.specs.Table.{list_objects_sql}
 
 abbrev list_select : PlainSelect
 list_select = plain_select (codes "sqlite_schema")
     (column_read (codes "name") ∷ column_read (codes "type") ∷ column_read (codes "sql") ∷ [])
     None (by_column (codes "rowid") ∷ [])
 
-list_is : IsPlainSelect list_objects_text list_select
+list_is : IsPlainSelect list_objects_sql list_select
 unfolding everything
 list_is = record { read = record { parsed = _; read = refl; is = refl; timeless = refl } }
 
@@ -46,14 +46,14 @@ module _ (schema : Schema) (no_table : table_named schema (codes "sqlite_schema"
   unfolding query query_to
   list_query = list_level (query_to 15)
 
-  list_compiled : compiled schema list_objects_text ≡ Err NoSuchTable
+  list_compiled : compiled schema list_objects_sql ≡ Err NoSuchTable
   unfolding compiled planned meaning timed returning command read
   list_compiled = rw (list_is.read.read, list_is.read.is, list_query)
 
 -- the text reads the list of objects
 pub lists : (schema : Schema) → table_named schema (codes "sqlite_schema") ≡ None
-    → view_named schema (codes "sqlite_schema") ≡ None → (reads_listing schema list_objects_text ≡ true)
-    × (understood schema list_objects_text ≡ if_select (compiled listing_schema list_objects_text))
+    → view_named schema (codes "sqlite_schema") ≡ None → (reads_listing schema list_objects_sql ≡ true)
+    × (understood schema list_objects_sql ≡ if_select (compiled listing_schema list_objects_sql))
 unfolding understood
 lists schema no_table no_view = let refused = list_compiled schema no_table no_view in (rw refused, rw refused)
 
@@ -62,11 +62,11 @@ list_query_is = record (plain_query 0 [] (col 1 2 ∷ col 1 1 ∷ col 1 5 ∷ []
   order = (col 1 0, record { collation = Binary; descending = false }) ∷ [];
 }
 
-pub list_means : command_of (if_select (compiled listing_schema list_objects_text))
+pub list_means : command_of (if_select (compiled listing_schema list_objects_sql))
     ≡ Reads (program_of list_query_is) (codes "name" ∷ codes "type" ∷ codes "sql" ∷ [])
 unfolding everything listing_schema
 list_means = refl
 
-pub list_plain : IsPlain (if_select (compiled listing_schema list_objects_text))
+pub list_plain : IsPlain (if_select (compiled listing_schema list_objects_sql))
 unfolding everything listing_schema
 list_plain = (refl, refl)

@@ -8,10 +8,10 @@ use Rattle.sqlite.specs.State.{State, HasCleanDisk, Survives, KeepsCommit, Shown
 use Rattle.sqlite.specs.Held.{Held, state}
 use Rattle.sqlite_trees.specs.declared.store.Store.{Ghosts}
 use Rattle.device_registry.specs.declared.table.Version.{Version}
-use Rattle.device_registry.specs.Table.{list_objects_text}
-use Rattle.device_registry.specs.private.CatalogRows.{are_ours}
+use Rattle.device_registry.specs.Table.{list_objects_sql}
+use Rattle.device_registry.specs.private.CatalogRows.{are_our_tables}
 use Rattle.device_registry.specs.Stored.{AreListed}
-use Rattle.device_registry.specs.private.Transaction.{IsUncommitted, IsInside, IsListedInside}
+use Rattle.device_registry.specs.private.Transaction.{IsUncommitted, IsMidTransaction, IsListedMidTransaction}
 use Rattle.device_registry.proofs.ListObjectsAnswer.{listing_plain}
 use Rattle.device_registry.proofs.RefusalKeeps.{spared_commit}
 use Rattle.device_registry.proofs.StatementSteps.{not_shown, shown_same}
@@ -20,25 +20,25 @@ use Rattle.device_registry.proofs.TransactionSteps.{uncommitted_then}
 
 -- the query commits nothing
 seen_commit : {V : Type 0} (items : V → List Row) (old new : State) (r : Result V Error) → IsDatabase old.now
-    → IfOk r (λ v. Shown list_objects_text [] old new (items v))
-    → IfErr r (λ e. FailsToQuery list_objects_text [] old new e ⊎ IsTooLate list_objects_text [] old new e)
+    → IfOk r (λ v. Shown list_objects_sql [] old new (items v))
+    → IfErr r (λ e. FailsToQuery list_objects_sql [] old new e ⊎ IsTooLate list_objects_sql [] old new e)
     → KeepsCommit old new
 seen_commit items old new (Ok v) sound ok err =
-    spared_commit old new (inl (shown_same list_objects_text [] old new (listing_plain old.now sound) (items v) ok))
+    spared_commit old new (inl (shown_same list_objects_sql [] old new (listing_plain old.now sound) (items v) ok))
 seen_commit items old new (Err e) sound ok (inl fails) =
-    spared_commit old new (not_shown list_objects_text [] old new (listing_plain old.now sound) e fails)
+    spared_commit old new (not_shown list_objects_sql [] old new (listing_plain old.now sound) e fails)
 seen_commit items old new (Err e) sound ok (inr late) = spared_commit old new (inl late.5)
 
-module _ {S : Type 0} (g : Ghosts S) (texts : List (List ℕ)) (a b c : Held S) (made : IsInside g texts a b)
+module _ {S : Type 0} (g : Ghosts S) (texts : List (List ℕ)) (a b c : Held S) (made : IsMidTransaction g texts a b)
     (sound : HasCleanDisk (state g b) → IsDatabase (state g b).now)
     (crash : Survives (state g b) (state g c) (λ _. ⊥)) where
   early : HasCleanDisk (state g c) → HasCleanDisk (state g b)
   early clean = omega (arith, clean, crash.clean)
 
   pub seen_uncommitted : {V : Type 0} (items : V → List Row) (r : Result V Error)
-      → (HasCleanDisk (state g c) → IfOk r (λ v. Shown list_objects_text [] (state g b) (state g c) (items v)))
-      → (HasCleanDisk (state g c) → IfErr r (λ e. FailsToQuery list_objects_text [] (state g b) (state g c) e
-      ⊎ IsTooLate list_objects_text [] (state g b) (state g c) e))
+      → (HasCleanDisk (state g c) → IfOk r (λ v. Shown list_objects_sql [] (state g b) (state g c) (items v)))
+      → (HasCleanDisk (state g c) → IfErr r (λ e. FailsToQuery list_objects_sql [] (state g b) (state g c) e
+      ⊎ IsTooLate list_objects_sql [] (state g b) (state g c) e))
       → IsUncommitted (state g a) (state g c)
   seen_uncommitted items r ok err = uncommitted_then (state g a) (state g b) (state g c) made.uncommitted (record {
     crash = crash;
@@ -47,11 +47,11 @@ module _ {S : Type 0} (g : Ghosts S) (texts : List (List ℕ)) (a b c : Held S) 
 
   -- if it shows our lines, the tables are listed
   pub listed_inside : (version : Version) (rows : List Row) → IsUncommitted (state g a) (state g c)
-      → (HasCleanDisk (state g c) → Shown list_objects_text [] (state g b) (state g c) rows)
-      → are_ours version rows ≡ true → IsListedInside g version texts a c
+      → (HasCleanDisk (state g c) → Shown list_objects_sql [] (state g b) (state g c) rows)
+      → are_our_tables version rows ≡ true → IsListedMidTransaction g version texts a c
   listed_inside version rows uncommitted shown ours =
       let same = λ (clean : HasCleanDisk (state g c)).
-      let it : IsUnchanged (state g b) (state g c) = shown_same list_objects_text [] (state g b) (state g c)
+      let it : IsUnchanged (state g b) (state g c) = shown_same list_objects_sql [] (state g b) (state g c)
       (listing_plain (state g b).now (sound (early clean))) rows (shown clean) in it in
       record {
         mid = b;

@@ -9,27 +9,27 @@ use Rattle.sqlite.specs.Steps.{FailsToCommit}
 use Rattle.sqlite.specs.Held.{Held, state}
 use Rattle.sqlite_trees.specs.declared.store.Store.{Ghosts}
 use Rattle.device_registry.specs.declared.table.Version.TheVariants.{First, Second}
-use Rattle.device_registry.specs.Table.{meta_name, device_name, device_text, copy_text, drop_text, rewrite_version_text}
+use Rattle.device_registry.specs.Table.{meta_name, device_name, create_device_sql, copy_sql, drop_sql, rewrite_version_sql}
 use Rattle.device_registry.specs.Table.Rows.{devices_in, rows_of}
 use Rattle.device_registry.specs.Stored.{TreeHasName, IsRegistry, AreListed, IsRegistryOfVersion, IsRegistryOf}
 use Rattle.sqlite.specs.Table.{Table}
 use Rattle.sqlite_schema.specs.Names.{same_name}
 use Rattle.sqlite_rules.proofs.ListLemmas.{all_has}
-use Rattle.device_registry.specs.Ready.{KeepsOthers}
-use Rattle.device_registry.specs.private.Transaction.{IsUncommitted, IsInside, IsListedInside}
+use Rattle.device_registry.specs.Ready.{KeepsOtherTables}
+use Rattle.device_registry.specs.private.Transaction.{IsUncommitted, IsMidTransaction, IsListedMidTransaction}
 use Rattle.device_registry.proofs.DevicesHeld.{registers_by}
 use Rattle.device_registry.proofs.MigrateEffect.{migrates, others_kept}
 use Rattle.device_registry.proofs.TransactionEnd.{Commits, Ends, Shown, ends}
 use Rattle.device_registry.proofs.TransactionSteps.{since}
 
 abbrev pub migration : List (List ℕ)
-migration = device_text Second ∷ copy_text ∷ drop_text ∷ rewrite_version_text ∷ []
+migration = create_device_sql Second ∷ copy_sql ∷ drop_sql ∷ rewrite_version_sql ∷ []
 
 -- if the tables are listed with our texts, the database is a registry of those devices
 abbrev IsMade : (old : Database) → IsRegistry First old → Database → Type 0
 IsMade old was db =
     (AreListed Second db.trees → IsRegistryOf db (devices_in (rows_of First (old.trees was.tables.devices))))
-    × IsDatabase db × KeepsOthers old db
+    × IsDatabase db × KeepsOtherTables old db
 
 -- a table with none of our names is stored in none of our trees
 apart_by_name : (name : List ℕ) (tree : ℕ) (table : Table) → TreeHasName name tree table
@@ -38,11 +38,11 @@ apart_by_name name tree table keeps other same = absurd (let e = sym (keeps same
 
 -- the effect of the texts on a registry of version 1
 module _ {S : Type 0} (g : Ghosts S) (old start mid : Held S) (is : start ≡ record old { in_transaction = true })
-    (it : IsInside g migration start mid) (was : IsRegistry First (state g old).now)
+    (it : IsMidTransaction g migration start mid) (was : IsRegistry First (state g old).now)
     (was_sound : IsDatabase (state g old).now) (clean : HasCleanDisk (state g mid)) where
   pub ran : IsMade (state g old).now was (state g mid).now
   ran =
-      let at = subst (λ h. IsInside g migration h mid) is it in
+      let at = subst (λ h. IsMidTransaction g migration h mid) is it in
       let one = at.ran clean in
       let two = one.3 in
       let three = two.3 in
@@ -67,13 +67,13 @@ module _ {S : Type 0} (g : Ghosts S) (old start : Held S) (is : start ≡ record
       → IsRegistry First (state g old).now × IsDatabase (state g old).now
   before new it clean = first (omega (arith, clean, (since g old start new is it).crash.clean))
 
-  pub sound_inside : (mid : Held S) → HasCleanDisk (state g mid) → IsInside g migration start mid
+  pub sound_inside : (mid : Held S) → HasCleanDisk (state g mid) → IsMidTransaction g migration start mid
       → IsDatabase (state g mid).now
   sound_inside mid clean it =
       let was = before (state g mid) it.uncommitted clean in (ran g old start mid is it was.0 was.1 clean).1
 
 module _ {S : Type 0} (g : Ghosts S) (old start last : Held S) (is : start ≡ record old { in_transaction = true })
-    (it : IsListedInside g Second migration start last)
+    (it : IsListedMidTransaction g Second migration start last)
     (first : HasCleanDisk (state g old) → IsRegistry First (state g old).now × IsDatabase (state g old).now) where
   -- what it shows before the commit
   shows : HasCleanDisk (state g last)

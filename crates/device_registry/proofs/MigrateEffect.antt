@@ -22,7 +22,7 @@ use Rattle.sqlite.specs.State.{State, ExecutesInside, mode_of}
 use Rattle.sqlite.proofs.Callers.{runs_as, statement_of}
 use Rattle.device_registry.specs.declared.table.Version.TheVariants.{First, Second}
 use Rattle.learned_devices.specs.Devices.{max_devices}
-use Rattle.device_registry.specs.Table.{device_text, copy_text, drop_text, rewrite_version_text, device_name, meta_name}
+use Rattle.device_registry.specs.Table.{create_device_sql, copy_sql, drop_sql, rewrite_version_sql, device_name, meta_name}
 use Rattle.device_registry.specs.Table.{device_table, meta_table}
 use Rattle.device_registry.specs.Table.Rows.{IsDevice, RowidsDiffer, devices_in, rows_of}
 use Rattle.device_registry.specs.Stored.{HasTables, IsRegistry, AreListed, IsRegistryOf}
@@ -32,8 +32,8 @@ use Rattle.device_registry.proofs.CreateTablesMeaning.{device_makes}
 use Rattle.device_registry.proofs.MigrationMeaning.{copy_means, drop_means}
 use Rattle.device_registry.proofs.VersionMeaning.{renew_means}
 use Rattle.device_registry.proofs.VersionWrites.{has_at}
-use Rattle.device_registry.proofs.RenewEffect.{version_row, renews}
-use Rattle.device_registry.proofs.MakeEffect.{creates}
+use Rattle.device_registry.proofs.RewriteVersionEffect.{version_row, renews}
+use Rattle.device_registry.proofs.CreateEffect.{creates}
 use Rattle.device_registry.proofs.CopyEffect.{copies}
 use Rattle.device_registry.proofs.DropEffect.{drops}
 use Rattle.device_registry.proofs.RowsCopied.{copied, same_devices}
@@ -76,8 +76,8 @@ below_is : (x y : ℕ) → x < y → x ≡ y → ⊥
 below_is x y low same = omega (arith, low, same)
 
 module _ (a b c d e : State) (i j k l : ℕ) (registry : IsRegistry First a.now) (sound : IsDatabase a.now)
-    (one : ExecutesInside 0 (device_text Second) [] a b (Ok i)) (two : ExecutesInside 0 copy_text [] b c (Ok j))
-    (three : ExecutesInside 0 drop_text [] c d (Ok k)) (four : ExecutesInside 0 rewrite_version_text [] d e (Ok l))
+    (one : ExecutesInside 0 (create_device_sql Second) [] a b (Ok i)) (two : ExecutesInside 0 copy_sql [] b c (Ok j))
+    (three : ExecutesInside 0 drop_sql [] c d (Ok k)) (four : ExecutesInside 0 rewrite_version_sql [] d e (Ok l))
   where
     abbrev t : HasTables First a.now.schema
     t = registry.tables
@@ -98,8 +98,8 @@ module _ (a b c d e : State) (i j k l : ℕ) (registry : IsRegistry First a.now)
     made =
         let makes = device_makes a.now.schema t.free in
         let ran =
-        runs_as (device_text Second) [] a b a.now.schema refl CreateTable makes.means.is makes.means.plain i one.0 in
-        let it = creates a.step_limit (mode_of a) a.now b.now (device_text Second) ran.tally (device_table Second 0)
+        runs_as (create_device_sql Second) [] a b a.now.schema refl CreateTable makes.means.is makes.means.plain i one.0 in
+        let it = creates a.step_limit (mode_of a) a.now b.now (create_device_sql Second) ran.tally (device_table Second 0)
         (device_is Second) (still_counted a.now.schema (device_table Second 0) refl t.counted)
         (subst (λ text. Does a.step_limit (mode_of a) [] a.now text None CreateTable (Ok (ran.tally, b.now)))
         makes.alone
@@ -131,10 +131,10 @@ module _ (a b c d e : State) (i j k l : ℕ) (registry : IsRegistry First a.now)
         let from = lone_stands b.now made.3 (device_name First) (device_table First t.devices) first_in_b in
         let to = lone_stands b.now made.3 (device_name Second) (device_table Second tree) new_in_b in
         let means = copy_means b.now.schema from.0 t.devices from.1 to.0 tree to.1 in
-        let ran = runs_as copy_text [] b c b.now.schema refl (Insert to.0 (Query (program_of (copy_query t.devices))))
+        let ran = runs_as copy_sql [] b c b.now.schema refl (Insert to.0 (Query (program_of (copy_query t.devices))))
         means.is means.plain j two.0 in
         let it = copies b.now.schema to.0 tree t.devices b.step_limit (mode_of b) b.now.trees
-        (statement_of copy_text (understood b.now.schema copy_text)) ran.tally c.now to.1.there
+        (statement_of copy_sql (understood b.now.schema copy_sql)) ran.tally c.now to.1.there
         (lone_alone b.now.schema (device_name Second) (device_table Second tree) new_in_b) made.1
         (subst (AllByRecursion IsDevice) (sym devices_in_b) registry.whole.rows) ran.changed in (
           it.0,
@@ -160,9 +160,9 @@ module _ (a b c d e : State) (i j k l : ℕ) (registry : IsRegistry First a.now)
     left =
         let at = lone_stands c.now filled.3 (device_name First) (device_table First t.devices) first_in_c in
         let means = drop_means c.now.schema at.0 t.devices at.1 no_view_in_c in
-        let ran = runs_as drop_text [] c d c.now.schema refl (DropTable at.0) means.is means.plain k three.0 in
+        let ran = runs_as drop_sql [] c d c.now.schema refl (DropTable at.0) means.is means.plain k three.0 in
         let it = drops c.now.schema at.0 t.devices c.step_limit (mode_of c) c.now.trees
-        (statement_of drop_text (understood c.now.schema drop_text)) ran.tally d.now at.1.there first_in_c.spares
+        (statement_of drop_sql (understood c.now.schema drop_sql)) ran.tally d.now at.1.there first_in_c.spares
         ran.changed in (
           it.0 ∙ ap (λ s. without_table s t.devices) schema_c,
           subst (λ (s : Schema). KeepsRows s.tables c.now.trees d.now.trees) (sym it.0) it.1,
@@ -198,11 +198,11 @@ module _ (a b c d e : State) (i j k l : ℕ) (registry : IsRegistry First a.now)
     written =
         let at = lone_stands d.now left.2 meta_name (meta_table t.meta) meta_in_d in
         let means = renew_means d.now.schema at.0 t.meta at.1 in
-        let ran = runs_as rewrite_version_text [] d e d.now.schema refl (Update at.0 (program_of (renew_query t.meta)))
+        let ran = runs_as rewrite_version_sql [] d e d.now.schema refl (Update at.0 (program_of (renew_query t.meta)))
         means.is
         means.plain l four.0 in
         let it = renews d.now.schema at.0 t.meta d.step_limit (mode_of d) d.now.trees
-        (statement_of rewrite_version_text (understood d.now.schema rewrite_version_text)) ran.tally e.now
+        (statement_of rewrite_version_sql (understood d.now.schema rewrite_version_sql)) ran.tally e.now
         registry.whole.row at.1.there
         (lone_alone d.now.schema meta_name (meta_table t.meta) meta_in_d) version_in_d registry.whole.numbered.key
         ran.changed in

@@ -22,7 +22,7 @@ use Rattle.device_registry.proofs.StatementTexts.{column_read, program_of, plain
 use Rattle.device_registry.proofs.TextMeaning.{IsRead, Means, means, draft_of, program_is}
 use Rattle.device_registry.proofs.SelectMeaning.{PlainSelect, plain_select, select_of, asked, query_is}
 use Rattle.device_registry.proofs.WriteMeaning.{insert_means}
-use Rattle.device_registry.specs.Table.{copy_text, drop_text, device_name, device_table}
+use Rattle.device_registry.specs.Table.{copy_sql, drop_sql, device_name, device_table}
 use Rattle.device_registry.specs.Stored.{IsTableAt}
 
 -- the columns that are filled, and their indexes in a row
@@ -37,7 +37,7 @@ abbrev copied : PlainSelect
 copied = plain_select (device_name First) (column_read (codes "id") ∷ column_read (codes "eep")
     ∷ column_read (codes "maker") ∷ One (Text []) None (codes "''") ∷ []) None []
 
-copy_read : IsRead copy_text
+copy_read : IsRead copy_sql
     (written.Insert Abort (device_name Second) filled (rows.Select (select_of copied)) [] [])
 unfolding everything
 copy_read = record { parsed = _; read = refl; is = refl; timeless = refl }
@@ -70,7 +70,7 @@ module _ (schema : Schema) (at d : ℕ) (it : IsTableAt schema (device_name Firs
   asks = rw (it.there, it.there)
 
   pub copy_means : (to e : ℕ) → IsTableAt schema (device_name Second) (device_table Second e) to
-      → Means schema copy_text (Insert to (source.Query (program_of (copy_query d))))
+      → Means schema copy_sql (Insert to (source.Query (program_of (copy_query d))))
   unfolding command insert_or_abort insert new_rows inserted selected source_of queried
   copy_means to e target =
       insert_means target _ copy_read refl
@@ -83,11 +83,11 @@ module _ (schema : Schema) (at d : ℕ) (it : IsTableAt schema (device_name Firs
         program_is it (laid_out d) (record { from = refl; accepted = refl }),
       ))
 
-  drop_read : IsRead drop_text (written.DropTable false (device_name First))
+  drop_read : IsRead drop_sql (written.DropTable false (device_name First))
   unfolding everything
   drop_read = record { parsed = _; read = refl; is = refl; timeless = refl }
 
   -- no view has its name
-  pub drop_means : view_named schema (device_name First) ≡ None → Means schema drop_text (DropTable at)
+  pub drop_means : view_named schema (device_name First) ≡ None → Means schema drop_sql (DropTable at)
   unfolding timed returning command drop_table is_reserved same_name
   drop_means none = means schema _ drop_read refl (λ base. refl) (λ base. rw (none, it.named))

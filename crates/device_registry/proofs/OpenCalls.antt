@@ -13,7 +13,7 @@ use Rattle.std.proofs.Math.Logic.{∥∥₁_map}
 use Rattle.sqlite_trees.specs.Tree.{Trees}
 use Rattle.std.specs.FinMap.{empty}
 use Rattle.device_registry.specs.declared.fault.OpenFault.{OpenFault}
-use Rattle.device_registry.specs.declared.fault.OpenFault.TheVariants.{NotARegistry, Refused}
+use Rattle.device_registry.specs.declared.fault.OpenFault.TheVariants.{NotARegistry, Failed}
 use Rattle.learned_devices.specs.declared.fault.StoreFault.{StoreFault}
 use Rattle.device_registry.specs.declared.table.Version.{Version}
 use Rattle.device_registry.specs.declared.table.Version.TheVariants.{First, Second}
@@ -25,8 +25,8 @@ use Rattle.device_registry.specs.Stored.{AreRegistryTrees, AdmitsRegistry}
 use Rattle.device_registry.specs.Table.Rows.{devices_in, rows_of}
 use Rattle.sqlite_rules.specs.Lists.{Has}
 use Rattle.device_registry.specs.Holding.{AreRegistries, Finds, RewritesVersion, Opens}
-use Rattle.device_registry.specs.Ready.{IsReadyWith, IsReady, KeepsOthers, KeepsRows}
-use Rattle.device_registry.specs.Opening.{IsAtRest, IsPrepared, IsOwnRegistry, KeepsFound, IsNoRegistry}
+use Rattle.device_registry.specs.Ready.{IsReadyWith, IsReady, KeepsOtherTables, KeepsRows}
+use Rattle.device_registry.specs.Opening.{IsSettledOpen, IsPrepared, IsOwnRegistry, KeepsFoundDevices, IsNoRegistry}
 use Rattle.device_registry.specs.Opening.{RegistriesAreRecognized}
 use Rattle.device_registry.specs.Opening.{IsOpened, OnlyNonRegistriesAreRefused, CrashedFilesAreFound}
 use Rattle.device_registry.specs.Opening.{RefusesToOpen, OpensAgree, ReturnedIsFound, FailedOpensKeep}
@@ -102,10 +102,10 @@ not_bare version trees db same sound registry free =
     (ap (λ s. table_named s meta_name) (one_schema trees db free.db same free.same sound free.sound)
     ∙ (unused free.db.schema meta_name free.clear.free_meta).0)
 
-bare : (s : State) → IsAtRest s → IsTrue (admits_tables s.now.schema) → AdmitsRegistry s.now.trees
+bare : (s : State) → IsSettledOpen s → IsTrue (admits_tables s.now.schema) → AdmitsRegistry s.now.trees
 bare s rest clear = record { db = s.now; same = refl; sound = rest.sound; clear = cleared s.now.schema clear }
 
-module _ {old new : State} {P : Trees → Type 0} (rest : HasCleanDisk old → IsAtRest old)
+module _ {old new : State} {P : Trees → Type 0} (rest : HasCleanDisk old → IsSettledOpen old)
     (clear : IsTrue (admits_tables old.now.schema)) (survives : Survives old new P) where
   it_was_bare : HasCleanDisk new → AdmitsRegistry old.now.trees
   it_was_bare clean = bare old (rest (before survives clean)) clear
@@ -118,9 +118,9 @@ module _ {old new : State} {P : Trees → Type 0} (rest : HasCleanDisk old → I
   begun_bare clean is_held = let it = is_held.holds in absurd (
       not_bare Second old.now.trees it.db it.same it.sound it.registers.registry (it_was_bare clean))
 
-pub begun_stop : {old new : State} → (HasCleanDisk old → IsAtRest old) → IsTrue (admits_tables old.now.schema)
-    → Survives old new (λ trees. Holds trees empty) → Survives old new (KeepsFound old.now.trees)
-begun_stop {old} {new} rest clear h = survives_weaker old new (λ trees. Holds trees empty) (KeepsFound old.now.trees)
+pub begun_stop : {old new : State} → (HasCleanDisk old → IsSettledOpen old) → IsTrue (admits_tables old.now.schema)
+    → Survives old new (λ trees. Holds trees empty) → Survives old new (KeepsFoundDevices old.now.trees)
+begun_stop {old} {new} rest clear h = survives_weaker old new (λ trees. Holds trees empty) (KeepsFoundDevices old.now.trees)
     (λ clean trees holds.
     let none = bare old (rest (before h clean)) clear in
     record {
@@ -133,11 +133,11 @@ begun_stop {old} {new} rest clear h = survives_weaker old new (λ trees. Holds t
 
 -- the state between is unchanged, and a registry of this version
 abbrev pub Took : Version → State → State → Type 0
-Took version old mid = HasCleanDisk mid → IsAtRest old × IsUnchanged old mid × IsRegistry version old.now
+Took version old mid = HasCleanDisk mid → IsSettledOpen old × IsUnchanged old mid × IsRegistry version old.now
 
 -- the version that was found
 pub took : (version : Version) {old mid : State} {o : Option Version} {found : Version} → o ≡ Some found
-    → found ≡ version → (HasCleanDisk old → IsAtRest old) → Survives old mid (λ _. ⊥)
+    → found ≡ version → (HasCleanDisk old → IsSettledOpen old) → Survives old mid (λ _. ⊥)
     → (HasCleanDisk mid → IsUnchanged old mid
     × MatchOption o ((version : Version) → ¬ IsOwnRegistry version old.now.trees)
     (λ version. IsRegistry version old.now)) → Took version old mid
@@ -152,7 +152,7 @@ took version {old} {mid} {o} some is rest survives asked clean =
 -- ---- a registry of version 2
 
 -- a database that can be accepted is a registry
-shown : (s : State) → IsAtRest s → IsRegistry Second s.now → (devices : Devices) × IsReadyWith s devices
+shown : (s : State) → IsSettledOpen s → IsRegistry Second s.now → (devices : Devices) × IsReadyWith s devices
 shown s rest it = (
   devices_in (s.now.trees it.tables.devices),
   record {
@@ -167,7 +167,7 @@ shown s rest it = (
 held : (s : State) (devices : Devices) → IsReadyWith s devices → Holds s.now.trees devices
 held s devices shows = record { db = s.now; same = refl; sound = shows.sound; registers = shows.registers }
 
-pub ready : (old mid : State) → IsAtRest old → IsUnchanged old mid → IsRegistry Second old.now → IsReady mid
+pub ready : (old mid : State) → IsSettledOpen old → IsUnchanged old mid → IsRegistry Second old.now → IsReady mid
 ready old mid rest same it =
     let was = shown old rest it in
     record { devices = was.0; shows = (unchanged old mid same same.0.is_open).1 was.0 was.1 }
@@ -208,10 +208,10 @@ module _ {old mid new : State} {P : Trees → Type 0} (asked : Took Second old m
 
 pub taken_stop : {old mid new : State} → Took Second old mid → Survives old mid (λ _. ⊥)
     → Survives mid new (λ trees. (devices : Devices) → IsReadyWith mid devices → Holds trees devices)
-    → Survives old new (KeepsFound old.now.trees)
+    → Survives old new (KeepsFoundDevices old.now.trees)
 taken_stop {old} {mid} {new} asked first second =
     survives_then old mid new (λ _. ⊥) (λ trees. (devices : Devices) → IsReadyWith mid devices → Holds trees devices)
-    (KeepsFound old.now.trees) (λ clean trees no. absurd no)
+    (KeepsFoundDevices old.now.trees) (λ clean trees no. absurd no)
     (λ clean trees leaves.
     let it = asked (before second clean) in
     let was = shown old it.0 it.2 in
@@ -225,7 +225,7 @@ taken_stop {old} {mid} {new} asked first second =
 -- ---- a registry of version 1
 
 -- the devices of a registry of version 1
-first_shown : (s : State) → IsAtRest s → IsRegistry First s.now
+first_shown : (s : State) → IsSettledOpen s → IsRegistry First s.now
     → (devices : Devices) × IsRegistryOfVersion First s.now devices × HoldsAs First s.now.trees devices
 first_shown s rest it =
     let devices = devices_in (rows_of First (s.now.trees it.tables.devices)) in
@@ -273,11 +273,11 @@ module _ {old mid new : State} {P : Trees → Type 0} (asked : Took First old mi
 
 pub migrated_stop : {old mid new : State} → Took First old mid → Survives old mid (λ _. ⊥)
     → Survives mid new (λ trees. (devices : Devices) → IsRegistryOfVersion First mid.now devices → Holds trees devices)
-    → Survives old new (KeepsFound old.now.trees)
+    → Survives old new (KeepsFoundDevices old.now.trees)
 migrated_stop {old} {mid} {new} asked first second =
     survives_then old mid new (λ _. ⊥)
     (λ trees. (devices : Devices) → IsRegistryOfVersion First mid.now devices → Holds trees devices)
-    (KeepsFound old.now.trees) (λ clean trees no. absurd no)
+    (KeepsFoundDevices old.now.trees) (λ clean trees no. absurd no)
     (λ clean trees left.
     let it = asked (before second clean) in
     let was = first_shown old it.0 it.2 in
@@ -289,7 +289,7 @@ migrated_stop {old} {mid} {new} asked first second =
     first second
 
 -- it is a registry of neither version as this program leaves it, and the tables cannot be created
-pub is_other : (s : State) → IsAtRest s → ((version : Version) → ¬ IsOwnRegistry version s.now.trees)
+pub is_other : (s : State) → IsSettledOpen s → ((version : Version) → ¬ IsOwnRegistry version s.now.trees)
     → (IsTrue (admits_tables s.now.schema) → ⊥) → IsNoRegistry s.now.trees
 is_other s rest none unclear devices (inl (version, holds)) = none version (record {
   db = holds.db;
@@ -315,7 +315,7 @@ registries s devices shows leaves trees may =
     record { devices = devices; holds = left s devices shows leaves trees may }
 
 -- after a query the connection still shows the same
-pub rests : (old mid : State) → IsUnchanged old mid → IsAtRest old → IsAtRest mid
+pub rests : (old mid : State) → IsUnchanged old mid → IsSettledOpen old → IsSettledOpen mid
 rests old mid same rest = record {
   is_open = same.0.is_open;
   idle = same.0.mode ∙ rest.idle;
@@ -323,10 +323,10 @@ rests old mid same rest = record {
   sound = subst IsDatabase (sym same.0.now_is) rest.sound;
 }
 
-pub last : (old mid : State) → IsUnchanged old mid → IsAtRest old → mid.now.trees ≡ old.committed.trees
+pub last : (old mid : State) → IsUnchanged old mid → IsSettledOpen old → mid.now.trees ≡ old.committed.trees
 last old mid same rest = ap (λ (db : Database). db.trees) (same.0.now_is ∙ rest.settled)
 
-pub opened : (old mid new : State) (devices : Devices) → IsUnchanged old mid → IsAtRest old → IsPrepared mid new devices
+pub opened : (old mid new : State) (devices : Devices) → IsUnchanged old mid → IsSettledOpen old → IsPrepared mid new devices
     → LeavesLast new → Opens old new devices
 opened old mid new devices same rest it leaves = record {
   was_open = same.0.was_open;
@@ -335,7 +335,7 @@ opened old mid new devices same rest it leaves = record {
   crash = λ other may. held_once may.0 other devices may.2 (left new devices it.shows leaves may.0 may.1);
 }
 
-pub another : (old mid : State) → IsUnchanged old mid → IsAtRest old → IsNoRegistry mid.now.trees
+pub another : (old mid : State) → IsUnchanged old mid → IsSettledOpen old → IsNoRegistry mid.now.trees
     → IsNoRegistry old.committed.trees
 another old mid same rest other = subst IsNoRegistry (last old mid same rest) other
 
@@ -344,7 +344,7 @@ abbrev pub Settles : State → Type 0
 Settles s = (trees : Trees) → IsTrue s.is_open → s.may_leave trees → trees ≡ s.committed.trees
 
 pub opened_if : {T : Type 0} (old mid new : State) → Settles new → (r : Result T OpenFault)
-    → IsUnchanged old mid × IsAtRest old → OnOk r ((devices : Devices) × IsPrepared mid new devices)
+    → IsUnchanged old mid × IsSettledOpen old → OnOk r ((devices : Devices) × IsPrepared mid new devices)
     → OnOk r (AreRegistryTrees old.committed.trees → RewritesVersion old new) → OnOk r (IsOpened old new)
 opened_if old mid new law (Ok v) was it written =
     let leaves : LeavesLast new = λ trees. law trees it.1.shows.is_open in
@@ -357,20 +357,20 @@ opened_if old mid new law (Ok v) was it written =
 opened_if old mid new law (Err e) was it written = tt
 
 -- the crash states after a failure
-pub leaves : (old mid new : State) → (HasCleanDisk mid → IsUnchanged old mid × IsAtRest old) → Survives old mid (λ _. ⊥)
-    → Survives mid new (KeepsFound mid.now.trees) → HasCleanDisk new
+pub leaves : (old mid new : State) → (HasCleanDisk mid → IsUnchanged old mid × IsSettledOpen old) → Survives old mid (λ _. ⊥)
+    → Survives mid new (KeepsFoundDevices mid.now.trees) → HasCleanDisk new
     → (trees : Trees) → new.may_leave trees → old.may_leave trees
-    ⊎ (IsTrue old.is_open × KeepsFound old.committed.trees trees)
+    ⊎ (IsTrue old.is_open × KeepsFoundDevices old.committed.trees trees)
 leaves old mid new was first second clean trees may =
     let between : HasCleanDisk mid = omega (arith, clean, second.clean) in
     let it = was between in
     elim (second.crash clean trees may) [
       | inl before ↦ elim (first.crash between trees before) [ inl early ↦ inl early | inr none ↦ absurd none ]
-      | inr kept ↦ inr (it.0.0.was_open, subst (λ found. KeepsFound found trees) (last old mid it.0 it.1) kept)
+      | inr kept ↦ inr (it.0.0.was_open, subst (λ found. KeepsFoundDevices found trees) (last old mid it.0 it.1) kept)
     ]
 
 pub nothing : (old new : State) → Survives old new (λ _. ⊥) → HasCleanDisk new → (trees : Trees) → new.may_leave trees
-    → old.may_leave trees ⊎ (IsTrue old.is_open × KeepsFound old.committed.trees trees)
+    → old.may_leave trees ⊎ (IsTrue old.is_open × KeepsFoundDevices old.committed.trees trees)
 nothing old new h clean trees may = elim (h.crash clean trees may) [ inl before ↦ inl before | inr none ↦ absurd none ]
 
 survives_itself : (s : State) (P : Trees → Type 0) → Survives s s P
@@ -384,9 +384,9 @@ survives_itself s P = record {
 }
 
 -- the database failed before anything was queried
-pub not_asked : (s : State) (fault : StoreFault) → RefusesToOpen s s (Refused fault)
+pub not_asked : (s : State) (fault : StoreFault) → RefusesToOpen s s (Failed fault)
 not_asked s fault = record {
-  survives = survives_itself s (KeepsFound s.committed.trees);
+  survives = survives_itself s (KeepsFoundDevices s.committed.trees);
   clean = λ clean. clean;
   other = λ clean is. absurd (let e = is in cc);
   crash = λ clean trees may. inl may;
@@ -396,7 +396,7 @@ not_asked s fault = record {
 pub refused_first : (old new : State) (fault : OpenFault) → fault ≢ NotARegistry → Survives old new (λ _. ⊥)
     → RefusesToOpen old new fault
 refused_first old new fault other survives = record {
-  survives = survives_weaker old new (λ _. ⊥) (KeepsFound old.committed.trees) (λ clean trees no. absurd no) survives;
+  survives = survives_weaker old new (λ _. ⊥) (KeepsFoundDevices old.committed.trees) (λ clean trees no. absurd no) survives;
   clean = λ clean. let early : HasCleanDisk old = omega (arith, clean, survives.clean) in early;
   other = λ clean is. absurd (other is);
   crash = λ clean. nothing old new survives clean;
@@ -404,19 +404,19 @@ refused_first old new fault other survives = record {
 
 -- and what the registry reports about a database holds of the connection before the query
 pub refused_then : {T : Type 0} (r : Result T OpenFault) (old mid new : State)
-    → (HasCleanDisk mid → IsUnchanged old mid × IsAtRest old) → Survives old mid (λ _. ⊥)
-    → Survives mid new (KeepsFound mid.now.trees)
+    → (HasCleanDisk mid → IsUnchanged old mid × IsSettledOpen old) → Survives old mid (λ _. ⊥)
+    → Survives mid new (KeepsFoundDevices mid.now.trees)
     → (HasCleanDisk new → r ≡ Err NotARegistry → IsNoRegistry mid.now.trees)
     → (HasCleanDisk new → r
     ≡ Err NotARegistry → IsUnchanged mid new × ((trees : Trees) → new.may_leave trees → mid.may_leave trees))
     → IfErr r (RefusesToOpen old new)
 refused_then (Ok v) old mid new was first second other same = tt
 refused_then (Err fault) old mid new was first second other same = record {
-  survives = survives_then old mid new (λ _. ⊥) (KeepsFound mid.now.trees) (KeepsFound old.committed.trees)
+  survives = survives_then old mid new (λ _. ⊥) (KeepsFoundDevices mid.now.trees) (KeepsFoundDevices old.committed.trees)
       (λ clean trees no. absurd no)
       (λ clean trees kept.
       let between : HasCleanDisk mid = omega (arith, clean, second.clean) in
-      let it = was between in subst (λ found. KeepsFound found trees) (last old mid it.0 it.1) kept)
+      let it = was between in subst (λ found. KeepsFoundDevices found trees) (last old mid it.0 it.1) kept)
       first second;
   clean = λ clean. let early : HasCleanDisk old = omega (arith, clean, second.clean, first.clean) in early;
   other = λ clean is.
@@ -433,7 +433,7 @@ refused_then (Err fault) old mid new was first second other same = record {
 
 -- ---- what a crash left, found again
 
-pub rows_on : {T : Type 0} (r : Result T OpenFault) (old mid new : State) → IsUnchanged old mid → IsAtRest old
+pub rows_on : {T : Type 0} (r : Result T OpenFault) (old mid new : State) → IsUnchanged old mid → IsSettledOpen old
     → OnOk r (AreRegistryTrees mid.now.trees → KeepsRows mid new)
     → OnOk r (AreRegistryTrees old.committed.trees → KeepsRows old new)
 rows_on (Ok v) old mid new same rest kept =
@@ -512,17 +512,17 @@ crashed_files_are_found g stopped opened image numbered registries may found =
 -- ---- other tables
 
 -- earlier queries changed nothing
-others_from : (old mid new : State) → IsUnchanged old mid → KeepsOthers mid.now new.now → KeepsOthers old.now new.now
-others_from old mid new same = subst (λ db. KeepsOthers db new.now) same.0.now_is
+others_from : (old mid new : State) → IsUnchanged old mid → KeepsOtherTables mid.now new.now → KeepsOtherTables old.now new.now
+others_from old mid new same = subst (λ db. KeepsOtherTables db new.now) same.0.now_is
 
 pub others_then : {T E : Type 0} (r : Result T E) (old mid new : State) → IsUnchanged old mid
-    → OnOk r (KeepsOthers mid.now new.now) → OnOk r (KeepsOthers old.now new.now)
+    → OnOk r (KeepsOtherTables mid.now new.now) → OnOk r (KeepsOtherTables old.now new.now)
 others_then (Ok v) old mid new same kept = others_from old mid new same kept
 others_then (Err e) old mid new same kept = tt
 
 -- an accepted registry keeps every row
 pub taken_others : {old mid new : State} {P : Trees → Type 0} → Took Second old mid → Survives mid new P
-    → (HasCleanDisk new → IsReady mid → KeepsRows mid new) → HasCleanDisk new → KeepsOthers old.now new.now
+    → (HasCleanDisk new → IsReady mid → KeepsRows mid new) → HasCleanDisk new → KeepsOtherTables old.now new.now
 taken_others {old} {mid} {new} asked survives kept clean =
     let early = before survives clean in
     let rows = kept clean (taken_ready asked early) in
@@ -530,6 +530,6 @@ taken_others {old} {mid} {new} asked survives kept clean =
     (subst (λ (s : Schema). Has s.tables table) (sym rows.schema) has, rows.rows table has))
 
 pub migrated_others : {old mid new : State} {P : Trees → Type 0} → Took First old mid → Survives mid new P
-    → (HasCleanDisk new → KeepsOthers mid.now new.now) → HasCleanDisk new → KeepsOthers old.now new.now
+    → (HasCleanDisk new → KeepsOtherTables mid.now new.now) → HasCleanDisk new → KeepsOtherTables old.now new.now
 migrated_others {old} {mid} {new} asked survives kept clean =
     others_from old mid new (asked (before survives clean)).1 (kept clean)

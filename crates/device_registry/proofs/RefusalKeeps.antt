@@ -7,7 +7,7 @@ use Rattle.sqlite.specs.Effect.{IsDatabase}
 use Rattle.sqlite.specs.State.{State, Executes, ExecutesInside, IsNotRun, IsUnchanged}
 use Rattle.sqlite.specs.State.{IsRolledBack, KeepsCommit, FailsToQuery}
 use Rattle.sqlite.proofs.Callers.{IsPlain}
-use Rattle.device_registry.specs.Opening.{IsAtRest, KeepsDatabase}
+use Rattle.device_registry.specs.Opening.{IsSettledOpen, KeepsDatabase}
 use Rattle.device_registry.proofs.OpenCalls.{rests}
 use Rattle.device_registry.proofs.StatementSteps.{IsSpared, not_run, not_executed, not_shown}
 
@@ -16,7 +16,7 @@ unchanged_remains old new same is_open rest = (rests old new same rest, same.0.n
 
 -- it returns to what was committed, which is what it showed
 pub back_at : (old new : State) → IsTrue new.is_open → new.in_transaction ≡ false → new.now ≡ old.now
-    → new.committed ≡ old.committed → IsAtRest old → IsAtRest new × (new.now ≡ old.now)
+    → new.committed ≡ old.committed → IsSettledOpen old → IsSettledOpen new × (new.now ≡ old.now)
 back_at old new is_open idle same last rest = (
   record {
     is_open = is_open;
@@ -52,14 +52,14 @@ err_told (Ok v) p = tt
 err_told (Err e) p = p
 
 -- facts about an open connection before a call
-pub not_run_kept : (sql : List ℕ) (params : Row) (old new : State) (e : Error) → (IsTrue old.is_open → IsAtRest old)
-    → IsNotRun old new sql params e → IsTrue new.is_open → IsAtRest new × (new.now ≡ old.now)
+pub not_run_kept : (sql : List ℕ) (params : Row) (old new : State) (e : Error) → (IsTrue old.is_open → IsSettledOpen old)
+    → IsNotRun old new sql params e → IsTrue new.is_open → IsSettledOpen new × (new.now ≡ old.now)
 not_run_kept sql params old new e rest h is_open =
     let is_spared = not_run sql params old new e h in
     spared_remains old new is_spared is_open (rest (spared_open old new is_spared is_open))
 
-pub kept_if : {T E : Type 0} (r : Result T E) (old mid new : State) → IsUnchanged old mid → IsAtRest old
-    → OnErr r (KeepsDatabase mid new) → OnErr r (IsTrue new.is_open → IsAtRest new × (new.now ≡ old.now))
+pub kept_if : {T E : Type 0} (r : Result T E) (old mid new : State) → IsUnchanged old mid → IsSettledOpen old
+    → OnErr r (KeepsDatabase mid new) → OnErr r (IsTrue new.is_open → IsSettledOpen new × (new.now ≡ old.now))
 kept_if (Ok v) old mid new same rest h = tt
 kept_if (Err e) old mid new same rest h = λ is_open. remains_after old mid new same h is_open rest
 

@@ -12,15 +12,15 @@ use Rattle.sqlite.specs.Effect.{Database}
 use Rattle.sqlite.specs.State.{State, HasCleanDisk}
 use Rattle.erp1_telegrams.specs.declared.eep.Eep.{Eep}
 use Rattle.learned_devices.specs.declared.Device.{Device}
-use Rattle.learned_devices.specs.declared.fault.LearnFault.TheVariants.{Full, Refused}
+use Rattle.learned_devices.specs.declared.fault.LearnFault.TheVariants.{Full, Failed}
 use Rattle.learned_devices.specs.declared.fault.StoreFault.{StoreFault}
 use Rattle.learned_devices.specs.declared.fault.LearnFault.{LearnFault}
 use Rattle.learned_devices.specs.Devices.{Devices, DeviceData, Learn, Relabel, DeviceUpdate}
 use Rattle.learned_devices.specs.Devices.{with_entry, apply_update, data_after, learn_update}
 use Rattle.learned_devices.specs.Devices.{relabel_update, kept_label, device_data, device, device_of, all_of, is_full}
-use Rattle.learned_devices.specs.StoreState.{Keeps, Commits, LeavesPending}
+use Rattle.learned_devices.specs.DeviceStoreState.{Keeps, Commits, LeavesPending}
 use Rattle.learned_devices.specs.StoreCalls.{RefusesToLearn, LooksUp, Updates, Learns, Relabels, ListsAll}
-use Rattle.device_registry.specs.Holding.{HasDevices, HoldsSome, AreRegistries, IsReturned, WritesRow, registry_state}
+use Rattle.device_registry.specs.Holding.{HasDevices, HoldsSomeDevices, AreRegistries, IsReturnedByClose, WritesRow, registry_state}
 use Rattle.device_registry.specs.private.TableCalls.{Adds}
 use Rattle.device_registry.specs.Ready.{IsReadyWith, IsReady, StaysReady, KeepsDevices, WritesNothing, CommitsOrFails}
 use Rattle.device_registry.specs.Table.Rows.{device_in_row}
@@ -384,7 +384,7 @@ module _ (old mid : State) (id : ℕ) where
   -- the look-up failed
   pub learns_unlooked : {A : Type 0} (it : Device) (fault : StoreFault)
       → LooksUp (registry_state old) (registry_state mid) id (Err fault)
-      → Learns {A = A} (registry_state old) (registry_state mid) it (Err (Refused fault))
+      → Learns {A = A} (registry_state old) (registry_state mid) it (Err (Failed fault))
   learns_unlooked it fault looks = record {
     clean = looks.clean;
     registries = looks.registries;
@@ -440,7 +440,7 @@ module _ (old mid : State) (id : ℕ) where
         (RefusesToLearn (registry_state old) (registry_state new) it devices)
     learned_after it (Ok done) devices keeps then = then
     learned_after it (Err Full) devices keeps (full, then) = (full, keeps_then old mid new devices keeps then)
-    learned_after it (Err (Refused fault)) devices keeps then = by_full (is_full devices it.id) then
+    learned_after it (Err (Failed fault)) devices keeps then = by_full (is_full devices it.id) then
       where
         by_full : (full : Bool) → MatchBool full (Keeps (registry_state mid) (registry_state new) devices)
             (LeavesPending (registry_state mid) (registry_state new) (learn_update it) devices)
@@ -555,10 +555,10 @@ learns_alike old new it other r id eep maker learns =
         (RefusesToLearn (registry_state old) (registry_state new) it devices)
     unlabelled (Ok receipt) devices then = then
     unlabelled (Err Full) devices done = done
-    unlabelled (Err (Refused fault)) devices done = done
+    unlabelled (Err (Failed fault)) devices done = done
 
 -- the connection is returned
-pub hands_on : (s : State) → IsWell s → IsReturned s
+pub hands_on : (s : State) → IsWell s → IsReturnedByClose s
 hands_on s well = record {
   idle = λ clean is_open. (well.1 clean is_open).shows.idle;
   committed = λ clean is_open devices has.
@@ -579,5 +579,5 @@ some_by : (s : State) (is_open : Bool) → s.is_open ≡ is_open → HasCleanDis
 some_by s true is clean ready = let it = ready clean is in (it.devices, λ _ _. it.shows.registers)
 some_by s false is clean ready = (empty, λ _ is_open. absurd (let e = sym is ∙ is_open in cc))
 
-pub holds_some : (s : State) → StaysReady s → HoldsSome s
+pub holds_some : (s : State) → StaysReady s → HoldsSomeDevices s
 holds_some s ready clean = some_by s s.is_open refl clean ready

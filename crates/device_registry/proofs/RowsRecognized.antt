@@ -16,7 +16,7 @@ use Rattle.sqlite.specs.State.{State, Shown, IsUnchanged}
 use Rattle.sqlite.proofs.Callers.{IsPlain, reads_as, one_permutation}
 use Rattle.learned_devices.specs.Labels.{is_label}
 use Rattle.device_registry.specs.declared.table.Version.{Version}
-use Rattle.device_registry.specs.Table.{number_of, find_all_text, read_version_text}
+use Rattle.device_registry.specs.Table.{version_number, find_all_sql, read_version_sql}
 use Rattle.device_registry.specs.Table.{max_sender, max_profile, max_maker}
 use Rattle.device_registry.specs.Stored.{HasTables, HasValidRows}
 use Rattle.device_registry.specs.Table.Rows.{RowidsDiffer, IsDevice, rows_of}
@@ -82,10 +82,10 @@ version_shown d db rows it a =
 
 -- the output of the query for the version
 version_reads : {version : Version} (old new : State) (rows : List Row) (t : HasTables version old.now.schema)
-    → Shown read_version_text [] old new rows → IsAnswer (version_query t.meta) (overlay old.now.trees []) [] rows
+    → Shown read_version_sql [] old new rows → IsAnswer (version_query t.meta) (overlay old.now.trees []) [] rows
 version_reads old new rows t h =
     let means = version_means old.now.schema t.meta_at t.meta t.meta_stands in
-    (reads_as read_version_text [] old new old.now.schema refl
+    (reads_as read_version_sql [] old new old.now.schema refl
     (Select (program_of (version_query t.meta)) (codes "k" ∷ codes "version" ∷ [])) means.is means.plain means.unlisted
     rows h).answer Null
 
@@ -225,12 +225,12 @@ from_zero (row ∷ rows) = (omega arith, from_zero rows)
 module _ (version : Version) where
   -- the output of the query for all devices
   devices_read : (old mid new : State) (devices : List Row) (t : HasTables version old.now.schema) → IsUnchanged old mid
-      → Shown (find_all_text version) [] mid new devices
+      → Shown (find_all_sql version) [] mid new devices
       → IsAnswer (all_query version t.devices) (overlay old.now.trees []) [] devices
   devices_read old mid new devices t same h =
       let means = all_means version old.now.schema t.devices_at t.devices t.devices_stand in
       let schema = ap (λ (d : Database). d.schema) same.0.now_is in
-      let read = reads_as (find_all_text version) [] mid new old.now.schema schema
+      let read = reads_as (find_all_sql version) [] mid new old.now.schema schema
       (Select (program_of (all_query version t.devices)) (shown_columns version)) means.is means.plain means.unlisted
       devices h in
       subst (λ (d : Database). IsAnswer (all_query version t.devices) (overlay d.trees []) [] devices) same.0.now_is
@@ -238,14 +238,14 @@ module _ (version : Version) where
 
   -- the query for all devices shows as many rows as there are
   pub devices_told : (old mid new : State) (devices : List Row) (t : HasTables version old.now.schema)
-      → IsUnchanged old mid → Shown (find_all_text version) [] mid new devices
+      → IsUnchanged old mid → Shown (find_all_sql version) [] mid new devices
       → length devices ≡ length (rows_of version (old.now.trees t.devices))
   devices_told old mid new devices t same h =
       all_counted version t.devices old.now.trees devices (devices_read old mid new devices t same h)
 
   pub whole : (old mid new : State) (versions devices : List Row) (t : HasTables version old.now.schema)
-      → ShowsVersion version versions → Shown read_version_text [] old mid versions → IsUnchanged old mid
-      → Shown (find_all_text version) [] mid new devices → length devices ≤ max_devices
+      → ShowsVersion version versions → Shown read_version_sql [] old mid versions → IsUnchanged old mid
+      → Shown (find_all_sql version) [] mid new devices → length devices ≤ max_devices
       → are_ascending_devices 0 devices ≡ true → HasValidRows version old.now.trees t.meta t.devices
   whole old mid new versions devices t shows first same second few rise =
       let it = version_shown t.meta old.now.trees versions shows (version_reads old mid versions t first) in
@@ -268,7 +268,7 @@ module _ (version : Version) where
   -- a registry's devices are shown in ascending order
   pub rise_told : (old mid new : State) (devices : List Row) (t : HasTables version old.now.schema)
       → HasValidRows version old.now.trees t.meta t.devices → IsUnchanged old mid
-      → Shown (find_all_text version) [] mid new devices → are_ascending_devices 0 devices ≡ true
+      → Shown (find_all_sql version) [] mid new devices → are_ascending_devices 0 devices ≡ true
   rise_told old mid new devices t it same h =
       let table = rows_of version (old.now.trees t.devices) in
       let all = ranked_all IsDevice table it.rows in
@@ -277,8 +277,8 @@ module _ (version : Version) where
       ∙ shown_rise 0 (ranked table) all (ranked_rises table) (from_zero (ranked table))
 
   pub version_told : (old new : State) (rows : List Row) (t : HasTables version old.now.schema)
-      (it : HasValidRows version old.now.trees t.meta t.devices) → Shown read_version_text [] old new rows
-      → rows ≡ (Int (pos 1) ∷ Int (pos (number_of version)) ∷ []) ∷ []
+      (it : HasValidRows version old.now.trees t.meta t.devices) → Shown read_version_sql [] old new rows
+      → rows ≡ (Int (pos 1) ∷ Int (pos (version_number version)) ∷ []) ∷ []
   version_told old new rows t it h =
       let a = version_reads old new rows t h in
       let o : Output = ([], column it.row 0 ∷ column it.row 2 ∷ []) in

@@ -17,10 +17,10 @@ use Rattle.device_registry.specs.Table.{meta_name, device_name}
 use Rattle.device_registry.specs.Stored.{NoneRefersToOurs, HasNoReferenceTo, HasNoReferenceToOurs, TreeHasName}
 use Rattle.device_registry.specs.Stored.{HasTables, CanCountRowids, other}
 use Rattle.device_registry.specs.Stored.{AdmitsTables}
-use Rattle.device_registry.specs.SchemaChecks.{refers, is_referred, are_referred, is_indexed, lacks_sequence_table}
-use Rattle.device_registry.specs.SchemaChecks.{admits_tables, is_lone}
+use Rattle.device_registry.specs.SchemaChecks.{refers_to, is_referenced, are_ours_referenced, is_indexed, lacks_sequence_table}
+use Rattle.device_registry.specs.SchemaChecks.{admits_tables, is_alone_in_tree}
 use Rattle.device_registry.specs.SchemaChecks.{can_count_rowids}
-use Rattle.device_registry.specs.SchemaChecks.{is_left_alone, if_left_alone, tree_named, trees_in}
+use Rattle.device_registry.specs.SchemaChecks.{is_unaffected, trees_if_unaffected, tree_of_table, trees_of_tables}
 use Rattle.device_registry.proofs.TestSteps.{both}
 
 pub none_any : {X : Type 0} (test : X → Bool) (xs : List X) → list_any test xs ≡ false
@@ -36,17 +36,17 @@ pub any_none : {X : Type 0} (test : X → Bool) (xs : List X) → AllByRecursion
 any_none test [] all = refl
 any_none test (x ∷ xs) all = rw all.0 (any_none test xs all.1)
 
-spares : (schema : Schema) (name : List ℕ) → is_referred schema name ≡ false
+spares : (schema : Schema) (name : List ℕ) → is_referenced schema name ≡ false
     → AllByRecursion (HasNoReferenceTo name) schema.tables
 spares schema name h =
-    all_weaker (λ t. refers name t ≡ false) (HasNoReferenceTo name)
+    all_weaker (λ t. refers_to name t ≡ false) (HasNoReferenceTo name)
     (λ t none. none_any (λ reference. same_name reference.parent name) t.references none) schema.tables
-    (none_any (refers name) schema.tables h)
+    (none_any (refers_to name) schema.tables h)
 
 unreferred : (schema : Schema) (name : List ℕ) → AllByRecursion (HasNoReferenceTo name) schema.tables
-    → is_referred schema name ≡ false
+    → is_referenced schema name ≡ false
 unreferred schema name all =
-    any_none (refers name) schema.tables (all_weaker (HasNoReferenceTo name) (λ t. refers name t ≡ false)
+    any_none (refers_to name) schema.tables (all_weaker (HasNoReferenceTo name) (λ t. refers_to name t ≡ false)
     (λ t none. any_none (λ reference. same_name reference.parent name) t.references none) schema.tables all)
 
 -- what holds for both versions holds for any version
@@ -54,7 +54,7 @@ pub by_version : (P : Version → Type 0) → P First → P Second → (version 
 by_version P first second First = first
 by_version P first second Second = second
 
-spared : (schema : Schema) → are_referred schema ≡ false → NoneRefersToOurs schema
+spared : (schema : Schema) → are_ours_referenced schema ≡ false → NoneRefersToOurs schema
 spared schema h =
     let a = or_parts _ _ h in
     let b = or_parts _ _ a.0 in
@@ -69,7 +69,7 @@ spared schema h =
     (spares schema meta_name b.0) (spares schema (device_name First) b.1))
     (spares schema (device_name Second) a.1)
 
-unspared : (schema : Schema) → NoneRefersToOurs schema → are_referred schema ≡ false
+unspared : (schema : Schema) → NoneRefersToOurs schema → are_ours_referenced schema ≡ false
 unspared schema all =
     let meta =
     unreferred schema meta_name (all_weaker HasNoReferenceToOurs (HasNoReferenceTo meta_name) (λ t h. h.meta)
@@ -188,7 +188,7 @@ same_tree a b e = grind (arith, nat_tests)
 tree_same : (a b : ℕ) → (a == b) ≡ true → a ≡ b
 tree_same a b e = grind (arith, nat_tests)
 
-lone : (schema : Schema) (name : List ℕ) (tree : ℕ) → is_lone schema name tree ≡ true
+lone : (schema : Schema) (name : List ℕ) (tree : ℕ) → is_alone_in_tree schema name tree ≡ true
     → AllByRecursion (TreeHasName name tree) schema.tables
 lone schema name tree h =
     all_weaker (λ t. (not (t.tree == tree) || same_name t.name name) ≡ true) (TreeHasName name tree) (λ t passed is.
@@ -196,7 +196,7 @@ lone schema name tree h =
     (all_true (λ t. not (t.tree == tree) || same_name t.name name) schema.tables h)
 
 is_alone : (schema : Schema) (name : List ℕ) (tree : ℕ) → AllByRecursion (TreeHasName name tree) schema.tables
-    → is_lone schema name tree ≡ true
+    → is_alone_in_tree schema name tree ≡ true
 is_alone schema name tree all = true_all (λ t. not (t.tree == tree) || same_name t.name name) schema.tables
     (all_weaker (TreeHasName name tree) (λ t. (not (t.tree == tree) || same_name t.name name) ≡ true)
     (λ t keeps. elim (cases_Bool (t.tree == tree)) [
@@ -214,7 +214,7 @@ so_tested First schema h = ap not (sym (counted schema) ∙ h)
 so_tested Second schema h = refl
 
 left_alone : (version : Version) (schema : Schema) (meta devices : ℕ)
-    → is_left_alone version schema meta devices ≡ true → IsLeftAlone version schema meta devices
+    → is_unaffected version schema meta devices ≡ true → IsLeftAlone version schema meta devices
 left_alone version schema meta devices h =
     let count = both _ _ h in
     let free = both _ _ count.0 in
@@ -266,9 +266,9 @@ module _ (version : Version) (schema : Schema) where
   name = device_name version
 
   module _ (meta devices : ℕ) where
-    third : (m d : ℕ) → tree_named schema meta_name ≡ Some m → tree_named schema name ≡ Some d
-        → if_left_alone version schema m d ≡ Some (meta, devices) → IsPlaced version schema meta devices
-    third m d p q h = elim (cases_Bool (is_left_alone version schema m d)) [
+    third : (m d : ℕ) → tree_of_table schema meta_name ≡ Some m → tree_of_table schema name ≡ Some d
+        → trees_if_unaffected version schema m d ≡ Some (meta, devices) → IsPlaced version schema meta devices
+    third m d p q h = elim (cases_Bool (is_unaffected version schema m d)) [
       | inl alone ↦
           let pair : ◌≡◌ {A = ℕ × ℕ} (m, d) (meta, devices) = (let e = rw alone at h in cc) in
           let x : m ≡ meta = ap (λ (o : ℕ × ℕ). o.0) pair in
@@ -277,32 +277,32 @@ module _ (version : Version) (schema : Schema) where
             meta_is = named_at schema meta_name meta (table_named schema meta_name) refl (p ∙ ap Some x);
             devices_are = named_at schema name devices (table_named schema name) refl (q ∙ ap Some y);
             alone =
-                left_alone version schema meta devices (subst (λ n. is_left_alone version schema n devices ≡ true) x
-                (subst (λ n. is_left_alone version schema m n ≡ true) y alone));
+                left_alone version schema meta devices (subst (λ n. is_unaffected version schema n devices ≡ true) x
+                (subst (λ n. is_unaffected version schema m n ≡ true) y alone));
           }
       | inr apart ↦ absurd (let e = rw apart at h in cc)
     ]
 
-    second : (m : ℕ) (o : Option ℕ) → tree_named schema meta_name ≡ Some m → tree_named schema name ≡ o
-        → option_and_then (if_left_alone version schema m) o ≡ Some (meta, devices)
+    second : (m : ℕ) (o : Option ℕ) → tree_of_table schema meta_name ≡ Some m → tree_of_table schema name ≡ o
+        → option_and_then (trees_if_unaffected version schema m) o ≡ Some (meta, devices)
         → IsPlaced version schema meta devices
     second m None p q h = absurd (let e = h in cc)
     second m (Some d) p q h = third m d p q h
 
-    first : (o : Option ℕ) → tree_named schema meta_name ≡ o
-        → option_and_then (λ m. option_and_then (if_left_alone version schema m) (tree_named schema name)) o
+    first : (o : Option ℕ) → tree_of_table schema meta_name ≡ o
+        → option_and_then (λ m. option_and_then (trees_if_unaffected version schema m) (tree_of_table schema name)) o
         ≡ Some (meta, devices) → IsPlaced version schema meta devices
     first None p h = absurd (let e = h in cc)
-    first (Some m) p h = second m (tree_named schema name) p refl h
+    first (Some m) p h = second m (tree_of_table schema name) p refl h
 
-    pub found : trees_in version schema ≡ Some (meta, devices) → IsPlaced version schema meta devices
-    found h = first (tree_named schema meta_name) refl h
+    pub found : trees_of_tables version schema ≡ Some (meta, devices) → IsPlaced version schema meta devices
+    found h = first (tree_of_table schema meta_name) refl h
 
   -- and at which a registry has them
-  pub placed_tables : (t : HasTables version schema) → trees_in version schema ≡ Some (t.meta, t.devices)
+  pub placed_tables : (t : HasTables version schema) → trees_of_tables version schema ≡ Some (t.meta, t.devices)
   placed_tables t =
-      let meta : tree_named schema meta_name ≡ Some t.meta = rw (t.meta_stands.named, t.meta_stands.there) in
-      let devices : tree_named schema name ≡ Some t.devices = rw (t.devices_stand.named, t.devices_stand.there) in
+      let meta : tree_of_table schema meta_name ≡ Some t.meta = rw (t.meta_stands.named, t.meta_stands.there) in
+      let devices : tree_of_table schema name ≡ Some t.devices = rw (t.devices_stand.named, t.devices_stand.there) in
       let a = unspared schema t.spared in
       let c = not_indexed schema t.meta
       (all_weaker _ (λ index. index.table ≢ t.meta) (λ x h. h.0) schema.indexes t.unindexed) in
@@ -313,7 +313,7 @@ module _ (version : Version) (schema : Schema) where
       let n =
       is_alone schema name t.devices (all_weaker _ (TreeHasName name t.devices) (λ x h. h.1) schema.tables t.alone) in
       let counted = so_tested version schema t.counted in
-      let alone : is_left_alone version schema t.meta t.devices ≡ true = rw (a, c, d, m, n, t.free, counted) refl in
+      let alone : is_unaffected version schema t.meta t.devices ≡ true = rw (a, c, d, m, n, t.free, counted) refl in
       let pair : Bool → Option (ℕ × ℕ) = λ b. if b then Some (t.meta, t.devices) else None in
-      ap (option_and_then (λ m. option_and_then (if_left_alone version schema m) (tree_named schema name))) meta
-      ∙ ap (option_and_then (if_left_alone version schema t.meta)) devices ∙ ap pair alone
+      ap (option_and_then (λ m. option_and_then (trees_if_unaffected version schema m) (tree_of_table schema name))) meta
+      ∙ ap (option_and_then (trees_if_unaffected version schema t.meta)) devices ∙ ap pair alone

@@ -41,14 +41,14 @@ use Rattle.std.proofs.lemmas.List.Folds.{list_any-append}
 use Rattle.std.proofs.lemmas.Bool.{cases_Bool, not-true}
 use Rattle.device_registry.specs.declared.table.Version.{Version}
 use Rattle.device_registry.specs.declared.table.Version.TheVariants.{First, Second}
-use Rattle.device_registry.specs.Table.{list_objects_text, meta_name, device_name, meta_text}
-use Rattle.device_registry.specs.Table.{device_text, meta_table, device_table}
+use Rattle.device_registry.specs.Table.{list_objects_sql, meta_name, device_name, create_meta_sql}
+use Rattle.device_registry.specs.Table.{create_device_sql, meta_table, device_table}
 use Rattle.device_registry.specs.Stored.{IsTableAt, TreeHasName, HasTables, IsRegistry, catalog_rows, IsListedAs}
 use Rattle.device_registry.specs.Stored.{AreListed}
 use Rattle.device_registry.specs.Stored.{AdmitsRegistry, AdmitsTables}
-use Rattle.device_registry.specs.Opening.{IsOwnRegistry, IsAtRest}
-use Rattle.device_registry.specs.private.CatalogRows.{has_text, is_line, are_ours}
-use Rattle.device_registry.specs.SchemaChecks.{admits_tables, trees_in}
+use Rattle.device_registry.specs.Opening.{IsOwnRegistry, IsSettledOpen}
+use Rattle.device_registry.specs.private.CatalogRows.{has_text, is_catalog_row, are_our_tables}
+use Rattle.device_registry.specs.SchemaChecks.{admits_tables, trees_of_tables}
 use Rattle.sqlite_catalog.proofs.ReadLemmas.{lists_once}
 use Rattle.device_registry.proofs.TableTexts.{meta_is, device_is}
 use Rattle.device_registry.proofs.ListObjectsMeaning.{list_query_is}
@@ -91,10 +91,10 @@ answered test db rows it =
     ∙ sym (list_any-IsPermutation (λ (o : Output). test o.1) it.kept it.ordered it.same)
     ∙ ap (list_any (λ (o : Output). test o.1)) kept ∙ any_output test (db 0)
 
-here : (trees : Trees) (name text : List ℕ) → list_any (λ r. is_line name text (line r)) (catalog_rows trees) ≡ true
+here : (trees : Trees) (name text : List ℕ) → list_any (λ r. is_catalog_row name text (line r)) (catalog_rows trees) ≡ true
     → IsListedAs trees name text
 here trees name text h =
-    let hit = some_has (λ r. is_line name text (line r)) _ h in
+    let hit = some_has (λ r. is_catalog_row name text (line r)) _ h in
     let passes = both _ _ hit.2 in
     record {
       row = hit.0;
@@ -104,43 +104,43 @@ here trees name text h =
     }
 
 -- the query for the objects passes a test if the list of objects does
-lists_as : (old new : State) (rows : List Row) → IsDatabase old.now → Shown list_objects_text [] old new rows
+lists_as : (old new : State) (rows : List Row) → IsDatabase old.now → Shown list_objects_sql [] old new rows
     → (test : Row → Bool) → list_any test rows ≡ list_any (λ r. test (line r)) (catalog_rows old.now.trees)
 lists_as old new rows sound shows test =
     let show = listing_shows old new rows sound shows in
     answered test show.0.trees rows (show.2.answer Null) ∙ ap (list_any (λ r. test (line r))) show.1
 
 -- what the query shows is listed
-told : (old new : State) (rows : List Row) → IsDatabase old.now → Shown list_objects_text [] old new rows
-    → (name text : List ℕ) → list_any (is_line name text) rows ≡ true → IsListedAs old.now.trees name text
+told : (old new : State) (rows : List Row) → IsDatabase old.now → Shown list_objects_sql [] old new rows
+    → (name text : List ℕ) → list_any (is_catalog_row name text) rows ≡ true → IsListedAs old.now.trees name text
 told old new rows sound shows name text h =
-    here old.now.trees name text (sym (lists_as old new rows sound shows (is_line name text)) ∙ h)
+    here old.now.trees name text (sym (lists_as old new rows sound shows (is_catalog_row name text)) ∙ h)
 
 -- what is listed is shown by the query
-shows_line : (old new : State) (rows : List Row) → IsDatabase old.now → Shown list_objects_text [] old new rows
-    → (name text : List ℕ) → IsListedAs old.now.trees name text → list_any (is_line name text) rows ≡ true
+shows_line : (old new : State) (rows : List Row) → IsDatabase old.now → Shown list_objects_sql [] old new rows
+    → (name text : List ℕ) → IsListedAs old.now.trees name text → list_any (is_catalog_row name text) rows ≡ true
 shows_line old new rows sound shows name text it =
-    let passes : is_line name text (line it.row) ≡ true =
+    let passes : is_catalog_row name text (line it.row) ≡ true =
     ap (λ v. has_text v name && has_text (column it.row 5) text) it.name_is
     ∙ ap (λ v. has_text (Text name) name && has_text v text) it.sql
     ∙ rw ((bytes_eq-Decides name name).1 refl, (bytes_eq-Decides text text).1 refl) refl in
-    lists_as old new rows sound shows (is_line name text)
-    ∙ some_from (λ r. is_line name text (line r)) _ it.row it.listed passes
+    lists_as old new rows sound shows (is_catalog_row name text)
+    ∙ some_from (λ r. is_catalog_row name text (line r)) _ it.row it.listed passes
 
 pub ours_told : (version : Version) (old new : State) (rows : List Row) → IsDatabase old.now
-    → Shown list_objects_text [] old new rows → are_ours version rows ≡ true → AreListed version old.now.trees
+    → Shown list_objects_sql [] old new rows → are_our_tables version rows ≡ true → AreListed version old.now.trees
 ours_told version old new rows sound shows h =
     let parts = both _ _ h in (
-      told old new rows sound shows meta_name meta_text parts.0,
-      told old new rows sound shows (device_name version) (device_text version) parts.1,
+      told old new rows sound shows meta_name create_meta_sql parts.0,
+      told old new rows sound shows (device_name version) (create_device_sql version) parts.1,
     )
 
 pub ours_shown : (version : Version) (old new : State) (rows : List Row) → IsDatabase old.now
-    → Shown list_objects_text [] old new rows → AreListed version old.now.trees → are_ours version rows ≡ true
+    → Shown list_objects_sql [] old new rows → AreListed version old.now.trees → are_our_tables version rows ≡ true
 ours_shown version old new rows sound shows listed =
-    ap (λ b. b && list_any (is_line (device_name version) (device_text version)) rows)
-    (shows_line old new rows sound shows meta_name meta_text listed.0)
-    ∙ shows_line old new rows sound shows (device_name version) (device_text version) listed.1
+    ap (λ b. b && list_any (is_catalog_row (device_name version) (create_device_sql version)) rows)
+    (shows_line old new rows sound shows meta_name create_meta_sql listed.0)
+    ∙ shows_line old new rows sound shows (device_name version) (create_device_sql version) listed.1
 
 -- ---- the tables
 
@@ -367,9 +367,9 @@ tables_told : (version : Version) (db : Database) (meta devices : ℕ) → IsDat
     → IsPlaced version db.schema meta devices → AreListed version db.trees → HasTables version db.schema
 unfolding same_name
 tables_told version db meta devices sound placed listed =
-    let own = defined db sound meta_name meta placed.meta_is meta_text (meta_table 0) listed.0 meta_is in
+    let own = defined db sound meta_name meta placed.meta_is create_meta_sql (meta_table 0) listed.0 meta_is in
     let name = device_name version in
-    let there = defined db sound name devices placed.devices_are (device_text version) (device_table version 0)
+    let there = defined db sound name devices placed.devices_are (create_device_sql version) (device_table version 0)
     listed.1 (device_is version) in
     let keeps = placed.alone.alone in
     let meta_stands = stands_in db meta_name meta placed.meta_is (meta_table meta) sound
@@ -395,8 +395,8 @@ tables_told version db meta devices sound placed listed =
     }
 
 -- if the two tables are found and listed, the schema has them
-pub tables_taken : (version : Version) (s : State) (meta devices : ℕ) → IsAtRest s
-    → trees_in version s.now.schema ≡ Some (meta, devices) → AreListed version s.now.trees
+pub tables_taken : (version : Version) (s : State) (meta devices : ℕ) → IsSettledOpen s
+    → trees_of_tables version s.now.schema ≡ Some (meta, devices) → AreListed version s.now.trees
     → HasTables version s.now.schema
 tables_taken version s meta devices rest is listed =
     tables_told version s.now meta devices rest.sound (found version s.now.schema meta devices is) listed
@@ -406,7 +406,7 @@ pub same_schema : (db : Trees) (s t : Schema) → IsSound s db → IsSound t db 
 same_schema db s t a b = lists_once (db catalog_tree) s t a.lists b.lists
 
 -- so a registry as this program leaves it is recognized
-pub own_found : (version : Version) (s : State) → IsAtRest s → IsOwnRegistry version s.now.trees
+pub own_found : (version : Version) (s : State) → IsSettledOpen s → IsOwnRegistry version s.now.trees
     → IsRegistry version s.now
 own_found version s rest own =
     let schema : own.db.schema ≡ s.now.schema = same_schema s.now.trees own.db.schema s.now.schema
@@ -415,7 +415,7 @@ own_found version s rest own =
     subst (IsRegistry version) db own.registry
 
 -- and so is a database in which the tables can be created
-pub free_found : (s : State) → IsAtRest s → AdmitsRegistry s.now.trees → IsTrue (admits_tables s.now.schema)
+pub free_found : (s : State) → IsSettledOpen s → AdmitsRegistry s.now.trees → IsTrue (admits_tables s.now.schema)
 free_found s rest free =
     let same : free.db.schema ≡ s.now.schema = same_schema s.now.trees free.db.schema s.now.schema
     (subst (IsSound free.db.schema) free.same free.sound) rest.sound in

@@ -13,9 +13,9 @@ use Rattle.sqlite_trees.specs.declared.store.Store.{Ghosts}
 use Rattle.device_registry.specs.declared.table.Version.TheVariants.{Second}
 use Rattle.learned_devices.specs.Devices.{Devices}
 use Rattle.device_registry.specs.Stored.{IsRegistryOf, Holds}
-use Rattle.device_registry.specs.Ready.{IsReadyWith, KeepsOthers}
+use Rattle.device_registry.specs.Ready.{IsReadyWith, KeepsOtherTables}
 use Rattle.device_registry.specs.Opening.{KeepsDatabase}
-use Rattle.device_registry.specs.private.Transaction.{IsListedInside}
+use Rattle.device_registry.specs.private.Transaction.{IsListedMidTransaction}
 use Rattle.device_registry.proofs.TransactionSteps.{since, leaves, uncommitted_remains}
 
 -- what it shows is committed
@@ -41,17 +41,17 @@ on_ok (Err e) P Q so p = tt
 -- the end of a transaction that was to create a registry of such devices
 pub record Ends {V : Type 0} (Are : Devices → Type 0) (old new : State) (r : Result V Error) : Type 0 where
   pub made : HasCleanDisk new → OnOk r ((devices : Devices) → Are devices → IsReadyWith new devices)
-  pub others : HasCleanDisk new → OnOk r (KeepsOthers old.now new.now)
+  pub others : HasCleanDisk new → OnOk r (KeepsOtherTables old.now new.now)
   pub crash : Survives old new (λ trees. (devices : Devices) → Are devices → Holds trees devices)
   pub remains : HasCleanDisk new → OnErr r (KeepsDatabase old new)
 
 -- what the transaction shows before its commit
 abbrev pub Shown : (Devices → Type 0) → Database → Database → Type 0
 Shown Are old new =
-    ((devices : Devices) → Are devices → IsRegistryOf new devices) × IsDatabase new × KeepsOthers old new
+    ((devices : Devices) → Are devices → IsRegistryOf new devices) × IsDatabase new × KeepsOtherTables old new
 
 module _ {S V : Type 0} (g : Ghosts S) (texts : List (List ℕ)) (old start last : Held S)
-    (is : start ≡ record old { in_transaction = true }) (it : IsListedInside g Second texts start last)
+    (is : start ≡ record old { in_transaction = true }) (it : IsListedMidTransaction g Second texts start last)
     (Are : Devices → Type 0) (shows : HasCleanDisk (state g last) → Shown Are (state g old).now (state g last).now)
     (r : Result V Error) where
   ends_at : (new : State) → Survives (state g last) new (λ trees. trees ≡ (state g last).now.trees)
@@ -65,8 +65,8 @@ module _ {S V : Type 0} (g : Ghosts S) (texts : List (List ℕ)) (old start last
             λ clean. on_ok r (Commits (state g last) new) ((devices : Devices) → Are devices → IsReadyWith new devices)
             (λ done devices are. let it = db clean in
             shows_committed (state g last) new devices (it.0 devices are) it.1 done) (ok clean);
-        others = λ clean. on_ok r (Commits (state g last) new) (KeepsOthers (state g old).now new.now)
-            (λ done. subst (KeepsOthers (state g old).now) (sym done.1.now_is) (db clean).2) (ok clean);
+        others = λ clean. on_ok r (Commits (state g last) new) (KeepsOtherTables (state g old).now new.now)
+            (λ done. subst (KeepsOtherTables (state g old).now) (sym done.1.now_is) (db clean).2) (ok clean);
         crash = leaves (state g old) (state g last) new was commits
             (λ trees. (devices : Devices) → Are devices → Holds trees devices)
             (λ clean devices are. let it = shows clean in record {

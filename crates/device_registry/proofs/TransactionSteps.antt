@@ -11,7 +11,7 @@ use Rattle.sqlite.proofs.Callers.{survives_begin}
 use Rattle.sqlite_trees.specs.Tree.{Trees}
 use Rattle.sqlite_trees.specs.declared.store.Store.{Ghosts}
 use Rattle.device_registry.specs.Opening.{KeepsDatabase}
-use Rattle.device_registry.specs.private.Transaction.{IsUncommitted, IsInside, RanTexts}
+use Rattle.device_registry.specs.private.Transaction.{IsUncommitted, IsMidTransaction, HasRunStatements}
 use Rattle.device_registry.proofs.RefusalKeeps.{back_at, inside_commit, made_commit, then_commit}
 
 -- ---- what is not committed
@@ -34,14 +34,14 @@ ran_once sql old new (Err e) crash ran =
 -- ---- the texts
 
 module _ {S : Type 0} (g : Ghosts S) where
-  ran_on : (first more : List (List ℕ)) (a b c : Held S) → RanTexts g first a b → RanTexts g more b c
-      → RanTexts g (first ++ more) a c
-  ran_on [] more a b c same rest = subst (λ h. RanTexts g more h c) (sym same) rest
+  ran_on : (first more : List (List ℕ)) (a b c : Held S) → HasRunStatements g first a b → HasRunStatements g more b c
+      → HasRunStatements g (first ++ more) a c
+  ran_on [] more a b c same rest = subst (λ h. HasRunStatements g more h c) (sym same) rest
   ran_on (text ∷ first) more a b c (mid, n, step, on) rest = (mid, n, step, ran_on first more mid b c on rest)
 
   -- and then others
-  goes_on : (first more : List (List ℕ)) (a b c : Held S) → IsInside g first a b → IsInside g more b c
-      → IsInside g (first ++ more) a c
+  goes_on : (first more : List (List ℕ)) (a b c : Held S) → IsMidTransaction g first a b → IsMidTransaction g more b c
+      → IsMidTransaction g (first ++ more) a c
   goes_on first more a b c it next = record {
     uncommitted = uncommitted_then (state g a) (state g b) (state g c) it.uncommitted next.uncommitted;
     inside = next.inside;
@@ -50,7 +50,7 @@ module _ {S : Type 0} (g : Ghosts S) where
   }
 
   -- one more text
-  module _ (texts : List (List ℕ)) (text : List ℕ) (a b c : Held S) (r : Result ℕ Error) (it : IsInside g texts a b)
+  module _ (texts : List (List ℕ)) (text : List ℕ) (a b c : Held S) (r : Result ℕ Error) (it : IsMidTransaction g texts a b)
       (crash : Survives (state g b) (state g c) (λ _. ⊥))
       (runs : HasCleanDisk (state g c) → IsTrue (state g b).in_transaction
       → ExecutesInside 0 text [] (state g b) (state g c) r) where
@@ -61,8 +61,8 @@ module _ {S : Type 0} (g : Ghosts S) where
     uncommitted = uncommitted_then (state g a) (state g b) (state g c) it.uncommitted
         (ran_once text (state g b) (state g c) r crash ran)
 
-    pub saturated_next : (n : ℕ) → r ≡ Ok n → IsInside g (texts ++ text ∷ []) a c
-    saturated_next n is =
+    pub saturated_increment : (n : ℕ) → r ≡ Ok n → IsMidTransaction g (texts ++ text ∷ []) a c
+    saturated_increment n is =
         let step = λ (clean : HasCleanDisk (state g c)).
         subst (ExecutesInside 0 text [] (state g b) (state g c)) is (ran clean) in
         goes_on texts (text ∷ []) a b c it

@@ -18,7 +18,7 @@ use Rattle.sqlite_rules.specs.Edit.{edit_of, taken_by, edited, with_rowid}
 use Rattle.sqlite.proofs.Callers.{one_step, runs_as, statement_of}
 use Rattle.sqlite.proofs.StateLemmas.{survives_weaker}
 use Rattle.learned_devices.specs.Devices.{Devices}
-use Rattle.device_registry.specs.Table.{rewrite_version_text, meta_table}
+use Rattle.device_registry.specs.Table.{rewrite_version_sql, meta_table}
 use Rattle.device_registry.specs.Stored.{IsRegistryOf, Holds}
 use Rattle.device_registry.specs.Ready.{IsReadyWith, IsReady, KeepsRows}
 use Rattle.std.specs.List.{AllByRecursion}
@@ -32,7 +32,7 @@ use Rattle.device_registry.proofs.StatementTexts.{program_of, renew_query}
 use Rattle.device_registry.proofs.VersionMeaning.{renew_means, version_terms}
 use Rattle.device_registry.proofs.TablesAlone.{StandsAlone, meta_alone}
 use Rattle.device_registry.proofs.RowWrites.{went, same_value, SparesOthers, spares, spares_as}
-use Rattle.device_registry.proofs.RenewEffect.{version_row, cast_version, renews, version_is}
+use Rattle.device_registry.proofs.RewriteVersionEffect.{version_row, cast_version, renews, version_is}
 use Rattle.device_registry.proofs.DevicesHeld.{renewed_registers}
 use Rattle.device_registry.proofs.StatementSteps.{commits_as}
 
@@ -82,40 +82,40 @@ renew_does s after text tally devices had sound h =
     renewed_registers s.now after devices had sound kept.0 kept.1 kept.2
 
 renewed : (old new : State) (count : ℕ) (devices : Devices) → IsReadyWith old devices
-    → Executes rewrite_version_text [] old new (Ok count) → IsReadyWith new devices
+    → Executes rewrite_version_sql [] old new (Ok count) → IsReadyWith new devices
 renewed old new count devices shows h =
     let r = shows.registers.registry in
     let it = renew_means old.now.schema r.tables.meta_at r.tables.meta r.tables.meta_stands in
-    let w = runs_as rewrite_version_text [] old new old.now.schema refl
+    let w = runs_as rewrite_version_sql [] old new old.now.schema refl
     (Update r.tables.meta_at (program_of (renew_query r.tables.meta))) it.is it.plain count h in
     record {
       is_open = w.shown.is_open;
       idle = w.shown.mode ∙ shows.idle;
       settled = sym (rw shows.idle at w.shown.committed_is);
       sound = w.sound;
-      registers = renew_does old new.now (statement_of rewrite_version_text
-          (understood old.now.schema rewrite_version_text)) w.tally
+      registers = renew_does old new.now (statement_of rewrite_version_sql
+          (understood old.now.schema rewrite_version_sql)) w.tally
           devices shows.registers shows.sound w.changed;
     }
 
 -- the effect of the text on the tables of a registry; it changes one row
 effect : (old new : State) (count : ℕ) (devices : Devices) (shows : IsReadyWith old devices)
-    → Executes rewrite_version_text [] old new (Ok count)
+    → Executes rewrite_version_sql [] old new (Ok count)
     → (new.now.schema ≡ old.now.schema)
     × (new.now.trees shows.registers.registry.tables.meta ≡ version_row ∷ [])
     × SparesOthers old.now.schema shows.registers.registry.tables.meta old.now.trees new.now.trees × (count ≡ 1)
 effect old new count devices shows h =
     let r = shows.registers.registry in
     let it = renew_means old.now.schema r.tables.meta_at r.tables.meta r.tables.meta_stands in
-    let w = runs_as rewrite_version_text [] old new old.now.schema refl
+    let w = runs_as rewrite_version_sql [] old new old.now.schema refl
     (Update r.tables.meta_at (program_of (renew_query r.tables.meta))) it.is it.plain count h in
     let kept =
     renews old.now.schema r.tables.meta_at r.tables.meta old.step_limit (mode_of old) old.now.trees
-    (statement_of rewrite_version_text (understood old.now.schema rewrite_version_text)) w.tally new.now r.whole.row
+    (statement_of rewrite_version_sql (understood old.now.schema rewrite_version_sql)) w.tally new.now r.whole.row
     r.tables.meta_stands.there (meta_alone old.now.schema r.tables) r.whole.one r.whole.numbered.key w.changed in
     (kept.0, kept.1, kept.2, w.counted ∙ ap (λ rows. unwrap_or rows 0) kept.3)
 
-pub changes_one : (old new : State) (count : ℕ) → IsReady old → Executes rewrite_version_text [] old new (Ok count)
+pub changes_one : (old new : State) (count : ℕ) → IsReady old → Executes rewrite_version_sql [] old new (Ok count)
     → count ≡ 1
 changes_one old new count ready h = (effect old new count ready.devices ready.shows h).3
 
@@ -136,7 +136,7 @@ first false b h = h
 
 -- the version row is rewritten unchanged, so no table has other rows
 renewed_rows : (old new : State) (count : ℕ) (devices : Devices) → IsReadyWith old devices
-    → Executes rewrite_version_text [] old new (Ok count) → KeepsRows old new
+    → Executes rewrite_version_sql [] old new (Ok count) → KeepsRows old new
 renewed_rows old new count devices shows h =
     let r = shows.registers.registry in
     let kept = effect old new count devices shows h in
@@ -161,23 +161,23 @@ renewed_rows old new count devices shows h =
           ];
     }
 
-pub rows_if : (old new : State) (r : Result ℕ Error) → Executes rewrite_version_text [] old new r
+pub rows_if : (old new : State) (r : Result ℕ Error) → Executes rewrite_version_sql [] old new r
     → OnOk r (IsReady old → KeepsRows old new)
 rows_if old new (Ok count) h = λ ready. renewed_rows old new count ready.devices ready.shows h
 rows_if old new (Err e) h = tt
 
-pub renewed_if : (old new : State) (r : Result ℕ Error) → Executes rewrite_version_text [] old new r
+pub renewed_if : (old new : State) (r : Result ℕ Error) → Executes rewrite_version_sql [] old new r
     → OnOk r ((devices : Devices) → IsReadyWith old devices → IsReadyWith new devices)
 renewed_if old new (Ok count) h = λ devices shows. renewed old new count devices shows h
 renewed_if old new (Err e) h = tt
 
 renew_leaves : (s : State) (devices : Devices) (trees : Trees) → IsReadyWith s devices
-    → CommitsBy rewrite_version_text [] s trees
+    → CommitsBy rewrite_version_sql [] s trees
     → Holds trees devices
 renew_leaves s devices trees shows h =
     let r = shows.registers.registry in
     let it = renew_means s.now.schema r.tables.meta_at r.tables.meta r.tables.meta_stands in
-    elim (commits_as rewrite_version_text [] s (Update r.tables.meta_at (program_of (renew_query r.tables.meta))) it.is
+    elim (commits_as rewrite_version_sql [] s (Update r.tables.meta_at (program_of (renew_query r.tables.meta))) it.is
     it.plain
     trees h) [
       | inl named ↦ elim named.0 [ inl commit ↦ absurd (cc) | inr release ↦ absurd (let e = release.2 in cc) ]
@@ -186,15 +186,15 @@ renew_leaves s devices trees shows h =
             db = may.2;
             same = sym may.5;
             sound = may.4;
-            registers = renew_does s may.2 (statement_of rewrite_version_text
-                (understood s.now.schema rewrite_version_text)) may.1 devices
+            registers = renew_does s may.2 (statement_of rewrite_version_sql
+                (understood s.now.schema rewrite_version_sql)) may.1 devices
                 shows.registers shows.sound may.3;
           }
     ]
 
-pub renew_stop : (old new : State) → Survives old new (CommitsBy rewrite_version_text [] old)
+pub renew_stop : (old new : State) → Survives old new (CommitsBy rewrite_version_sql [] old)
     → Survives old new (λ trees. (devices : Devices) → IsReadyWith old devices → Holds trees devices)
 renew_stop old new h =
-    survives_weaker old new (CommitsBy rewrite_version_text [] old)
+    survives_weaker old new (CommitsBy rewrite_version_sql [] old)
     (λ trees. (devices : Devices) → IsReadyWith old devices
     → Holds trees devices) (λ clean trees commits devices shows. renew_leaves old devices trees shows commits) h

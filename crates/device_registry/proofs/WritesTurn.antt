@@ -15,22 +15,22 @@ use Rattle.sqlite.specs.State.{State, HasCleanDisk, Survives, Executes, CommitsB
 use Rattle.sqlite.proofs.Callers.{runs_as}
 use Rattle.learned_devices.specs.Labels.{is_label}
 use Rattle.device_registry.specs.declared.table.Version.TheVariants.{Second}
-use Rattle.device_registry.specs.Table.{upsert_text, delete_text, rewrite_version_text}
+use Rattle.device_registry.specs.Table.{upsert_sql, delete_sql, rewrite_version_sql}
 use Rattle.learned_devices.specs.Devices.{Devices, DeviceData, DeviceUpdate, apply_update, forget_update, is_full}
 use Rattle.device_registry.specs.Stored.{IsRegistry, IsRegistryOf, Holds}
 use Rattle.device_registry.specs.Ready.{IsReadyWith, IsReady, CommitsOrFails, KeepsDevices}
 use Rattle.device_registry.proofs.StatementTexts.{put_terms, program_of, forget_query, renew_query}
 use Rattle.device_registry.proofs.TextMeaning.{Means}
-use Rattle.device_registry.proofs.PutMeaning.{put_means}
+use Rattle.device_registry.proofs.UpsertMeaning.{put_means}
 use Rattle.device_registry.proofs.ForgetMeaning.{forget_means}
 use Rattle.device_registry.proofs.VersionMeaning.{renew_means}
 use Rattle.device_registry.proofs.RowsAsMap.{IsShort}
 use Rattle.device_registry.proofs.SenderTests.{asked}
 use Rattle.device_registry.proofs.TablesAlone.{devices_alone, meta_alone}
 use Rattle.device_registry.specs.Table.Rows.{upsert_params}
-use Rattle.device_registry.proofs.PutEffect.{puts_in}
+use Rattle.device_registry.proofs.UpsertEffect.{puts_in}
 use Rattle.device_registry.proofs.ForgetEffect.{forgets}
-use Rattle.device_registry.proofs.RenewEffect.{renews}
+use Rattle.device_registry.proofs.RewriteVersionEffect.{renews}
 use Rattle.device_registry.proofs.DevicesHeld.{put_registers, forgotten_registers, renewed_registers}
 use Rattle.device_registry.proofs.StatementSteps.{commits_as, spared, not_executed}
 
@@ -133,9 +133,9 @@ put_does update id it short label s after text tally devices had sound room h =
 pub put_turns : (update : DeviceUpdate) (id : ℕ) (it : DeviceData) → IsShort it.eep → is_label it.label ≡ true
     → (old new : State) (r : Result ℕ Error) → (HasCleanDisk old → IsReady old)
     → (HasCleanDisk old → (devices : Devices) → IsReadyWith old devices → MakesIt update id it devices)
-    → Survives old new (CommitsBy upsert_text (upsert_params id it) old)
-    → (HasCleanDisk new → Executes upsert_text (upsert_params id it) old new r) → CommitsOrFails old new update r
-put_turns update id it short label = turned upsert_text (upsert_params id it) update (MakesIt update id it)
+    → Survives old new (CommitsBy upsert_sql (upsert_params id it) old)
+    → (HasCleanDisk new → Executes upsert_sql (upsert_params id it) old new r) → CommitsOrFails old new update r
+put_turns update id it short label = turned upsert_sql (upsert_params id it) update (MakesIt update id it)
     (λ db registry. InsertOr registry.tables.devices_at Replace (Values put_terms 5) [])
     (λ db registry. put_means db.schema registry.tables.devices_at registry.tables.devices
     registry.tables.devices_stand)
@@ -155,11 +155,11 @@ forget_does id s after text tally devices had sound room h =
     forgotten_registers s.now after devices had sound id gone.0 gone.1 gone.2
 
 pub forget_turns : (id : ℕ) (old new : State) (r : Result ℕ Error) → (HasCleanDisk old → IsReady old)
-    → Survives old new (CommitsBy delete_text (asked id) old)
-    → (HasCleanDisk new → Executes delete_text (asked id) old new r)
+    → Survives old new (CommitsBy delete_sql (asked id) old)
+    → (HasCleanDisk new → Executes delete_sql (asked id) old new r)
     → CommitsOrFails old new (forget_update id) r
 forget_turns id old new r ready =
-    turned delete_text (asked id) (forget_update id) (λ devices. Unit {0})
+    turned delete_sql (asked id) (forget_update id) (λ devices. Unit {0})
     (λ db registry. Delete registry.tables.devices_at (program_of (forget_query registry.tables.devices)))
     (λ db registry. forget_means db.schema registry.tables.devices_at registry.tables.devices
     registry.tables.devices_stand)
@@ -182,10 +182,10 @@ renew_does update s after text tally devices had sound same h =
 -- an update that leaves the devices as they are is made by rewriting the version row
 pub renew_turns : (update : DeviceUpdate) (old new : State) (r : Result ℕ Error) → (HasCleanDisk old → IsReady old)
     → (HasCleanDisk old → (devices : Devices) → IsReadyWith old devices → apply_update devices update ≡ devices)
-    → Survives old new (CommitsBy rewrite_version_text [] old)
-    → (HasCleanDisk new → Executes rewrite_version_text [] old new r)
+    → Survives old new (CommitsBy rewrite_version_sql [] old)
+    → (HasCleanDisk new → Executes rewrite_version_sql [] old new r)
     → CommitsOrFails old new update r
-renew_turns update = turned rewrite_version_text [] update (λ devices. apply_update devices update ≡ devices)
+renew_turns update = turned rewrite_version_sql [] update (λ devices. apply_update devices update ≡ devices)
     (λ db registry. Update registry.tables.meta_at (program_of (renew_query registry.tables.meta)))
     (λ db registry. renew_means db.schema registry.tables.meta_at registry.tables.meta registry.tables.meta_stands)
     (λ old new registry text count h. h)

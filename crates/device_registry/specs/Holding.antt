@@ -5,9 +5,9 @@ use Rattle.sqlite.specs.State.{State, HasCleanDisk, Executes}
 use Rattle.sqlite_trees.specs.Tree.{Trees}
 use Rattle.learned_devices.specs.Devices.{Devices, DeviceData, Operation, Learn, Forget, Relabel, DeviceUpdate}
 use Rattle.learned_devices.specs.Devices.{data_after}
-use Rattle.learned_devices.specs.StoreState.{StoreState}
+use Rattle.learned_devices.specs.DeviceStoreState.{DeviceStoreState}
 use Rattle.device_registry.specs.declared.table.Version.{Version}
-use Rattle.device_registry.specs.Table.{upsert_text, rewrite_version_text}
+use Rattle.device_registry.specs.Table.{upsert_sql, rewrite_version_sql}
 use Rattle.device_registry.specs.Table.Rows.{upsert_params}
 use Rattle.device_registry.specs.Stored.{IsRegistryOf, HoldsAs, Holds, AreRegistryTrees, AdmitsRegistry}
 
@@ -16,8 +16,8 @@ abbrev pub HasDevices : State → Devices → Type 0
 HasDevices s devices = HasCleanDisk s → IsTrue s.is_open → IsRegistryOf s.now devices
 
 -- while the disk is clean and the connection is open, the registry holds some devices
-abbrev pub HoldsSome : State → Type 0
-HoldsSome s = HasCleanDisk s → (devices : Devices) × HasDevices s devices
+abbrev pub HoldsSomeDevices : State → Type 0
+HoldsSomeDevices s = HasCleanDisk s → (devices : Devices) × HasDevices s devices
 
 -- a crash may leave these devices
 abbrev pub MayRecover : State → Devices → Type 0
@@ -28,7 +28,7 @@ abbrev pub AreRegistries : (Trees → Type 0) → Type 0
 AreRegistries may_leave = (trees : Trees) → may_leave trees → AreRegistryTrees trees
 
 -- the state of a registry as a device store
-abbrev pub registry_state : State → StoreState
+abbrev pub registry_state : State → DeviceStoreState
 registry_state s = record {
   honest = HasCleanDisk s;
   holds = HasDevices s;
@@ -37,7 +37,7 @@ registry_state s = record {
 }
 
 -- the same for a registry over a connection
-abbrev pub registry_state_of : {C : Type 0} → (C → State) → C → StoreState
+abbrev pub registry_state_of : {C : Type 0} → (C → State) → C → DeviceStoreState
 registry_state_of state conn = registry_state (state conn)
 
 -- what the registry holds is what is committed
@@ -61,7 +61,7 @@ pub record Opens (old new : State) (devices : Devices) : Type 0 where
 -- transaction this is a commit. It is an observable change, because SQLite counts the row. A later rollback would leave
 -- the same.
 abbrev pub RewritesVersion : State → State → Type 0
-RewritesVersion old new = Executes rewrite_version_text [] old new (Ok 1)
+RewritesVersion old new = Executes rewrite_version_sql [] old new (Ok 1)
 
 -- The last operation on the state is the statement that upserts the row of the update's sender, over the same devices.
 -- It is an observable change, because SQLite counts the row.
@@ -72,7 +72,7 @@ pub record WritesRow {C : Type 0} (state : C → State) (new : C) (update : Devi
     pub before : C
     pub had : HasDevices (state before) devices
     pub count : ℕ
-    pub executed : Executes upsert_text (upsert_params update.sender row) (state before) (state new) (Ok count)
+    pub executed : Executes upsert_sql (upsert_params update.sender row) (state before) (state new) (Ok count)
 
 module _ {C : Type 0} (state : C → State) (old new : C) (update : DeviceUpdate) (devices : Devices) where
   -- The last statement wrote the row of the sender. If an unknown sender was forgotten, the call wrote the version row.
@@ -86,6 +86,6 @@ module _ {C : Type 0} (state : C → State) (old new : C) (update : DeviceUpdate
   Writes = WritesFor update.operation
 
 -- the connection is returned with no open transaction, and what the registry holds is committed
-pub record IsReturned (s : State) : Type 0 where
+pub record IsReturnedByClose (s : State) : Type 0 where
   pub idle : HasCleanDisk s → IsTrue s.is_open → s.in_transaction ≡ false
   pub committed : IsCommitted s

@@ -26,7 +26,7 @@ abbrev pub max_cached : ℕ
 max_cached = 1024
 
 -- the connection is open, with no open transaction, over a sound database
-pub record IsAtRest (s : State) : Type 0 where
+pub record IsSettledOpen (s : State) : Type 0 where
   pub is_open : IsTrue s.is_open
   pub idle : s.in_transaction ≡ false
   pub settled : s.now ≡ s.committed
@@ -34,7 +34,7 @@ pub record IsAtRest (s : State) : Type 0 where
 
 -- if the connection is still open, it shows the same database as before, with no open transaction
 abbrev pub KeepsDatabase : State → State → Type 0
-KeepsDatabase old new = IsTrue new.is_open → IsAtRest old → IsAtRest new × (new.now ≡ old.now)
+KeepsDatabase old new = IsTrue new.is_open → IsSettledOpen old → IsSettledOpen new × (new.now ≡ old.now)
 
 -- the database is prepared: the registry is open with the devices that were found
 pub record IsPrepared (old new : State) (devices : Devices) : Type 0 where
@@ -60,7 +60,7 @@ pub record IsOwnRegistry (version : Version) (trees : Trees) : Type 0 where
   pub registry : IsRegistry version db
 
 -- the trees of a registry of version 2 with the devices that are found in the other trees
-pub record KeepsFound (found left : Trees) : Type 0 where
+pub record KeepsFoundDevices (found left : Trees) : Type 0 where
   pub devices : Devices
   pub finds : Finds found devices
   pub holds : Holds left devices
@@ -73,12 +73,12 @@ IsNoRegistry trees = (devices : Devices) → ¬ Finds trees devices
 -- A database is rejected, or opening it failed. One that is no registry is as it was. After another fault, a crash
 -- leaves what it could leave before, or a registry of the devices that were committed.
 pub record RefusesToOpen (old new : State) (fault : OpenFault) : Type 0 where
-  pub survives : Survives old new (KeepsFound old.committed.trees)
+  pub survives : Survives old new (KeepsFoundDevices old.committed.trees)
   pub clean : HasCleanDisk new → HasCleanDisk old
   pub other : HasCleanDisk new → fault ≡ NotARegistry → IsNoRegistry old.committed.trees × IsUnchanged old new
       × ((trees : Trees) → new.may_leave trees → old.may_leave trees)
   pub crash : HasCleanDisk new → (trees : Trees) → new.may_leave trees
-      → old.may_leave trees ⊎ (IsTrue old.is_open × KeepsFound old.committed.trees trees)
+      → old.may_leave trees ⊎ (IsTrue old.is_open × KeepsFoundDevices old.committed.trees trees)
 
 -- An open failed, and dropped its connection. After `NotARegistry`, some state satisfies `RefusesToOpen`. No contract
 -- says that it is the last state of the connection.

@@ -58,7 +58,7 @@ pub record KeepsRows (old new : State) : Type 0 where
   pub rows : (table : Table) → Has old.now.schema.tables table → new.now.trees table.tree ≡ old.now.trees table.tree
 
 -- each table with none of our names, of either version, still exists with its rows
-abbrev pub KeepsOthers : Database → Database → Type 0
-KeepsOthers old new = (table : Table) → Has old.schema.tables table → same_name table.name meta_name ≡ false
+abbrev pub KeepsOtherTables : Database → Database → Type 0
+KeepsOtherTables old new = (table : Table) → Has old.schema.tables table → same_name table.name meta_name ≡ false
     → ((version : Version) → same_name table.name (device_name version) ≡ false)
     → Has new.schema.tables table × (new.trees table.tree ≡ old.trees table.tree)

@@ -12,19 +12,19 @@ use Rattle.device_registry.specs.Table.{meta_name, device_name}
 use Rattle.device_registry.specs.Stored.{other}
 
 -- the table has a foreign key that refers to this name
-abbrev pub refers : List ℕ → Table → Bool
-refers name table = list_any (λ reference. same_name reference.parent name) table.references
+abbrev pub refers_to : List ℕ → Table → Bool
+refers_to name table = list_any (λ reference. same_name reference.parent name) table.references
 
-abbrev pub is_referred : Schema → List ℕ → Bool
-is_referred schema name = list_any (refers name) schema.tables
+abbrev pub is_referenced : Schema → List ℕ → Bool
+is_referenced schema name = list_any (refers_to name) schema.tables
 
 abbrev pub is_indexed : Schema → ℕ → Bool
 is_indexed schema tree = list_any (λ index. index.table == tree) schema.indexes
 
 -- a table refers to one of ours, of either version
-abbrev pub are_referred : Schema → Bool
-are_referred schema =
-    is_referred schema meta_name || is_referred schema (device_name First) || is_referred schema (device_name Second)
+abbrev pub are_ours_referenced : Schema → Bool
+are_ours_referenced schema =
+    is_referenced schema meta_name || is_referenced schema (device_name First) || is_referenced schema (device_name Second)
 
 -- a table counts its rowids, but SQLite's table of the counts does not exist
 abbrev pub lacks_sequence_table : Schema → Bool
@@ -40,32 +40,32 @@ can_count_rowids Second schema = true
 abbrev pub admits_tables : Schema → Bool
 admits_tables schema =
     not (is_used schema meta_name) && not (is_used schema (device_name First)) && not
-    (is_used schema (device_name Second)) && not (are_referred schema) && not (lacks_sequence_table schema)
+    (is_used schema (device_name Second)) && not (are_ours_referenced schema) && not (lacks_sequence_table schema)
 
 -- no other table than that of this name is in the tree
-abbrev pub is_lone : Schema → List ℕ → ℕ → Bool
-is_lone schema name tree = list_all (λ table. not (table.tree == tree) || same_name table.name name) schema.tables
+abbrev pub is_alone_in_tree : Schema → List ℕ → ℕ → Bool
+is_alone_in_tree schema name tree = list_all (λ table. not (table.tree == tree) || same_name table.name name) schema.tables
 
 -- no foreign key refers to our tables; no index is on the two of this version; no other table is in their trees; the
 -- name of the other version's table is free; tables that count their rowids have the table of the counts
-abbrev pub is_left_alone : Version → Schema → ℕ → ℕ → Bool
-is_left_alone version schema meta devices =
-    not (are_referred schema) && not (is_indexed schema meta) && not (is_indexed schema devices)
-    && is_lone schema meta_name meta && is_lone schema (device_name version) devices && not
+abbrev pub is_unaffected : Version → Schema → ℕ → ℕ → Bool
+is_unaffected version schema meta devices =
+    not (are_ours_referenced schema) && not (is_indexed schema meta) && not (is_indexed schema devices)
+    && is_alone_in_tree schema meta_name meta && is_alone_in_tree schema (device_name version) devices && not
     (is_used schema (device_name (other version))) && can_count_rowids version schema
 
 -- the tree of the table with this name
-abbrev pub tree_named : Schema → List ℕ → Option ℕ
-tree_named schema name =
+abbrev pub tree_of_table : Schema → List ℕ → Option ℕ
+tree_of_table schema name =
     option_map (λ table. table.tree) (option_and_then (slice_get schema.tables) (table_named schema name))
 
-abbrev pub if_left_alone : Version → Schema → ℕ → ℕ → Option (ℕ × ℕ)
-if_left_alone version schema meta devices =
-    if is_left_alone version schema meta devices then Some (meta, devices) else None
+abbrev pub trees_if_unaffected : Version → Schema → ℕ → ℕ → Option (ℕ × ℕ)
+trees_if_unaffected version schema meta devices =
+    if is_unaffected version schema meta devices then Some (meta, devices) else None
 
 -- the trees of the two tables of this version, if other objects do not affect them
-abbrev pub trees_in : Version → Schema → Option (ℕ × ℕ)
-trees_in version schema =
+abbrev pub trees_of_tables : Version → Schema → Option (ℕ × ℕ)
+trees_of_tables version schema =
     option_and_then
-    (λ meta. option_and_then (if_left_alone version schema meta) (tree_named schema (device_name version)))
-    (tree_named schema meta_name)
+    (λ meta. option_and_then (trees_if_unaffected version schema meta) (tree_of_table schema (device_name version)))
+    (tree_of_table schema meta_name)

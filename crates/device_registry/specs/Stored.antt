@@ -18,7 +18,7 @@ use Rattle.sqlite_typing.specs.Types.{table_classes, row_classes}
 use Rattle.device_registry.specs.declared.table.Version.{Version}
 use Rattle.device_registry.specs.declared.table.Version.TheVariants.{First, Second}
 use Rattle.learned_devices.specs.Devices.{Devices, max_devices}
-use Rattle.device_registry.specs.Table.{meta_name, device_name, meta_text, device_text, meta_table, device_table}
+use Rattle.device_registry.specs.Table.{meta_name, device_name, create_meta_sql, create_device_sql, meta_table, device_table}
 use Rattle.device_registry.specs.Table.Rows.{IsDevice, IsVersion, RowidsDiffer, devices_in, rows_of}
 
 -- the schema's table of this name is this one, at this index
@@ -97,7 +97,7 @@ pub record IsListedAs (trees : Trees) (name text : List ℕ) : Type 0 where
 -- the two tables are listed with our texts
 abbrev pub AreListed : Version → Trees → Type 0
 AreListed version trees =
-    IsListedAs trees meta_name meta_text × IsListedAs trees (device_name version) (device_text version)
+    IsListedAs trees meta_name create_meta_sql × IsListedAs trees (device_name version) (create_device_sql version)
 
 -- the database is a registry of this version, as this program leaves it
 pub record IsRegistry (version : Version) (db : Database) : Type 0 where

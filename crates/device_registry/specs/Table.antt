@@ -16,9 +16,9 @@ use Rattle.device_registry.specs.declared.table.Version.{Version}
 use Rattle.device_registry.specs.declared.table.Version.TheVariants.{First, Second}
 
 -- the number of a version in its row. Own choice
-abbrev pub number_of : Version → ℕ
-number_of First = 1
-number_of Second = 2
+abbrev pub version_number : Version → ℕ
+version_number First = 1
+version_number Second = 2
 
 -- FFFFFFFF is no sender
 abbrev pub max_sender : ℕ
@@ -41,55 +41,55 @@ abbrev pub device_name : Version → List ℕ
 device_name First = codes "enogate_device"
 device_name Second = codes "enogate_device_v2"
 
-abbrev pub meta_text : List ℕ
-meta_text = codes "CREATE TABLE enogate_meta (k INTEGER PRIMARY KEY CHECK (k = 1), version INTEGER NOT NULL) STRICT"
+abbrev pub create_meta_sql : List ℕ
+create_meta_sql = codes "CREATE TABLE enogate_meta (k INTEGER PRIMARY KEY CHECK (k = 1), version INTEGER NOT NULL) STRICT"
 
-abbrev pub device_text : Version → List ℕ
-device_text First =
+abbrev pub create_device_sql : Version → List ℕ
+create_device_sql First =
     codes "CREATE TABLE enogate_device (id INTEGER PRIMARY KEY CHECK (id >= 0 AND id <= 4294967294), "
     ++ codes "eep INTEGER NOT NULL CHECK (eep >= 0 AND eep <= 16777215), "
     ++ codes "maker INTEGER NOT NULL CHECK (maker >= -1 AND maker <= 2047)) STRICT"
-device_text Second =
+create_device_sql Second =
     codes "CREATE TABLE enogate_device_v2 (id INTEGER PRIMARY KEY CHECK (id >= 0 AND id <= 4294967294), "
     ++ codes "eep INTEGER NOT NULL CHECK (eep >= 0 AND eep <= 16777215), "
     ++ codes "maker INTEGER NOT NULL CHECK (maker >= -1 AND maker <= 2047), label TEXT NOT NULL) STRICT"
 
-abbrev pub write_version_text : List ℕ
-write_version_text = codes "INSERT INTO enogate_meta (k, version) VALUES (1, 2)"
+abbrev pub write_version_sql : List ℕ
+write_version_sql = codes "INSERT INTO enogate_meta (k, version) VALUES (1, 2)"
 
-abbrev pub read_version_text : List ℕ
-read_version_text = codes "SELECT k, version FROM enogate_meta"
+abbrev pub read_version_sql : List ℕ
+read_version_sql = codes "SELECT k, version FROM enogate_meta"
 
 -- it writes version 2; in a registry of that version the row does not change
-abbrev pub rewrite_version_text : List ℕ
-rewrite_version_text = codes "UPDATE enogate_meta SET version = 2"
+abbrev pub rewrite_version_sql : List ℕ
+rewrite_version_sql = codes "UPDATE enogate_meta SET version = 2"
 
-abbrev pub find_text : List ℕ
-find_text = codes "SELECT id, eep, maker, label FROM enogate_device_v2 WHERE id = ?1"
+abbrev pub find_sql : List ℕ
+find_sql = codes "SELECT id, eep, maker, label FROM enogate_device_v2 WHERE id = ?1"
 
 -- devices of version 1 are shown with the empty label
-abbrev pub find_all_text : Version → List ℕ
-find_all_text First = codes "SELECT id, eep, maker, '' FROM enogate_device ORDER BY id"
-find_all_text Second = codes "SELECT id, eep, maker, label FROM enogate_device_v2 ORDER BY id"
+abbrev pub find_all_sql : Version → List ℕ
+find_all_sql First = codes "SELECT id, eep, maker, '' FROM enogate_device ORDER BY id"
+find_all_sql Second = codes "SELECT id, eep, maker, label FROM enogate_device_v2 ORDER BY id"
 
-abbrev pub count_others_text : List ℕ
-count_others_text = codes "SELECT count(*) FROM enogate_device_v2 WHERE id <> ?1"
+abbrev pub count_others_sql : List ℕ
+count_others_sql = codes "SELECT count(*) FROM enogate_device_v2 WHERE id <> ?1"
 
-abbrev pub upsert_text : List ℕ
-upsert_text = codes "INSERT OR REPLACE INTO enogate_device_v2 (id, eep, maker, label) VALUES (?1, ?2, ?3, ?4)"
+abbrev pub upsert_sql : List ℕ
+upsert_sql = codes "INSERT OR REPLACE INTO enogate_device_v2 (id, eep, maker, label) VALUES (?1, ?2, ?3, ?4)"
 
-abbrev pub delete_text : List ℕ
-delete_text = codes "DELETE FROM enogate_device_v2 WHERE id = ?1"
+abbrev pub delete_sql : List ℕ
+delete_sql = codes "DELETE FROM enogate_device_v2 WHERE id = ?1"
 
-abbrev pub copy_text : List ℕ
-copy_text =
+abbrev pub copy_sql : List ℕ
+copy_sql =
     codes "INSERT INTO enogate_device_v2 (id, eep, maker, label) SELECT id, eep, maker, '' FROM enogate_device"
 
-abbrev pub drop_text : List ℕ
-drop_text = codes "DROP TABLE enogate_device"
+abbrev pub drop_sql : List ℕ
+drop_sql = codes "DROP TABLE enogate_device"
 
-abbrev pub list_objects_text : List ℕ
-list_objects_text = codes "SELECT name, type, sql FROM sqlite_schema ORDER BY rowid"
+abbrev pub list_objects_sql : List ℕ
+list_objects_sql = codes "SELECT name, type, sql FROM sqlite_schema ORDER BY rowid"
 
 -- ---- the tables, as SQLite reads them from the texts
 

@@ -41,7 +41,7 @@ pub fn look_up_cached(cache: &mut Cache, id: u32) -> Option<Option<Device>>
 
 /// Adds or replaces the entry of a sender; a full cache then evicts its least recently used entry. If there is no
 /// memory, the cache does not change.
-pub fn remember(cache: &mut Cache, id: u32, known: Option<Device>)
+pub fn cache_entry(cache: &mut Cache, id: u32, known: Option<Device>)
     ensures put { (cache.new ≡ cache.old)
         ⊎ (cache.new ≡ lru_cache (put_entries nat_eq cache.old id known) cache.old.cap) }
     ensures kept { (entry : _) → Contains cache.new.entries entry →
@@ -51,7 +51,7 @@ pub fn remember(cache: &mut Cache, id: u32, known: Option<Device>)
 }
 
 /// Removes the entry of a sender.
-pub fn forget_entry(cache: &mut Cache, id: u32)
+pub fn drop_entry(cache: &mut Cache, id: u32)
     ensures gone { cache.new.entries ≡ remove_entry (nat_eq id) cache.old.entries }
     ensures kept { (entry : _) → Contains cache.new.entries entry → Contains cache.old.entries entry × (entry.0 ≢ id) }
 {

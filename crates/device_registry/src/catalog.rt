@@ -2,7 +2,7 @@
 ghost use Rattle.std.specs.Prelude.{◌≡◌};
 ghost use Rattle.std.specs.List.{list_any};
 ghost use Rattle.sqlite.specs.Order.{column};
-ghost use Rattle.device_registry.specs.private.CatalogRows.{has_text, is_line, are_ours};
+ghost use Rattle.device_registry.specs.private.CatalogRows.{has_text, is_catalog_row, are_our_tables};
 
 use crate::table::statements::CREATE_META;
 use crate::table::{META, Version};
@@ -18,23 +18,23 @@ fn has_text(row: &Row, at: usize, text: &[u8]) -> bool
     }
 }
 
-fn is_line(row: &Row, name: &[u8], text: &[u8]) -> bool
-    ensures { result ≡ is_line name.now text.now row.now }
+fn is_catalog_row(row: &Row, name: &[u8], text: &[u8]) -> bool
+    ensures { result ≡ is_catalog_row name.now text.now row.now }
 {
     has_text(row, 0, name) && has_text(row, 2, text)
 }
 
 /// Whether the rows list an object with this name and text.
-fn lists(rows: &[Row], name: &[u8], text: &[u8]) -> bool
-    ensures { result ≡ list_any (is_line name.now text.now) rows.now }
+fn has_catalog_row(rows: &[Row], name: &[u8], text: &[u8]) -> bool
+    ensures { result ≡ list_any (is_catalog_row name.now text.now) rows.now }
 {
-    rows.iter().any(|row| is_line(row, name, text))
+    rows.iter().any(|row| is_catalog_row(row, name, text))
 }
 
 /// Whether the rows list the two tables of this version with their texts.
-pub fn are_ours(rows: &[Row], version: Version) -> bool
-    ensures { result ≡ are_ours version rows.now }
+pub fn are_our_tables(rows: &[Row], version: Version) -> bool
+    ensures { result ≡ are_our_tables version rows.now }
 {
-    lists(rows, META, CREATE_META.as_bytes())
-        && lists(rows, version.device(), version.create_device().as_bytes())
+    has_catalog_row(rows, META, CREATE_META.as_bytes())
+        && has_catalog_row(rows, version.device_table(), version.create_device_sql().as_bytes())
 }

@@ -5,7 +5,7 @@ ghost use Rattle.sqlite.specs.State.{HasCleanDisk, Survives};
 ghost use Rattle.sqlite.specs.Effect.{IsDatabase};
 ghost use Rattle.sqlite.specs.Held.{state};
 ghost use Rattle.device_registry.specs.Stored.{Holds};
-ghost use Rattle.device_registry.specs.Ready.{IsReadyWith, KeepsOthers};
+ghost use Rattle.device_registry.specs.Ready.{IsReadyWith, KeepsOtherTables};
 ghost use Rattle.device_registry.specs.Opening.{KeepsDatabase};
 ghost use Rattle.device_registry.specs.SchemaChecks.{admits_tables};
 
@@ -22,7 +22,7 @@ pub fn create_registry<S: Alter>(conn: &mut Connection<S>) -> Result<(), Error>
         → IsTrue (admits_tables (state S.Store conn.old).now.schema) ×
         IsDatabase (state S.Store conn.old).now }
     ensures made { HasCleanDisk (state S.Store conn.new) → OnOk result (IsReadyWith (state S.Store conn.new) empty) }
-    ensures others { HasCleanDisk (state S.Store conn.new) → OnOk result (KeepsOthers (state S.Store conn.old).now
+    ensures others { HasCleanDisk (state S.Store conn.new) → OnOk result (KeepsOtherTables (state S.Store conn.old).now
         (state S.Store conn.new).now) }
     ensures crash { Survives (state S.Store conn.old) (state S.Store conn.new) (λ trees. Holds trees empty) }
     ensures remains { HasCleanDisk (state S.Store conn.new) → OnErr result (KeepsDatabase (state S.Store conn.old)

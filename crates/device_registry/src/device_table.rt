@@ -5,7 +5,7 @@ ghost use Rattle.sqlite.specs.State.{HasCleanDisk};
 ghost use Rattle.learned_devices.specs.Devices.{Devices, Learn, Relabel, data_after, device_data, learn_update};
 ghost use Rattle.learned_devices.specs.Devices.{relabel_update};
 ghost use Rattle.learned_devices.specs.StoreCalls.{LooksUp, Updates, Forgets, ListsAll};
-ghost use Rattle.device_registry.specs.Holding.{HasDevices, IsReturned, RewritesVersion, WritesRow, registry_state};
+ghost use Rattle.device_registry.specs.Holding.{HasDevices, IsReturnedByClose, RewritesVersion, WritesRow, registry_state};
 ghost use Rattle.device_registry.specs.private.TableCalls.{Adds};
 ghost use Rattle.device_registry.specs.Ready.{IsReady, AreReady};
 
@@ -115,7 +115,7 @@ impl<C: SqlConnection> DeviceTable<C> {
     /// Returns the connection, unchanged.
     pub fn close(self) -> C
         ensures same { result ≡ self }
-        ensures hands_on { IsReturned (C.state self) }
+        ensures hands_on { IsReturnedByClose (C.state self) }
     {
         let DeviceTable { alloc: _, conn } = self;
         conn

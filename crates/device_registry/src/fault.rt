@@ -12,7 +12,7 @@ pub(crate) fn store_fault(error: Error) -> StoreFault
 {
     match error {
         Error::SqliteFailure(ErrorCode::OutOfMemory) => StoreFault::from(AllocError),
-        _ => StoreFault::no_answer(),
+        _ => StoreFault::store_failed(),
     }
 }
 
@@ -24,29 +24,29 @@ pub enum OpenFault {
     NotARegistry,
     /// Out of memory, or the database failed.
     #[error(transparent)]
-    Refused(StoreFault),
+    Failed(StoreFault),
 }
 
 impl From<Error> for OpenFault {
     ghost use Rattle.std.specs.Prelude.{◌≡◌};
     ghost use Rattle.device_registry.specs.Faults.{fault_of};
-    ghost use Rattle.device_registry.specs.declared.fault.OpenFault.TheVariants.{Refused};
+    ghost use Rattle.device_registry.specs.declared.fault.OpenFault.TheVariants.{Failed};
 
-    ghost from_gives = { λ error why. why ≡ Refused (fault_of error) };
+    ghost from_gives = { λ error why. why ≡ Failed (fault_of error) };
 
     fn from(error: Error) -> OpenFault {
-        OpenFault::Refused(store_fault(error))
+        OpenFault::Failed(store_fault(error))
     }
 }
 
 impl From<AllocError> for OpenFault {
     ghost use Rattle.std.specs.Prelude.{◌≡◌};
-    ghost use Rattle.learned_devices.specs.Faults.{no_memory};
-    ghost use Rattle.device_registry.specs.declared.fault.OpenFault.TheVariants.{Refused};
+    ghost use Rattle.learned_devices.specs.Faults.{out_of_memory};
+    ghost use Rattle.device_registry.specs.declared.fault.OpenFault.TheVariants.{Failed};
 
-    ghost from_gives = { λ _ why. why ≡ Refused no_memory };
+    ghost from_gives = { λ _ why. why ≡ Failed out_of_memory };
 
     fn from(refused: AllocError) -> OpenFault {
-        OpenFault::Refused(StoreFault::from(refused))
+        OpenFault::Failed(StoreFault::from(refused))
     }
 }

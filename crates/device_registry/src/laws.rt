@@ -2,7 +2,7 @@
 ghost use Rattle.std.specs.Prelude.{◌≡◌};
 ghost use Rattle.device_registry.specs.declared.cache_limits.TheConstants.{MAX_CACHED};
 ghost use Rattle.device_registry.specs.Opening.{max_cached};
-ghost use Rattle.device_registry.specs.Holding.{HoldsSome};
+ghost use Rattle.device_registry.specs.Holding.{HoldsSomeDevices};
 ghost use Rattle.device_registry.specs.Opening.{ClosedFilesAreFound, DevicesAreLimited, OpensAgree, ReturnedIsFound};
 ghost use Rattle.device_registry.specs.Opening.{CrashedFilesAreFound};
 ghost use Rattle.device_registry.specs.Opening.{RegistriesAreRecognized, OnlyNonRegistriesAreRefused, FailedOpensKeep};
@@ -69,7 +69,7 @@ pub fn closed_files_are_found<D: Disk>()
 
 /// Every registry holds some devices while the disk has returned what was written and the connection is open.
 pub fn devices_are_held<C: SqlConnection>(registry: &RegistryOver<C>)
-    ensures { HoldsSome (C.state registry.now) }
+    ensures { HoldsSomeDevices (C.state registry.now) }
 {
     // The proof uses the fields: the table's invariant implies the contract.
     let table = &registry.table;

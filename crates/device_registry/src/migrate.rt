@@ -6,7 +6,7 @@ ghost use Rattle.sqlite.specs.Held.{state};
 ghost use Rattle.device_registry.specs.declared.table.Version.TheVariants.{First};
 ghost use Rattle.learned_devices.specs.Devices.{Devices};
 ghost use Rattle.device_registry.specs.Stored.{IsRegistry, IsRegistryOfVersion, Holds};
-ghost use Rattle.device_registry.specs.Ready.{IsReadyWith, KeepsOthers};
+ghost use Rattle.device_registry.specs.Ready.{IsReadyWith, KeepsOtherTables};
 ghost use Rattle.device_registry.specs.Opening.{KeepsDatabase};
 
 use crate::table::Version;
@@ -22,7 +22,7 @@ pub fn migrate<S: Alter>(conn: &mut Connection<S>) -> Result<(), Error>
         IsDatabase (state S.Store conn.old).now }
     ensures made { HasCleanDisk (state S.Store conn.new) → OnOk result ((devices : Devices) →
         IsRegistryOfVersion First (state S.Store conn.old).now devices → IsReadyWith (state S.Store conn.new) devices) }
-    ensures others { HasCleanDisk (state S.Store conn.new) → OnOk result (KeepsOthers (state S.Store conn.old).now
+    ensures others { HasCleanDisk (state S.Store conn.new) → OnOk result (KeepsOtherTables (state S.Store conn.old).now
         (state S.Store conn.new).now) }
     ensures crash { Survives (state S.Store conn.old) (state S.Store conn.new) (λ trees. (devices : Devices) →
         IsRegistryOfVersion First (state S.Store conn.old).now devices → Holds trees devices) }

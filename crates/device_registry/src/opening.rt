@@ -6,8 +6,8 @@ ghost use Rattle.learned_devices.specs.Devices.{Devices};
 ghost use Rattle.device_registry.specs.Opening.{max_cached};
 ghost use Rattle.device_registry.specs.Holding.{RewritesVersion};
 ghost use Rattle.device_registry.specs.Stored.{AreRegistryTrees};
-ghost use Rattle.device_registry.specs.Ready.{KeepsOthers, KeepsRows};
-ghost use Rattle.device_registry.specs.Opening.{IsAtRest, KeepsDatabase, IsPrepared, KeepsFound, IsNoRegistry};
+ghost use Rattle.device_registry.specs.Ready.{KeepsOtherTables, KeepsRows};
+ghost use Rattle.device_registry.specs.Opening.{IsSettledOpen, KeepsDatabase, IsPrepared, KeepsFoundDevices, IsNoRegistry};
 ghost use Rattle.device_registry.specs.Opening.{IsOpened, RefusesAndDrops, RefusesToOpen};
 
 use crate::cache::new_cache;
@@ -28,10 +28,10 @@ fn check_open<C: SqlConnection>(conn: &mut C) -> Result<(), Error>
     requires idle { (C.state conn.old).in_transaction ≡ false }
     ensures idle { OnOk result ((C.state conn.new).in_transaction ≡ false) }
     ensures same { HasCleanDisk (C.state conn.new) → OnOk result (IsUnchanged (C.state conn.old)
-        (C.state conn.new) × IsAtRest (C.state conn.old)) }
+        (C.state conn.new) × IsSettledOpen (C.state conn.old)) }
     ensures crash { Survives (C.state conn.old) (C.state conn.new) (λ _. ⊥) }
     ensures kept { HasCleanDisk (C.state conn.new) → OnErr result (IsTrue (C.state conn.new).is_open →
-        IsAtRest (C.state conn.new) × ((C.state conn.new).now ≡ (C.state conn.old).now)) }
+        IsSettledOpen (C.state conn.new) × ((C.state conn.new).now ≡ (C.state conn.old).now)) }
 {
     // The proof uses both calls: they imply that the database of an open connection is sound, and is what is committed.
     let _schema = conn.schema();
@@ -43,7 +43,7 @@ fn check_open<C: SqlConnection>(conn: &mut C) -> Result<(), Error>
 /// Accepts the registry in the database, migrates it, or creates it.
 fn create_or_recognize<C: SqlConnection>(conn: &mut C) -> Result<(), OpenFault>
     requires idle { (C.state conn.old).in_transaction ≡ false }
-    requires rest { HasCleanDisk (C.state conn.old) → IsAtRest (C.state conn.old) }
+    requires rest { HasCleanDisk (C.state conn.old) → IsSettledOpen (C.state conn.old) }
     ensures prepared { HasCleanDisk (C.state conn.new) → OnOk result ((devices : Devices) × IsPrepared
         (C.state conn.old) (C.state conn.new) devices) }
     ensures refused { HasCleanDisk (C.state conn.new) → result ≡ Err OpenFault.NotARegistry → IsNoRegistry
@@ -51,13 +51,13 @@ fn create_or_recognize<C: SqlConnection>(conn: &mut C) -> Result<(), OpenFault>
     ensures unchanged { HasCleanDisk (C.state conn.new) → result ≡ Err OpenFault.NotARegistry →
         IsUnchanged (C.state conn.old) (C.state conn.new)
         × ((trees : Trees) → (C.state conn.new).may_leave trees → (C.state conn.old).may_leave trees) }
-    ensures crash { Survives (C.state conn.old) (C.state conn.new) (KeepsFound
+    ensures crash { Survives (C.state conn.old) (C.state conn.new) (KeepsFoundDevices
         (C.state conn.old).now.trees) }
     ensures rows { HasCleanDisk (C.state conn.new) → OnOk result (AreRegistryTrees (C.state conn.old).now.trees →
         KeepsRows (C.state conn.old) (C.state conn.new)) }
     ensures written { HasCleanDisk (C.state conn.new) → OnOk result (AreRegistryTrees (C.state conn.old).now.trees →
         RewritesVersion (C.state conn.old) (C.state conn.new)) }
-    ensures others { HasCleanDisk (C.state conn.new) → OnOk result (KeepsOthers (C.state conn.old).now
+    ensures others { HasCleanDisk (C.state conn.new) → OnOk result (KeepsOtherTables (C.state conn.old).now
         (C.state conn.new).now) }
     ensures remains { HasCleanDisk (C.state conn.new) → OnErr result (KeepsDatabase (C.state conn.old)
         (C.state conn.new)) }
@@ -84,7 +84,7 @@ fn create_or_recognize<C: SqlConnection>(conn: &mut C) -> Result<(), OpenFault>
 /// database; here the connection stays with the caller, with no open transaction. A second call leaves every row as it
 /// is. `Ok` is returned after a commit: for an accepted registry, the version row is rewritten unchanged.
 ///
-/// `NotARegistry` means that the database is something else, and it is as it was. After `Refused` it holds what it
+/// `NotARegistry` means that the database is something else, and it is as it was. After `Failed` it holds what it
 /// held, perhaps with the two tables, or as version 2.
 pub fn prepare<C: SqlConnection>(conn: &mut C) -> Result<(), OpenFault>
     requires idle { (C.state conn.old).in_transaction ≡ false }
@@ -92,10 +92,10 @@ pub fn prepare<C: SqlConnection>(conn: &mut C) -> Result<(), OpenFault>
     ensures opened { HasCleanDisk (C.state conn.new) → OnOk result (IsOpened (C.state conn.old) (C.state conn.new)) }
     ensures rows { HasCleanDisk (C.state conn.new) → OnOk result (AreRegistryTrees
         (C.state conn.old).committed.trees → KeepsRows (C.state conn.old) (C.state conn.new)) }
-    ensures others { HasCleanDisk (C.state conn.new) → OnOk result (KeepsOthers (C.state conn.old).now
+    ensures others { HasCleanDisk (C.state conn.new) → OnOk result (KeepsOtherTables (C.state conn.old).now
         (C.state conn.new).now) }
     ensures kept { HasCleanDisk (C.state conn.new) → OnErr result (IsTrue (C.state conn.new).is_open →
-        IsAtRest (C.state conn.new) × ((C.state conn.new).now ≡ (C.state conn.old).now)) }
+        IsSettledOpen (C.state conn.new) × ((C.state conn.new).now ≡ (C.state conn.old).now)) }
     ensures refused { IfErr result (RefusesToOpen (C.state conn.old) (C.state conn.new)) }
 {
     check_open(conn)?;

@@ -8,7 +8,7 @@ ghost use Rattle.sqlite.specs.State.{Shown, FailsToQuery, CommitsShowing};
 ghost use Rattle.learned_devices.specs.Devices.{Devices, DeviceUpdate, apply_update, forget_update, device_data};
 ghost use Rattle.learned_devices.specs.Devices.{is_full, all_of};
 ghost use Rattle.learned_devices.specs.Devices.{device_of};
-ghost use Rattle.device_registry.specs.Table.{upsert_text, delete_text, rewrite_version_text};
+ghost use Rattle.device_registry.specs.Table.{upsert_sql, delete_sql, rewrite_version_sql};
 ghost use Rattle.device_registry.specs.Stored.{Holds};
 ghost use Rattle.device_registry.specs.Opening.{KeepsDatabase};
 ghost use Rattle.device_registry.specs.Ready.{IsReadyWith, IsReady, StaysReady, WritesNothing, CommitsOrFails};
@@ -16,7 +16,7 @@ ghost use Rattle.device_registry.specs.Ready.{KeepsRows};
 ghost use Rattle.device_registry.specs.Table.Rows.{IsDeviceOrNone, device_in_row, upsert_params};
 
 use crate::sql_connection::SqlConnection;
-use crate::table::row_codec::{number, number_of, number_of_maker};
+use crate::table::row_codec::{eep_number, maker_number, shown_count};
 use crate::table::statements::{COUNT_OTHERS, DELETE, FIND, FIND_ALL, REWRITE_VERSION, UPSERT};
 use learned_devices::{Device, MAX_DEVICES};
 use sqlite::{Error, Row, Statement, params};
@@ -74,7 +74,7 @@ pub(crate) fn is_full_for<C: SqlConnection>(conn: &mut C, id: u32) -> Result<boo
 {
     let others = compile(conn, COUNT_OTHERS)?;
     let rows = query_by_sender(conn, &others, id)?;
-    Ok(number(&rows)? >= MAX_DEVICES as u64)
+    Ok(shown_count(&rows)? >= MAX_DEVICES as u64)
 }
 
 /// The rows of all devices, by ascending ID.
@@ -96,10 +96,10 @@ fn run_upsert<C: SqlConnection>(
     maker: i64,
     label: &str,
 ) -> Result<usize, Error>
-    ensures runs { HasCleanDisk (C.state conn.new) → Executes upsert_text
+    ensures runs { HasCleanDisk (C.state conn.new) → Executes upsert_sql
         (Int id ∷ Int eep ∷ Int maker ∷ Text label.now ∷ []) (C.state conn.old) (C.state conn.new) result }
     ensures survives { Survives (C.state conn.old) (C.state conn.new)
-        (CommitsBy upsert_text (Int id ∷ Int eep ∷ Int maker ∷ Text label.now ∷ []) (C.state conn.old)) }
+        (CommitsBy upsert_sql (Int id ∷ Int eep ∷ Int maker ∷ Text label.now ∷ []) (C.state conn.old)) }
 {
     conn.execute(UPSERT, params![id, eep, maker, label])
 }
@@ -112,23 +112,23 @@ pub(crate) fn upsert<C: SqlConnection>(conn: &mut C, device: Device) -> Result<u
     ensures turns { (update : DeviceUpdate) → (HasCleanDisk (C.state conn.old) → (devices : Devices) → IsReadyWith
         (C.state conn.old) devices → apply_update devices update ≡ insert devices device.id (device_data device))
         → CommitsOrFails (C.state conn.old) (C.state conn.new) update result }
-    ensures written { HasCleanDisk (C.state conn.new) → IfOk result (λ count. Executes upsert_text
+    ensures written { HasCleanDisk (C.state conn.new) → IfOk result (λ count. Executes upsert_sql
         (upsert_params device.id (device_data device)) (C.state conn.old) (C.state conn.new) (Ok count)) }
 {
     run_upsert(
         conn,
         i64::from(device.id),
-        number_of(device.eep),
-        number_of_maker(device.maker),
+        eep_number(device.eep),
+        maker_number(device.maker),
         device.label.as_str(),
     )
 }
 
 fn run_delete<C: SqlConnection>(conn: &mut C, id: i64) -> Result<usize, Error>
-    ensures runs { HasCleanDisk (C.state conn.new) → Executes delete_text (Int id ∷ [])
+    ensures runs { HasCleanDisk (C.state conn.new) → Executes delete_sql (Int id ∷ [])
         (C.state conn.old) (C.state conn.new) result }
     ensures survives { Survives (C.state conn.old) (C.state conn.new)
-        (CommitsBy delete_text (Int id ∷ []) (C.state conn.old)) }
+        (CommitsBy delete_sql (Int id ∷ []) (C.state conn.old)) }
 {
     conn.execute(DELETE, params![id])
 }
@@ -144,7 +144,7 @@ fn forget<C: SqlConnection>(conn: &mut C, id: u32) -> Result<usize, Error>
 /// Rewrites the version row unchanged, so that an update without effect commits too.
 pub(crate) fn rewrite_version<C: SqlConnection>(conn: &mut C) -> Result<usize, Error>
     requires { HasCleanDisk (C.state conn.old) → IsReady (C.state conn.old) }
-    ensures runs { HasCleanDisk (C.state conn.new) → Executes rewrite_version_text [] (C.state conn.old)
+    ensures runs { HasCleanDisk (C.state conn.new) → Executes rewrite_version_sql [] (C.state conn.old)
         (C.state conn.new) result }
     ensures renewed { HasCleanDisk (C.state conn.new) → OnOk result ((devices : Devices) → IsReadyWith
         (C.state conn.old) devices → IsReadyWith (C.state conn.new) devices) }
@@ -172,7 +172,7 @@ pub(crate) fn delete_or_rewrite_version<C: SqlConnection>(
         (C.state conn.old) devices → IsDeviceOrNone (device_of devices id) rows.now }
     ensures turns { CommitsOrFails (C.state conn.old) (C.state conn.new) (forget_update id) result }
     ensures written { HasCleanDisk (C.state conn.new) → rows.now ≡ []
-        → IfOk result (λ count. Executes rewrite_version_text []
+        → IfOk result (λ count. Executes rewrite_version_sql []
         (C.state conn.old) (C.state conn.new) (Ok count)) }
 {
     if rows.is_empty() {

@@ -5,10 +5,10 @@ ghost use Rattle.sqlite.specs.Given.{IsPlain};
 ghost use Rattle.sqlite.specs.Listing.{understood};
 ghost use Rattle.sqlite.specs.Effect.{IsDatabase};
 ghost use Rattle.device_registry.specs.Stored.{HasTables, HasValidRows, IsRegistry, AreListed};
-ghost use Rattle.device_registry.specs.Opening.{IsAtRest, KeepsDatabase, IsOwnRegistry};
+ghost use Rattle.device_registry.specs.Opening.{IsSettledOpen, KeepsDatabase, IsOwnRegistry};
 
-use crate::catalog::are_ours;
-use crate::schema_check::trees_in;
+use crate::catalog::are_our_tables;
+use crate::schema_check::trees_of_tables;
 use crate::sql_connection::SqlConnection;
 use crate::table::Version;
 use crate::table::row_codec::{are_ascending_devices, is_version};
@@ -32,7 +32,7 @@ fn query_rows<C: SqlConnection>(conn: &mut C, sql: &str) -> Result<Vec<Row>, Err
 }
 
 /// Whether the two tables of this version are listed with our texts.
-fn lists_ours<C: SqlConnection>(conn: &mut C, version: Version) -> Result<bool, Error>
+fn lists_our_tables<C: SqlConnection>(conn: &mut C, version: Version) -> Result<bool, Error>
     requires { HasCleanDisk (C.state conn.old) → IsDatabase (C.state conn.old).now }
     ensures ours { HasCleanDisk (C.state conn.new) → IfOk result (λ yes. IsUnchanged (C.state conn.old)
         (C.state conn.new) × (IsTrue yes → AreListed version (C.state conn.old).now.trees)) }
@@ -44,7 +44,7 @@ fn lists_ours<C: SqlConnection>(conn: &mut C, version: Version) -> Result<bool, 
         (C.state conn.new)) }
 {
     let rows = query_rows(conn, LIST_OBJECTS)?;
-    Ok(are_ours(&rows, version))
+    Ok(are_our_tables(&rows, version))
 }
 
 /// Whether the version row is that of this version, and the other rows are those of devices, not too many.
@@ -64,7 +64,7 @@ fn has_valid_rows<C: SqlConnection>(conn: &mut C, version: Version) -> Result<bo
     if !is_version(&versions, version) {
         return Ok(false);
     }
-    let devices = query_rows(conn, version.find_all())?;
+    let devices = query_rows(conn, version.find_all_sql())?;
     if devices.len() > MAX_DEVICES {
         return Ok(false);
     }
@@ -73,7 +73,7 @@ fn has_valid_rows<C: SqlConnection>(conn: &mut C, version: Version) -> Result<bo
 
 /// Whether the database is a registry of this version that can be accepted.
 fn is_registry<C: SqlConnection>(conn: &mut C, version: Version) -> Result<bool, Error>
-    requires { HasCleanDisk (C.state conn.old) → IsAtRest (C.state conn.old) }
+    requires { HasCleanDisk (C.state conn.old) → IsSettledOpen (C.state conn.old) }
     ensures ours { HasCleanDisk (C.state conn.new) → IfOk result (λ yes. IsUnchanged (C.state conn.old)
         (C.state conn.new) × (IsTrue yes → IsRegistry version (C.state conn.old).now)) }
     ensures other { HasCleanDisk (C.state conn.new) → result ≡ Ok false → ¬ IsOwnRegistry version
@@ -83,10 +83,10 @@ fn is_registry<C: SqlConnection>(conn: &mut C, version: Version) -> Result<bool,
     ensures remains { HasCleanDisk (C.state conn.new) → OnErr result (KeepsDatabase (C.state conn.old)
         (C.state conn.new)) }
 {
-    let Some((_meta, _devices)) = trees_in(conn.schema(), version) else {
+    let Some((_meta, _devices)) = trees_of_tables(conn.schema(), version) else {
         return Ok(false);
     };
-    if !lists_ours(conn, version)? {
+    if !lists_our_tables(conn, version)? {
         return Ok(false);
     }
     has_valid_rows(conn, version)
@@ -94,7 +94,7 @@ fn is_registry<C: SqlConnection>(conn: &mut C, version: Version) -> Result<bool,
 
 /// The version of the registry in the database, if it can be accepted.
 pub fn version_of<C: SqlConnection>(conn: &mut C) -> Result<Option<Version>, Error>
-    requires { HasCleanDisk (C.state conn.old) → IsAtRest (C.state conn.old) }
+    requires { HasCleanDisk (C.state conn.old) → IsSettledOpen (C.state conn.old) }
     ensures found { HasCleanDisk (C.state conn.new) → IfOk result (λ found. IsUnchanged (C.state conn.old)
         (C.state conn.new) × MatchOption found ((version : _) → ¬ IsOwnRegistry version (C.state conn.old).now.trees)
         (λ version. IsRegistry version (C.state conn.old).now)) }

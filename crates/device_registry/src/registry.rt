@@ -6,10 +6,10 @@ ghost use Rattle.learned_devices.specs.Labels.{is_label};
 ghost use Rattle.learned_devices.specs.Devices.{Devices, Learn, Relabel, data_after, kept_label, device_data};
 ghost use Rattle.learned_devices.specs.Devices.{learn_update, relabel_update};
 ghost use Rattle.learned_devices.specs.StoreCalls.{LooksUp, Updates, Learns, Forgets, Relabels, ListsAll};
-ghost use Rattle.device_registry.specs.Holding.{HasDevices, IsReturned, RewritesVersion, WritesRow, registry_state};
+ghost use Rattle.device_registry.specs.Holding.{HasDevices, IsReturnedByClose, RewritesVersion, WritesRow, registry_state};
 ghost use Rattle.device_registry.specs.Ready.{IsReady, AreReady};
 
-use crate::cache::{Cache, copied, forget_entry, look_up_cached, remember};
+use crate::cache::{Cache, copied, drop_entry, look_up_cached, cache_entry};
 use crate::device_table::DeviceTable;
 use crate::fault::store_fault;
 use crate::sql_connection::SqlConnection;
@@ -46,7 +46,7 @@ impl<C: SqlConnection> Model for RegistryOver<C> {
 }
 
 // The device, with the label of `known`, if the sender is known.
-fn keeping_label(device: Device, known: Option<Device>) -> Device
+fn with_kept_label(device: Device, known: Option<Device>) -> Device
     ensures { (result.id ≡ device.id) × (device_data result ≡ record {
       eep = device.eep;
       maker = device.maker;
@@ -94,7 +94,7 @@ impl<C: SqlConnection> RegistryOver<C> {
         match self.table.find(id) {
             Ok(known) => {
                 let copy = copied(&known);
-                remember(&mut self.cache, id, copy);
+                cache_entry(&mut self.cache, id, copy);
                 Ok(known)
             }
             Err(error) => {
@@ -122,16 +122,16 @@ impl<C: SqlConnection> RegistryOver<C> {
     {
         let id = device.id;
         let copy = device.copied();
-        forget_entry(&mut self.cache, id);
+        drop_entry(&mut self.cache, id);
         match self.table.learn(device) {
             Ok(true) => {
-                remember(&mut self.cache, id, Some(copy));
+                cache_entry(&mut self.cache, id, Some(copy));
                 Ok(())
             }
             Ok(false) => Err(LearnFault::Full),
             Err(error) => {
                 self.cache.clear();
-                Err(LearnFault::Refused(store_fault(error)))
+                Err(LearnFault::Failed(store_fault(error)))
             }
         }
     }
@@ -145,7 +145,7 @@ impl<C: SqlConnection> RegistryOver<C> {
             (WritesRow C.state self.new (learn_update device) devices) }
     {
         let known = self.known(device.id)?;
-        self.store_learned(keeping_label(device, known))
+        self.store_learned(with_kept_label(device, known))
     }
 
     /// Learns a device, in place of what was stored for its sender. A known sender keeps its label; an unknown one gets
@@ -175,10 +175,10 @@ impl<C: SqlConnection> RegistryOver<C> {
     {
         let id = device.id;
         let labelled = device.copied();
-        forget_entry(&mut self.cache, id);
+        drop_entry(&mut self.cache, id);
         match self.table.relabel(device) {
             Ok(()) => {
-                remember(&mut self.cache, id, Some(labelled));
+                cache_entry(&mut self.cache, id, Some(labelled));
                 Ok(())
             }
             Err(error) => {
@@ -228,10 +228,10 @@ impl<C: SqlConnection> RegistryOver<C> {
             HasDevices (C.state self.old) devices → OnOk result (get devices id ≡ None →
             RewritesVersion (C.state self.old) (C.state self.new)) }
     {
-        forget_entry(&mut self.cache, id);
+        drop_entry(&mut self.cache, id);
         match self.table.forget(id) {
             Ok(()) => {
-                remember(&mut self.cache, id, None);
+                cache_entry(&mut self.cache, id, None);
                 Ok(())
             }
             Err(error) => {
@@ -269,7 +269,7 @@ impl<C: SqlConnection> RegistryOver<C> {
     /// opening it again, check `is_autocommit`: nothing is known about a disk that did not return what was written.
     pub fn close(self) -> C
         ensures same { result ≡ self }
-        ensures hands_on { IsReturned (C.state self) }
+        ensures hands_on { IsReturnedByClose (C.state self) }
     {
         let RegistryOver { table, cache: _ } = self;
         table.close()

@@ -3,10 +3,10 @@ ghost use Rattle.std.specs.Prelude.{◌≡◌};
 ghost use Rattle.std.specs.List.{list_any};
 ghost use Rattle.sqlite.specs.Table.{Table};
 ghost use Rattle.sqlite_catalog.specs.Change.{is_used};
-ghost use Rattle.device_registry.specs.SchemaChecks.{refers, is_referred, are_referred, is_indexed};
+ghost use Rattle.device_registry.specs.SchemaChecks.{refers_to, is_referenced, are_ours_referenced, is_indexed};
 ghost use Rattle.device_registry.specs.SchemaChecks.{lacks_sequence_table, admits_tables};
 ghost use Rattle.device_registry.specs.SchemaChecks.{can_count_rowids};
-ghost use Rattle.device_registry.specs.SchemaChecks.{is_lone, is_left_alone, tree_named, trees_in};
+ghost use Rattle.device_registry.specs.SchemaChecks.{is_alone_in_tree, is_unaffected, tree_of_table, trees_of_tables};
 
 use crate::table::{META, Version};
 use sqlite_schema::names::same_name;
@@ -20,8 +20,8 @@ fn is_used(schema: &Schema, name: &[u8]) -> bool
         || schema.view_named(name).is_some()
 }
 
-fn refers(table: &Table, name: &[u8]) -> bool
-    ensures { result ≡ refers name.now table.now }
+fn refers_to(table: &Table, name: &[u8]) -> bool
+    ensures { result ≡ refers_to name.now table.now }
 {
     table
         .references
@@ -31,23 +31,23 @@ fn refers(table: &Table, name: &[u8]) -> bool
 }
 
 /// Whether a foreign key refers to a table of this name.
-fn is_referred(schema: &Schema, name: &[u8]) -> bool
-    ensures { result ≡ is_referred schema.now name.now }
+fn is_referenced(schema: &Schema, name: &[u8]) -> bool
+    ensures { result ≡ is_referenced schema.now name.now }
 {
     schema
         .tables
         .as_slice()
         .iter()
-        .any(|table| refers(table, name))
+        .any(|table| refers_to(table, name))
 }
 
 /// Whether a foreign key refers to a table of ours, of either version.
-fn are_referred(schema: &Schema) -> bool
-    ensures { result ≡ are_referred schema.now }
+fn are_ours_referenced(schema: &Schema) -> bool
+    ensures { result ≡ are_ours_referenced schema.now }
 {
-    is_referred(schema, META)
-        || is_referred(schema, Version::First.device())
-        || is_referred(schema, Version::Second.device())
+    is_referenced(schema, META)
+        || is_referenced(schema, Version::First.device_table())
+        || is_referenced(schema, Version::Second.device_table())
 }
 
 fn is_indexed(schema: &Schema, tree: u32) -> bool
@@ -60,7 +60,7 @@ fn is_indexed(schema: &Schema, tree: u32) -> bool
         .any(|index| index.table == tree)
 }
 
-fn counts(schema: &Schema) -> bool
+fn counts_rowids(schema: &Schema) -> bool
     ensures { result ≡ list_any (λ (table : Table). table.is_counted) schema.now.tables }
 {
     schema
@@ -74,7 +74,7 @@ fn counts(schema: &Schema) -> bool
 fn lacks_sequence_table(schema: &Schema) -> bool
     ensures { result ≡ lacks_sequence_table schema.now }
 {
-    counts(schema) && schema.table_named(b"sqlite_sequence").is_none()
+    counts_rowids(schema) && schema.table_named(b"sqlite_sequence").is_none()
 }
 
 /// Whether a registry of this version allows these tables. In version 1 no table may count its rowids without SQLite's
@@ -93,34 +93,34 @@ pub fn admits_tables(schema: &Schema) -> bool
     ensures { result ≡ admits_tables schema.now }
 {
     !is_used(schema, META)
-        && !is_used(schema, Version::First.device())
-        && !is_used(schema, Version::Second.device())
-        && !are_referred(schema)
+        && !is_used(schema, Version::First.device_table())
+        && !is_used(schema, Version::Second.device_table())
+        && !are_ours_referenced(schema)
         && !lacks_sequence_table(schema)
 }
 
 /// Whether no other table than that of this name is in the tree.
-fn is_lone(schema: &Schema, name: &[u8], tree: u32) -> bool
-    ensures { result ≡ is_lone schema.now name.now tree }
+fn is_alone_in_tree(schema: &Schema, name: &[u8], tree: u32) -> bool
+    ensures { result ≡ is_alone_in_tree schema.now name.now tree }
 {
     schema.tables.as_slice().iter().all(|table| table.tree != tree
         || same_name(table.name.as_slice(), name))
 }
 
-fn is_left_alone(schema: &Schema, version: Version, meta: u32, devices: u32) -> bool
-    ensures { result ≡ is_left_alone version schema.now meta devices }
+fn is_unaffected(schema: &Schema, version: Version, meta: u32, devices: u32) -> bool
+    ensures { result ≡ is_unaffected version schema.now meta devices }
 {
-    !are_referred(schema)
+    !are_ours_referenced(schema)
         && !is_indexed(schema, meta)
         && !is_indexed(schema, devices)
-        && is_lone(schema, META, meta)
-        && is_lone(schema, version.device(), devices)
-        && !is_used(schema, version.other().device())
+        && is_alone_in_tree(schema, META, meta)
+        && is_alone_in_tree(schema, version.device_table(), devices)
+        && !is_used(schema, version.other().device_table())
         && can_count_rowids(schema, version)
 }
 
-fn tree_named(schema: &Schema, name: &[u8]) -> Option<u32>
-    ensures { result ≡ tree_named schema.now name.now }
+fn tree_of_table(schema: &Schema, name: &[u8]) -> Option<u32>
+    ensures { result ≡ tree_of_table schema.now name.now }
 {
     let at = schema.table_named(name)?;
     let table = schema.tables.as_slice().get(at)?;
@@ -128,12 +128,12 @@ fn tree_named(schema: &Schema, name: &[u8]) -> Option<u32>
 }
 
 /// The trees of the two tables of this version, if other objects do not affect them.
-pub fn trees_in(schema: &Schema, version: Version) -> Option<(u32, u32)>
-    ensures { result ≡ trees_in version schema.now }
+pub fn trees_of_tables(schema: &Schema, version: Version) -> Option<(u32, u32)>
+    ensures { result ≡ trees_of_tables version schema.now }
 {
-    let meta = tree_named(schema, META)?;
-    let devices = tree_named(schema, version.device())?;
-    if is_left_alone(schema, version, meta, devices) {
+    let meta = tree_of_table(schema, META)?;
+    let devices = tree_of_table(schema, version.device_table())?;
+    if is_unaffected(schema, version, meta, devices) {
         Some((meta, devices))
     } else {
         None

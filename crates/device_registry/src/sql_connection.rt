@@ -9,7 +9,7 @@ ghost use Rattle.sqlite_trees.specs.Tree.{Trees};
 ghost use Rattle.device_registry.specs.declared.table.Version.TheVariants.{First};
 ghost use Rattle.learned_devices.specs.Devices.{Devices};
 ghost use Rattle.device_registry.specs.Stored.{IsRegistry, IsRegistryOfVersion, Holds};
-ghost use Rattle.device_registry.specs.Ready.{IsReadyWith, KeepsOthers};
+ghost use Rattle.device_registry.specs.Ready.{IsReadyWith, KeepsOtherTables};
 ghost use Rattle.device_registry.specs.Opening.{KeepsDatabase};
 ghost use Rattle.device_registry.specs.SchemaChecks.{admits_tables};
 
@@ -80,7 +80,7 @@ pub trait SqlConnection {
         requires clear { HasCleanDisk (state self.old) → IsTrue (admits_tables (state self.old).now.schema) ×
             IsDatabase (state self.old).now }
         ensures made { HasCleanDisk (state self.new) → OnOk result (IsReadyWith (state self.new) empty) }
-        ensures others { HasCleanDisk (state self.new) → OnOk result (KeepsOthers (state self.old).now
+        ensures others { HasCleanDisk (state self.new) → OnOk result (KeepsOtherTables (state self.old).now
             (state self.new).now) }
         ensures crash { Survives (state self.old) (state self.new) (λ trees. Holds trees empty) }
         ensures remains { HasCleanDisk (state self.new)
@@ -93,7 +93,7 @@ pub trait SqlConnection {
             IsDatabase (state self.old).now }
         ensures made { HasCleanDisk (state self.new) → OnOk result ((devices : Devices) →
             IsRegistryOfVersion First (state self.old).now devices → IsReadyWith (state self.new) devices) }
-        ensures others { HasCleanDisk (state self.new) → OnOk result (KeepsOthers (state self.old).now
+        ensures others { HasCleanDisk (state self.new) → OnOk result (KeepsOtherTables (state self.old).now
             (state self.new).now) }
         ensures crash { Survives (state self.old) (state self.new) (λ trees. (devices : Devices) →
             IsRegistryOfVersion First (state self.old).now devices → Holds trees devices) }

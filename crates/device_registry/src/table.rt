@@ -1,7 +1,7 @@
 //! The two tables of the registry, in both versions: names, numbers and ranges.
 ghost use Rattle.std.specs.Prelude.{◌≡◌, pos};
 ghost use Rattle.device_registry.specs.Stored.{other};
-ghost use Rattle.device_registry.specs.Table.{number_of, device_name, device_text, find_all_text};
+ghost use Rattle.device_registry.specs.Table.{version_number, device_name, create_device_sql, find_all_sql};
 
 pub mod row_codec;
 pub mod statements;
@@ -30,7 +30,7 @@ impl Version {
 
     /// The number in its version row.
     pub fn number(self) -> i64
-        ensures { result ≡ pos (number_of self) }
+        ensures { result ≡ pos (version_number self) }
     {
         match self {
             Version::First => 1,
@@ -39,7 +39,7 @@ impl Version {
     }
 
     /// The name of its device table.
-    pub fn device(self) -> &'static [u8]
+    pub fn device_table(self) -> &'static [u8]
         ensures { result.now ≡ device_name self }
     {
         match self {
@@ -49,8 +49,8 @@ impl Version {
     }
 
     /// The text that creates this table.
-    pub fn create_device(self) -> &'static str
-        ensures { result.now ≡ device_text self }
+    pub fn create_device_sql(self) -> &'static str
+        ensures { result.now ≡ create_device_sql self }
     {
         match self {
             Version::First => CREATE_FIRST_DEVICE,
@@ -59,8 +59,8 @@ impl Version {
     }
 
     /// The text that shows all its devices, by ascending ID.
-    pub fn find_all(self) -> &'static str
-        ensures { result.now ≡ find_all_text self }
+    pub fn find_all_sql(self) -> &'static str
+        ensures { result.now ≡ find_all_sql self }
     {
         match self {
             Version::First => FIND_ALL_FIRST,
@@ -70,7 +70,7 @@ impl Version {
 }
 
 /// The key of the version row.
-pub const KEY: i64 = 1;
+pub const VERSION_ROW_KEY: i64 = 1;
 
 /// The stored number for no manufacturer ID.
 pub const NO_MAKER: i64 = -1;

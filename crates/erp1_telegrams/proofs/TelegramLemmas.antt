@@ -12,7 +12,7 @@ use Rattle.std.proofs.lemmas.Nat.{from_be_bytes-to_be_bytes_4}
 use Rattle.esp3_frames.specs.Packet.{Packet}
 use Rattle.erp1_telegrams.specs.declared.telegram.TelegramFault.{TelegramFault}
 use Rattle.erp1_telegrams.specs.declared.telegram.TelegramFault.TheVariants.{NotRadio, OtherKind, BadLength}
-use Rattle.erp1_telegrams.specs.Telegram.{Telegram, CarriesTelegram, is_known_rorg, payload_fits, destination, dbm_in}
+use Rattle.erp1_telegrams.specs.Telegram.{Telegram, CarriesTelegram, is_known_rorg, payload_length_fits, destination, dbm_of_optional}
 use Rattle.erp1_telegrams.specs.Telegram.{telegram_in}
 use Rattle.erp1_telegrams.specs.Telegram.{telegram_of, radio_packet}
 
@@ -28,7 +28,7 @@ some_test false false false true e u v w x y h = refl
 some_test false false false false true u v w x y h = refl
 some_test false false false false false u v w x y h = absurd cc
 
-pub fits_kind : (r n : ℕ) → payload_fits r n ≡ true → is_known_rorg r ≡ true
+pub fits_kind : (r n : ℕ) → payload_length_fits r n ≡ true → is_known_rorg r ≡ true
 fits_kind r n h = some_test (r == 0xF6) (r == 0xD5) (r == 0xA5) (r == 0xD2) (r == 0xD4) _ _ _ _ _ h
 
 and_left : (a b : Bool) → (a && b) ≡ true → a ≡ true
@@ -46,7 +46,7 @@ some_byte false false false false true n h = omega (arith, eqb-true n 7 h)
 some_byte false false false false false n h = absurd cc
 
 -- every payload has at least one byte
-pub fits_some : (r n : ℕ) → payload_fits r n ≡ true → 1 ≤ n
+pub fits_some : (r n : ℕ) → payload_length_fits r n ≡ true → 1 ≤ n
 fits_some r n h = some_byte (r == 0xF6) (r == 0xD5) (r == 0xA5) (r == 0xD2) (r == 0xD4) n h
 
 -- ---- a packet that carries a telegram is read as that telegram
@@ -63,7 +63,7 @@ packed_in : (r : ℕ) (payload id : List ℕ) (status : ℕ) (opt : List ℕ) �
       sender = from_be_bytes w32 id;
       status = status;
       dest = destination opt;
-      dbm = dbm_in opt;
+      dbm = dbm_of_optional opt;
     }
 packed_in r payload id status opt four =
     let all : List ℕ = r ∷ payload ++ id ++ status ∷ [] in
@@ -92,11 +92,11 @@ packed_in r payload id status opt four =
       sender = from_be_bytes w32 (id_is i);
       status = status_is i;
       dest = destination opt;
-      dbm = dbm_in opt;
+      dbm = dbm_of_optional opt;
     })
 
 pub packed_of : (r : ℕ) (payload id : List ℕ) (status : ℕ) (opt : List ℕ) → length id ≡ 4
-    → payload_fits r (length payload) ≡ true
+    → payload_length_fits r (length payload) ≡ true
     → telegram_of (packed r payload id status opt)
     ≡ Ok (record {
       rorg = r;
@@ -104,7 +104,7 @@ pub packed_of : (r : ℕ) (payload id : List ℕ) (status : ℕ) (opt : List ℕ
       sender = from_be_bytes w32 id;
       status = status;
       dest = destination opt;
-      dbm = dbm_in opt;
+      dbm = dbm_of_optional opt;
     })
 packed_of r payload id status opt four fit =
     let all : List ℕ = r ∷ payload ++ id ++ status ∷ [] in
@@ -112,7 +112,7 @@ packed_of r payload id status opt four fit =
     let kind : is_known_rorg r ≡ true = fits_kind r (length payload) fit in
     let n : length all - 6 ≡ length payload =
     omega (arith, length-append (payload ++ id) (status ∷ []), length-append payload id) in
-    let fit_all : payload_fits r (length all - 6) ≡ true = ap (payload_fits r) n ∙ fit in
+    let fit_all : payload_length_fits r (length all - 6) ≡ true = ap (payload_length_fits r) n ∙ fit in
     rw (some, kind, fit_all) (ap (λ (t : Telegram). Ok t) (packed_in r payload id status opt four))
 
 pub carried_of : (p : Packet) (t : Telegram) → CarriesTelegram p t → telegram_of p ≡ Ok t
@@ -161,7 +161,7 @@ split_body (r ∷ w) n h =
     let e5 : n + 5 ≡ suc (n + 4) = omega arith in
     rw (e1, e4, add-one n, e5) (ap (λ (y : List ℕ). r ∷ y) (split_rest w n (omega arith)))
 
-in_carried : (p : Packet) → p.kind ≡ 1 → payload_fits (get_or p.body 0 0) (length p.body - 6) ≡ true
+in_carried : (p : Packet) → p.kind ≡ 1 → payload_length_fits (get_or p.body 0 0) (length p.body - 6) ≡ true
     → CarriesTelegram p (telegram_in p)
 in_carried p kind fit =
     let n : ℕ = length p.body - 6 in
@@ -175,7 +175,7 @@ in_carried p kind fit =
       four = omega (arith, length-take (n + 5 - (n + 1)) (drop (n + 1) p.body), length-drop (n + 1) p.body);
       body = split_body p.body n long;
       sender = refl;
-      length_fits = ap (payload_fits (get_or p.body 0 0)) first ∙ fit;
+      length_fits = ap (payload_length_fits (get_or p.body 0 0)) first ∙ fit;
       dest = refl;
       dbm = refl;
     }
@@ -185,7 +185,7 @@ of_carried p t e =
     let a = guard (not (p.kind == 1)) NotRadio _ t e in
     let b = guard (length p.body == 0) BadLength _ t a.1 in
     let c = guard (not (is_known_rorg (get_or p.body 0 0))) OtherKind _ t b.1 in
-    let d = guard (not (payload_fits (get_or p.body 0 0) (length p.body - 6))) BadLength _ t c.1 in
+    let d = guard (not (payload_length_fits (get_or p.body 0 0) (length p.body - 6))) BadLength _ t c.1 in
     let is : telegram_in p ≡ t = (let x = d.1 in cc) in
     subst (λ (u : Telegram). CarriesTelegram p u) is
     (in_carried p (eqb-true p.kind 1 (not_false _ a.0)) (not_false _ d.0))
@@ -197,7 +197,7 @@ one_carried p t u h k =
 
 -- ---- what is sent is read
 
-pub sent_of : (t : Telegram) → payload_fits t.rorg (length t.payload) ≡ true → t.sender < 2 ^ 32 → t.dest < 2 ^ 32
+pub sent_of : (t : Telegram) → payload_length_fits t.rorg (length t.payload) ≡ true → t.sender < 2 ^ 32 → t.dest < 2 ^ 32
     → telegram_of (radio_packet t) ≡ Ok (record t { dbm = Some 255 })
 sent_of t fit sender dest =
     let opt : List ℕ = 3 ∷ to_be_bytes w32 t.dest ++ 0xFF ∷ 0 ∷ [] in
@@ -245,7 +245,7 @@ pub record Taken (p : Packet) (w : List ℕ) (id to : ℕ) (level : Option ℕ) 
       (get_or w (length w - 5) 0 ∷ get_or w (length w - 4) 0 ∷ get_or w (length w - 3) 0 ∷ get_or w
       (length w - 2) 0 ∷ [])
   pub dest : to ≡ destination p.opt
-  pub dbm : level ≡ dbm_in p.opt
+  pub dbm : level ≡ dbm_of_optional p.opt
 
 abbrev pub taken : Packet → List ℕ → ℕ → ℕ → Option ℕ → Telegram
 taken p w sender dest dbm =
@@ -292,7 +292,7 @@ pub taken_is : (p : Packet) (w : List ℕ) (sender dest : ℕ) (dbm : Option ℕ
     → ((r ≡ Err OtherKind) ↔ (is_known_rorg (get_or p.body 0 0) ≡ false))
     → ((r ≡ Err BadLength) ↔
     ((is_known_rorg (get_or p.body 0 0) ≡ true)
-    × (payload_fits (get_or p.body 0 0) (length (take (length w - 5) w)) ≡ false)))
+    × (payload_length_fits (get_or p.body 0 0) (length (take (length w - 5) w)) ≡ false)))
     → (r ≡ Err NotRadio → ⊥) → r ≡ telegram_of p
 taken_is p w sender dest dbm r h o a b n =
     let rest = h.rest in
@@ -303,5 +303,5 @@ taken_is p w sender dest dbm r h o a b n =
     omega (arith, length-take (length w - 5) w, ap length rest, length-drop 1 p.body) in
     let made =
     made_is r (taken p w sender dest dbm) (is_known_rorg (get_or p.body 0 0))
-    (payload_fits (get_or p.body 0 0) (length (take (length w - 5) w))) o a b n in
+    (payload_length_fits (get_or p.body 0 0) (length (take (length w - 5) w))) o a b n in
     rw (is_radio, some, ← taken_in p w sender dest dbm h, ← len) made

@@ -21,8 +21,8 @@ abbrev pub is_known_rorg : ℕ → Bool
 is_known_rorg rorg = rorg == 0xF6 || rorg == 0xD5 || rorg == 0xA5 || rorg == 0xD2 || rorg == 0xD4
 
 -- the payload lengths, in bytes, of each RORG (ISO/IEC 14543-3-10, "RORG")
-abbrev pub payload_fits : ℕ → ℕ → Bool
-payload_fits rorg n =
+abbrev pub payload_length_fits : ℕ → ℕ → Bool
+payload_length_fits rorg n =
     if rorg == 0xF6 then n == 1
     else if rorg == 0xD5 then n == 1
     else if rorg == 0xA5 then n == 4
@@ -38,9 +38,9 @@ destination (n ∷ a ∷ b ∷ c ∷ d ∷ dbm ∷ security ∷ more) = from_be_
 destination opt = 0xFFFF_FFFF
 
 -- dBm in the optional data. Own choice: shorter data has none
-abbrev pub dbm_in : List ℕ → Option ℕ
-dbm_in (n ∷ a ∷ b ∷ c ∷ d ∷ dbm ∷ security ∷ more) = Some dbm
-dbm_in opt = None
+abbrev pub dbm_of_optional : List ℕ → Option ℕ
+dbm_of_optional (n ∷ a ∷ b ∷ c ∷ d ∷ dbm ∷ security ∷ more) = Some dbm
+dbm_of_optional opt = None
 
 -- The packet p carries the telegram t (EnOcean Serial Protocol 3, "Packet type 1: RADIO_ERP1"): its data is the RORG,
 -- the payload, the four bytes of the sender ID, the high byte first, and the status.
@@ -50,9 +50,9 @@ pub record CarriesTelegram (p : Packet) (t : Telegram) : Type 0 where
   pub four : length id ≡ 4
   pub body : p.body ≡ t.rorg ∷ t.payload ++ id ++ t.status ∷ []
   pub sender : t.sender ≡ from_be_bytes w32 id
-  pub length_fits : IsTrue (payload_fits t.rorg (length t.payload))
+  pub length_fits : IsTrue (payload_length_fits t.rorg (length t.payload))
   pub dest : t.dest ≡ destination p.opt
-  pub dbm : t.dbm ≡ dbm_in p.opt
+  pub dbm : t.dbm ≡ dbm_of_optional p.opt
 
 -- the telegram in a packet whose data is long enough; all but six bytes of the data are payload
 abbrev pub telegram_in : Packet → Telegram
@@ -64,7 +64,7 @@ telegram_in p =
       sender = from_be_bytes w32 (slice_range p.body (n + 1) (n + 5));
       status = slice_index p.body (n + 5);
       dest = destination p.opt;
-      dbm = dbm_in p.opt;
+      dbm = dbm_of_optional p.opt;
     }
 
 -- the telegram that a packet carries, or the first fault. Theorem `one_telegram`: it is the only telegram.
@@ -73,7 +73,7 @@ telegram_of p =
     if not (p.kind == 1) then Err NotRadio
     else if length p.body == 0 then Err BadLength
     else if not (is_known_rorg (slice_index p.body 0)) then Err OtherKind
-    else if not (payload_fits (slice_index p.body 0) (length p.body - 6)) then Err BadLength
+    else if not (payload_length_fits (slice_index p.body 0) (length p.body - 6)) then Err BadLength
     else Ok (telegram_in p)
 
 -- the packet in which a telegram is sent: 3 subtelegrams, the highest value of dBm, no security (EnOcean Serial

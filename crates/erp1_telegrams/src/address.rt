@@ -9,8 +9,8 @@ use crate::telegram::{BROADCAST, Telegram};
 /// `FFFFFF80`, and its low seven bits are 0.
 ///
 /// EnOcean Serial Protocol 3, "CO_WR_IDBASE".
-pub fn is_base(id: u32) -> bool
-    ensures { result ≡ Address.is_base id }
+pub fn is_base_id(id: u32) -> bool
+    ensures { result ≡ Address.is_base_id id }
 {
     id >= 0xFF80_0000 && id <= 0xFFFF_FF80 && id % 128 == 0
 }
@@ -18,8 +18,8 @@ pub fn is_base(id: u32) -> bool
 /// Whether an ID is one of the 128, from `base` on, with which a gateway with this base ID sends.
 ///
 /// EnOcean Serial Protocol 3, "CO_WR_IDBASE".
-pub fn is_own(base: u32, id: u32) -> bool
-    ensures { result ≡ Address.is_own base id }
+pub fn is_gateway_id(base: u32, id: u32) -> bool
+    ensures { result ≡ Address.is_gateway_id base id }
 {
     base <= id && id - base <= 127
 }
@@ -43,7 +43,7 @@ pub fn filter_reason(base: u32, telegram: &Telegram) -> Option<FilterReason>
         return Some(FilterReason::FromBroadcast);
     }
     let dest = telegram.dest();
-    if dest == BROADCAST || is_own(base, dest) {
+    if dest == BROADCAST || is_gateway_id(base, dest) {
         None
     } else {
         Some(FilterReason::ForOthers)

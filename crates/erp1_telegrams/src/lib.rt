@@ -10,7 +10,7 @@ pub mod rorg;
 mod serial;
 mod telegram;
 
-pub use address::{FilterReason, filter_reason, is_base, is_own};
+pub use address::{FilterReason, filter_reason, is_base_id, is_gateway_id};
 pub use eep::Eep;
 pub use serial::{read, write};
 pub use telegram::{BROADCAST, Telegram, TelegramFault};

@@ -4,7 +4,7 @@ ghost use Rattle.std.specs.Prelude.{Ok, Err, OnOk, OnErr};
 ghost use Rattle.arrayvec.specs.ArrayVec.{array_vec_len};
 ghost use Rattle.esp3_frames.specs.Packet.{IsPacket, spelling};
 ghost use Rattle.esp3_frames.specs.Outcome.{packet_of};
-ghost use Rattle.erp1_telegrams.specs.Telegram.{telegram_of, destination, dbm_in, radio_packet, max_radio_packet};
+ghost use Rattle.erp1_telegrams.specs.Telegram.{telegram_of, destination, dbm_of_optional, radio_packet, max_radio_packet};
 
 use crate::telegram::{BROADCAST, Telegram, TelegramFault, is_known_rorg};
 use arrayvec::ArrayVec;
@@ -32,14 +32,14 @@ pub fn read(p: &PacketRef<'_>) -> Result<Telegram, TelegramFault>
         });
     };
     let sender = u32::from_be_bytes([*a, *b, *c, *d]);
-    let (dest, dbm) = addressee(p.opt);
+    let (dest, dbm) = destination_and_dbm(p.opt);
     Telegram::new(*rorg, payload, sender, *status, dest, dbm)
 }
 
 /// The destination and the dBm of the optional data.
-fn addressee(opt: &[u8]) -> (u32, Option<u8>)
+fn destination_and_dbm(opt: &[u8]) -> (u32, Option<u8>)
     ensures dest { result.0 ≡ destination opt.now }
-    ensures dbm { result.1 ≡ dbm_in opt.now }
+    ensures dbm { result.1 ≡ dbm_of_optional opt.now }
 {
     match opt {
         [_, a, b, c, d, dbm, _, ..] => (u32::from_be_bytes([*a, *b, *c, *d]), Some(*dbm)),

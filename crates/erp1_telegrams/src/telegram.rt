@@ -1,6 +1,6 @@
 //! Telegrams, received or to be sent.
 ghost use Rattle.std.specs.Prelude.{◌≡◌, ◌≢◌, ◌↔◌, length, true, false, IsTrue, IfOk, Err};
-ghost use Rattle.erp1_telegrams.specs.Telegram.{payload_fits, is_known_rorg};
+ghost use Rattle.erp1_telegrams.specs.Telegram.{payload_length_fits, is_known_rorg};
 
 use crate::rorg;
 use arrayvec::ArrayVec;
@@ -39,7 +39,7 @@ pub struct Telegram {
 impl Model for Telegram {
     ghost use Rattle.std.specs.Prelude.{IsTrue};
     ghost use Rattle.arrayvec.specs.ArrayVec.{array_vec_len};
-    ghost use Rattle.erp1_telegrams.specs.Telegram.{Telegram as Said, payload_fits};
+    ghost use Rattle.erp1_telegrams.specs.Telegram.{Telegram as Said, payload_length_fits};
 
     ghost Value = { Said };
 
@@ -52,7 +52,7 @@ impl Model for Telegram {
       dbm = t.dbm;
     } };
 
-    ghost invariant = { λ t. IsTrue (payload_fits t.rorg (array_vec_len t.payload)) };
+    ghost invariant = { λ t. IsTrue (payload_length_fits t.rorg (array_vec_len t.payload)) };
 }
 
 impl Telegram {
@@ -77,13 +77,13 @@ impl Telegram {
         }) }
         ensures other_kind { (result ≡ Err TelegramFault.OtherKind) ↔ (is_known_rorg rorg ≡ false) }
         ensures bad_length { (result ≡ Err TelegramFault.BadLength)
-            ↔ ((is_known_rorg rorg ≡ true) × (payload_fits rorg (length payload.now) ≡ false)) }
+            ↔ ((is_known_rorg rorg ≡ true) × (payload_length_fits rorg (length payload.now) ≡ false)) }
         ensures no_other { result ≢ Err TelegramFault.NotRadio }
     {
         if !is_known_rorg(rorg) {
             return Err(TelegramFault::OtherKind);
         }
-        if !payload_fits(rorg, payload.len()) {
+        if !payload_length_fits(rorg, payload.len()) {
             return Err(TelegramFault::BadLength);
         }
         let Ok(payload) = ArrayVec::try_from(payload) else {
@@ -109,7 +109,7 @@ impl Telegram {
     /// The payload: 1 byte for RPS and 1BS, 4 bytes for 4BS, 1 to 14 bytes for VLD, and 7 bytes for UTE.
     pub fn payload(&self) -> &[u8]
         ensures value { result.now ≡ self.now.payload }
-        ensures length_fits { IsTrue (payload_fits self.now.rorg (length self.now.payload)) }
+        ensures length_fits { IsTrue (payload_length_fits self.now.rorg (length self.now.payload)) }
     {
         &self.payload
     }
@@ -155,8 +155,8 @@ pub(crate) fn is_known_rorg(rorg: u8) -> bool
 }
 
 /// Whether a payload of this RORG may have this many bytes.
-fn payload_fits(rorg: u8, len: usize) -> bool
-    ensures { result ≡ payload_fits rorg len }
+fn payload_length_fits(rorg: u8, len: usize) -> bool
+    ensures { result ≡ payload_length_fits rorg len }
 {
     match rorg {
         rorg::RPS | rorg::ONE_BS => len == 1,

@@ -7,7 +7,7 @@ use Rattle.std.proofs.lemmas.Nat.{xor_comm, xor_block, xor_of_8, xor_lt}
 use Rattle.std.proofs.lemmas.Bool.{agree_below, agree_below_at, eqb-true, lt-ltb, le-ltb, cases_lt}
 use Rattle.std.proofs.lemmas.List.{append-nil}
 use Rattle.esp3_frames.specs.Check.{times_x, power, byte_bits, bits, remainder, check}
-use Rattle.esp3_frames.specs.declared.check.TheConstants.{TABLE}
+use Rattle.esp3_frames.specs.declared.check.TheConstants.{CRC_TABLE}
 
 pub low_half : (n : ℕ) → n < 128 → times_x n ≡ 2 * n
 low_half n h = let e : ltb (2 * n) 256 ≡ true = lt-ltb (2 * n) 256 (omega arith) in rw e refl
@@ -248,12 +248,12 @@ check_next m b h =
 
 -- the table entry of a byte is its CRC
 in_table : ℕ → Bool
-in_table b = eqb (get_or TABLE b 0) (eighth b)
+in_table b = eqb (get_or CRC_TABLE b 0) (eighth b)
 
 all_in_table : agree_below in_table (λ _. true) 256 ≡ true
 unfolding in_table eighth shifted
 all_in_table = refl
 
-pub table_at : (b : ℕ) → b < 256 → get_or TABLE b 0 ≡ check (b ∷ [])
+pub table_at : (b : ℕ) → b < 256 → get_or CRC_TABLE b 0 ≡ check (b ∷ [])
 unfolding in_table
 table_at b h = eqb-true _ _ (agree_below_at in_table (λ _. true) 256 b all_in_table h) ∙ sym (check_one b h)

@@ -8,7 +8,7 @@ use Rattle.esp3_frames.specs.Check.{check}
 use Rattle.esp3_frames.specs.Packet.{lengths_fit, Packet}
 use Rattle.esp3_frames.specs.Frames.{may_begin, Front, front_after_header, front_of}
 use Rattle.esp3_frames.specs.Frames.Front.{Never, Partial, Whole}
-use Rattle.esp3_frames.specs.Outcome.{header_in, header_of}
+use Rattle.esp3_frames.specs.Outcome.{decoded_header, header_of}
 use Rattle.esp3_frames.specs.declared.packet.Header.{Header}
 use Rattle.esp3_frames.specs.declared.packet.HeaderFault.{HeaderFault}
 use Rattle.esp3_frames.proofs.HeaderLemmas.{six, heads, six_first}
@@ -54,7 +54,7 @@ front-header b f w x hf hb hx =
     ∙ ap (λ (n : ℕ). front_after_header (256 * h + l) o n w) ek)
 
 good_header : (s h l o k c : ℕ) → (may_begin (s ∷ h ∷ l ∷ o ∷ []) && c == check (h ∷ l ∷ o ∷ k ∷ [])) ≡ true
-    → header_of (s ∷ h ∷ l ∷ o ∷ k ∷ c ∷ []) ≡ Ok (header_in (s ∷ h ∷ l ∷ o ∷ k ∷ c ∷ []))
+    → header_of (s ∷ h ∷ l ∷ o ∷ k ∷ c ∷ []) ≡ Ok (decoded_header (s ∷ h ∷ l ∷ o ∷ k ∷ c ∷ []))
 good_header s h l o k c e =
     let a = and_parts _ _ e in
     let b = and_parts _ _ a.0 in

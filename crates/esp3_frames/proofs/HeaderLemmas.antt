@@ -7,7 +7,7 @@ use Rattle.std.proofs.lemmas.List.{take-append-drop, take_more}
 use Rattle.std.proofs.lemmas.Bool.{and_parts, eqb-true, ltb-true, not-false}
 use Rattle.std.specs.Prelude.{Result, Ok, Err}
 use Rattle.esp3_frames.specs.Check.{check}
-use Rattle.esp3_frames.specs.Outcome.{header_in, header_of}
+use Rattle.esp3_frames.specs.Outcome.{decoded_header, header_of}
 use Rattle.esp3_frames.specs.declared.packet.Header.{Header}
 use Rattle.esp3_frames.specs.declared.packet.HeaderFault.{HeaderFault}
 use Rattle.esp3_frames.specs.Packet.{lengths_fit, Packet, header, spelling, IsPacket}
@@ -140,7 +140,7 @@ pub record Heads (s h l o k c : ℕ) (x : Header) : Type 0 where
   pub sync : s ≡ 0x55
   pub checked : c ≡ check (h ∷ l ∷ o ∷ k ∷ [])
   pub fits : lengths_fit h l o ≡ true
-  pub is : header_in (s ∷ h ∷ l ∷ o ∷ k ∷ c ∷ []) ≡ x
+  pub is : decoded_header (s ∷ h ∷ l ∷ o ∷ k ∷ c ∷ []) ≡ x
 
 pub heads : (s h l o k c : ℕ) (x : Header) → header_of (s ∷ h ∷ l ∷ o ∷ k ∷ c ∷ []) ≡ Ok x → Heads s h l o k c x
 heads s h l o k c x e =

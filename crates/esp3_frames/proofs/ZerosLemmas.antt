@@ -7,7 +7,7 @@ use Rattle.std.proofs.Math.ListN.{length-replicate}
 use Rattle.std.proofs.lemmas.Nat.{xor_comm}
 use Rattle.std.proofs.lemmas.Bool.{agree_below, agree_below_at, eqb-true, ltb-true, le-ltb, cond-false, cases_lt}
 use Rattle.esp3_frames.specs.Check.{byte_bits, bits, remainder, check, crc_after_zeros}
-use Rattle.esp3_frames.specs.declared.check.TheConstants.{TABLE, POWERS, LOGS}
+use Rattle.esp3_frames.specs.declared.check.TheConstants.{CRC_TABLE, POWERS_OF_X, EXPONENTS_OF_X}
 use Rattle.esp3_frames.proofs.CheckLemmas.{check_byte, check_one, remainder_byte, feed, table_at}
 use Rattle.esp3_frames.proofs.CheckLemmas.{feed_xor, shifted, eighth, remainder_more}
 
@@ -73,21 +73,21 @@ check-zeros m n =
 -- the tables: each byte is at its index, and its successor follows it, in two cycles. The entries from index 254 on do
 -- not change
 is_placed : ℕ → Bool
-is_placed c = eqb (get_or POWERS (get_or LOGS c 0) 0) c
+is_placed c = eqb (get_or POWERS_OF_X (get_or EXPONENTS_OF_X c 0) 0) c
 
 all_placed : agree_below is_placed (λ _. true) 256 ≡ true
 unfolding is_placed
 all_placed = refl
 
 is_byte : ℕ → Bool
-is_byte k = ltb (get_or POWERS k 0) 256
+is_byte k = ltb (get_or POWERS_OF_X k 0) 256
 
 all_bytes : agree_below is_byte (λ _. true) 254 ≡ true
 unfolding is_byte
 all_bytes = refl
 
 is_next : ℕ → ℕ → Bool
-is_next row k = eqb (get_or TABLE (get_or POWERS (row + k) 0) 0) (get_or POWERS (row + (k + 1) % 127) 0)
+is_next row k = eqb (get_or CRC_TABLE (get_or POWERS_OF_X (row + k) 0) 0) (get_or POWERS_OF_X (row + (k + 1) % 127) 0)
 
 all_first : agree_below (is_next 0) (λ _. true) 127 ≡ true
 unfolding is_next
@@ -98,7 +98,7 @@ unfolding is_next
 all_second = refl
 
 is_still : ℕ → Bool
-is_still c = cond (ltb (get_or LOGS c 0) 254) true (eqb (get_or TABLE c 0) c)
+is_still c = cond (ltb (get_or EXPONENTS_OF_X c 0) 254) true (eqb (get_or CRC_TABLE c 0) c)
 
 all_still : agree_below is_still (λ _. true) 256 ≡ true
 unfolding is_still
@@ -106,22 +106,22 @@ all_still = refl
 
 -- n zero bytes advance the index by n
 next : (row k : ℕ) → agree_below (is_next row) (λ _. true) 127 ≡ true → row ≤ 127 → k < 127
-    → check (get_or POWERS (row + k) 0 ∷ []) ≡ get_or POWERS (row + (k + 1) % 127) 0
+    → check (get_or POWERS_OF_X (row + k) 0 ∷ []) ≡ get_or POWERS_OF_X (row + (k + 1) % 127) 0
 unfolding is_byte is_next
 next row k all low below =
     let byte = ltb-true _ _ (agree_below_at is_byte (λ _. true) 254 (row + k) all_bytes (omega arith)) in
-    sym (table_at (get_or POWERS (row + k) 0) byte)
+    sym (table_at (get_or POWERS_OF_X (row + k) 0) byte)
     ∙ eqb-true _ _ (agree_below_at (is_next row) (λ _. true) 127 k all below)
 
 goes_round : (row k n : ℕ) → agree_below (is_next row) (λ _. true) 127 ≡ true → row ≤ 127 → k < 127
-    → crc_after_zeros (get_or POWERS (row + k) 0) n ≡ get_or POWERS (row + (k + n) % 127) 0
+    → crc_after_zeros (get_or POWERS_OF_X (row + k) 0) n ≡ get_or POWERS_OF_X (row + (k + n) % 127) 0
 unfolding crc_after_zeros
 goes_round row k zero all low below =
-    let e : row + k ≡ row + (k + zero) % 127 = omega arith in ap (λ i. get_or POWERS i 0) e
+    let e : row + k ≡ row + (k + zero) % 127 = omega arith in ap (λ i. get_or POWERS_OF_X i 0) e
 goes_round row k (suc n) all low below =
     let e : row + ((k + 1) % 127 + n) % 127 ≡ row + (k + suc n) % 127 = omega arith in
     ap (λ c. crc_after_zeros c n) (next row k all low below) ∙ goes_round row ((k + 1) % 127) n all low (omega arith)
-    ∙ ap (λ i. get_or POWERS i 0) e
+    ∙ ap (λ i. get_or POWERS_OF_X i 0) e
 
 stays : (c n : ℕ) → check (c ∷ []) ≡ c → crc_after_zeros c n ≡ c
 unfolding crc_after_zeros
@@ -129,44 +129,44 @@ stays c zero e = refl
 stays c (suc n) e = ap (λ b. crc_after_zeros b n) e ∙ stays c n e
 
 module _ (c : ℕ) (h : c < 256) where
-  from_place : (n : ℕ) → crc_after_zeros c n ≡ crc_after_zeros (get_or POWERS (get_or LOGS c 0) 0) n
+  from_place : (n : ℕ) → crc_after_zeros c n ≡ crc_after_zeros (get_or POWERS_OF_X (get_or EXPONENTS_OF_X c 0) 0) n
   unfolding is_placed
   from_place n =
       ap (λ b. crc_after_zeros b n) (sym (eqb-true _ _ (agree_below_at is_placed (λ _. true) 256 c all_placed h)))
 
-  pub zeros_first : (n : ℕ) → get_or LOGS c 0 < 127
-      → crc_after_zeros c n ≡ get_or POWERS ((get_or LOGS c 0 + n) % 127) 0
+  pub zeros_first : (n : ℕ) → get_or EXPONENTS_OF_X c 0 < 127
+      → crc_after_zeros c n ≡ get_or POWERS_OF_X ((get_or EXPONENTS_OF_X c 0 + n) % 127) 0
   zeros_first n low =
-      let k : ℕ = get_or LOGS c 0 in
-      from_place n ∙ ap (λ i. crc_after_zeros (get_or POWERS i 0) n) (sym (zero-add k))
+      let k : ℕ = get_or EXPONENTS_OF_X c 0 in
+      from_place n ∙ ap (λ i. crc_after_zeros (get_or POWERS_OF_X i 0) n) (sym (zero-add k))
       ∙ goes_round 0 k n all_first (omega arith) low
-      ∙ ap (λ i. get_or POWERS i 0) (zero-add ((k + n) % 127))
+      ∙ ap (λ i. get_or POWERS_OF_X i 0) (zero-add ((k + n) % 127))
 
-  pub zeros_second : (n : ℕ) → 127 ≤ get_or LOGS c 0 → get_or LOGS c 0 < 254
-      → crc_after_zeros c n ≡ get_or POWERS (127 + (get_or LOGS c 0 - 127 + n) % 127) 0
+  pub zeros_second : (n : ℕ) → 127 ≤ get_or EXPONENTS_OF_X c 0 → get_or EXPONENTS_OF_X c 0 < 254
+      → crc_after_zeros c n ≡ get_or POWERS_OF_X (127 + (get_or EXPONENTS_OF_X c 0 - 127 + n) % 127) 0
   zeros_second n high low =
-      let k : ℕ = get_or LOGS c 0 - 127 in
-      let e : get_or LOGS c 0 ≡ 127 + k = omega arith in
-      from_place n ∙ ap (λ i. crc_after_zeros (get_or POWERS i 0) n) e
+      let k : ℕ = get_or EXPONENTS_OF_X c 0 - 127 in
+      let e : get_or EXPONENTS_OF_X c 0 ≡ 127 + k = omega arith in
+      from_place n ∙ ap (λ i. crc_after_zeros (get_or POWERS_OF_X i 0) n) e
       ∙ goes_round 127 k n all_second (omega arith) (omega arith)
 
-  pub zeros_none : (n : ℕ) → 254 ≤ get_or LOGS c 0 → crc_after_zeros c n ≡ c
+  pub zeros_none : (n : ℕ) → 254 ≤ get_or EXPONENTS_OF_X c 0 → crc_after_zeros c n ≡ c
   unfolding is_still
   zeros_none n high =
       let still = agree_below_at is_still (λ _. true) 256 c all_still h in
-      let same = eqb-true _ _ (sym (cond-false (ltb (get_or LOGS c 0) 254) _ _ (le-ltb _ _ high)) ∙ still) in
+      let same = eqb-true _ _ (sym (cond-false (ltb (get_or EXPONENTS_OF_X c 0) 254) _ _ (le-ltb _ _ high)) ∙ still) in
       stays c n (sym (table_at c h) ∙ same)
 
   period : (n : ℕ) → crc_after_zeros c (n + 127) ≡ crc_after_zeros c n
-  period n = elim (cases_lt (get_or LOGS c 0) 127) [
+  period n = elim (cases_lt (get_or EXPONENTS_OF_X c 0) 127) [
     | inl low ↦
-        let e : (get_or LOGS c 0 + (n + 127)) % 127 ≡ (get_or LOGS c 0 + n) % 127 = omega arith in
-        zeros_first (n + 127) low ∙ ap (λ i. get_or POWERS i 0) e ∙ sym (zeros_first n low)
-    | inr high ↦ elim (cases_lt (get_or LOGS c 0) 254) [
+        let e : (get_or EXPONENTS_OF_X c 0 + (n + 127)) % 127 ≡ (get_or EXPONENTS_OF_X c 0 + n) % 127 = omega arith in
+        zeros_first (n + 127) low ∙ ap (λ i. get_or POWERS_OF_X i 0) e ∙ sym (zeros_first n low)
+    | inr high ↦ elim (cases_lt (get_or EXPONENTS_OF_X c 0) 254) [
       | inl low ↦
-          let k : ℕ = get_or LOGS c 0 - 127 in
+          let k : ℕ = get_or EXPONENTS_OF_X c 0 - 127 in
           let e : 127 + (k + (n + 127)) % 127 ≡ 127 + (k + n) % 127 = omega arith in
-          zeros_second (n + 127) high low ∙ ap (λ i. get_or POWERS i 0) e ∙ sym (zeros_second n high low)
+          zeros_second (n + 127) high low ∙ ap (λ i. get_or POWERS_OF_X i 0) e ∙ sym (zeros_second n high low)
       | inr still ↦ zeros_none (n + 127) still ∙ sym (zeros_none n still)
     ]
   ]

@@ -15,8 +15,8 @@ abbrev pub packet_of : PacketRef → Packet
 packet_of r = record { kind = r.kind; body = r.body.now; opt = r.opt.now }
 
 -- the lengths and the type that six bytes announce
-abbrev pub header_in : List ℕ → Header
-header_in b =
+abbrev pub decoded_header : List ℕ → Header
+decoded_header b =
     record { data_len = 256 * slice_index b 1 + slice_index b 2; opt_len = slice_index b 3; kind = slice_index b 4 }
 
 -- the header in six bytes, or the first fault. Announced lengths do not fit only if both are 0
@@ -25,11 +25,11 @@ header_of b =
     if not (slice_index b 0 == 0x55) then Err header.NotSync
     else if not (slice_index b 5 == check (slice_range b 1 5)) then Err header.HeaderCheck
     else if not (lengths_fit (slice_index b 1) (slice_index b 2) (slice_index b 3)) then Err header.EmptyPacket
-    else Ok (header_in b)
+    else Ok (decoded_header b)
 
 -- the result of writing a packet with this much capacity left: success, or the first fault
-abbrev pub write_outcome : Packet → ℕ → Result (Unit {0}) PacketFault
-write_outcome p room =
+abbrev pub write_result : Packet → ℕ → Result (Unit {0}) PacketFault
+write_result p room =
     if length p.body + length p.opt == 0 then Err packet.EmptyPacket
     else if nat_lt max_data (length p.body) || nat_lt max_optional_data (length p.opt) then Err packet.TooLong
     else if nat_lt room (length (spelling p)) then Err packet.NoRoom

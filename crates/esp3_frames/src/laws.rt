@@ -65,7 +65,7 @@ pub fn framing_in_parts()
 
 /// The computed front of a text agrees with the definition. No packet is longer than `max_packet` bytes, and a text
 /// that may become one is shorter.
-pub fn fronts()
+pub fn front_cases()
     ensures never { (w : List ℕ) → front_of w ≡ Never → NeverPacket w }
     ensures partial { (w : List ℕ) → front_of w ≡ Partial → MayBecomePacket w × (length w < max_packet) }
     ensures whole { (w : List ℕ) (p : Packet) → front_of w ≡ Whole p → let n = length p.body + length p.opt + 7 in

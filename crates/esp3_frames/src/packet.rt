@@ -4,7 +4,7 @@ ghost use Rattle.esp3_frames.specs.Frames.{front_of};
 ghost use Rattle.esp3_frames.specs.Frames.Front.{Whole};
 ghost use Rattle.esp3_frames.specs.Packet;
 ghost use Rattle.esp3_frames.specs.Packet.{Packet, IsPacket, spelling};
-ghost use Rattle.esp3_frames.specs.Outcome.{packet_of, header_of, write_outcome};
+ghost use Rattle.esp3_frames.specs.Outcome.{packet_of, header_of, write_result};
 ghost use Rattle.arrayvec.specs.ArrayVec.{array_vec_len};
 
 use crate::check8;
@@ -144,7 +144,7 @@ pub fn write_packet<const CAP: usize>(
     out: &mut ArrayVec<u8, CAP>,
 ) -> Result<(), PacketFault>
     ensures outcome { let p : Packet = record { kind = kind; body = body.now; opt = opt.now } in
-        result ≡ write_outcome p (CAP - array_vec_len out.old) }
+        result ≡ write_result p (CAP - array_vec_len out.old) }
     ensures ok { let p : Packet = record { kind = kind; body = body.now; opt = opt.now } in
         OnOk result (out.new.items ≡ out.old.items ++ spelling p) }
     ensures packet { let p : Packet = record { kind = kind; body = body.now; opt = opt.now } in

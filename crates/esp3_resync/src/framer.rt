@@ -10,8 +10,8 @@ ghost use Rattle.esp3_frames.specs.Frames.Front.{Whole};
 ghost use Rattle.esp3_frames.specs.Outcome.{packet_of};
 ghost use Rattle.esp3_frames.specs.Packet.{Packet, max_data};
 
-use crate::front::{announced_len, is_complete, is_refused, resync, resync_after_first};
-use crate::runs::{noise_len, push_announced, push_first};
+use crate::front::{announced_len, is_complete, is_rejected, resync, resync_after_first};
+use crate::runs::{len_before_sync, push_announced, push_header_bytes};
 use crate::window::Window;
 use esp3_frames::{Header, MAX_PACKET, PacketRef, first_packet};
 use std::alloc::{AllocError, Global};
@@ -151,18 +151,18 @@ impl Framer {
     {
         if let Some(header) = self.header {
             let count = push_announced(&mut self.window, header, bytes);
-            if is_refused(&self.window, header) {
+            if is_rejected(&self.window, header) {
                 self.header = resync_after_first(&mut self.window);
             }
             return count;
         }
         if self.window.is_empty() {
-            let count = noise_len(bytes);
+            let count = len_before_sync(bytes);
             if count > 0 {
                 return count;
             }
         }
-        let count = push_first(&mut self.window, bytes);
+        let count = push_header_bytes(&mut self.window, bytes);
         self.header = resync(&mut self.window);
         count
     }

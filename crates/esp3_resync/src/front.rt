@@ -37,12 +37,12 @@ pub fn is_complete(window: &Window, header: Header) -> bool
 }
 
 /// Whether the packet with the header at the front is complete, with a wrong CRC.
-pub fn is_refused(window: &Window, header: Header) -> bool
+pub fn is_rejected(window: &Window, header: Header) -> bool
     requires { HasHeader window.now (Some header) }
     ensures { IsTrue result ↔ (front_of window.now ≡ Never) }
 {
     let len = announced_len(header);
-    len + 6 < window.len() && window.byte_or(len + 6, 0) != window.check_of(6, len)
+    len + 6 < window.len() && window.byte_or(len + 6, 0) != window.crc_of(6, len)
 }
 
 // Whether a packet may begin with these at most five bytes. Missing bytes are assumed to be valid.
@@ -70,7 +70,7 @@ fn front(window: &Window) -> WindowFront
     let Ok(header) = read_header(first_six) else {
         return WindowFront::NoPacket;
     };
-    if is_refused(window, header) {
+    if is_rejected(window, header) {
         WindowFront::NoPacket
     } else {
         WindowFront::WholeHeader(header)

@@ -26,7 +26,7 @@ pub fn push_announced(window: &mut Window, header: Header, bytes: &[u8]) -> usiz
 }
 
 /// Appends bytes until there are six, which may be a header, and returns their number.
-pub fn push_first(window: &mut Window, bytes: &[u8]) -> usize
+pub fn push_header_bytes(window: &mut Window, bytes: &[u8]) -> usize
     requires { length window.old < 6 }
     ensures within { result ≤ length bytes.now }
     ensures some { 0 < length bytes.now → 0 < result }
@@ -39,7 +39,7 @@ pub fn push_first(window: &mut Window, bytes: &[u8]) -> usize
 }
 
 /// The number of bytes before the first sync byte: all, if there is none.
-pub fn noise_len(bytes: &[u8]) -> usize
+pub fn len_before_sync(bytes: &[u8]) -> usize
     ensures within { result ≤ length bytes.now }
     ensures none { (i : ℕ) → i < result → slice_index bytes.now i ≢ 0x55 }
 {

@@ -15,7 +15,7 @@ use std::marker::Model;
 const SLACK: usize = 8192;
 
 // The capacity, in bytes.
-const ROOM: usize = MAX_PACKET + SLACK;
+const WINDOW_CAPACITY: usize = MAX_PACKET + SLACK;
 
 // Continues a running CRC over some bytes: `checks` has at `at` the CRC of all bytes before them, and gets the CRC of
 // all bytes up to each of them.
@@ -41,7 +41,7 @@ fn make_room(bytes: &mut Vec<u8>, start: usize, checks: &mut Vec<u8>, count: usi
     ensures same { drop result bytes.new.items ≡ drop start bytes.old.items }
     ensures room { length bytes.new.items + count ≤ room }
 {
-    if bytes.len() + count <= ROOM {
+    if bytes.len() + count <= WINDOW_CAPACITY {
         return start;
     }
     bytes.copy_within(start.., 0);
@@ -95,8 +95,8 @@ impl Window {
     pub fn new(alloc: Global) -> Result<Window, AllocError>
         ensures { IfOk result (λ w. w ≡ []) }
     {
-        let bytes = Vec::with_capacity(alloc, ROOM)?;
-        let mut checks = Vec::with_capacity(alloc, ROOM + 1)?;
+        let bytes = Vec::with_capacity(alloc, WINDOW_CAPACITY)?;
+        let mut checks = Vec::with_capacity(alloc, WINDOW_CAPACITY + 1)?;
         checks.push(0)?;
         Ok(Window {
             bytes,
@@ -135,7 +135,7 @@ impl Window {
     }
 
     /// The CRC of the `len` bytes from index `from` on.
-    pub fn check_of(&self, from: usize, len: usize) -> u8
+    pub fn crc_of(&self, from: usize, len: usize) -> u8
         requires { from + len ≤ length self.now }
         ensures { result ≡ check (take len (drop from self.now)) }
     {

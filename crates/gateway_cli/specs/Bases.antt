@@ -1,11 +1,11 @@
 -- The base ID that a text spells (EnOcean Serial Protocol 3, "CO_WR_IDBASE"). Own choice: eight digits, in upper or
 -- lower case.
 use Rattle.std.specs.Prelude.{ℕ, List, if◌then◌else◌, Option, Some, None}
-use Rattle.erp1_telegrams.specs.Address.{is_base}
+use Rattle.erp1_telegrams.specs.Address.{is_base_id}
 use Rattle.actuator_commands.specs.Words.{id_in}
 
 abbrev pub base_from : Option ℕ → Option ℕ
-base_from (Some id) = if is_base id then Some id else None
+base_from (Some id) = if is_base_id id then Some id else None
 base_from None = None
 
 -- the ID that eight hexadecimal digits spell, in upper or lower case, if it is a base ID

@@ -101,7 +101,7 @@ pub fn read<'a>(alloc: Global, words: &'a [String]) -> Result<Options<'a>, Comma
         option_map (λ path. path.now) options.db ≡ db_of_line (map string_bytes words.now)) }
     ensures explain { IfOk result (λ options. options.explain ≡ explain_of_line (map string_bytes words.now)) }
     ensures task { IfOk result (λ options. AsksFor (map string_bytes words.now) options.task) }
-    ensures is_base { IfOk result (λ options. Address.is_base options.base ≡ true) }
+    ensures is_base_id { IfOk result (λ options. Address.is_base_id options.base ≡ true) }
     ensures refused { IfErr result (RefusesLine (map string_bytes words.now)) }
     ensures passes { takes enogate_app (map string_bytes words.now) ≡ true →
         IfErr result (λ why. (why ≡ CommandLineFault.BadBase) ⊎ IsOutOfMemory why) }

@@ -9,7 +9,7 @@ ghost use Rattle.gateway_cli.specs.CommandLine.{option_flag, option_text};
 use super::{LiveOptions, Task};
 use actuator_commands::id_of;
 use clap::ArgMatches;
-use erp1_telegrams::is_base;
+use erp1_telegrams::is_base_id;
 
 /// The text of the option of this name.
 pub(super) fn text_value<'a>(matches: &ArgMatches<'a>, name: &str) -> Option<&'a str>
@@ -42,7 +42,7 @@ fn base_of(text: &str) -> Option<u32>
     ensures { result ≡ base_in text.now }
 {
     let base = id_of(text.as_bytes())?;
-    if is_base(base) { Some(base) } else { None }
+    if is_base_id(base) { Some(base) } else { None }
 }
 
 /// Whether the flag `--explain` was given.
@@ -62,12 +62,12 @@ pub(super) fn task_value<'a>(matches: &ArgMatches<'a>) -> Task<'a>
     ensures { Asks (subcommand_rows_of matches.now) result }
 {
     match matches.subcommand_matches("live") {
-        Some(given) => Task::Live(live_value(given)),
+        Some(given) => Task::Live(live_options_of(given)),
         None => Task::Replay,
     }
 }
 
-fn live_value<'a>(given: &ArgMatches<'a>) -> LiveOptions<'a>
+fn live_options_of<'a>(given: &ArgMatches<'a>) -> LiveOptions<'a>
     requires { HasLiveOptions (rows_of (found_of given.now)) }
     ensures { AreLiveOptions (rows_of (found_of given.now)) result }
 {

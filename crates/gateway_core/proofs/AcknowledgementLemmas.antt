@@ -7,15 +7,15 @@ use Rattle.teach_in.specs.declared.outcome.Outcome.TheVariants.{Accepted, Delete
 use Rattle.json_lines.specs.Lines.{Teach, TeachLine, text}
 use Rattle.json_lines.proofs.TeachLines.{one_teach_line}
 use Rattle.gateway_core.specs.Step.{State, Input, Answer, update_of, effect, device_teach_line}
-use Rattle.gateway_core.specs.Run.{InputResult, Run, Applied, answer_with, state_with}
+use Rattle.gateway_core.specs.Run.{InputResult, Run, Applied, answer_for_result, state_after_result}
 use Rattle.gateway_core.specs.Sessions.{IsSession, Session, initial_state}
 use Rattle.gateway_core.specs.Reporting.{IsDeleted, ReportsEffect, acknowledged_update}
 use Rattle.gateway_core.specs.Acknowledgements.{Acknowledges, IsDurable, AcknowledgedIsDurable}
 use Rattle.learned_devices.specs.Ranges.{AreInRange, IsDeviceInRange}
-use Rattle.gateway_core.specs.Ranges.{IsOfBytes, IsStateInRange}
-use Rattle.gateway_core.proofs.LifeLemmas.{updates_survive_restarts}
+use Rattle.gateway_core.specs.Ranges.{ConsistsOfBytes, IsStateInRange}
+use Rattle.gateway_core.proofs.SessionLemmas.{updates_survive_restarts}
 use Rattle.gateway_core.proofs.RangeLemmas.{stays_in_range, learned-in, deleted-in}
-use Rattle.gateway_core.proofs.TellingLemmas.{teach_lines_are_true}
+use Rattle.gateway_core.proofs.ReportingLemmas.{teach_lines_are_true}
 
 -- a run up to one of its inputs, and the answer to that input
 record Parted (old : State) (before : List Input) (results : List InputResult) (answers : List Answer) (input : Input)
@@ -23,7 +23,7 @@ record Parted (old : State) (before : List Input) (results : List InputResult) (
     (answer : Answer) : Type 0 where
   at : State
   run : Run old before results answers at
-  is : answer ≡ answer_with at input result
+  is : answer ≡ answer_for_result at input result
 
 parted : (old new : State) (before after : List Input) (input : Input) (results more : List InputResult)
     (result : InputResult)
@@ -32,7 +32,7 @@ parted : (old new : State) (before after : List Input) (input : Input) (results 
     → Parted old before results answers input result answer
 parted old new [] after input [] more result [] later answer f a run = record { at = old; run = refl; is = run.1 }
 parted old new (first ∷ before) after input (its ∷ results) more result (one ∷ answers) later answer f a run =
-    let rest = parted (state_with old first its) new before after input results more result answers later answer
+    let rest = parted (state_after_result old first its) new before after input results more result answers later answer
     (omega (arith, f)) (omega (arith, a)) run.2 in
     record { at = rest.at; run = (run.0, run.1, rest.run); is = rest.is }
 parted old new [] after input (its ∷ results) more result answers later answer f a run = absurd (omega (arith, f))
@@ -42,25 +42,25 @@ parted old new (first ∷ before) after input (its ∷ results) more result [] l
     absurd (omega (arith, a))
 
 -- the first inputs are of bytes, and the next one
-parted-bytes : (before after : List Input) (input : Input) → AllByRecursion IsOfBytes (before ++ input ∷ after)
-    → AllByRecursion IsOfBytes before × IsOfBytes input
+parted-bytes : (before after : List Input) (input : Input) → AllByRecursion ConsistsOfBytes (before ++ input ∷ after)
+    → AllByRecursion ConsistsOfBytes before × ConsistsOfBytes input
 parted-bytes [] after input bytes = (tt, bytes.0)
 parted-bytes (first ∷ before) after input bytes =
     let rest = parted-bytes before after input bytes.1 in ((bytes.0, rest.0), rest.1)
 
 -- the devices found are in range, and the inputs are of bytes
 abbrev BeginsInRange : Session → Type 0
-BeginsInRange session = AreInRange session.found × AllByRecursion IsOfBytes session.items
+BeginsInRange session = AreInRange session.found × AllByRecursion ConsistsOfBytes session.inputs
 
 -- so the state is in range when an input is answered, and the input is of bytes
 at-input : (session : Session) (line : TeachLine) (answered : Acknowledges session line) (at : State)
     → Run (initial_state session.base session.found) answered.before answered.results answered.answers at
     → BeginsInRange session
-    → IsStateInRange at × IsOfBytes answered.input
+    → IsStateInRange at × ConsistsOfBytes answered.input
 at-input session line answered at run (found, bytes) =
     let parts =
     parted-bytes answered.before answered.after answered.input
-    (subst (AllByRecursion IsOfBytes) answered.inputs_are bytes) in (
+    (subst (AllByRecursion ConsistsOfBytes) answered.inputs_are bytes) in (
       stays_in_range (initial_state session.base session.found) at answered.before answered.results answered.answers run
           parts.0
           (found, tt),

@@ -1,15 +1,15 @@
 -- One session, from its calls.
 use Rattle.std.proofs.Common.{◌≡◌, inl, inr, refl, sym, subst}
-use Rattle.learned_devices.specs.StoreState.{StoreState}
+use Rattle.learned_devices.specs.DeviceStoreState.{DeviceStoreState}
 use Rattle.learned_devices.specs.Devices.{Devices}
 use Rattle.gateway_core.specs.Step.{update_of}
-use Rattle.gateway_core.specs.CrashStates.{IsCrashConsistent, with_pending, no_updates, crash_states}
+use Rattle.gateway_core.specs.CrashStates.{IsCrashConsistent, with_pending_update, no_crash_states, crash_states}
 use Rattle.gateway_core.specs.Sessions.{initial_state}
 use Rattle.gateway_core.specs.SessionCalls.{CallsAreSessions, ClosesEndSessions}
 use Rattle.gateway_core.specs.SessionCalls.{CrashesEndSessions}
-use Rattle.gateway_core.proofs.StopLemmas.{safe-weaker, safe-pending, safe-last}
+use Rattle.gateway_core.proofs.CrashLemmas.{safe-weaker, safe-pending, safe-last}
 
-module _ {S : Type 0} (stored : S → StoreState) where
+module _ {S : Type 0} (stored : S → DeviceStoreState) where
   pub calls_are_sessions : CallsAreSessions stored
   calls_are_sessions old new found inputs answers honest begins handles left may =
       let went = handles.went honest (initial_state old.base found) begins.at in
@@ -30,12 +30,12 @@ module _ {S : Type 0} (stored : S → StoreState) where
       let leaves = tries went.last.devices went.at.2 in
       let is = asks went.last went.at in
       let Before = λ (d : Devices). d ≡ found in
-      let so_far = crash_states no_updates (initial_state old.base found) inputs went.results in
-      let safe : IsCrashConsistent Before (with_pending so_far went.last.devices (update_of went.last input)) left =
+      let so_far = crash_states no_crash_states (initial_state old.base found) inputs went.results in
+      let safe : IsCrashConsistent Before (with_pending_update so_far went.last.devices (update_of went.last input)) left =
       elim (leaves left may) [
         | inl before ↦ safe-pending Before so_far went.last.devices (update_of went.last input) left
             (safe-weaker (stored old.registry).may_recover Before begins.crash so_far left (went.crash left before))
-        | inr made ↦ subst (λ o. IsCrashConsistent Before (with_pending so_far went.last.devices o) left) (sym is)
+        | inr made ↦ subst (λ o. IsCrashConsistent Before (with_pending_update so_far went.last.devices o) left) (sym is)
             (inl (inl made))
       ] in
       record { results = went.results; last = went.last; is = record { run = went.run; safe = safe } }
@@ -51,7 +51,7 @@ module _ {S : Type 0} (stored : S → StoreState) where
             last = went.last;
             is = record {
               run = went.run;
-              safe = safe-last (λ d. d ≡ found) no_updates (initial_state old.base found) went.last inputs went.results
+              safe = safe-last (λ d. d ≡ found) no_crash_states (initial_state old.base found) went.last inputs went.results
                   answers
                   went.run (inr (refl, refl));
             };

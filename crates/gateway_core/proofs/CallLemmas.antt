@@ -3,7 +3,7 @@ use Rattle.std.proofs.Common.{◌≡◌, ℕ, suc, ◌<◌, List, [], ◌∷◌,
 use Rattle.std.proofs.Common.{append_assoc, arith}
 use Rattle.std.proofs.Common.{append-nil, Some}
 use Rattle.std.proofs.Common.{None}
-use Rattle.learned_devices.specs.StoreState.{StoreState}
+use Rattle.learned_devices.specs.DeviceStoreState.{DeviceStoreState}
 use Rattle.esp3_frames.specs.Packet.{Packet}
 use Rattle.esp3_frames.specs.Frames.{packets_in, rest_of}
 use Rattle.esp3_frames.proofs.ForCallers.{framing_in_parts, frames_of-may_become, empty_may_become}
@@ -14,7 +14,7 @@ use Rattle.gateway_core.specs.Calls.{answers_of, AreInputs}
 use Rattle.gateway_core.specs.Calls.{CallsAreARun, BytesOneByOne}
 use Rattle.gateway_core.proofs.RunLemmas.{handles-nothing, handles-append}
 
-module _ {S : Type 0} (stored : S → StoreState) where
+module _ {S : Type 0} (stored : S → DeviceStoreState) where
   -- the stream so far consists of the packets handled, those that are ready, and the rest
   record Stands (stream : List ℕ) (before : List Packet) (v : GatewayValue S) : Type 0 where
     pub packets : packets_in stream ≡ before ++ v.ready
@@ -24,11 +24,11 @@ module _ {S : Type 0} (stored : S → StoreState) where
   record GoesOn (stream : List ℕ) (before : List Packet) (old : GatewayValue S) (calls : List Call)
       (new : GatewayValue S) : Type 0 where
     pub handled : List Packet
-    pub items : List Input
+    pub inputs : List Input
     pub packets : packets_in (stream ++ bytes_of calls) ≡ before ++ (handled ++ new.ready)
     pub rest : rest_of (stream ++ bytes_of calls) ≡ new.rest
-    pub in_order : AreInputs calls handled items
-    pub run : Handles stored old.handler items (answers_of calls) new.handler
+    pub in_order : AreInputs calls handled inputs
+    pub run : Handles stored old.handler inputs (answers_of calls) new.handler
 
   stands_after_bytes : (stream : List ℕ) (before : List Packet) (old mid : GatewayValue S) (bytes : List ℕ)
       → Stands stream before old
@@ -47,7 +47,7 @@ module _ {S : Type 0} (stored : S → StoreState) where
       → Stands stream before old → Transitions stored old calls new → GoesOn stream before old calls new
   goes_on stream before old [] new stands move = record {
     handled = [];
-    items = [];
+    inputs = [];
     packets = rw (append-nil, move) stands.packets;
     rest = rw (append-nil, move) stands.rest;
     in_order = (refl, refl);
@@ -62,12 +62,12 @@ module _ {S : Type 0} (stored : S → StoreState) where
       append_assoc stream bytes (bytes_of calls) in
       record {
         handled = on.handled;
-        items = on.items;
+        inputs = on.inputs;
         packets = ap packets_in (sym along) ∙ on.packets;
         rest = ap rest_of (sym along) ∙ on.rest;
         in_order = on.in_order;
         run = let P : HandlerValue S → Type 0 =
-            λ s. Handles stored s on.items (answers_of calls) new.handler in subst P move.1 on.run;
+            λ s. Handles stored s on.inputs (answers_of calls) new.handler in subst P move.1 on.run;
       }
   goes_on stream before old (Next None ∷ calls) new stands (mid, (none, same), moves) =
       let from : Stands stream before mid =
@@ -75,12 +75,12 @@ module _ {S : Type 0} (stored : S → StoreState) where
       let on = goes_on stream before mid calls new from moves in
       record {
         handled = on.handled;
-        items = on.items;
+        inputs = on.inputs;
         packets = on.packets;
         rest = on.rest;
         in_order = on.in_order;
         run = let P : GatewayValue S → Type 0 =
-            λ v. Handles stored v.handler on.items (answers_of calls) new.handler in subst P same on.run;
+            λ v. Handles stored v.handler on.inputs (answers_of calls) new.handler in subst P same on.run;
       }
   goes_on stream before old (Next (Some answer) ∷ calls) new stands
       (mid, (packet, first, rest, handles), moves) =
@@ -91,11 +91,11 @@ module _ {S : Type 0} (stored : S → StoreState) where
       let on = goes_on stream (before ++ packet ∷ []) mid calls new from moves in
       record {
         handled = packet ∷ on.handled;
-        items = Received packet ∷ on.items;
+        inputs = Received packet ∷ on.inputs;
         packets = on.packets ∙ append_assoc before (packet ∷ []) (on.handled ++ new.ready);
         rest = on.rest;
         in_order = (refl, on.in_order);
-        run = handles-append stored old.handler mid.handler new.handler (Received packet ∷ []) on.items (answer ∷ [])
+        run = handles-append stored old.handler mid.handler new.handler (Received packet ∷ []) on.inputs (answer ∷ [])
             (answers_of calls) handles on.run;
       }
   goes_on stream before old (Order line answer ∷ calls) new stands (mid, (ready, rest, handles), moves) =
@@ -104,11 +104,11 @@ module _ {S : Type 0} (stored : S → StoreState) where
       let on = goes_on stream before mid calls new from moves in
       record {
         handled = on.handled;
-        items = Ordered line ∷ on.items;
+        inputs = Ordered line ∷ on.inputs;
         packets = on.packets;
         rest = on.rest;
         in_order = (refl, on.in_order);
-        run = handles-append stored old.handler mid.handler new.handler (Ordered line ∷ []) on.items (answer ∷ [])
+        run = handles-append stored old.handler mid.handler new.handler (Ordered line ∷ []) on.inputs (answer ∷ [])
             (answers_of calls) handles on.run;
       }
 
@@ -118,7 +118,7 @@ module _ {S : Type 0} (stored : S → StoreState) where
       let on = goes_on [] [] _ calls new (record { packets = sym empty.0; rest = sym empty.1 }) moves in
       record {
         handled = on.handled;
-        items = on.items;
+        inputs = on.inputs;
         packets = on.packets;
         rest = on.rest;
         in_order = on.in_order;

@@ -6,22 +6,22 @@ use Rattle.std.proofs.Common.{append-nil}
 use Rattle.esp3_frames.specs.Packet.{Packet}
 use Rattle.teach_in.specs.declared.outcome.Outcome.TheVariants.{Accepted, Deleted}
 use Rattle.teach_in.specs.Telegrams.{teach_in_of}
-use Rattle.json_lines.specs.declared.counts.Count.TheVariants as count
-use Rattle.json_lines.specs.Counts.{saturated_sum, increment, saturated_next, increment_if_any}
+use Rattle.json_lines.specs.declared.counts.Counter.TheVariants as count
+use Rattle.json_lines.specs.Counts.{saturated_sum, increment, saturated_increment, increment_if_any}
 use Rattle.teach_in.specs.declared.why.Why.{Why}
 use Rattle.teach_in.specs.declared.why.Why.TheVariants as why
 use Rattle.json_lines.specs.Lines.{Reading, Teach, ResponseLine, TeachLine, text, texts}
 use Rattle.gateway_core.specs.declared.disposition.Disposition.{Disposition}
 use Rattle.gateway_core.specs.Dispositions.{without_device, count_for, explanation, packet_line_of}
 use Rattle.gateway_core.specs.Counting.{AppliedAreCounted, IsExplained, ExplanationsAreCounted, MatchesDeskLines}
-use Rattle.gateway_core.specs.Counting.{disposition_with}
+use Rattle.gateway_core.specs.Counting.{disposition_for_result}
 use Rattle.gateway_core.specs.Step.{State, Input, Received, Ordered, count_in, count_of, packet_effect}
 use Rattle.gateway_core.specs.Step.{device_teach_line}
 use Rattle.gateway_core.specs.Step.{Answer, Cause, Effect, query_teach_line}
-use Rattle.gateway_core.specs.Run.{InputResult, Applied, Failed, FailedAtCommit, answer_with, state_with, failure_count}
+use Rattle.gateway_core.specs.Run.{InputResult, Applied, Failed, FailedAtCommit, answer_for_result, state_after_result, failure_count}
 use Rattle.gateway_core.specs.Run.{FailuresAreCounted, failure_answer, state_after_failure}
 use Rattle.gateway_core.proofs.EffectLemmas.{of_packet, of_line, of_effect}
-use Rattle.gateway_core.proofs.TellingLemmas.{no_line, other-line}
+use Rattle.gateway_core.proofs.ReportingLemmas.{no_line, other-line}
 
 pub count_on : (a b c n m : ℕ) → b ≡ saturated_sum a n → c ≡ saturated_sum b m → c ≡ saturated_sum a (n + m)
 count_on a b c n m is on = omega (arith, is, on)
@@ -173,9 +173,9 @@ has-disposition state packet =
 
 -- a failed packet is explained as failed, whatever the cause
 refused-explained : (state : State) (packet : Packet) (result : InputResult) (cause : Cause)
-    → disposition_with state packet result ≡ Some (without_device why.Refused)
-    → answer_with state (Received packet) result ≡ failure_answer (Received packet) cause
-    → state_with state (Received packet) result ≡ state_after_failure state → (¬ (result ≡ Applied))
+    → disposition_for_result state packet result ≡ Some (without_device why.Refused)
+    → answer_for_result state (Received packet) result ≡ failure_answer (Received packet) cause
+    → state_after_result state (Received packet) result ≡ state_after_failure state → (¬ (result ≡ Applied))
     → IsExplained state packet result
 refused-explained state packet result cause is answer counts untaken = record {
   disposition = without_device why.Refused;
@@ -203,7 +203,7 @@ explained state packet (FailedAtCommit cause) =
     refused-explained state packet (FailedAtCommit cause) cause refl refl refl (λ taken. absurd cc)
 
 unexplained : (state : State) (line : List ℕ) (result : InputResult)
-    → (answer_with state (Ordered line) result).explained ≡ []
+    → (answer_for_result state (Ordered line) result).explained ≡ []
 unexplained state line Applied = refl
 unexplained state line (Failed cause) = refl
 unexplained state line (FailedAtCommit cause) = refl
@@ -213,7 +213,7 @@ explanations_are_counted = record { packets = explained; lines = unexplained }
 
 -- ---- failures
 
-capped : (count : ℕ) → saturated_next count < 2 ^ 64
+capped : (count : ℕ) → saturated_increment count < 2 ^ 64
 capped count = omega arith
 
 pub failures_are_counted : FailuresAreCounted
@@ -222,15 +222,15 @@ failures_are_counted old new [] [] [] run fits =
 failures_are_counted old new (input ∷ inputs) (Applied ∷ results) (answer ∷ answers) run fits =
     let same = unrefused old input in
     let rest =
-    failures_are_counted (state_with old input Applied) new inputs results answers run.2 (omega (arith, same, fits)) in
+    failures_are_counted (state_after_result old input Applied) new inputs results answers run.2 (omega (arith, same, fits)) in
     rest ∙ ap (λ count. saturated_sum count (failure_count results)) same
 failures_are_counted old new (input ∷ inputs) (Failed cause ∷ results) (answer ∷ answers) run fits =
-    count_on old.counts.refused (saturated_next old.counts.refused) new.counts.refused 1 (failure_count results) refl
-    (failures_are_counted (state_with old input (Failed cause)) new inputs results answers run.2
+    count_on old.counts.refused (saturated_increment old.counts.refused) new.counts.refused 1 (failure_count results) refl
+    (failures_are_counted (state_after_result old input (Failed cause)) new inputs results answers run.2
     (capped old.counts.refused))
 failures_are_counted old new (input ∷ inputs) (FailedAtCommit cause ∷ results) (answer ∷ answers) run fits =
-    count_on old.counts.refused (saturated_next old.counts.refused) new.counts.refused 1 (failure_count results) refl
-    (failures_are_counted (state_with old input (FailedAtCommit cause)) new inputs results answers run.2
+    count_on old.counts.refused (saturated_increment old.counts.refused) new.counts.refused 1 (failure_count results) refl
+    (failures_are_counted (state_after_result old input (FailedAtCommit cause)) new inputs results answers run.2
     (capped old.counts.refused))
 failures_are_counted old new [] [] (answer ∷ answers) run fits = absurd run
 failures_are_counted old new [] (result ∷ results) answers run fits = absurd run

@@ -24,7 +24,7 @@ use Rattle.teach_in.specs.Profiles.{supported}
 use Rattle.teach_in.specs.Telegrams.{teach_in_of}
 use Rattle.teach_in.specs.Plans.{add, plan_of}
 use Rattle.teach_in.proofs.ForCallers.{either, LearnsByTold, Hears, AsksDeletion, Refuses, of_plan}
-use Rattle.json_lines.specs.declared.counts.Count.TheVariants as count
+use Rattle.json_lines.specs.declared.counts.Counter.TheVariants as count
 use Rattle.teach_in.specs.declared.why.Why.{Why}
 use Rattle.teach_in.specs.declared.why.Why.TheVariants as why
 use Rattle.json_lines.specs.declared.error_lines.ErrorName.{ErrorName}
@@ -47,8 +47,8 @@ use Rattle.gateway_core.specs.Profiles.{read_by}
 use Rattle.gateway_core.specs.Responses.{response_in}
 use Rattle.gateway_core.specs.Step.{State, Input, Received, Ordered, Effect, silent_effect}
 use Rattle.gateway_core.specs.Step.{Need, NeedsMemory, NeedsStore}
-use Rattle.gateway_core.specs.Step.{packet_line_effect, error_effect, send_effect, send_result_effect, error_of}
-use Rattle.gateway_core.specs.Step.{device_order_effect}
+use Rattle.gateway_core.specs.Step.{packet_line_effect, error_effect, send_effect, send_result_effect, order_error_name}
+use Rattle.gateway_core.specs.Step.{sending_order_effect}
 use Rattle.gateway_core.specs.Step.{lines_effect, mode_effect, learn_effect, forget_effect, relabel_effect}
 use Rattle.gateway_core.specs.Step.{teach_effect, accept_effect, delete_effect, query_teach_line}
 use Rattle.gateway_core.specs.Step.{plan_effect}
@@ -186,7 +186,7 @@ pub record OfPacket (P : Effect → Type 0) (state : State) (packet : Packet) : 
 
 -- an order to devices has no other effect
 pub sends-effect : (state : State) (order : Order) → sends order ≡ true
-    → order_effect state (Ok order) ≡ device_order_effect state order
+    → order_effect state (Ok order) ≡ sending_order_effect state order
 sends-effect state (Switch id channel on) is = refl
 sends-effect state (Dim id channel value) is = refl
 sends-effect state (Query id channel) is = refl
@@ -239,11 +239,11 @@ module _ (P : Effect → Type 0) (state : State) where
   of-sending : {spelled : Result Order OrderFault} → OfLine P state spelled → (asked : Bool)
       (telegram : Result Telegram OrderFault) → P (send_result_effect asked (Some telegram))
   of-sending each asked (Ok t) = each.sends asked _
-  of-sending each true (Err fault) = each.finds (error_of fault)
-  of-sending each false (Err fault) = each.denies (error_of fault)
+  of-sending each true (Err fault) = each.finds (order_error_name fault)
+  of-sending each false (Err fault) = each.denies (order_error_name fault)
 
   of-order : (order : Result Order OrderFault) → OfLine P state order → P (order_effect state order)
-  of-order (Err fault) each = each.denies (error_of fault)
+  of-order (Err fault) each = each.denies (order_error_name fault)
   of-order (Ok LearnOn) each = each.opens _ (λ eep is. absurd cc)
   of-order (Ok LearnOnAnswer) each = each.opens _ (λ eep is. absurd cc)
   of-order (Ok (LearnAs eep)) each = of-supported each eep _ (each.opens _ (λ given is. ap (λ e. Ok (LearnAs e)) cc))

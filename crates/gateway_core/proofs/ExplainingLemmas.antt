@@ -8,7 +8,7 @@ use Rattle.esp3_frames.specs.Packet.{Packet}
 use Rattle.erp1_telegrams.specs.declared.eep.Eep.{Eep}
 use Rattle.erp1_telegrams.specs.declared.telegram.TelegramFault.{TelegramFault}
 use Rattle.erp1_telegrams.specs.declared.address.FilterReason.TheVariants as reason
-use Rattle.erp1_telegrams.specs.Address.{filter_reason, is_own, is_filtered_out}
+use Rattle.erp1_telegrams.specs.Address.{filter_reason, is_gateway_id, is_filtered_out}
 use Rattle.erp1_telegrams.specs.Telegram.{Telegram, telegram_of}
 use Rattle.profile_rows.specs.Reading.{Entry}
 use Rattle.profile_rows.specs.declared.unreadable.Unreadable.{Unreadable}
@@ -28,7 +28,7 @@ use Rattle.teach_in.specs.declared.telegrams.Teach.TheVariants as teach
 use Rattle.teach_in.specs.FourByte as four_byte
 use Rattle.teach_in.specs.Profiles.{supported}
 use Rattle.teach_in.specs.Telegrams.{teach_in_of}
-use Rattle.teach_in.specs.Plans.{add, add_supported, in_mode, can_teach, ute_plan, plan_of, row_of}
+use Rattle.teach_in.specs.Plans.{add, add_supported, plan_in_mode, can_be_learned_by, ute_plan, plan_of, row_of}
 use Rattle.teach_in.specs.Ute as ute
 use Rattle.teach_in.specs.Ute.{request_in, deletion, not_used}
 use Rattle.teach_in.proofs.ForCallers.{IsOpen, LearnsByTold, either, hears-open, of_plan}
@@ -41,7 +41,7 @@ use Rattle.gateway_core.specs.Dispositions.{shown_packet}
 use Rattle.gateway_core.specs.Dispositions.{why_filtered, why_other, why_silent}
 use Rattle.gateway_core.specs.Profiles.{read_by}
 use Rattle.gateway_core.specs.Responses.{response_from, response_in}
-use Rattle.gateway_core.specs.Explaining.{DoesNotFit, ExplanationsAreTrue, IsNotFilteredOut, IsDataOf, Means, IsTeachIn}
+use Rattle.gateway_core.specs.Explaining.{DoesNotFitRole, ExplanationsAreTrue, IsNotFilteredOut, IsDataOf, Means, IsTeachIn}
 use Rattle.gateway_core.specs.Explaining.{IsPlanned, Shows}
 use Rattle.gateway_core.specs.Step.{State, Effect, case_effect, case_of, data_case, teach_case}
 use Rattle.gateway_core.specs.Step.{FilteredOut, non_telegram_effect, packet_effect_from, packet_effect, plan_effect}
@@ -161,7 +161,7 @@ module _ (t : Telegram) where
   data-refuses false c known outcome e = absurd cc
 
   refuse-means : (known : Bool) (kind : Teach) (mode : Mode) (outcome : Outcome)
-      → in_mode (row_of t known kind) mode ≡ Refuse outcome → RefusalMeans kind outcome
+      → plan_in_mode (row_of t known kind) mode ≡ Refuse outcome → RefusalMeans kind outcome
   refuse-means known kind mode.Closed outcome e = absurd cc
   refuse-means known teach.Contact mode.Learn outcome e = absurd cc
   refuse-means known teach.Contact mode.LearnAnswer outcome e = absurd cc
@@ -181,7 +181,7 @@ module _ (t : Telegram) where
   refuse-means known teach.Plain mode.Learn outcome e = absurd cc
   refuse-means known teach.Plain mode.LearnAnswer outcome e = absurd cc
   refuse-means known teach.Plain (mode.LearnAs eep) outcome e =
-      data-refuses (not known && can_teach t) (eep.rorg == t.rorg) _ outcome e
+      data-refuses (not known && can_be_learned_by t) (eep.rorg == t.rorg) _ outcome e
   refuse-means known teach.Answer mode.Learn outcome e = absurd cc
   refuse-means known teach.Answer mode.LearnAnswer outcome e = absurd cc
   refuse-means known teach.Answer (mode.LearnAs eep) outcome e = absurd cc
@@ -209,7 +209,7 @@ module _ (t : Telegram) where
       by false is e = eqb-false a b is
 
   does-not-fit : (known : Bool) (kind : Teach) (eep : Eep) → IsTeachIn kind → (row_of t known kind).given eep ≡ Silent
-      → DoesNotFit eep kind
+      → DoesNotFitRole eep kind
   does-not-fit known teach.Contact eep is e = given-silent eep.rorg 0xD5 _ e
   does-not-fit known teach.Bare eep is e = given-silent eep.rorg 0xA5 _ e
   does-not-fit known (teach.FourByte query) eep is e = given-silent eep.rorg 0xA5 _ e
@@ -244,7 +244,7 @@ module _ (state : State) (packet : Packet) (t : Telegram) (carried : telegram_of
           (ap (λ b. why_filtered (if b then reason.FromBroadcast else reason.ForOthers)) is)
           (t, carried, eqb-true t.sender 0xFFFF_FFFF is, (refl, refl))
       by false is =
-          let both = others (t.sender == 0xFFFF_FFFF) (t.dest == 0xFFFF_FFFF) (is_own state.base t.dest) over is in
+          let both = others (t.sender == 0xFFFF_FFFF) (t.dest == 0xFFFF_FFFF) (is_gateway_id state.base t.dest) over is in
           of-word state packet (why_filtered (filter_reason t)) why.ForOthers
           (ap (λ b. why_filtered (if b then reason.FromBroadcast else reason.ForOthers)) is)
           (t, carried, eqb-false t.sender 0xFFFF_FFFF is, eqb-false t.dest 0xFFFF_FFFF both.0, both.1, (refl, refl))
@@ -318,7 +318,7 @@ module _ (state : State) (packet : Packet) (t : Telegram) (carried : telegram_of
         → Truth state packet (plan_effect state t false (plan_of t state.mode known))
     of-taught known same teaches = of-planned false known same (by state.mode refl)
       where
-        by : (mode : Mode) → state.mode ≡ mode → in_mode (row_of t known (teach_in_of t)) mode ≡ Silent
+        by : (mode : Mode) → state.mode ≡ mode → plan_in_mode (row_of t known (teach_in_of t)) mode ≡ Silent
             → Truth state packet (silent_effect false (without_device (why_silent false mode)))
         by mode.Closed is silent update = (without_device why.WindowClosed, refl, (t, heard, teaches, is, (refl, refl)))
         by (mode.LearnAs eep) is silent update = (

@@ -5,15 +5,15 @@ pub use Rattle.gateway_core.proofs.ByteLemmas.{items_are_of_bytes}
 pub use Rattle.gateway_core.proofs.CallLemmas.{calls_are_a_run}
 pub use Rattle.gateway_core.proofs.CountLemmas.{count_on, failures_are_counted, applied_are_counted}
 pub use Rattle.gateway_core.proofs.ReplyLemmas.{radio_is_reported}
-pub use Rattle.gateway_core.proofs.CutLemmas.{new_packets-append, new_packets-rest, inputs_of-append}
-pub use Rattle.gateway_core.proofs.CutLemmas.{cuts_do_not_matter}
-pub use Rattle.gateway_core.proofs.CutLemmas.{answers_do_not_depend_on_chunks}
-pub use Rattle.gateway_core.proofs.LifeLemmas.{updates_survive_restarts}
+pub use Rattle.gateway_core.proofs.ChunkLemmas.{new_packets-append, new_packets-rest, inputs_of-append}
+pub use Rattle.gateway_core.proofs.ChunkLemmas.{cuts_do_not_matter}
+pub use Rattle.gateway_core.proofs.ChunkLemmas.{answers_do_not_depend_on_chunks}
+pub use Rattle.gateway_core.proofs.SessionLemmas.{updates_survive_restarts}
 pub use Rattle.gateway_core.proofs.LongLineLemmas.{handles_alike}
 pub use Rattle.gateway_core.proofs.PrefixLemmas.{crash_states_are_prefixes, sessions_leave_prefixes}
 pub use Rattle.gateway_core.proofs.RangeLemmas.{leaves_in_range, stays_in_range, tells_in_range}
 pub use Rattle.gateway_core.proofs.RestLemmas.{rest_goes_on, items_behind, rest_behind}
 pub use Rattle.gateway_core.proofs.RunLemmas.{handles-nothing, handles-append, same_failures}
-pub use Rattle.gateway_core.proofs.StopLemmas.{crash_consistency_composes, safe-weaker}
-pub use Rattle.gateway_core.proofs.TellingLemmas.{updates_are_reported, labels_are_acknowledged, teach_lines_are_true}
+pub use Rattle.gateway_core.proofs.CrashLemmas.{crash_consistency_composes, safe-weaker}
+pub use Rattle.gateway_core.proofs.ReportingLemmas.{updates_are_reported, labels_are_acknowledged, teach_lines_are_true}
 pub use Rattle.gateway_core.proofs.WindowLemmas.{packets_change_in_windows}

@@ -2,7 +2,7 @@
 use Rattle.std.proofs.Common.{◌≡◌, ℕ, ◌<◌, List, [], ◌∷◌, length, refl, ap, sym, subst, ◌∙◌}
 use Rattle.std.specs.Prelude.{if◌then◌else◌, IsSome}
 use Rattle.std.proofs.lemmas.Bool.{lt-ltb}
-use Rattle.learned_devices.specs.StoreState.{StoreState}
+use Rattle.learned_devices.specs.DeviceStoreState.{DeviceStoreState}
 use Rattle.json_lines.specs.Counts.{increment_if_any}
 use Rattle.json_lines.specs.declared.error_lines.ErrorName.TheVariants.{TooLong}
 use Rattle.actuator_commands.specs.Limits.{max_line}
@@ -11,7 +11,7 @@ use Rattle.gateway_core.specs.Step.{State, Input, Ordered, Answer, text_answer, 
 use Rattle.gateway_core.specs.Step.{MayFailFor, line_effect, effect, answer_from_effect, count_in, with_update}
 use Rattle.gateway_core.specs.Step.{with_mode}
 use Rattle.gateway_core.specs.Run.{InputResult, Applied, Failed, FailedAtCommit, Run, cause_text, state_after_failure}
-use Rattle.gateway_core.specs.CrashStates.{CrashStates, no_updates, with_committed, with_pending, crash_states}
+use Rattle.gateway_core.specs.CrashStates.{CrashStates, no_crash_states, after_commit, with_pending_update, crash_states}
 use Rattle.gateway_core.specs.CrashStates.{IsCrashConsistent}
 use Rattle.gateway_core.specs.Handling.{HandlerValue, HandlesFrom, Handles}
 
@@ -45,14 +45,14 @@ run_alike old new line other (result ∷ results) [] e run = absurd run
 
 -- and so do its crash states
 left_alike : (old : State) (input other : Input) (results : List InputResult) → effect old input ≡ effect old other
-    → crash_states no_updates old (input ∷ []) results ≡ crash_states no_updates old (other ∷ []) results
+    → crash_states no_crash_states old (input ∷ []) results ≡ crash_states no_crash_states old (other ∷ []) results
 left_alike old input other [] e = refl
-left_alike old input other (Applied ∷ results) e = ap (λ (d : Effect). with_committed no_updates old.devices d.update) e
+left_alike old input other (Applied ∷ results) e = ap (λ (d : Effect). after_commit no_crash_states old.devices d.update) e
 left_alike old input other (Failed cause ∷ results) e = refl
 left_alike old input other (FailedAtCommit cause ∷ results) e =
-    ap (λ (d : Effect). with_pending no_updates old.devices d.update) e
+    ap (λ (d : Effect). with_pending_update no_crash_states old.devices d.update) e
 
-module _ {S : Type 0} (stored : S → StoreState) where
+module _ {S : Type 0} (stored : S → DeviceStoreState) where
   went_alike : (old new : HandlerValue S) (start : State) (line other : List ℕ) (answers : List Answer)
       → line_effect start line ≡ line_effect start other → HandlesFrom stored old start (Ordered line ∷ []) answers new
       → HandlesFrom stored old start (Ordered other ∷ []) answers new

@@ -4,8 +4,8 @@ use Rattle.std.proofs.Common.{Some, None, refl}
 use Rattle.std.proofs.Common.{sym, ap, subst, ◌∙◌, arith}
 use Rattle.learned_devices.specs.Devices.{Devices, DeviceUpdate}
 use Rattle.gateway_core.specs.Step.{State, Input, Answer, update_of, with_update}
-use Rattle.gateway_core.specs.Run.{InputResult, Applied, Failed, FailedAtCommit, state_with, Run}
-use Rattle.gateway_core.specs.CrashStates.{CrashStates, no_updates, with_committed, with_pending, crash_states_with}
+use Rattle.gateway_core.specs.Run.{InputResult, Applied, Failed, FailedAtCommit, state_after_result, Run}
+use Rattle.gateway_core.specs.CrashStates.{CrashStates, no_crash_states, after_commit, with_pending_update, crash_states_after_result}
 use Rattle.gateway_core.specs.CrashStates.{crash_states, IsCrashConsistent}
 use Rattle.gateway_core.specs.Sessions.{initial_state, with_interrupted}
 use Rattle.gateway_core.specs.Prefixes.{IsAcknowledged, NoneAcknowledged, state_after_run, AfterPrefix}
@@ -17,12 +17,12 @@ module _ (Before : Devices → Type 0) where
   abbrev Steps : CrashStates → State → Input → InputResult → Devices → Type 0
   Steps left state input result devices =
       (IsCrashConsistent Before left devices × (¬ IsAcknowledged state input result))
-      ⊎ ((devices ≡ (state_with state input result).devices)
+      ⊎ ((devices ≡ (state_after_result state input result).devices)
       ⊎ ((cause : _) × (result ≡ FailedAtCommit cause)
       × (devices ≡ with_update state.devices (update_of state input))))
 
   told_steps : (left : CrashStates) (known devices : Devices) (o : Option DeviceUpdate)
-      → IsCrashConsistent Before (with_committed left known o) devices
+      → IsCrashConsistent Before (after_commit left known o) devices
       → (IsCrashConsistent Before left devices × (¬ IsSome o)) ⊎ (devices ≡ with_update known o)
   told_steps left known devices None safe = inl (safe, λ is. absurd cc)
   told_steps left known devices (Some update) (inl (inl is)) = inr is
@@ -30,7 +30,7 @@ module _ (Before : Devices → Type 0) where
   told_steps left known devices (Some update) (inr non) = absurd (let e = non.0 in cc)
 
   pending_steps : (left : CrashStates) (known devices : Devices) (o : Option DeviceUpdate)
-      → IsCrashConsistent Before (with_pending left known o) devices
+      → IsCrashConsistent Before (with_pending_update left known o) devices
       → IsCrashConsistent Before left devices ⊎ (devices ≡ with_update known o)
   pending_steps left known devices None safe = inl safe
   pending_steps left known devices (Some update) (inl (inl is)) = inr is
@@ -38,7 +38,7 @@ module _ (Before : Devices → Type 0) where
   pending_steps left known devices (Some update) (inr non) = inl (inr non)
 
   steps : (left : CrashStates) (state : State) (input : Input) (result : InputResult) (devices : Devices)
-      → IsCrashConsistent Before (crash_states_with left state input result) devices
+      → IsCrashConsistent Before (crash_states_after_result left state input result) devices
       → Steps left state input result devices
   steps left state input Applied devices safe =
       elim (told_steps left state.devices devices (update_of state input) safe) [
@@ -62,7 +62,7 @@ module _ (Before : Devices → Type 0) where
   prefixes left state [] (result ∷ results) devices same safe = absurd (omega (arith, same))
   prefixes left state (input ∷ inputs) [] devices same safe = absurd (omega (arith, same))
   prefixes left state (input ∷ inputs) (result ∷ results) devices same safe =
-      elim (prefixes (crash_states_with left state input result) (state_with state input result) inputs results devices
+      elim (prefixes (crash_states_after_result left state input result) (state_after_result state input result) inputs results devices
       (omega (arith, same)) safe) [
         | inr p ↦ inr (record {
           before = input ∷ p.before;
@@ -87,13 +87,13 @@ module _ (Before : Devices → Type 0) where
             inputs_are = refl;
             results_are = refl;
             as_many = refl;
-            at = state_with state input result;
+            at = state_after_result state input result;
             at_is = refl;
             unacknowledged = both.1;
             is = inl is;
           })
           | inr (inr yet) ↦
-              let P = λ (f : InputResult). NoneAcknowledged (state_with state input f) inputs results
+              let P = λ (f : InputResult). NoneAcknowledged (state_after_result state input f) inputs results
               → AfterPrefix state (input ∷ inputs) (f ∷ results) devices in
               let at_write : P (FailedAtCommit yet.0) = λ unacknowledged. record {
                 before = [];
@@ -114,7 +114,7 @@ module _ (Before : Devices → Type 0) where
 
 pub crash_states_are_prefixes : CrashStatesArePrefixes
 crash_states_are_prefixes start inputs results devices same safe =
-    elim (prefixes (λ found. found ≡ start.devices) no_updates start inputs results devices same safe) [
+    elim (prefixes (λ found. found ≡ start.devices) no_crash_states start inputs results devices same safe) [
       | inr p ↦ p
       | inl both ↦ elim both.0 [
         | inl never ↦ absurd never
@@ -138,7 +138,7 @@ run-length : (old new : State) (inputs : List Input) (results : List InputResult
     → Run old inputs results answers new → length inputs ≡ length results
 run-length old new [] [] [] run = refl
 run-length old new (input ∷ inputs) (result ∷ results) (answer ∷ answers) run =
-    omega (arith, run-length (state_with old input result) new inputs results answers run.2)
+    omega (arith, run-length (state_after_result old input result) new inputs results answers run.2)
 run-length old new [] [] (answer ∷ answers) run = absurd run
 run-length old new [] (result ∷ results) answers run = absurd run
 run-length old new (input ∷ inputs) [] answers run = absurd run
@@ -151,7 +151,7 @@ unacknowledged-at : (state : State) (ahead behind : List Input) (input : Input) 
     → ¬ IsAcknowledged (state_after_run state ahead earlier) input result
 unacknowledged-at state [] behind input [] later result none same = none.0
 unacknowledged-at state (first ∷ ahead) behind input (its ∷ earlier) later result none same =
-    unacknowledged-at (state_with state first its) ahead behind input earlier later result none.1 (omega (arith, same))
+    unacknowledged-at (state_after_result state first its) ahead behind input earlier later result none.1 (omega (arith, same))
 unacknowledged-at state [] behind input (its ∷ earlier) later result none same = absurd (omega (arith, same))
 unacknowledged-at state (first ∷ ahead) behind input [] later result none same = absurd (omega (arith, same))
 
@@ -172,12 +172,12 @@ told-before state (b ∷ before) after (a ∷ ahead) behind input (d ∷ done) m
     (e ∷ earlier) later result inputs results many same none is =
     let first : a ≡ b = cc in
     let its : e ≡ d = cc in
-    let on : IsAcknowledged (state_after_run (state_with state b d) ahead earlier) input result =
-    subst (λ f. IsAcknowledged (state_after_run (state_with state b f) ahead earlier) input result) its
-    (subst (λ i. IsAcknowledged (state_after_run (state_with state i e) ahead earlier) input result) first is) in
+    let on : IsAcknowledged (state_after_run (state_after_result state b d) ahead earlier) input result =
+    subst (λ f. IsAcknowledged (state_after_run (state_after_result state b f) ahead earlier) input result) its
+    (subst (λ i. IsAcknowledged (state_after_run (state_after_result state i e) ahead earlier) input result) first is) in
     omega (
       arith,
-      told-before (state_with state b d) before after ahead behind input done more earlier later result (cc) (cc)
+      told-before (state_after_result state b d) before after ahead behind input done more earlier later result (cc) (cc)
           (omega (arith, many)) (omega (arith, same)) none on,
     )
 told-before state [] after ahead behind input (d ∷ done) more earlier later result inputs results many same none is =
@@ -207,10 +207,10 @@ stop_steps Before left state (Some input) devices safe =
 pub sessions_leave_prefixes : SessionsLeavePrefixes
 sessions_leave_prefixes session is =
     let start = initial_state session.base session.found in
-    let same = run-length start session.last session.items session.results session.answers is.run in
-    elim (stop_steps (λ devices. devices ≡ session.found) (crash_states no_updates start session.items session.results)
+    let same = run-length start session.last session.inputs session.results session.answers is.run in
+    elim (stop_steps (λ devices. devices ≡ session.found) (crash_states no_crash_states start session.inputs session.results)
     session.last
     session.interrupted session.left is.safe) [
-      | inl safe ↦ inl (crash_states_are_prefixes start session.items session.results session.left same safe)
+      | inl safe ↦ inl (crash_states_are_prefixes start session.inputs session.results session.left same safe)
       | inr done ↦ inr done
     ]

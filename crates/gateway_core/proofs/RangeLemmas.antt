@@ -31,7 +31,7 @@ use Rattle.teach_in.specs.FourByte as four_byte
 use Rattle.teach_in.specs.Profiles.{supported}
 use Rattle.teach_in.specs.Telegrams.{teach_in_of}
 use Rattle.teach_in.specs.Ute.{eep_in, maker_in, request_in, deletion, not_used}
-use Rattle.teach_in.specs.Plans.{row_of, can_teach, plan_of}
+use Rattle.teach_in.specs.Plans.{row_of, can_be_learned_by, plan_of}
 use Rattle.teach_in.proofs.ForCallers.{either}
 use Rattle.teach_in.specs.declared.outcome.Outcome.{Outcome}
 use Rattle.teach_in.specs.declared.outcome.Outcome.TheVariants.{Accepted, Deleted}
@@ -45,20 +45,20 @@ use Rattle.json_lines.proofs.TeachLines.{one_teach_line}
 use Rattle.gateway_core.specs.Step.{State, Input, Received, Ordered, Effect, update_of, effect, new_mode_of}
 use Rattle.gateway_core.specs.Step.{device_teach_line}
 use Rattle.gateway_core.specs.Step.{mode_after_learning, with_update, with_mode}
-use Rattle.gateway_core.specs.Run.{InputResult, Applied, Failed, FailedAtCommit, state_with}
+use Rattle.gateway_core.specs.Run.{InputResult, Applied, Failed, FailedAtCommit, state_after_result}
 use Rattle.gateway_core.specs.Sessions.{initial_state}
 use Rattle.gateway_core.specs.Prefixes.{IncludesPendingUpdate, IncludesInterrupted, state_after_run}
 use Rattle.gateway_core.specs.Reporting.{IsDeleted, ReportsEffect, acknowledged_update}
 use Rattle.gateway_core.specs.Ranges.{IsModeInRange, IsStateInRange}
-use Rattle.gateway_core.specs.Ranges.{IsOfBytes, StaysInRange, LeavesInRange, IsOfDevice, ReportsInRange}
+use Rattle.gateway_core.specs.Ranges.{ConsistsOfBytes, StaysInRange, LeavesInRange, IsOfDevice, ReportsInRange}
 use Rattle.gateway_core.proofs.ByteLemmas.{AreBytes, field-below, four-below, front-bytes, back-bytes}
 use Rattle.gateway_core.proofs.EffectLemmas.{of_packet, of_line}
 use Rattle.gateway_core.proofs.PrefixLemmas.{sessions_leave_prefixes}
-use Rattle.gateway_core.proofs.TellingLemmas.{teach_lines_are_true}
+use Rattle.gateway_core.proofs.ReportingLemmas.{teach_lines_are_true}
 
 -- ---- the sender of a telegram
 
-sender-below : (packet : Packet) (t : Telegram) → telegram_of packet ≡ Ok t → IsOfBytes (Received packet)
+sender-below : (packet : Packet) (t : Telegram) → telegram_of packet ≡ Ok t → ConsistsOfBytes (Received packet)
     → t.sender < 2 ^ 32
 sender-below packet t carried bytes =
     let is = of_carried packet t carried in
@@ -112,7 +112,7 @@ module _ (t : Telegram) where
   given-in known Bare eep is = either IsPlanInRange (eep.rorg == 0xA5) _ _ (is, tt) tt
   given-in known (FourByte query) eep is = either IsPlanInRange (eep.rorg == 0xA5) _ _ (is, maker-below query) tt
   given-in known Plain eep is =
-      either IsPlanInRange (not known && can_teach t) _ _
+      either IsPlanInRange (not known && can_be_learned_by t) _ _
       (either IsPlanInRange (eep.rorg == t.rorg) _ _ (is, tt) tt) tt
   given-in known (Ute query) eep is = tt
   given-in known Answer eep is = tt
@@ -197,7 +197,7 @@ after-one mode.Learn = tt
 after-one LearnAnswer = tt
 after-one (LearnAs eep) = tt
 
-input-keeps : (state : State) (input : Input) → IsStateInRange state → IsOfBytes input → KeepsRange (effect state input)
+input-keeps : (state : State) (input : Input) → IsStateInRange state → ConsistsOfBytes input → KeepsRange (effect state input)
 input-keeps state (Received packet) in_range bytes =
     of_packet KeepsRange state packet (record {
       telegrams = λ t carried. record {
@@ -252,21 +252,21 @@ with_mode-in : (mode : Mode) (set : Option Mode) → IfSome set IsModeInRange �
 with_mode-in mode None is old = old
 with_mode-in mode (Some set) is old = is
 
-state_with-in : (state : State) (input : Input) (result : InputResult) → IsOfBytes input → IsStateInRange state
-    → IsStateInRange (state_with state input result)
-state_with-in state input Applied bytes old =
+state_after_result-in : (state : State) (input : Input) (result : InputResult) → ConsistsOfBytes input → IsStateInRange state
+    → IsStateInRange (state_after_result state input result)
+state_after_result-in state input Applied bytes old =
     let keeps = input-keeps state input old bytes in (
       with_update-in state.devices (update_of state input) keeps.0 old.0,
       with_mode-in state.mode (new_mode_of state input) keeps.1 old.1,
     )
-state_with-in state input (Failed cause) bytes old = old
-state_with-in state input (FailedAtCommit cause) bytes old = old
+state_after_result-in state input (Failed cause) bytes old = old
+state_after_result-in state input (FailedAtCommit cause) bytes old = old
 
 pub stays_in_range : StaysInRange
 stays_in_range old new [] [] [] run bytes is = subst IsStateInRange (sym run) is
 stays_in_range old new (input ∷ inputs) (result ∷ results) (answer ∷ answers) run bytes is =
-    stays_in_range (state_with old input result) new inputs results answers run.2 bytes.1
-    (state_with-in old input result bytes.0 is)
+    stays_in_range (state_after_result old input result) new inputs results answers run.2 bytes.1
+    (state_after_result-in old input result bytes.0 is)
 stays_in_range old new [] [] (answer ∷ answers) run bytes is = absurd run
 stays_in_range old new [] (result ∷ results) answers run bytes is = absurd run
 stays_in_range old new (input ∷ inputs) [] answers run bytes is = absurd run
@@ -274,22 +274,22 @@ stays_in_range old new (input ∷ inputs) (result ∷ results) [] run bytes is =
 
 -- ---- what a session leaves
 
-update-in : (state : State) (input : Input) → IsOfBytes input → IsStateInRange state
+update-in : (state : State) (input : Input) → ConsistsOfBytes input → IsStateInRange state
     → AreInRange (with_update state.devices (update_of state input))
 update-in state input bytes is =
     with_update-in state.devices (update_of state input) (input-keeps state input is bytes).0 is.0
 
 state_after_run-in : (state : State) (inputs : List Input) (results : List InputResult)
-    → AllByRecursion IsOfBytes inputs
+    → AllByRecursion ConsistsOfBytes inputs
     → IsStateInRange state → IsStateInRange (state_after_run state inputs results)
 state_after_run-in state [] results bytes is = is
 state_after_run-in state (input ∷ inputs) [] bytes is = is
 state_after_run-in state (input ∷ inputs) (result ∷ results) bytes is =
-    state_after_run-in (state_with state input result) inputs results bytes.1
-    (state_with-in state input result bytes.0 is)
+    state_after_run-in (state_after_result state input result) inputs results bytes.1
+    (state_after_result-in state input result bytes.0 is)
 
 yet-in : (state : State) (inputs : List Input) (results : List InputResult) (devices : Devices)
-    → IncludesPendingUpdate state inputs results devices → AllByRecursion IsOfBytes inputs → IsStateInRange state
+    → IncludesPendingUpdate state inputs results devices → AllByRecursion ConsistsOfBytes inputs → IsStateInRange state
     → AreInRange devices
 yet-in state (input ∷ inputs) (FailedAtCommit cause ∷ results) devices done bytes is =
     subst AreInRange (sym done) (update-in state input bytes.0 is)
@@ -300,13 +300,13 @@ yet-in state [] results devices done bytes is = absurd done
 
 interrupted-in : (state : State) (interrupted : Option Input) (devices : Devices)
     → IncludesInterrupted state interrupted devices
-    → IfSome interrupted IsOfBytes → IsStateInRange state → AreInRange devices
+    → IfSome interrupted ConsistsOfBytes → IsStateInRange state → AreInRange devices
 interrupted-in state (Some input) devices done bytes is = subst AreInRange (sym done) (update-in state input bytes is)
 interrupted-in state None devices done bytes is = absurd done
 
 -- the first inputs are of bytes, and the others
-parts-in : (before later : List Input) → AllByRecursion IsOfBytes (before ++ later)
-    → AllByRecursion IsOfBytes before × AllByRecursion IsOfBytes later
+parts-in : (before later : List Input) → AllByRecursion ConsistsOfBytes (before ++ later)
+    → AllByRecursion ConsistsOfBytes before × AllByRecursion ConsistsOfBytes later
 parts-in [] later bytes = (tt, bytes)
 parts-in (input ∷ before) later bytes =
     let rest = parts-in before later bytes.1 in ((bytes.0, rest.0), rest.1)
@@ -316,7 +316,7 @@ leaves_in_range session is found bytes interrupted =
     let start = initial_state session.base session.found in
     elim (sessions_leave_prefixes session is) [
       | inl prefix ↦
-          let parts = parts-in prefix.before prefix.after (subst (AllByRecursion IsOfBytes) prefix.inputs_are bytes) in
+          let parts = parts-in prefix.before prefix.after (subst (AllByRecursion ConsistsOfBytes) prefix.inputs_are bytes) in
           let at = subst IsStateInRange (sym prefix.at_is) (state_after_run-in start prefix.before prefix.done parts.0
           (found, tt)) in
           elim prefix.is [
@@ -325,17 +325,17 @@ leaves_in_range session is found bytes interrupted =
           ]
       | inr done ↦
           interrupted-in session.last session.interrupted session.left done interrupted
-          (stays_in_range start session.last session.items session.results session.answers is.run bytes (found, tt))
+          (stays_in_range start session.last session.inputs session.results session.answers is.run bytes (found, tt))
     ]
 
 -- ---- what a teach line reports
 
-pub learned-in : (state : State) (input : Input) (known : Device) → IsStateInRange state → IsOfBytes input
+pub learned-in : (state : State) (input : Input) (known : Device) → IsStateInRange state → ConsistsOfBytes input
     → update_of state input ≡ Some (learn_update known) → IsDeviceInRange known
 learned-in state input known in_range bytes is =
     subst (λ (o : Option DeviceUpdate). IfSome o IsChangeInRange) is (input-keeps state input in_range bytes).0
 
-pub deleted-in : (state : State) (input : Input) (known : Device) → IsStateInRange state → IsOfBytes input
+pub deleted-in : (state : State) (input : Input) (known : Device) → IsStateInRange state → ConsistsOfBytes input
     → IsDeleted state input known → IsDeviceInRange known
 deleted-in state (Ordered line) known in_range bytes is =
     subst (λ (o : Option Device). IfSome o IsDeviceInRange) is (in_range.0 known.id)

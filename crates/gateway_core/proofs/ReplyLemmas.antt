@@ -31,10 +31,10 @@ use Rattle.gateway_core.specs.Run.{Applied, Failed, FailedAtCommit}
 use Rattle.gateway_core.specs.Step.{State, Received, Ordered, Effect, device_teach_line, radio_of, reply_of}
 use Rattle.gateway_core.specs.Step.{query_teach_line}
 use Rattle.gateway_core.specs.Step.{packet_effect, line_effect}
-use Rattle.gateway_core.specs.Step.{order_effect, device_order_effect, send_result_effect, forget_effect}
+use Rattle.gateway_core.specs.Step.{order_effect, sending_order_effect, send_result_effect, forget_effect}
 use Rattle.gateway_core.specs.Step.{relabel_effect, if_known}
-use Rattle.gateway_core.specs.Step.{base_query, recipient_device, if_supported}
-use Rattle.gateway_core.specs.Reporting.{IsReply, IsPacketOf, RadioIsReported}
+use Rattle.gateway_core.specs.Step.{base_id_request, recipient_device, if_supported}
+use Rattle.gateway_core.specs.Reporting.{IsReply, IsSentByOrder, RadioIsReported}
 use Rattle.gateway_core.proofs.EffectLemmas.{of_packet, of_line}
 
 -- the bytes are those of a reply to this telegram with this outcome for its sender
@@ -57,14 +57,14 @@ wanted false reply bytes e = absurd cc
 reply-is : (state : State) (t : Telegram) (mode : Mode) (kind : Kind) (outcome : Outcome) (bytes : List ℕ)
     → state.mode ≡ mode → teach_in_of t ≡ kind → Hears mode kind
     → radio_of (reply_of state.base mode kind outcome) ≡ Some bytes → Replies state t outcome bytes
-reply-is state t mode (Ute query) outcome bytes in_mode is hears e =
+reply-is state t mode (Ute query) outcome bytes plan_in_mode is hears e =
     let (wants, sent_as) = wanted (wants_reply query) (ute_reply query outcome state.base) bytes e in
     let (reply, says, spelled) = telegram-in (ute_reply query outcome state.base) bytes sent_as in
-    (reply, inr (query, is, wants, subst LearnsByTold (sym in_mode) hears, says), spelled)
-reply-is state t LearnAnswer (FourByte query) outcome bytes in_mode is hears e =
+    (reply, inr (query, is, wants, subst LearnsByTold (sym plan_in_mode) hears, says), spelled)
+reply-is state t LearnAnswer (FourByte query) outcome bytes plan_in_mode is hears e =
     let (reply, says, spelled) = telegram-in (four_byte_reply query outcome state.base) bytes e in
-    (reply, inl (query, is, in_mode, says), spelled)
-reply-is state t mode kind outcome bytes in_mode is hears e = absurd cc
+    (reply, inl (query, is, plan_in_mode, says), spelled)
+reply-is state t mode kind outcome bytes plan_in_mode is hears e = absurd cc
 
 -- a packet's effect has only those bytes, and a teach line with the reply's outcome
 abbrev RepliesSo : State → Packet → Effect → List ℕ → Type 0
@@ -122,7 +122,7 @@ supported-silent eep e silent = either (λ (x : Effect). x.radio ≡ None) (supp
 -- the bytes are those of this order's packet
 abbrev Sends : State → Result Order OrderFault → List ℕ → Type 0
 Sends state spelled bytes =
-    (order : Order) × (spelled ≡ Ok order) × (packet : Packet) × IsPacketOf state order packet
+    (order : Order) × (spelled ≡ Ok order) × (packet : Packet) × IsSentByOrder state order packet
     × (bytes ≡ spelling packet)
 
 -- an order whose effect is silent has no bytes
@@ -133,7 +133,7 @@ unfolding Silent
 no-bytes state spelled bytes silent e = absurd cc
 
 -- an order to devices has those of its telegram
-by-telegram : (state : State) (order : Order) (bytes : List ℕ) → (device_order_effect state order).radio ≡ Some bytes
+by-telegram : (state : State) (order : Order) (bytes : List ℕ) → (sending_order_effect state order).radio ≡ Some bytes
     → Sends state (Ok order) bytes
 by-telegram state order bytes e =
     one (order_telegram order (recipient_device state.devices (recipient order)) state.base) refl e
@@ -170,7 +170,7 @@ order-sends state (Ok (Label id label)) bytes e =
 order-sends state (Ok ListAll) bytes e = absurd cc
 order-sends state (Ok Status) bytes e = absurd cc
 order-sends state (Ok Base) bytes e =
-    (Base, refl, base_query, inl (refl, refl), ap (λ o. unwrap_or o bytes) (sym e))
+    (Base, refl, base_id_request, inl (refl, refl), ap (λ o. unwrap_or o bytes) (sym e))
 order-sends state (Ok order) bytes e = by-telegram state order bytes e
 
 -- a line that is too long has none

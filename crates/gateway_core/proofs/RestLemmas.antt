@@ -6,7 +6,7 @@ use Rattle.esp3_frames.specs.Frames.{packets_in, rest_of}
 use Rattle.esp3_frames.proofs.ForCallers.{framing_in_parts, framing_of, frames_of-may_become, rest_may_become}
 use Rattle.gateway_core.specs.Step.{Input, Received, Ordered}
 use Rattle.gateway_core.specs.Events.{Event, Chunk, Line, new_packets, inputs_of, bytes_in}
-use Rattle.gateway_core.proofs.CutLemmas.{new_packets-rest, inputs_of-append}
+use Rattle.gateway_core.proofs.ChunkLemmas.{new_packets-rest, inputs_of-append}
 
 pub rest_goes_on : (s : List ℕ) → MayBecomePacket (rest_of s)
 rest_goes_on s = rest_may_become (framing_of s)

@@ -1,13 +1,13 @@
 -- Runs of many inputs.
 use Rattle.std.proofs.Common.{◌≡◌, inr, List, [], ◌∷◌, ◌++◌, refl, sym, ap, subst, ◌∙◌}
-use Rattle.learned_devices.specs.StoreState.{StoreState}
+use Rattle.learned_devices.specs.DeviceStoreState.{DeviceStoreState}
 use Rattle.gateway_core.specs.Step.{State, Input, Answer}
 use Rattle.gateway_core.specs.Run.{InputResult, Applied, Failed, FailedAtCommit, Run, failure_cause, failure_answer}
-use Rattle.gateway_core.specs.Run.{answer_with}
-use Rattle.gateway_core.specs.Run.{state_with, SameFailures}
-use Rattle.gateway_core.specs.CrashStates.{no_updates, crash_states, IsCrashConsistent}
+use Rattle.gateway_core.specs.Run.{answer_for_result}
+use Rattle.gateway_core.specs.Run.{state_after_result, SameFailures}
+use Rattle.gateway_core.specs.CrashStates.{no_crash_states, crash_states, IsCrashConsistent}
 use Rattle.gateway_core.specs.Handling.{HandlerValue, Handles}
-use Rattle.gateway_core.proofs.StopLemmas.{crash_consistency_composes, safe-weaker}
+use Rattle.gateway_core.proofs.CrashLemmas.{crash_consistency_composes, safe-weaker}
 
 -- two consecutive runs are one
 pub run-append : (old mid new : State) (inputs more : List Input) (results others : List InputResult)
@@ -18,13 +18,13 @@ run-append old mid new [] more [] others [] after first second =
     let P : State → Type 0 = λ s. Run s more others after new in subst P first second
 run-append old mid new (input ∷ inputs) more (result ∷ results) others (answer ∷ answers) after (allows, is, first)
     second =
-    (allows, is, run-append (state_with old input result) mid new inputs more results others answers after first second)
+    (allows, is, run-append (state_after_result old input result) mid new inputs more results others answers after first second)
 run-append old mid new [] more [] others (answer ∷ answers) after first second = absurd first
 run-append old mid new [] more (result ∷ results) others answers after first second = absurd first
 run-append old mid new (input ∷ inputs) more [] others answers after first second = absurd first
 run-append old mid new (input ∷ inputs) more (result ∷ results) others [] after first second = absurd first
 
-module _ {S : Type 0} (stored : S → StoreState) where
+module _ {S : Type 0} (stored : S → DeviceStoreState) where
   pub handles-nothing : (handler : HandlerValue S) → Handles stored handler [] [] handler
   handles-nothing handler = record {
     base = refl;
@@ -58,14 +58,14 @@ module _ {S : Type 0} (stored : S → StoreState) where
           crash = λ left may. crash_consistency_composes Before start a.last inputs more a.results b.results answers
               left a.run
               (safe-weaker (stored mid.registry).may_recover
-              (IsCrashConsistent Before (crash_states no_updates start inputs a.results))
+              (IsCrashConsistent Before (crash_states no_crash_states start inputs a.results))
               a.crash _ left (b.crash left may));
         };
   }
 
 -- the answer and the next state depend only on the cause
 answer-alike : (state : State) (input : Input) (result other : InputResult) → failure_cause result ≡ failure_cause other
-    → answer_with state input result ≡ answer_with state input other
+    → answer_for_result state input result ≡ answer_for_result state input other
 answer-alike state input Applied Applied e = refl
 answer-alike state input (Failed a) (Failed b) e = ap (failure_answer input) (cc)
 answer-alike state input (Failed a) (FailedAtCommit b) e = ap (failure_answer input) (cc)
@@ -77,7 +77,7 @@ answer-alike state input (Failed a) Applied e = absurd cc
 answer-alike state input (FailedAtCommit a) Applied e = absurd cc
 
 state-alike : (state : State) (input : Input) (result other : InputResult) → failure_cause result ≡ failure_cause other
-    → state_with state input other ≡ state_with state input result
+    → state_after_result state input other ≡ state_after_result state input result
 state-alike state input Applied Applied e = refl
 state-alike state input (Failed a) (Failed b) e = refl
 state-alike state input (Failed a) (FailedAtCommit b) e = refl
@@ -95,7 +95,7 @@ same_failures old left right (input ∷ inputs) (result ∷ results) (other ∷ 
     (_, f, y) =
     let cause : failure_cause result ≡ failure_cause other = cc in
     let from = subst (λ s. Run s inputs others more right) (state-alike old input result other cause) y in
-    let rest = same_failures (state_with old input result) left right inputs results others answers more (cc) x from in
+    let rest = same_failures (state_after_result old input result) left right inputs results others answers more (cc) x from in
     (ap (λ c. c ∷ answers) (e ∙ answer-alike old input result other cause ∙ sym f) ∙ ap (λ cs. b ∷ cs) rest.0, rest.1)
 same_failures old left right [] [] [] [] (b ∷ more) alike x y = absurd y
 same_failures old left right [] [] [] (a ∷ answers) more alike x y = absurd x

@@ -12,7 +12,7 @@ use Rattle.gateway_core.specs.Run.{InputResult, Run, Applied}
 use Rattle.gateway_core.specs.Sessions.{AreSessions, IsSession, Session, SessionDoesNotOverride, NoneOverrides}
 use Rattle.gateway_core.specs.Sessions.{InterruptedDoesNotOverride, initial_state}
 use Rattle.gateway_core.specs.Promises.{Promises}
-use Rattle.gateway_core.specs.Ranges.{IsOfBytes}
+use Rattle.gateway_core.specs.Ranges.{ConsistsOfBytes}
 use Rattle.gateway_core.specs.Reporting.{acknowledged_update}
 
 -- at one index, a session answered an input with this teach line
@@ -26,7 +26,7 @@ pub record Acknowledges (session : Session) (line : TeachLine) : Type 0 where
   pub answers : List Answer
   pub answer : Answer
   pub later : List Answer
-  pub inputs_are : session.items ≡ before ++ input ∷ after
+  pub inputs_are : session.inputs ≡ before ++ input ∷ after
   pub results_are : session.results ≡ results ++ result ∷ more
   pub answers_are : session.answers ≡ answers ++ answer ∷ later
   pub as_many_results : length before ≡ length results
@@ -52,8 +52,8 @@ pub record IsDurable (session : Session) (line : TeachLine) (answered : Acknowle
       → AreSessions session.left sessions last
       → Promises (acknowledged_update line.outcome known).operation
       (get last (acknowledged_update line.outcome known).sender)
-  pub in_range : AreInRange session.found → AllByRecursion IsOfBytes session.items → IsDeviceInRange known
-  pub line_is : AreInRange session.found → AllByRecursion IsOfBytes session.items → HasNumbersInRange line
+  pub in_range : AreInRange session.found → AllByRecursion ConsistsOfBytes session.inputs → IsDeviceInRange known
+  pub line_is : AreInRange session.found → AllByRecursion ConsistsOfBytes session.inputs → HasNumbersInRange line
       → line ≡ device_teach_line known line.outcome
 
 abbrev pub AcknowledgedIsDurable : Type 0

@@ -1,6 +1,6 @@
 -- The value of a gateway, how each call changes it, and what any calls together do.
 use Rattle.std.specs.Prelude.{◌≡◌, ℕ, ◌<◌, List, [], ◌∷◌, ◌++◌, length, take, Option, Some, None}
-use Rattle.learned_devices.specs.StoreState.{StoreState}
+use Rattle.learned_devices.specs.DeviceStoreState.{DeviceStoreState}
 use Rattle.esp3_frames.specs.Packet.{Packet}
 use Rattle.esp3_frames.specs.Frames.{packets_in, rest_of}
 use Rattle.teach_in.specs.declared.mode.Mode.TheVariants.{Closed}
@@ -28,7 +28,7 @@ pub data Call : Type 0 where
   Next : (answer : Option Answer) → Call
   Order : (line : List ℕ) (answer : Answer) → Call
 
-module _ {S : Type 0} (stored : S → StoreState) where
+module _ {S : Type 0} (stored : S → DeviceStoreState) where
   -- the call takes the gateway from old to new
   abbrev pub Transition : GatewayValue S → Call → GatewayValue S → Type 0
   -- the bytes are appended to the rest, which is framed again; this is allowed if no packet is ready
@@ -78,17 +78,17 @@ AreInputs calls packets inputs = ⊥
 
 -- The packets handled, followed by the ready ones, are the packets of the bytes given; those handled are a prefix of
 -- these, and all of them if none is ready. The answers are a run on packets and lines, in the order of the calls.
-pub record IsRunOfCalls {S : Type 0} (stored : S → StoreState) (old : GatewayValue S) (calls : List Call)
+pub record IsRunOfCalls {S : Type 0} (stored : S → DeviceStoreState) (old : GatewayValue S) (calls : List Call)
     (new : GatewayValue S) : Type 0 where
   pub handled : List Packet
-  pub items : List Input
+  pub inputs : List Input
   pub packets : packets_in (bytes_of calls) ≡ handled ++ new.ready
   pub rest : rest_of (bytes_of calls) ≡ new.rest
-  pub in_order : AreInputs calls handled items
-  pub run : Handles stored old.handler items (answers_of calls) new.handler
+  pub in_order : AreInputs calls handled inputs
+  pub run : Handles stored old.handler inputs (answers_of calls) new.handler
 
 -- any calls of a new gateway
-abbrev pub CallsAreARun : {S : Type 0} → (S → StoreState) → Type 0
+abbrev pub CallsAreARun : {S : Type 0} → (S → DeviceStoreState) → Type 0
 CallsAreARun {S} stored = (base : ℕ) (registry : S) (calls : List Call) (new : GatewayValue S) →
     Transitions stored (new_gateway_value base registry) calls new
     → IsRunOfCalls stored (new_gateway_value base registry) calls new
@@ -99,7 +99,7 @@ byte_calls [] = []
 byte_calls (byte ∷ bytes) = Bytes (byte ∷ []) ∷ byte_calls bytes
 
 -- one call with several bytes, of which only the last may make a packet ready, does what one call for each does
-abbrev pub BytesOneByOne : {S : Type 0} → (S → StoreState) → Type 0
+abbrev pub BytesOneByOne : {S : Type 0} → (S → DeviceStoreState) → Type 0
 BytesOneByOne {S} stored = (old new : GatewayValue S) (bytes : List ℕ) → 0 < length bytes →
     ((k : ℕ) → k < length bytes → packets_in (old.rest ++ take k bytes) ≡ []) →
     Transition stored old (Bytes bytes) new → Transitions stored old (byte_calls bytes) new

@@ -1,7 +1,7 @@
 -- What is counted, and that the line that explains a packet gives the reason.
 use Rattle.std.specs.Prelude.{◌≡◌, ◌↔◌, IsSome, ℕ, List, [], ◌∷◌, Option, Some, None}
 use Rattle.esp3_frames.specs.Packet.{Packet}
-use Rattle.json_lines.specs.declared.counts.Count.TheVariants as count
+use Rattle.json_lines.specs.declared.counts.Counter.TheVariants as count
 use Rattle.teach_in.specs.declared.why.Why.{Why}
 use Rattle.teach_in.specs.declared.why.Why.TheVariants as why
 use Rattle.json_lines.specs.Counts.{increment}
@@ -9,7 +9,7 @@ use Rattle.json_lines.specs.Lines.{DeskLine, Reading, ReadingLine, Response, Res
 use Rattle.json_lines.specs.PacketLines.{packet_text}
 use Rattle.gateway_core.specs.declared.disposition.Disposition.{Disposition}
 use Rattle.gateway_core.specs.Dispositions.{without_device, count_for, packet_line_of}
-use Rattle.gateway_core.specs.Run.{InputResult, Applied, Failed, FailedAtCommit, answer_with, state_with}
+use Rattle.gateway_core.specs.Run.{InputResult, Applied, Failed, FailedAtCommit, answer_for_result, state_after_result}
 use Rattle.gateway_core.specs.Step.{State, Received, Ordered, answer_to, count_of, effect}
 
 -- An applied packet increments one counter: that of teach-in exactly when it is answered with a teach line. A line
@@ -24,10 +24,10 @@ pub record AppliedAreCounted : Type 0 where
   pub lines : (state : State) (line : List ℕ) → count_of state (Ordered line) ≡ None
 
 -- the disposition of a packet with this result
-abbrev pub disposition_with : State → Packet → InputResult → Option Disposition
-disposition_with state packet Applied = (effect state (Received packet)).disposition
-disposition_with state packet (Failed cause) = Some (without_device why.Refused)
-disposition_with state packet (FailedAtCommit cause) = Some (without_device why.Refused)
+abbrev pub disposition_for_result : State → Packet → InputResult → Option Disposition
+disposition_for_result state packet Applied = (effect state (Received packet)).disposition
+disposition_for_result state packet (Failed cause) = Some (without_device why.Refused)
+disposition_for_result state packet (FailedAtCommit cause) = Some (without_device why.Refused)
 
 -- what the desk receives for an applied packet besides the explanation, by the word of the reason: its reading, the
 -- response, the outcome for a sender, or nothing for any other word
@@ -42,15 +42,15 @@ MatchesDeskLines why lines = lines ≡ []
 -- the packet failed. The packet increments only the counter of this word.
 pub record IsExplained (state : State) (packet : Packet) (result : InputResult) : Type 0 where
   pub disposition : Disposition
-  pub is : disposition_with state packet result ≡ Some disposition
-  pub explained : (answer_with state (Received packet) result).explained
+  pub is : disposition_for_result state packet result ≡ Some disposition
+  pub explained : (answer_for_result state (Received packet) result).explained
       ≡ packet_text (packet_line_of packet disposition)
   pub says : result ≡ Applied → MatchesDeskLines disposition.why (effect state (Received packet)).desk
   pub taken : (result ≡ Applied) ↔ (¬ (disposition.why ≡ why.Refused))
-  pub counts : (state_with state (Received packet) result).counts ≡ increment state.counts (count_for disposition.why)
+  pub counts : (state_after_result state (Received packet) result).counts ≡ increment state.counts (count_for disposition.why)
 
 -- this explains each packet, applied or failed, and no line of the desk
 pub record ExplanationsAreCounted : Type 0 where
   pub packets : (state : State) (packet : Packet) (result : InputResult) → IsExplained state packet result
   pub lines : (state : State) (line : List ℕ) (result : InputResult)
-      → (answer_with state (Ordered line) result).explained ≡ []
+      → (answer_for_result state (Ordered line) result).explained ≡ []

@@ -18,8 +18,8 @@ use Rattle.teach_in.specs.declared.telegrams.Teach.TheVariants.{FourByte, Ute}
 use Rattle.teach_in.specs.FourByte.{eep_in, maker_in}
 use Rattle.teach_in.specs.Telegrams.{teach_in_of}
 use Rattle.teach_in.specs.Ute as ute
-use Rattle.json_lines.specs.declared.counts.Count.{Count}
-use Rattle.json_lines.specs.declared.counts.Count.TheVariants as count
+use Rattle.json_lines.specs.declared.counts.Counter.{Counter}
+use Rattle.json_lines.specs.declared.counts.Counter.TheVariants as count
 use Rattle.json_lines.specs.declared.packet.PacketLine.{PacketLine}
 use Rattle.json_lines.specs.declared.packet.ShownPacket.{ShownPacket}
 use Rattle.json_lines.specs.declared.packet.ShownPacket.TheVariants as told
@@ -58,7 +58,7 @@ why_unread unreadable.WrongLength = WrongLength
 why_unread unreadable.OtherMessage = OtherMessage
 
 -- the counter that a packet increments
-abbrev pub count_for : Why → Count
+abbrev pub count_for : Why → Counter
 count_for Refused = count.Refused
 count_for Response = count.Response
 count_for (TeachIn outcome) = count.Teach

@@ -4,7 +4,7 @@ use Rattle.std.specs.Prelude.{Ok, Err}
 use Rattle.std.specs.Option.{option_or}
 use Rattle.esp3_frames.specs.Packet.{Packet}
 use Rattle.erp1_telegrams.specs.declared.eep.Eep.{Eep}
-use Rattle.erp1_telegrams.specs.Address.{is_own, is_filtered_out}
+use Rattle.erp1_telegrams.specs.Address.{is_gateway_id, is_filtered_out}
 use Rattle.erp1_telegrams.specs.Telegram.{Telegram, telegram_of}
 use Rattle.profile_rows.specs.Reading.{Entry}
 use Rattle.profile_rows.specs.declared.unreadable.Unreadable.{Unreadable}
@@ -64,12 +64,12 @@ abbrev pub IsPlanned : State → Telegram → Plan → Type 0
 IsPlanned state t plan = plan_of t state.mode (is_learned state.devices t.sender) ≡ plan
 
 -- the desk's profile does not fit a teach-in telegram, by its RORG; no profile fits a UTE query
-abbrev pub DoesNotFit : Eep → Teach → Type 0
-DoesNotFit eep Contact = eep.rorg ≢ 0xD5
-DoesNotFit eep Bare = eep.rorg ≢ 0xA5
-DoesNotFit eep (FourByte query) = eep.rorg ≢ 0xA5
-DoesNotFit eep (Ute query) = ⊤
-DoesNotFit eep kind = ⊥
+abbrev pub DoesNotFitRole : Eep → Teach → Type 0
+DoesNotFitRole eep Contact = eep.rorg ≢ 0xD5
+DoesNotFitRole eep Bare = eep.rorg ≢ 0xA5
+DoesNotFitRole eep (FourByte query) = eep.rorg ≢ 0xA5
+DoesNotFitRole eep (Ute query) = ⊤
+DoesNotFitRole eep kind = ⊥
 
 -- data of a learned device that its profile cannot read, for one of these faults
 abbrev pub IsUnreadable : State → Packet → Disposition → (Unreadable → Type 0) → Type 0
@@ -90,7 +90,7 @@ Means state packet disposition why.FromBroadcast =
     (t : Telegram) × (telegram_of packet ≡ Ok t) × (t.sender ≡ 0xFFFF_FFFF) × NamesDevice disposition None
 Means state packet disposition why.ForOthers =
     (t : Telegram) × (telegram_of packet ≡ Ok t) × (t.sender ≢ 0xFFFF_FFFF) × (t.dest ≢ 0xFFFF_FFFF)
-    × (is_own state.base t.dest ≡ false) × NamesDevice disposition None
+    × (is_gateway_id state.base t.dest ≡ false) × NamesDevice disposition None
 Means state packet disposition why.TeachInReply =
     (t : Telegram) × IsNotFilteredOut state packet t × (teach_in_of t ≡ Answer) × NamesDevice disposition None
 Means state packet disposition why.WindowClosed =
@@ -98,7 +98,7 @@ Means state packet disposition why.WindowClosed =
     × NamesDevice disposition None
 Means state packet disposition why.OtherMode =
     (t : Telegram) × IsNotFilteredOut state packet t × IsTeachIn (teach_in_of t)
-    × ((eep : Eep) × (state.mode ≡ LearnAs eep) × DoesNotFit eep (teach_in_of t)) × NamesDevice disposition None
+    × ((eep : Eep) × (state.mode ≡ LearnAs eep) × DoesNotFitRole eep (teach_in_of t)) × NamesDevice disposition None
 Means state packet disposition why.UnknownSender =
     (t : Telegram) × IsNotFilteredOut state packet t × (teach_in_of t ≡ Plain)
     × (device_of state.devices t.sender ≡ None)

@@ -1,13 +1,13 @@
 -- How the gateway handles inputs over its device store: its answers, what it then knows, and what a crash may leave.
 -- The only premise is about the device store: so far its medium has returned what was written.
 use Rattle.std.specs.Prelude.{◌≡◌, ℕ, List}
-use Rattle.learned_devices.specs.StoreState.{StoreState}
+use Rattle.learned_devices.specs.DeviceStoreState.{DeviceStoreState}
 use Rattle.learned_devices.specs.Devices.{Devices}
 use Rattle.teach_in.specs.declared.mode.Mode.{Mode}
 use Rattle.json_lines.specs.declared.counts.Counts.{Counts}
 use Rattle.gateway_core.specs.Step.{State, Input, Answer}
 use Rattle.gateway_core.specs.Run.{InputResult, Run}
-use Rattle.gateway_core.specs.CrashStates.{no_updates, crash_states, IsCrashConsistent}
+use Rattle.gateway_core.specs.CrashStates.{no_crash_states, crash_states, IsCrashConsistent}
 
 -- the base ID of the radio module, the mode, the counters, and the device store
 pub record HandlerValue (S : Type 0) : Type 0 where
@@ -17,15 +17,15 @@ pub record HandlerValue (S : Type 0) : Type 0 where
   pub registry : S
 
 -- the gateway knows this state
-abbrev pub HasState : {S : Type 0} → (S → StoreState) → HandlerValue S → State → Type 0
+abbrev pub HasState : {S : Type 0} → (S → DeviceStoreState) → HandlerValue S → State → Type 0
 HasState stored v s =
     (v.base ≡ s.base) × (v.mode ≡ s.mode) × (stored v.registry).holds s.devices × (v.counts ≡ s.counts)
 
 -- while the medium has returned what was written and the device store is open, the gateway knows some state
-abbrev pub HasSomeState : {S : Type 0} → (S → StoreState) → HandlerValue S → Type 0
+abbrev pub HasSomeState : {S : Type 0} → (S → DeviceStoreState) → HandlerValue S → Type 0
 HasSomeState stored v = (stored v.registry).honest → (start : State) × HasState stored v start
 
-module _ {S : Type 0} (stored : S → StoreState) where
+module _ {S : Type 0} (stored : S → DeviceStoreState) where
   -- From the first state, the inputs are handled with these answers and some results. The gateway then knows the last
   -- state of that run, and what a crash leaves is crash-consistent with it.
   pub record HandlesFrom (old : HandlerValue S) (start : State) (inputs : List Input) (answers : List Answer)
@@ -35,7 +35,7 @@ module _ {S : Type 0} (stored : S → StoreState) where
     pub run : Run start inputs results answers last
     pub at : HasState stored new last
     pub crash : (left : Devices) → (stored new.registry).may_recover left
-        → IsCrashConsistent (stored old.registry).may_recover (crash_states no_updates start inputs results) left
+        → IsCrashConsistent (stored old.registry).may_recover (crash_states no_crash_states start inputs results) left
 
   -- the inputs are handled with these answers, whatever the gateway knew
   pub record Handles (old : HandlerValue S) (inputs : List Input) (answers : List Answer)

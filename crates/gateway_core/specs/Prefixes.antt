@@ -3,8 +3,8 @@
 use Rattle.std.specs.Prelude.{◌≡◌, ◌<◌, ◌⊎◌, length, IsSome, List, [], ◌∷◌, ◌++◌, Option, Some, None}
 use Rattle.learned_devices.specs.Devices.{Devices}
 use Rattle.gateway_core.specs.Step.{State, Input, update_of, with_update}
-use Rattle.gateway_core.specs.Run.{InputResult, Applied, Failed, FailedAtCommit, state_with}
-use Rattle.gateway_core.specs.CrashStates.{no_updates, crash_states, IsCrashConsistent}
+use Rattle.gateway_core.specs.Run.{InputResult, Applied, Failed, FailedAtCommit, state_after_result}
+use Rattle.gateway_core.specs.CrashStates.{no_crash_states, crash_states, IsCrashConsistent}
 use Rattle.gateway_core.specs.Sessions.{Session, initial_state, IsSession}
 
 -- whether the input's update was acknowledged
@@ -17,12 +17,12 @@ IsAcknowledged state input (FailedAtCommit cause) = ⊥
 abbrev pub NoneAcknowledged : State → List Input → List InputResult → Type 0
 NoneAcknowledged state [] [] = Unit {0}
 NoneAcknowledged state (input ∷ inputs) (result ∷ results) =
-    (¬ IsAcknowledged state input result) × NoneAcknowledged (state_with state input result) inputs results
+    (¬ IsAcknowledged state input result) × NoneAcknowledged (state_after_result state input result) inputs results
 NoneAcknowledged state inputs results = ⊥
 
 abbrev pub state_after_run : State → List Input → List InputResult → State
 state_after_run state (input ∷ inputs) (result ∷ results) =
-    state_after_run (state_with state input result) inputs results
+    state_after_run (state_after_result state input result) inputs results
 state_after_run state inputs results = state
 
 -- the devices are those with the update of the first input, which failed at its commit
@@ -52,7 +52,7 @@ pub record AfterPrefix (start : State) (inputs : List Input) (results : List Inp
 abbrev pub CrashStatesArePrefixes : Type 0
 CrashStatesArePrefixes = (start : State) (inputs : List Input) (results : List InputResult) (devices : Devices)
     → length inputs ≡ length results
-    → IsCrashConsistent (λ found. found ≡ start.devices) (crash_states no_updates start inputs results) devices
+    → IsCrashConsistent (λ found. found ≡ start.devices) (crash_states no_crash_states start inputs results) devices
     → AfterPrefix start inputs results devices
 
 -- wherever the inputs are split at an acknowledged one, it is in that prefix
@@ -74,5 +74,5 @@ IncludesInterrupted state (Some input) devices = devices ≡ with_update state.d
 -- them and the one in progress.
 abbrev pub SessionsLeavePrefixes : Type 0
 SessionsLeavePrefixes = (session : Session) → IsSession session
-    → AfterPrefix (initial_state session.base session.found) session.items session.results session.left
+    → AfterPrefix (initial_state session.base session.found) session.inputs session.results session.left
     ⊎ IncludesInterrupted session.last session.interrupted session.left

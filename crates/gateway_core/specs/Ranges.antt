@@ -8,7 +8,7 @@ use Rattle.teach_in.specs.declared.mode.Mode.TheVariants.{LearnAs}
 use Rattle.teach_in.specs.declared.outcome.Outcome.TheVariants.{Accepted, Deleted}
 use Rattle.json_lines.specs.Lines.{HasNumbersInRange, Teach, TeachLine, text}
 use Rattle.gateway_core.specs.Step.{State, Input, Received, Ordered, Answer, update_of, device_teach_line}
-use Rattle.gateway_core.specs.Run.{InputResult, Run, answer_with}
+use Rattle.gateway_core.specs.Run.{InputResult, Run, answer_for_result}
 use Rattle.gateway_core.specs.Events.{Event, bytes_in, inputs_of}
 use Rattle.gateway_core.specs.Sessions.{Session, IsSession}
 use Rattle.gateway_core.specs.Reporting.{acknowledged_update}
@@ -22,25 +22,25 @@ abbrev pub IsStateInRange : State → Type 0
 IsStateInRange state = AreInRange state.devices × IsModeInRange state.mode
 
 -- The data of a packet are bytes. A line needs no premise: digits always spell bytes.
-abbrev pub IsOfBytes : Input → Type 0
-IsOfBytes (Received packet) = All (λ byte. byte < 256) packet.body
-IsOfBytes (Ordered line) = Unit {0}
+abbrev pub ConsistsOfBytes : Input → Type 0
+ConsistsOfBytes (Received packet) = All (λ byte. byte < 256) packet.body
+ConsistsOfBytes (Ordered line) = Unit {0}
 
 -- the packets of a stream of bytes consist of bytes
 abbrev pub InputsAreOfBytes : Type 0
 InputsAreOfBytes = (stream : List ℕ) (events : List Event) → All (λ byte. byte < 256) (stream ++ bytes_in events)
-    → AllByRecursion IsOfBytes (inputs_of stream events)
+    → AllByRecursion ConsistsOfBytes (inputs_of stream events)
 
 -- Inputs of bytes keep the state in range, whatever their results.
 abbrev pub StaysInRange : Type 0
 StaysInRange = (old new : State) (inputs : List Input) (results : List InputResult) (answers : List Answer)
-    → Run old inputs results answers new → AllByRecursion IsOfBytes inputs → IsStateInRange old → IsStateInRange new
+    → Run old inputs results answers new → AllByRecursion ConsistsOfBytes inputs → IsStateInRange old → IsStateInRange new
 
 -- A session with inputs of bytes leaves devices in range, if those that it found were in range.
 abbrev pub LeavesInRange : Type 0
 LeavesInRange =
-    (session : Session) → IsSession session → AreInRange session.found → AllByRecursion IsOfBytes session.items
-    → IfSome session.interrupted IsOfBytes → AreInRange session.left
+    (session : Session) → IsSession session → AreInRange session.found → AllByRecursion ConsistsOfBytes session.inputs
+    → IfSome session.interrupted ConsistsOfBytes → AreInRange session.left
 
 -- The teach line has the text of the line of this device, which is in range, and the input makes the update that the
 -- line reports. If the numbers of the line are in range, it is the line of this device.
@@ -54,6 +54,6 @@ pub record IsOfDevice (state : State) (input : Input) (line : TeachLine) : Type 
 -- in a state in range, an input of bytes gets `accepted` or `deleted` only for such a device
 abbrev pub ReportsInRange : Type 0
 ReportsInRange =
-    (state : State) (input : Input) (result : InputResult) (line : TeachLine) → IsStateInRange state → IsOfBytes input
-    → (answer_with state input result).desk ≡ text (Teach line)
+    (state : State) (input : Input) (result : InputResult) (line : TeachLine) → IsStateInRange state → ConsistsOfBytes input
+    → (answer_for_result state input result).desk ≡ text (Teach line)
     → (line.outcome ≡ Accepted) ⊎ (line.outcome ≡ Deleted) → IsOfDevice state input line

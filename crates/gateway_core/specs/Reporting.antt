@@ -22,8 +22,8 @@ use Rattle.json_lines.specs.declared.error_lines.ErrorName.TheVariants.{UnknownD
 use Rattle.json_lines.specs.Lines.{TeachLine, Teach, Done, Error, text}
 use Rattle.gateway_core.specs.Step.{State, Input, Received, Ordered, Effect, effect, device_teach_line, answer_to}
 use Rattle.gateway_core.specs.Step.{update_of}
-use Rattle.gateway_core.specs.Step.{base_query, recipient_device}
-use Rattle.gateway_core.specs.Run.{InputResult, Applied, answer_with}
+use Rattle.gateway_core.specs.Step.{base_id_request, recipient_device}
+use Rattle.gateway_core.specs.Run.{InputResult, Applied, answer_for_result}
 
 -- A device that is reported as deleted: as stored if the desk ordered it; over the air with the profile and maker of
 -- its query, learned or not.
@@ -53,7 +53,7 @@ acknowledged_update outcome known = forget_update known.id
 -- only an applied input is answered with a teach line, which reports what it does
 abbrev pub TeachLinesAreTrue : Type 0
 TeachLinesAreTrue = (state : State) (input : Input) (result : InputResult) (line : TeachLine)
-    → (answer_with state input result).desk ≡ text (Teach line)
+    → (answer_for_result state input result).desk ≡ text (Teach line)
     → (result ≡ Applied) × ReportsEffect (IsDeleted state input) (effect state input) line line.outcome
 
 -- The input is a line that labels a learned device, this is the update, and the desk receives `ok`.
@@ -71,7 +71,7 @@ pub record AcknowledgesLabel (state : State) (input : Input) (update : DeviceUpd
 -- label
 abbrev pub UpdatesAreReported : Type 0
 UpdatesAreReported = (state : State) (input : Input) (update : DeviceUpdate) → update_of state input ≡ Some update
-    → ((line : TeachLine) × ((answer_with state input Applied).desk ≡ text (Teach line))
+    → ((line : TeachLine) × ((answer_for_result state input Applied).desk ≡ text (Teach line))
     × ReportsEffect (IsDeleted state input) (effect state input) line line.outcome)
     ⊎ AcknowledgesLabel state input update
 
@@ -79,10 +79,10 @@ UpdatesAreReported = (state : State) (input : Input) (update : DeviceUpdate) →
 -- is applied and changes nothing, and no device with its ID is learned. Each that is applied and not too long gets one
 -- of these answers.
 pub record LabelIsAcknowledged (state : State) (line : List ℕ) (id : ℕ) (label : List ℕ) : Type 0 where
-  pub done : (result : InputResult) → (answer_with state (Ordered line) result).desk ≡ text Done
+  pub done : (result : InputResult) → (answer_for_result state (Ordered line) result).desk ≡ text Done
       → (result ≡ Applied) × IsSome (device_of state.devices id)
       × (update_of state (Ordered line) ≡ Some (relabel_update id label))
-  pub unknown : (result : InputResult) → (answer_with state (Ordered line) result).desk ≡ text (Error UnknownDevice)
+  pub unknown : (result : InputResult) → (answer_for_result state (Ordered line) result).desk ≡ text (Error UnknownDevice)
       → (result ≡ Applied) × (device_of state.devices id ≡ None) × (update_of state (Ordered line) ≡ None)
   pub answers : length line ≤ max_line
       → ((answer_to state (Ordered line)).desk ≡ text Done)
@@ -116,9 +116,9 @@ pub record RepliesTo (state : State) (input : Input) (bytes : List ℕ) : Type 0
   pub sent_as : bytes ≡ spelling (radio_packet reply)
 
 -- the packet that an order sends: the request for the base ID, or the order's telegram
-abbrev pub IsPacketOf : State → Order → Packet → Type 0
-IsPacketOf state order packet =
-    ((order ≡ Base) × (packet ≡ base_query))
+abbrev pub IsSentByOrder : State → Order → Packet → Type 0
+IsSentByOrder state order packet =
+    ((order ≡ Base) × (packet ≡ base_id_request))
     ⊎ ((t : Telegram) × (packet ≡ radio_packet t)
     × (order_telegram order (recipient_device state.devices (recipient order)) state.base ≡ Some (Ok t)))
 
@@ -130,11 +130,11 @@ pub record SendsAsOrdered (state : State) (input : Input) (bytes : List ℕ) : T
   pub spelled : order_of line ≡ Ok order
   pub reported : (answer_to state input).desk ≡ text Done
   pub packet : Packet
-  pub is_packet : IsPacketOf state order packet
+  pub is_packet : IsSentByOrder state order packet
   pub sent_as : bytes ≡ spelling packet
 
 -- only an applied input sends bytes by radio, as a reply or as the desk has ordered
 abbrev pub RadioIsReported : Type 0
 RadioIsReported = (state : State) (input : Input) (result : InputResult) (bytes : List ℕ)
-    → (answer_with state input result).radio ≡ Some bytes
+    → (answer_for_result state input result).radio ≡ Some bytes
     → (result ≡ Applied) × (RepliesTo state input bytes ⊎ SendsAsOrdered state input bytes)

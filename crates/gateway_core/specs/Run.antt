@@ -1,6 +1,6 @@
 -- What the gateway does with many inputs, some of which may fail.
 use Rattle.std.specs.Prelude.{◌≡◌, IsSome, ℕ, ◌+◌, ◌^◌, ◌<◌, List, [], ◌∷◌, map, Option, Some, None}
-use Rattle.json_lines.specs.declared.counts.Count.TheVariants as count
+use Rattle.json_lines.specs.declared.counts.Counter.TheVariants as count
 use Rattle.json_lines.specs.declared.error_lines.ErrorName.TheVariants as error
 use Rattle.teach_in.specs.declared.why.Why.TheVariants as why
 use Rattle.json_lines.specs.Counts.{increment, saturated_sum}
@@ -34,27 +34,27 @@ failure_answer input cause =
     with_packet_line (packet_line_for input (Some (without_device why.Refused))) (text_answer (cause_text cause))
 
 -- the answer to an input with this result
-abbrev pub answer_with : State → Input → InputResult → Answer
-answer_with state input Applied = answer_to state input
-answer_with state input (Failed cause) = failure_answer input cause
-answer_with state input (FailedAtCommit cause) = failure_answer input cause
+abbrev pub answer_for_result : State → Input → InputResult → Answer
+answer_for_result state input Applied = answer_to state input
+answer_for_result state input (Failed cause) = failure_answer input cause
+answer_for_result state input (FailedAtCommit cause) = failure_answer input cause
 
 -- the state after a failed input: only the counter of failed inputs changes
 abbrev pub state_after_failure : State → State
 state_after_failure state = record state { counts = increment state.counts count.Refused }
 
 -- the state after an input with this result
-abbrev pub state_with : State → Input → InputResult → State
-state_with state input Applied = state_after state input
-state_with state input (Failed cause) = state_after_failure state
-state_with state input (FailedAtCommit cause) = state_after_failure state
+abbrev pub state_after_result : State → Input → InputResult → State
+state_after_result state input Applied = state_after state input
+state_after_result state input (Failed cause) = state_after_failure state
+state_after_result state input (FailedAtCommit cause) = state_after_failure state
 
 -- the inputs are handled one after another, with these results and answers
 abbrev pub Run : State → List Input → List InputResult → List Answer → State → Type 0
 Run old [] [] [] new = new ≡ old
 Run old (input ∷ inputs) (result ∷ results) (answer ∷ answers) new =
-    MayHaveResult old input result × (answer ≡ answer_with old input result)
-    × Run (state_with old input result) inputs results answers new
+    MayHaveResult old input result × (answer ≡ answer_for_result old input result)
+    × Run (state_after_result old input result) inputs results answers new
 Run old inputs results answers new = ⊥
 
 -- why an input failed, if it did

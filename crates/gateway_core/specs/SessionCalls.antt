@@ -1,6 +1,6 @@
 -- How the gateway's calls make up a session, from its start to the crash that ends it.
 use Rattle.std.specs.Prelude.{◌≡◌, ℕ, List, Option, Some, None}
-use Rattle.learned_devices.specs.StoreState.{StoreState, MayLeaveUpdate}
+use Rattle.learned_devices.specs.DeviceStoreState.{DeviceStoreState, MayLeaveUpdate}
 use Rattle.learned_devices.specs.Devices.{Devices, DeviceUpdate}
 use Rattle.gateway_core.specs.Step.{State, Input, Answer, update_of}
 use Rattle.gateway_core.specs.Run.{InputResult}
@@ -16,7 +16,7 @@ pub record SessionMayLeave (base : ℕ) (found : Devices) (inputs : List Input) 
   pub is : IsSession (record {
     base = base;
     found = found;
-    items = inputs;
+    inputs = inputs;
     results = results;
     answers = answers;
     last = last;
@@ -31,7 +31,7 @@ pub record ClosedSessionLeaves (base : ℕ) (found : Devices) (inputs : List Inp
   pub session : SessionMayLeave base found inputs answers None left
   pub itself : left ≡ session.last.devices
 
-module _ {S : Type 0} (stored : S → StoreState) where
+module _ {S : Type 0} (stored : S → DeviceStoreState) where
   -- a session begins: the gateway knows what was found, and a crash leaves only that
   pub record BeginsSession (v : HandlerValue S) (found : Devices) : Type 0 where
     pub at : HasState stored v (initial_state v.base found)

@@ -6,16 +6,16 @@ use Rattle.learned_devices.specs.Devices.{Devices, DeviceUpdate}
 use Rattle.teach_in.specs.declared.mode.Mode.TheVariants.{Closed}
 use Rattle.json_lines.specs.Counts.{zero_counts}
 use Rattle.gateway_core.specs.Step.{State, Input, Answer, update_of, state_after}
-use Rattle.gateway_core.specs.Run.{InputResult, Applied, Failed, FailedAtCommit, state_with, Run}
+use Rattle.gateway_core.specs.Run.{InputResult, Applied, Failed, FailedAtCommit, state_after_result, Run}
 use Rattle.gateway_core.specs.Promises.{Promises, Preserves}
-use Rattle.gateway_core.specs.CrashStates.{CrashStates, no_updates, with_pending, crash_states, IsCrashConsistent}
+use Rattle.gateway_core.specs.CrashStates.{CrashStates, no_crash_states, with_pending_update, crash_states, IsCrashConsistent}
 
 -- the base ID, the devices found, the inputs with their results and answers, the state after them, the input in
 -- progress at the crash, and the devices that the crash left
 pub record Session : Type 0 where
   pub base : ℕ
   pub found : Devices
-  pub items : List Input
+  pub inputs : List Input
   pub results : List InputResult
   pub answers : List Answer
   pub last : State
@@ -29,12 +29,12 @@ initial_state base devices = record { base = base; mode = Closed; counts = zero_
 -- the update of the input in progress may be there or not
 abbrev pub with_interrupted : CrashStates → State → Option Input → CrashStates
 with_interrupted left state None = left
-with_interrupted left state (Some input) = with_pending left state.devices (update_of state input)
+with_interrupted left state (Some input) = with_pending_update left state.devices (update_of state input)
 
 pub record IsSession (session : Session) : Type 0 where
-  pub run : Run (initial_state session.base session.found) session.items session.results session.answers session.last
+  pub run : Run (initial_state session.base session.found) session.inputs session.results session.answers session.last
   pub safe : IsCrashConsistent (λ devices. devices ≡ session.found)
-      (with_interrupted (crash_states no_updates (initial_state session.base session.found) session.items
+      (with_interrupted (crash_states no_crash_states (initial_state session.base session.found) session.inputs
       session.results) session.last session.interrupted)
       session.left
 
@@ -59,7 +59,7 @@ DoesNotOverride it (Some update) = (update.sender ≢ it.sender) ⊎ Preserves i
 abbrev pub NoneOverrides : DeviceUpdate → State → List Input → List InputResult → Type 0
 NoneOverrides it state (input ∷ inputs) (result ∷ results) =
     DoesNotOverride it (possible_update state input result)
-    × NoneOverrides it (state_with state input result) inputs results
+    × NoneOverrides it (state_after_result state input result) inputs results
 NoneOverrides it state inputs results = Unit {0}
 
 abbrev pub InterruptedDoesNotOverride : DeviceUpdate → State → Option Input → Type 0
@@ -67,7 +67,7 @@ InterruptedDoesNotOverride it state None = Unit {0}
 InterruptedDoesNotOverride it state (Some input) = DoesNotOverride it (update_of state input)
 
 abbrev pub SessionDoesNotOverride : DeviceUpdate → Session → Type 0
-SessionDoesNotOverride it session = NoneOverrides it (initial_state session.base session.found) session.items
+SessionDoesNotOverride it session = NoneOverrides it (initial_state session.base session.found) session.inputs
     session.results × InterruptedDoesNotOverride it session.last session.interrupted
 
 -- the session acknowledged the update, and then nothing in it overrode what that guarantees
@@ -79,7 +79,7 @@ pub record AcknowledgesUpdate (session : Session) (update : DeviceUpdate) : Type
   pub more : List InputResult
   pub answers : List Answer
   pub at : State
-  pub inputs_are : session.items ≡ before ++ input ∷ after
+  pub inputs_are : session.inputs ≡ before ++ input ∷ after
   pub results_are : session.results ≡ results ++ Applied ∷ more
   pub run : Run (initial_state session.base session.found) before results answers at
   pub asks : update_of at input ≡ Some update

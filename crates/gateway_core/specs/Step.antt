@@ -35,7 +35,7 @@ use Rattle.actuator_commands.specs.declared.orders.OrderFault.TheVariants.{Synta
 use Rattle.actuator_commands.specs.Limits.{max_line}
 use Rattle.actuator_commands.specs.Orders.{order_of}
 use Rattle.actuator_commands.specs.Packets.{order_telegram, recipient}
-use Rattle.json_lines.specs.declared.counts.Count.{Count}
+use Rattle.json_lines.specs.declared.counts.Counter.{Counter}
 use Rattle.json_lines.specs.declared.counts.Counts.{Counts}
 use Rattle.json_lines.specs.declared.error_lines.ErrorName.{ErrorName}
 use Rattle.json_lines.specs.declared.error_lines.ErrorName.TheVariants as error
@@ -108,12 +108,12 @@ device_teach_line known outcome = record { eep = Some known.eep; id = known.id; 
 -- ---- a packet
 
 -- what is needed, by whether the device store is asked
-abbrev pub need_if : Bool → Need
-need_if asked = if asked then NeedsStore else NeedsNothing
+abbrev pub needs_store_if : Bool → Need
+needs_store_if asked = if asked then NeedsStore else NeedsNothing
 
 -- A packet without a line for the desk. The device store was asked for its sender, or not.
 abbrev pub silent_effect : Bool → Disposition → Effect
-silent_effect asked disposition = record no_effect { disposition = Some disposition; need = need_if asked }
+silent_effect asked disposition = record no_effect { disposition = Some disposition; need = needs_store_if asked }
 
 -- it is ignored, for this reason
 abbrev pub ignored_effect : Why → Effect
@@ -251,7 +251,7 @@ error_effect name = record no_effect { desk = Error name ∷ [] }
 
 -- a packet is sent; the device store was asked for a device, or not
 abbrev pub send_effect : Bool → List ℕ → Effect
-send_effect asked bytes = record no_effect { radio = Some bytes; desk = Done ∷ []; need = need_if asked }
+send_effect asked bytes = record no_effect { radio = Some bytes; desk = Done ∷ []; need = needs_store_if asked }
 
 -- the mode is set
 abbrev pub mode_effect : Mode → Effect
@@ -282,37 +282,37 @@ if_known (Some known) effect_of = effect_of known
 abbrev pub if_supported : Eep → Effect → Effect
 if_supported eep effect = if supported eep then effect else error_effect error.UnsupportedProfile
 
-abbrev pub error_of : OrderFault → ErrorName
-error_of Syntax = error.Syntax
-error_of Range = error.Range
-error_of UnknownDevice = error.UnknownDevice
-error_of WrongProfile = error.WrongProfile
+abbrev pub order_error_name : OrderFault → ErrorName
+order_error_name Syntax = error.Syntax
+order_error_name Range = error.Range
+order_error_name UnknownDevice = error.UnknownDevice
+order_error_name WrongProfile = error.WrongProfile
 
 -- The effect of an order to devices: its telegram is sent, or an error reports why there is none. The last case is that
 -- of no order to devices, since each of these has a telegram or a fault.
 abbrev pub send_result_effect : Bool → Option (Result Telegram OrderFault) → Effect
 send_result_effect asked (Some (Ok t)) = send_effect asked (spelling (radio_packet t))
-send_result_effect asked (Some (Err fault)) = record (error_effect (error_of fault)) { need = need_if asked }
-send_result_effect asked None = record no_effect { need = need_if asked }
+send_result_effect asked (Some (Err fault)) = record (error_effect (order_error_name fault)) { need = needs_store_if asked }
+send_result_effect asked None = record no_effect { need = needs_store_if asked }
 
 -- the stored device of an order
 abbrev pub recipient_device : Devices → Option ℕ → Option Device
 recipient_device devices None = None
 recipient_device devices (Some id) = device_of devices id
 
-abbrev pub device_order_effect : State → Order → Effect
-device_order_effect state order =
+abbrev pub sending_order_effect : State → Order → Effect
+sending_order_effect state order =
     send_result_effect (is_some (recipient order))
     (order_telegram order (recipient_device state.devices (recipient order)) state.base)
 
 -- the packet that asks the radio module for its base ID (EnOcean Serial Protocol 3, "CO_RD_IDBASE")
-abbrev pub base_query : Packet
-base_query = record { kind = 5; body = 0x08 ∷ []; opt = [] }
+abbrev pub base_id_request : Packet
+base_id_request = record { kind = 5; body = 0x08 ∷ []; opt = [] }
 
 -- Own choice: the first error of these is reported: too long, syntax and range, which `order_of` finds, an unsupported
 -- profile, an unknown device, a wrong profile, a full registry.
 abbrev pub order_effect : State → Result Order OrderFault → Effect
-order_effect state (Err fault) = error_effect (error_of fault)
+order_effect state (Err fault) = error_effect (order_error_name fault)
 order_effect state (Ok LearnOn) = mode_effect Learn
 order_effect state (Ok LearnOnAnswer) = mode_effect LearnAnswer
 order_effect state (Ok (order.LearnAs eep)) = if_supported eep (mode_effect (LearnAs eep))
@@ -325,8 +325,8 @@ order_effect state (Ok (Remove id)) = if_known (device_of state.devices id) forg
 order_effect state (Ok (Label id label)) = if_known (device_of state.devices id) (λ known. relabel_effect id label)
 order_effect state (Ok ListAll) = lines_effect NeedsStore (list_lines (all_of state.devices))
 order_effect state (Ok Status) = lines_effect NeedsMemory (StatusLine state.counts state.mode ∷ [])
-order_effect state (Ok Base) = send_effect false (spelling base_query)
-order_effect state (Ok order) = device_order_effect state order
+order_effect state (Ok Base) = send_effect false (spelling base_id_request)
+order_effect state (Ok order) = sending_order_effect state order
 
 abbrev pub line_effect : State → List ℕ → Effect
 line_effect state line =
@@ -369,11 +369,11 @@ answer_to state input =
     with_packet_line (packet_line_for input (effect state input).disposition) (answer_from_effect (effect state input))
 
 -- the counter that a disposition increments
-abbrev pub count_in : Option Disposition → Option Count
+abbrev pub count_in : Option Disposition → Option Counter
 count_in = option_map (λ disposition. count_for disposition.why)
 
 -- the counter that an applied input increments: each packet increments one, an order none. Own choice
-abbrev pub count_of : State → Input → Option Count
+abbrev pub count_of : State → Input → Option Counter
 count_of state input = count_in (effect state input).disposition
 
 -- the update that an input asks for: of one sender

@@ -7,7 +7,7 @@ ghost use Rattle.gateway_core.specs.Dispositions.{without_device, query_eep, que
 use erp1_telegrams::{Eep, FilterReason};
 use esp3_frames::PacketRef;
 use esp3_frames::packet_type::{RADIO_ERP1, RESPONSE};
-use json_lines::Count;
+use json_lines::Counter;
 use learned_devices::Device;
 use profile_rows::Unreadable;
 use teach_in::{Mode, Teach, Why};
@@ -44,14 +44,14 @@ impl Disposition {
     }
 
     // The counter that the packet increments.
-    pub(crate) fn count(&self) -> Count
+    pub(crate) fn count(&self) -> Counter
         ensures { result ≡ Dispositions.count_for self.now.why }
     {
         match self.why {
-            Why::Refused => Count::Refused,
-            Why::Response => Count::Response,
-            Why::TeachIn(_) => Count::Teach,
-            Why::Read => Count::Reading,
+            Why::Refused => Counter::Refused,
+            Why::Response => Counter::Response,
+            Why::TeachIn(_) => Counter::Teach,
+            Why::Read => Counter::Reading,
             Why::EmptyResponse
             | Why::OtherType
             | Why::NoTelegram
@@ -63,7 +63,7 @@ impl Disposition {
             | Why::UnknownSender
             | Why::WrongKind
             | Why::WrongLength
-            | Why::OtherMessage => Count::Ignored,
+            | Why::OtherMessage => Counter::Ignored,
         }
     }
 }

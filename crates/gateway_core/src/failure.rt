@@ -10,7 +10,7 @@ pub enum Failure {
     /// Nothing was written.
     Before(StoreFault),
     /// The write was tried. After a crash its update may be there.
-    AtWrite(StoreFault),
+    AtCommit(StoreFault),
 }
 
 impl From<StoreFault> for Failure {
@@ -26,10 +26,10 @@ impl From<StoreFault> for Failure {
 
 impl From<AllocError> for Failure {
     ghost use Rattle.std.specs.Prelude.{◌≡◌};
-    ghost use Rattle.learned_devices.specs.Faults.{no_memory};
+    ghost use Rattle.learned_devices.specs.Faults.{out_of_memory};
     ghost use Rattle.gateway_core.specs.declared.failure.Failure.TheVariants.{Before};
 
-    ghost from_gives = { λ _ failure. failure ≡ Before no_memory };
+    ghost from_gives = { λ _ failure. failure ≡ Before out_of_memory };
 
     fn from(error: AllocError) -> Failure {
         Failure::Before(StoreFault::from(error))

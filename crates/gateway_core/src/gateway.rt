@@ -15,7 +15,7 @@ ghost use Rattle.gateway_core.specs.Step.{with_explanation};
 use crate::handled::HandledPacket;
 use crate::handler::Handler;
 use crate::reply::Reply;
-use erp1_telegrams::is_base;
+use erp1_telegrams::is_base_id;
 use esp3_resync::{Framer, PacketBuf};
 use learned_devices::DeviceStore;
 use std::alloc::{AllocError, Global};
@@ -72,10 +72,10 @@ impl<S: DeviceStore + Drop> GatewayOver<S> {
     /// Returns a gateway over this device store, for a radio module with this base ID. Errors, in this order:
     /// `BadBase`, `Memory`.
     pub fn new(alloc: Global, registry: S, base: u32) -> Result<GatewayOver<S>, StartFault>
-        ensures bad_base { (result ≡ Err StartFault.BadBase) ↔ (Address.is_base base ≡ false) }
+        ensures bad_base { (result ≡ Err StartFault.BadBase) ↔ (Address.is_base_id base ≡ false) }
         ensures ok { IfOk result (λ gateway. gateway ≡ new_gateway_value base registry) }
     {
-        if !is_base(base) {
+        if !is_base_id(base) {
             return Err(StartFault::BadBase);
         }
         Ok(GatewayOver {

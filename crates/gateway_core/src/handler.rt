@@ -1,6 +1,6 @@
 //! What the gateway knows, and how it handles one input.
 ghost use Rattle.std.specs.Prelude.{◌≡◌, ◌≤◌, true, [], ◌∷◌, length, Some};
-ghost use Rattle.erp1_telegrams.specs.Address.{is_base};
+ghost use Rattle.erp1_telegrams.specs.Address.{is_base_id};
 ghost use Rattle.esp3_frames.specs.Outcome.{packet_of};
 ghost use Rattle.esp3_frames.specs.Packet.{max_data};
 ghost use Rattle.gateway_core.specs.Calls.{new_handler};
@@ -23,7 +23,7 @@ use crate::handler::effect::{OrderEffect, PacketEffect, error_reply};
 use crate::reply::Reply;
 use erp1_telegrams::read;
 use esp3_frames::PacketRef;
-use json_lines::{Count, Counts};
+use json_lines::{Counter, Counts};
 use learned_devices::DeviceStore;
 use std::alloc::Global;
 use std::marker::Model;
@@ -41,7 +41,7 @@ pub struct Handler<S> {
 
 impl<S> Model for Handler<S> {
     ghost use Rattle.std.specs.Prelude.{◌≡◌, true};
-    ghost use Rattle.erp1_telegrams.specs.Address.{is_base};
+    ghost use Rattle.erp1_telegrams.specs.Address.{is_base_id};
     ghost use Rattle.gateway_core.specs.private.Codes.{handler_code};
     ghost use Rattle.gateway_core.specs.Handling.{HandlerValue};
 
@@ -56,13 +56,13 @@ impl<S> Model for Handler<S> {
       registry = handler.registry;
     } };
 
-    ghost invariant = { λ handler. is_base handler.base ≡ true };
+    ghost invariant = { λ handler. is_base_id handler.base ≡ true };
 }
 
 impl<S: DeviceStore> Handler<S> {
     /// Returns a handler over this registry, with the mode closed and all counters 0.
     pub fn new(alloc: Global, registry: S, base: u32) -> Handler<S>
-        requires { is_base base ≡ true }
+        requires { is_base_id base ≡ true }
         ensures { result ≡ new_handler base registry }
     {
         Handler {
@@ -105,8 +105,8 @@ impl<S: DeviceStore> Handler<S> {
                 error_reply(failure),
             ),
         };
-        self.counts.raise(disposition.count());
-        self.set_mode(mode);
+        self.counts.increment(disposition.count());
+        self.set_mode_if_any(mode);
         (reply, disposition)
     }
 
@@ -120,17 +120,17 @@ impl<S: DeviceStore> Handler<S> {
     {
         match tried {
             Ok(OrderEffect { mode, reply }) => {
-                self.set_mode(mode);
+                self.set_mode_if_any(mode);
                 reply
             }
             Err(failure) => {
-                self.counts.raise(Count::Refused);
+                self.counts.increment(Counter::Refused);
                 error_reply(failure)
             }
         }
     }
 
-    fn set_mode(&mut self, mode: Option<Mode>)
+    fn set_mode_if_any(&mut self, mode: Option<Mode>)
         ensures { self.new ≡ record self.old { mode = with_mode self.old.mode mode } }
     {
         if let Some(mode) = mode {

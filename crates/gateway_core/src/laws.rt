@@ -24,13 +24,13 @@ ghost use Rattle.gateway_core.specs.Windows.{PacketsChangeInWindows};
 use learned_devices::DeviceStore;
 
 /// The inputs do not depend on how the bytes between two lines are split into chunks.
-pub fn independent_of_cuts()
+pub fn inputs_do_not_depend_on_chunks()
     ensures { InputsDoNotDependOnChunks }
 {}
 
 /// The inputs of two consecutive lists of events are those of the first, and then those of the second after the bytes
 /// of the first. The packets that a chunk completes depend only on the rest of the stream.
-pub fn inputs_in_parts()
+pub fn inputs_of_appended_events()
     ensures items { (stream : List ℕ) (events more : List Event) →
         inputs_of stream (events ++ more) ≡ inputs_of stream events ++ inputs_of (stream ++ bytes_in events) more }
     ensures rest { (stream bytes : List ℕ) → new_packets stream bytes ≡ packets_in (rest_of stream ++ bytes) }

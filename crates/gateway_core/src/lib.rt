@@ -15,7 +15,7 @@ mod response;
 mod sqlite_gateway;
 
 pub use actuator_commands::{MAX_LINE, id_of};
-pub use erp1_telegrams::is_base;
+pub use erp1_telegrams::is_base_id;
 pub use gateway::{GatewayOver, StartFault};
 pub use handled::HandledPacket;
 pub use learned_devices::DeviceStore;

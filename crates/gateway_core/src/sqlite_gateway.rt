@@ -1,6 +1,6 @@
 //! The gateway over a registry in SQLite.
 ghost use Rattle.std.specs.Prelude.{◌≡◌};
-ghost use Rattle.device_registry.specs.Holding.{IsReturned};
+ghost use Rattle.device_registry.specs.Holding.{IsReturnedByClose};
 
 use crate::gateway::GatewayOver;
 use device_registry::{Registry, RegistryOver, SqlConnection};
@@ -13,7 +13,7 @@ impl<C: SqlConnection> GatewayOver<RegistryOver<C>> {
     /// was written, no transaction is open, and the devices that the gateway knows are committed.
     pub fn close(self) -> C
         ensures same { result ≡ self.handler.registry }
-        ensures hands_on { IsReturned (C.state self.handler.registry) }
+        ensures hands_on { IsReturnedByClose (C.state self.handler.registry) }
     {
         self.into_store().close()
     }

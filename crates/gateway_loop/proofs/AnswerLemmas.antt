@@ -1,13 +1,13 @@
 -- Answers that are written one after another.
 use Rattle.std.proofs.Common.{List, [], ◌∷◌, ◌++◌, append_assoc}
-use Rattle.learned_devices.specs.StoreState.{StoreState}
+use Rattle.learned_devices.specs.DeviceStoreState.{DeviceStoreState}
 use Rattle.gateway_core.specs.Step.{Input, Answer}
 use Rattle.gateway_core.specs.Handling.{HandlerValue, Handles}
 use Rattle.gateway_core.proofs.ForCallers.{handles-nothing, handles-append}
 use Rattle.gateway_loop.specs.OutputSpecs.{OutputSpec}
 use Rattle.gateway_loop.specs.Processing.{Answers, AnswersPart}
 
-module _ {S : Type 0} (stored : S → StoreState) {O : Type 0} (output : OutputSpec O) where
+module _ {S : Type 0} (stored : S → DeviceStoreState) {O : Type 0} (output : OutputSpec O) where
   pub answers_nothing : (state : HandlerValue S) (o : O) → Answers stored state state [] (output.puts o o)
   answers_nothing state o = record { answers = []; handled = handles-nothing stored state; out = output.nothing o }
 

@@ -3,7 +3,7 @@ use Rattle.std.proofs.Common.{◌≡◌, ℕ, List, [], ◌∷◌, ◌++◌, Opt
 use Rattle.std.specs.Io.KnownBytes.{Appends}
 use Rattle.std.specs.List.{flat_map}
 use Rattle.gateway_core.specs.Step.{Answer}
-use Rattle.gateway_loop.specs.Explained.{IsExplained, IsExplainedBehind, ExplanationsStandApart}
+use Rattle.gateway_loop.specs.Explained.{IsExplained, IsExplainedAfter, ExplanationsStandApart}
 use Rattle.gateway_loop.specs.Written.{radio_text}
 
 -- each answer has some text before the one for the desk
@@ -31,7 +31,7 @@ module _ (before : Answer → List ℕ) where
       )
 
   behind : (answers : List Answer) (held plain explained : List ℕ) → plain ≡ held ++ flat_map plain_of answers
-      → explained ≡ held ++ flat_map explained_of answers → IsExplainedBehind before answers held plain explained
+      → explained ≡ held ++ flat_map explained_of answers → IsExplainedAfter before answers held plain explained
   behind answers held plain explained first second = record {
     added = flat_map plain_of answers;
     more = flat_map explained_of answers;

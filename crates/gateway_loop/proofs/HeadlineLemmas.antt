@@ -7,10 +7,10 @@ use Rattle.std.specs.Io.KnownBytes.{Appends, Consumes, IsAtEnd}
 use Rattle.std.proofs.lemmas.List.{map-append}
 use Rattle.std.proofs.lemmas.List.Folds.{concat-append}
 use Rattle.std.proofs.lemmas.List.Concat.{flat_map-append}
-use Rattle.learned_devices.specs.StoreState.{StoreState}
+use Rattle.learned_devices.specs.DeviceStoreState.{DeviceStoreState}
 use Rattle.learned_devices.specs.Devices.{Devices}
 use Rattle.gateway_core.specs.Step.{Input, Answer, Received, Ordered}
-use Rattle.gateway_core.specs.CrashStates.{IsCrashConsistent, no_updates, crash_states}
+use Rattle.gateway_core.specs.CrashStates.{IsCrashConsistent, no_crash_states, crash_states}
 use Rattle.gateway_core.specs.Sessions.{Session, initial_state}
 use Rattle.gateway_core.specs.Handling.{HandlerValue, Handles, HasState}
 use Rattle.gateway_core.specs.Calls.{GatewayValue}
@@ -25,10 +25,10 @@ use Rattle.gateway_loop.specs.declared.runs.Summary.{Summary}
 use Rattle.gateway_loop.specs.Headline.{AsSpecified, BrokenOff, IsNew, IsPrefix, ReplaySpecified}
 use Rattle.gateway_loop.specs.Headline.{ReplaysAsSpecified, ServesAsSpecified, lines_of, radio_of}
 use Rattle.gateway_loop.specs.LiveGateway.{BreaksTurn, Serves, ServesUntil, ServesUntilRead, ServesUntilWrite}
-use Rattle.gateway_loop.specs.LiveGateway.{LiveValue, NextReadFails, events_with, live_at, serial_reads_with}
+use Rattle.gateway_loop.specs.LiveGateway.{LiveValue, NextReadFails, events_with, live_value, serial_reads_with}
 use Rattle.gateway_loop.specs.Processing.{Breaks, IsEventPrefix}
 use Rattle.gateway_loop.specs.Script.{script, with_lf}
-use Rattle.gateway_loop.specs.ScriptReplay.{Replays, ReplaysEnded, ReplaysUntil, ReplaysUntilWrite, replay_at}
+use Rattle.gateway_loop.specs.ScriptReplay.{Replays, ReplaysEnded, ReplaysUntil, ReplaysUntilWrite, replay_value}
 use Rattle.gateway_loop.specs.Turns.{Turn, desk_reads, events_of_turns, serial_reads}
 use Rattle.gateway_loop.specs.LiveOutputs.{radio_bytes, live_output}
 use Rattle.gateway_loop.specs.Written.{WritesPart, desk_text, text_of, written}
@@ -130,12 +130,12 @@ begun_brings s (Line line) (Line other) later is =
 begun_brings s (Chunk bytes) (Line other) later never = absurd never
 begun_brings s (Line line) (Chunk some) later never = absurd never
 
-module _ {S : Type 0} (state : S → StoreState) where
+module _ {S : Type 0} (state : S → DeviceStoreState) where
   -- a prefix of the inputs of some events was handled, if an answer to one of them was not written completely
   broken_brings : {breaks : List Answer → Answer → Type 0} (old new : GatewayValue S) (events : List Event)
       (event : Event)
       (later : List Event) → (b : Breaks state old new events event breaks)
-      → BringsMore (inputs_of old.rest (events ++ event ∷ later)) b.items
+      → BringsMore (inputs_of old.rest (events ++ event ∷ later)) b.inputs
   broken_brings old new events event later b =
       let s = old.rest ++ bytes_in events in
       let own = begun_brings s event b.begun later b.begins in
@@ -148,7 +148,7 @@ module _ {S : Type 0} (state : S → StoreState) where
             ∙ sym (append_assoc before (inputs_of s (b.begun ∷ [])) own.more)
             ∙ ap (λ is. is ++ own.more) (sym (inputs_of-append old.rest events (b.begun ∷ [])))
             ∙ ap (λ is. is ++ own.more) b.stand
-            ∙ append_assoc b.items waits own.more;
+            ∙ append_assoc b.inputs waits own.more;
       }
 
   -- ---- a new gateway
@@ -181,7 +181,7 @@ module _ {S : Type 0} (state : S → StoreState) where
               let session : Session = record {
                 base = base;
                 found = found;
-                items = items;
+                inputs = items;
                 results = went.results;
                 answers = answers;
                 last = went.last;
@@ -189,7 +189,7 @@ module _ {S : Type 0} (state : S → StoreState) where
                 left = left;
               } in
               let safe : IsCrashConsistent (λ d. d ≡ found)
-              (crash_states no_updates (initial_state base found) items went.results) left =
+              (crash_states no_crash_states (initial_state base found) items went.results) left =
               safe-weaker (state old.handler.registry).may_recover (λ d. d ≡ found) began.left _ left
               (went.crash left may) in
               elim (sessions_leave_prefixes session (record { run = went.run; safe = safe })) [
@@ -231,18 +231,18 @@ module _ {S : Type 0} (state : S → StoreState) where
   broken_off base found old new events event later all began clean whole b out is_out =
       let brings = broken_brings old new events event later b in
       record {
-        handled = b.items;
+        handled = b.inputs;
         later = brings.more;
         whole = ap (λ s. inputs_of s all) (sym (no_rest base found old new.handler began clean))
             ∙ ap (inputs_of old.rest) whole ∙ brings.whole;
-        specified = specified base found old new.handler began clean b.items _ out b.answered.handled is_out;
+        specified = specified base found old new.handler began clean b.inputs _ out b.answered.handled is_out;
       }
 
   -- ---- `replay`
 
   module _ {R W : Type 0} (source : sources.Ghosts R) (sink : sinks.Ghosts W) (explains : Bool)
       (old new : GatewayValue S × R × W) where
-    pub replayed : (summary : Summary) → Replays state (replay_at source sink) explains old new summary
+    pub replayed : (summary : Summary) → Replays state (replay_value source sink) explains old new summary
         → ReplaysAsSpecified state source sink explains (Ok summary) old new
     replayed summary done base found input held began left_is held_is clean =
         let gone = lost input done.input (source.left old.1) (source.left new.1) left_is done.read in
@@ -264,7 +264,7 @@ module _ {S : Type 0} (state : S → StoreState) where
         }
 
     -- some lines that LF ended, of a script with more after them
-    ended_lines_replayed : (fault : RunFault) → ReplaysEnded state (replay_at source sink) explains old new
+    ended_lines_replayed : (fault : RunFault) → ReplaysEnded state (replay_value source sink) explains old new
         → ReplaysAsSpecified state source sink explains (Err fault) old new
     ended_lines_replayed fault done base found input held began left_is held_is clean =
         let gone = lost input done.input (source.left old.1) (source.left new.1) left_is done.read in
@@ -303,7 +303,7 @@ module _ {S : Type 0} (state : S → StoreState) where
               (part_prefix (text_of explains) its.answers its.last part.part part.missing part.whole);
         }
 
-    write_failed : ReplaysUntilWrite state (replay_at source sink) explains old new
+    write_failed : ReplaysUntilWrite state (replay_value source sink) explains old new
         → ReplaysAsSpecified state source sink explains (Err Write) old new
     write_failed done base found input held began left_is held_is clean =
         let gone = lost input done.input (source.left old.1) (source.left new.1) left_is done.read in
@@ -327,7 +327,7 @@ module _ {S : Type 0} (state : S → StoreState) where
               (ap script whole ∙ it.whole)
         ]
 
-    pub replayed_until : (fault : RunFault) → ReplaysUntil state (replay_at source sink) explains old new fault
+    pub replayed_until : (fault : RunFault) → ReplaysUntil state (replay_value source sink) explains old new fault
         → ReplaysAsSpecified state source sink explains (Err fault) old new
     replayed_until Read done = ended_lines_replayed Read done
     replayed_until Write done = write_failed done
@@ -338,7 +338,7 @@ module _ {S : Type 0} (state : S → StoreState) where
   module _ {P Q R D : Type 0} (serial_in : sources.Ghosts P) (desk_in : sources.Ghosts Q) (serial_out : sinks.Ghosts R)
       (desk_out : sinks.Ghosts D) (explains : Bool) (old new : GatewayValue S × P × Q × R × D) where
     abbrev at : GatewayValue S × P × Q × R × D → LiveValue S
-    at = live_at serial_in desk_in serial_out desk_out
+    at = live_value serial_in desk_in serial_out desk_out
 
     pub served : (count : ℕ) (summary : Summary) → Serves state at explains old new count summary
         → ServesAsSpecified state serial_in desk_in serial_out desk_out explains (Ok summary) old new count

@@ -2,10 +2,10 @@ pub mod ResultLemmas
 pub mod ListLemmas
 pub mod CallCountLemmas
 pub mod WriteLemmas
-pub mod TextWayLemmas
+pub mod TextOutputLemmas
 pub mod AnswerLemmas
-pub mod PlayLemmas
-pub mod EngineStepLemmas
+pub mod ProcessingLemmas
+pub mod DriverStepLemmas
 pub mod ExplainedLemmas
 pub mod LineLemmas
 pub mod LongLineLemmas
@@ -13,6 +13,6 @@ pub mod SearchLemmas
 pub mod LineLoopLemmas
 pub mod ReadLemmas
 pub mod TurnLemmas
-pub mod WiresLemmas
+pub mod LiveOutputsLemmas
 pub mod ScriptReplayLemmas
 pub mod HeadlineLemmas

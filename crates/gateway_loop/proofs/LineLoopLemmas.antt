@@ -10,7 +10,7 @@ use Rattle.std.proofs.lemmas.Result.{MatchResult-weaker}
 use Rattle.std.proofs.lemmas.List.Concat.{flat_map-append}
 use Rattle.std.proofs.lemmas.List.Elements.{All-append, All-nil}
 use Rattle.std.proofs.lemmas.List.{map-append, nil_from_length, length-take}
-use Rattle.learned_devices.specs.StoreState.{StoreState}
+use Rattle.learned_devices.specs.DeviceStoreState.{DeviceStoreState}
 use Rattle.gateway_loop.specs.declared.driver.Driver.{Driver}
 use Rattle.gateway_loop.specs.declared.line_loop.Lines.{Lines}
 use Rattle.gateway_loop.specs.declared.line_loop.LineDispatcher.{LineDispatcher}
@@ -22,7 +22,7 @@ use Rattle.gateway_loop.specs.private.LineLoop.{TakesBytes, StopsAtLine}
 use Rattle.gateway_loop.specs.private.Lines.{max_partial_line, KeepsPartialLine, event_by, events_by}
 use Rattle.gateway_loop.proofs.ListLemmas.{take_take}
 use Rattle.gateway_loop.proofs.LongLineLemmas.{kept_last_line_alike}
-use Rattle.gateway_loop.proofs.PlayLemmas.{takes_none, takes-append, plays-break}
+use Rattle.gateway_loop.proofs.ProcessingLemmas.{takes_none, takes-append, plays-break}
 use Rattle.gateway_loop.proofs.LineLemmas.{only_line, script-last}
 
 pub keeps_none : KeepsPartialLine [] []
@@ -60,7 +60,7 @@ whole_behind a b first second rest last whole more =
     ∙ sym (append_assoc (flat_map with_lf first) (flat_map with_lf second) last)
     ∙ ap (λ s. s ++ last) (sym (flat_map-append with_lf first second))
 
-module _ {O S : Type 0} (stored : S → StoreState) (output : OutputSpec O) (lines : Lines) where
+module _ {O S : Type 0} (stored : S → DeviceStoreState) (output : OutputSpec O) (lines : Lines) where
   abbrev pub first_player : {old new : LineDispatcher O S} {bytes : List ℕ}
       → TakesBytes stored output lines old new bytes
       → LineDispatcher O S
@@ -148,7 +148,7 @@ module _ {O S : Type 0} (stored : S → StoreState) (output : OutputSpec O) (lin
     broken = broken;
   }
 
-module _ {O S : Type 0} (stored : S → StoreState) (output : OutputSpec O) where
+module _ {O S : Type 0} (stored : S → DeviceStoreState) (output : OutputSpec O) where
   -- the line of a script that its end ends, in place of the script
   pub last_line : {A E : Type 0} (r : Result A E) (old new : Driver O S) (tail kept : List ℕ)
       → KeepsPartialLine tail kept

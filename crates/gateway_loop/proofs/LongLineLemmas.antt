@@ -1,5 +1,5 @@
 -- All lines that are too long are treated alike.
-use Rattle.learned_devices.specs.StoreState.{StoreState}
+use Rattle.learned_devices.specs.DeviceStoreState.{DeviceStoreState}
 use Rattle.std.proofs.Common.{◌≡◌, ℕ, ◌+◌, ◌-◌, ◌<◌, ◌≤◌, List, [], ◌∷◌, ◌++◌, length, take, drop, refl}
 use Rattle.std.proofs.Common.{ap, sym, subst, ◌∙◌, arith, true, false, inl, inr, map}
 use Rattle.std.specs.Prelude.{Result, ◌==◌, ◌&&◌, if◌then◌else◌, nat_eq, codes, slice_index}
@@ -61,7 +61,7 @@ length-strip line =
       | false ↦ omega arith
     ]
 
-module _ {S : Type 0} (stored : S → StoreState) where
+module _ {S : Type 0} (stored : S → DeviceStoreState) where
   -- a break at one order, in its parts
   record OneBroken (old new : GatewayValue S) (line : List ℕ) (breaks : List Answer → Answer → Type 0) : Type 0 where
     pub none : map Received new.ready ≡ []
@@ -91,7 +91,7 @@ module _ {S : Type 0} (stored : S → StoreState) where
       record {
         begun = Line long;
         begins = refl;
-        items = Ordered long ∷ [];
+        inputs = Ordered long ∷ [];
         own = Ordered long ∷ [];
         behind = refl;
         some = omega arith;
@@ -107,7 +107,7 @@ module _ {S : Type 0} (stored : S → StoreState) where
         };
       }
 
-module _ {O S : Type 0} (stored : S → StoreState) (output : OutputSpec O) {A E : Type 0} (r : Result A E)
+module _ {O S : Type 0} (stored : S → DeviceStoreState) (output : OutputSpec O) {A E : Type 0} (r : Result A E)
     (old new : Driver O S) where
   takes_long : (short long : List ℕ) → max_line < length short → max_line < length long
       → Takes stored output old new (Line short ∷ []) → Takes stored output old new (Line long ∷ [])
@@ -138,7 +138,7 @@ module _ {O S : Type 0} (stored : S → StoreState) (output : OutputSpec O) {A E
       (λ _ takes. takes_long short long a b takes)
       (λ _ broken. breaks_long stored old.gateway.now new.gateway.now short long
       (output.breaks old.reply_sink new.reply_sink)
-      broken.begun broken.items a b broken.begins broken.stand broken.rest broken.answered))
+      broken.begun broken.inputs a b broken.begins broken.stand broken.rest broken.answered))
 
   -- what is kept of a line that LF ends stands for the line
   pub kept_line_alike : (lines : Lines) (kept line : List ℕ) → kept ≡ take max_partial_line line

@@ -9,8 +9,8 @@ use Rattle.std.proofs.KnownBytes.{Consumes-nil, Consumes-trans, Consumes-kept}
 use Rattle.std.proofs.lemmas.List.{length-take}
 use Rattle.std.proofs.lemmas.List.Concat.{concat_is, flat_map-append}
 use Rattle.byte_io.specs.declared.tally.Failed.{Failed}
-use Rattle.byte_io.specs.Counts.{count_call, saturated_next}
-use Rattle.gateway_loop.specs.Reads.{AreReads, IsRead, MakesReads, ReadsFail, ReadsSucceed}
+use Rattle.byte_io.specs.Counts.{count_call, saturated_increment}
+use Rattle.gateway_loop.specs.Reads.{AreReads, IsRead, MakesReads, LastReadFails, AllReadsSucceed}
 use Rattle.byte_io.specs.Limits.{max_read}
 use Rattle.gateway_loop.specs.Streams.{SourceValue}
 use Rattle.gateway_loop.proofs.CallCountLemmas.{made_at, made_more, made_none}
@@ -44,7 +44,7 @@ concat-more reads bytes =
 empty_take : (n : ℕ) (buffer : List ℕ) → n ≤ length buffer → take n buffer ≡ [] → n ≡ 0
 empty_take n buffer within none = let e = ap length none in omega (arith, within, e, length-take n buffer)
 
-pub reads_none : (source : SourceValue) → ReadsSucceed source source []
+pub reads_none : (source : SourceValue) → AllReadsSucceed source source []
 reads_none source = record {
   gave = record { all = Consumes-nil source.left; each = tt };
   made = made_none source.counts;
@@ -52,9 +52,9 @@ reads_none source = record {
 }
 
 pub reads_more : (old mid new : SourceValue) (reads : List (List ℕ)) (n : ℕ) (buffer : List ℕ)
-    → ReadsSucceed old mid reads
+    → AllReadsSucceed old mid reads
     → n ≤ length buffer → length buffer ≡ max_read → ReadConsumes {E = Failed} mid.left new.left (Ok n) buffer
-    → new.counts ≡ count_call {E = Failed} mid.counts (Ok n) → ReadsSucceed old new (reads ++ take n buffer ∷ [])
+    → new.counts ≡ count_call {E = Failed} mid.counts (Ok n) → AllReadsSucceed old new (reads ++ take n buffer ∷ [])
 reads_more old mid new reads n buffer p within room (some, end) told =
     let bytes = take n buffer in
     let read : IsRead old.left (concat reads) bytes = record {
@@ -77,7 +77,7 @@ reads_more old mid new reads n buffer p within room (some, end) told =
 
 -- one more read, of those that are allowed
 pub one_read_more : (old mid new : SourceValue) (reads : List (List ℕ)) (n turn turns : ℕ) (buffer : List ℕ)
-    → ReadsSucceed old mid reads → length reads ≡ turn → turn < turns → n ≤ length buffer → length buffer ≡ max_read
+    → AllReadsSucceed old mid reads → length reads ≡ turn → turn < turns → n ≤ length buffer → length buffer ≡ max_read
     → ReadConsumes {E = Failed} mid.left new.left (Ok n) buffer → new.counts ≡ count_call {E = Failed} mid.counts (Ok n)
     → MakesReads old new turns
 one_read_more old mid new reads n turn turns buffer p count below within room bytes told = (
@@ -88,13 +88,13 @@ one_read_more old mid new reads n turn turns buffer p count below within room by
   ),
 )
 
-pub reads_fail : (old mid new : SourceValue) (reads : List (List ℕ)) (error : Failed) → ReadsSucceed old mid reads
-    → Keeps mid.left new.left → new.counts ≡ count_call {E = Failed} mid.counts (Err error) → ReadsFail old new reads
+pub reads_fail : (old mid new : SourceValue) (reads : List (List ℕ)) (error : Failed) → AllReadsSucceed old mid reads
+    → Keeps mid.left new.left → new.counts ≡ count_call {E = Failed} mid.counts (Err error) → LastReadFails old new reads
 reads_fail old mid new reads error p kept told = record {
   gave = record {
     all = Consumes-kept old.left mid.left new.left (concat reads) p.gave.all kept;
     each = p.gave.each;
   };
   made = made_more old.counts mid.counts new.counts (length reads) p.made (ap (λ t. t.calls) told);
-  failed = ap (λ t. t.failed) told ∙ ap saturated_next p.well;
+  failed = ap (λ t. t.failed) told ∙ ap saturated_increment p.well;
 }

@@ -2,7 +2,7 @@
 use Rattle.std.proofs.Common.{◌≡◌, ℕ, List, [], ◌∷◌, ◌++◌, ap, sym, ◌∙◌, append_assoc, append-nil}
 use Rattle.std.specs.List.{flat_map}
 use Rattle.std.specs.Str.Lines.{strip_carriage_return}
-use Rattle.learned_devices.specs.StoreState.{StoreState}
+use Rattle.learned_devices.specs.DeviceStoreState.{DeviceStoreState}
 use Rattle.gateway_core.specs.Calls.{GatewayValue}
 use Rattle.gateway_core.specs.Events.{Event}
 use Rattle.byte_io.specs.declared.sink.Sink as sinks
@@ -18,9 +18,9 @@ use Rattle.gateway_loop.specs.Script.{script, with_lf}
 use Rattle.gateway_loop.specs.private.DriverSteps.{DriverBreaks, DriverProcesses, Takes}
 use Rattle.gateway_loop.specs.Written.{WritesAll, WritesPart, replay_output}
 use Rattle.gateway_loop.proofs.LineLemmas.{ended_of_lines, script-ended, script-first}
-use Rattle.gateway_loop.proofs.PlayLemmas.{plays-break, takes-append}
+use Rattle.gateway_loop.proofs.ProcessingLemmas.{plays-break, takes-append}
 
-module _ {W S : Type 0} (stored : S → StoreState) (sink : sinks.Ghosts W) where
+module _ {W S : Type 0} (stored : S → DeviceStoreState) (sink : sinks.Ghosts W) where
   abbrev output : OutputSpec (ReplayText W)
   output = replay_output sink
 
@@ -41,7 +41,7 @@ module _ {W S : Type 0} (stored : S → StoreState) (sink : sinks.Ghosts W) wher
     broken events event p = rw (e, f) (record {
       begun = p.begun;
       begins = p.begins;
-      items = p.items;
+      inputs = p.inputs;
       own = p.own;
       behind = p.behind;
       some = p.some;

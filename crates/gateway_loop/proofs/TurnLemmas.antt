@@ -10,7 +10,7 @@ use Rattle.std.proofs.lemmas.List.{map-append}
 use Rattle.std.proofs.lemmas.List.Concat.{flat_map-append}
 use Rattle.std.proofs.lemmas.List.Elements.{All-append, All-nil}
 use Rattle.std.proofs.lemmas.List.Splits.{slice_split_none, slice_split_at, length-slice_split}
-use Rattle.learned_devices.specs.StoreState.{StoreState}
+use Rattle.learned_devices.specs.DeviceStoreState.{DeviceStoreState}
 use Rattle.gateway_core.specs.Events.{Event, Chunk, Line}
 use Rattle.gateway_loop.specs.Script.{HasNoLf, with_lf}
 use Rattle.gateway_loop.specs.declared.line_loop.Lines.TheVariants.{DeskLines}
@@ -25,7 +25,7 @@ use Rattle.gateway_loop.specs.private.Lines.{KeepsPartialLine, event_by, events_
 use Rattle.gateway_loop.specs.Turns.{Turn, desk_reads, ended_lines, events_after, events_of_turns, orders, serial_reads}
 use Rattle.gateway_loop.proofs.LineLoopLemmas.{keeps_none, whole_behind}
 use Rattle.gateway_loop.proofs.LineLemmas.{test_of_one_line}
-use Rattle.gateway_loop.proofs.PlayLemmas.{takes_none, takes-append, plays-break}
+use Rattle.gateway_loop.proofs.ProcessingLemmas.{takes_none, takes-append, plays-break}
 
 all_but_last : (x : List ℕ) (parts : List (List ℕ)) → 0 < length parts
     → take (length (x ∷ parts) - 1) (x ∷ parts) ≡ x ∷ take (length parts - 1) parts
@@ -131,7 +131,7 @@ pub desk_reads-more : (read : List Turn) (turn : Turn)
     → desk_reads (read ++ turn ∷ []) ≡ desk_reads read ++ turn.desk ∷ []
 desk_reads-more read turn = map-append (λ (turn : Turn). turn.desk) read (turn ∷ [])
 
-module _ {O S : Type 0} (stored : S → StoreState) (output : OutputSpec O) where
+module _ {O S : Type 0} (stored : S → DeviceStoreState) (output : OutputSpec O) where
   -- the turns were taken, and the first bytes of the desk's partial line are kept
   pub record TakesTurns (old new : LineDispatcher O S) (read : List Turn) : Type 0 where
     pub ended : List (List ℕ)
@@ -157,7 +157,7 @@ module _ {O S : Type 0} (stored : S → StoreState) (output : OutputSpec O) wher
     taken = takes_none stored output old.driver idle fits;
   }
 
-module _ {O S : Type 0} (stored : S → StoreState) (output : OutputSpec O) (entry old : LineDispatcher O S)
+module _ {O S : Type 0} (stored : S → DeviceStoreState) (output : OutputSpec O) (entry old : LineDispatcher O S)
     (read : List Turn)
     (chunk : List ℕ) (p : TakesTurns stored output entry old read) where
   abbrev begun : List Event

@@ -2,22 +2,22 @@
 -- them.
 use Rattle.std.specs.Prelude.{◌⊎◌}
 use Rattle.std.proofs.Common.{ap, ◌∙◌, inl, inr}
-use Rattle.byte_io.specs.Counts.{Counts, NoneFailedOrEmpty, OneFailed, OneEmpty, saturated_next}
+use Rattle.byte_io.specs.Counts.{Counts, NoneFailedOrEmpty, OnlyFailedOnce, OnlyEmptyOnce, saturated_increment}
 
 -- one call failed or returned 0 bytes
 abbrev pub OneFailedOrEmpty : Counts → Counts → Type 0
-OneFailedOrEmpty old new = OneFailed old new ⊎ OneEmpty old new
+OneFailedOrEmpty old new = OnlyFailedOnce old new ⊎ OnlyEmptyOnce old new
 
 -- all calls succeeded, except for one that may have returned 0 bytes
 abbrev pub AtMostOneEmpty : Counts → Counts → Type 0
-AtMostOneEmpty old new = NoneFailedOrEmpty old new ⊎ OneEmpty old new
+AtMostOneEmpty old new = NoneFailedOrEmpty old new ⊎ OnlyEmptyOnce old new
 
-pub well_behind : (old mid new : Counts) → NoneFailedOrEmpty old mid → NoneFailedOrEmpty mid new
+pub none_failed_in_both : (old mid new : Counts) → NoneFailedOrEmpty old mid → NoneFailedOrEmpty mid new
     → NoneFailedOrEmpty old new
-well_behind old mid new first second = (second.0 ∙ first.0, second.1 ∙ first.1)
+none_failed_in_both old mid new first second = (second.0 ∙ first.0, second.1 ∙ first.1)
 
 -- the last call went wrong, and those before it went well
-pub wrong_behind : (old mid new : Counts) → NoneFailedOrEmpty old mid → OneFailedOrEmpty mid new
+pub failed_in_second : (old mid new : Counts) → NoneFailedOrEmpty old mid → OneFailedOrEmpty mid new
     → OneFailedOrEmpty old new
-wrong_behind old mid new well (inl failed) = inl (failed.0 ∙ ap saturated_next well.0, failed.1 ∙ well.1)
-wrong_behind old mid new well (inr empty) = inr (empty.0 ∙ well.0, empty.1 ∙ ap saturated_next well.1)
+failed_in_second old mid new well (inl failed) = inl (failed.0 ∙ ap saturated_increment well.0, failed.1 ∙ well.1)
+failed_in_second old mid new well (inr empty) = inr (empty.0 ∙ well.0, empty.1 ∙ ap saturated_increment well.1)

@@ -15,7 +15,7 @@ IsExplained before (answer ∷ answers) plain explained =
     × IsExplained before answers rest more
 
 -- The same for what was written after what a sink held.
-pub record IsExplainedBehind (before : Answer → List ℕ) (answers : List Answer) (held plain explained : List ℕ)
+pub record IsExplainedAfter (before : Answer → List ℕ) (answers : List Answer) (held plain explained : List ℕ)
     : Type 0 where
   pub added : List ℕ
   pub more : List ℕ
@@ -28,11 +28,11 @@ pub record IsExplainedBehind (before : Answer → List ℕ) (answers : List Answ
 pub record ExplanationsStandApart : Type 0 where
   pub replay : (answers : List Answer) (held plain explained : List ℕ)
       → WritesAll false (Some held) (Some plain) answers → WritesAll true (Some held) (Some explained) answers
-      → IsExplainedBehind (λ answer. radio_text answer.radio) answers held plain explained
+      → IsExplainedAfter (λ answer. radio_text answer.radio) answers held plain explained
   pub desk : (answers : List Answer) (old new other : SinkValue × SinkValue) (held plain explained : List ℕ)
       → (live_output false).puts old new answers → (live_output true).puts old other answers
       → old.1.held ≡ Some held → new.1.held ≡ Some plain → other.1.held ≡ Some explained
-      → IsExplainedBehind (λ answer. []) answers held plain explained
+      → IsExplainedAfter (λ answer. []) answers held plain explained
   pub serial : (answers : List Answer) (old new other : SinkValue × SinkValue) (held plain explained : List ℕ)
       → (live_output false).puts old new answers → (live_output true).puts old other answers
       → old.0.held ≡ Some held → new.0.held ≡ Some plain → other.0.held ≡ Some explained → plain ≡ explained

@@ -2,7 +2,7 @@
 -- it. The contracts of the two functions state it, for every result; that of `start` says how a gateway begins.
 use Rattle.std.specs.Prelude.{◌≡◌, ℕ, Bool, List, [], ◌++◌, length, Some, Result, MatchResult}
 use Rattle.std.specs.List.{concat, flat_map}
-use Rattle.learned_devices.specs.StoreState.{StoreState}
+use Rattle.learned_devices.specs.DeviceStoreState.{DeviceStoreState}
 use Rattle.learned_devices.specs.Devices.{Devices}
 use Rattle.gateway_core.specs.Step.{Input, Answer, State}
 use Rattle.gateway_core.specs.Run.{InputResult, Run}
@@ -15,7 +15,7 @@ use Rattle.byte_io.specs.declared.sink.Sink as sinks
 use Rattle.byte_io.specs.declared.source.Source as sources
 use Rattle.gateway_loop.specs.declared.runs.RunFault.{RunFault}
 use Rattle.gateway_loop.specs.declared.runs.Summary.{Summary}
-use Rattle.gateway_loop.specs.Reads.{ReadsSucceed}
+use Rattle.gateway_loop.specs.Reads.{AllReadsSucceed}
 use Rattle.gateway_loop.specs.Script.{script}
 use Rattle.gateway_loop.specs.Streams.{source_value}
 use Rattle.gateway_loop.specs.Turns.{Turn, desk_reads, events_of_turns, serial_reads}
@@ -40,7 +40,7 @@ abbrev pub lines_of : Bool → List Answer → List ℕ
 lines_of explains answers = flat_map (desk_text explains) answers
 
 -- `S` is a gateway's device store, and `stored` what it keeps.
-module _ {S : Type 0} (stored : S → StoreState) where
+module _ {S : Type 0} (stored : S → DeviceStoreState) where
   -- A new gateway over a device store with these devices. The mode is closed, all counters are 0, and no byte has
   -- arrived. A crash leaves only these devices.
   pub record IsNew (base : ℕ) (found : Devices) (gateway : GatewayValue S) : Type 0 where
@@ -119,8 +119,8 @@ module _ {S : Type 0} (stored : S → StoreState) where
     pub lines_held : desk_out.held new.4 ≡ Some (printed ++ lines)
     pub specified : MatchResult result
         (λ _. (length turns ≡ count)
-        × ReadsSucceed (source_value serial_in old.1) (source_value serial_in new.1) (serial_reads turns)
-        × ReadsSucceed (source_value desk_in old.2) (source_value desk_in new.2) (desk_reads turns)
+        × AllReadsSucceed (source_value serial_in old.1) (source_value serial_in new.1) (serial_reads turns)
+        × AllReadsSucceed (source_value desk_in old.2) (source_value desk_in new.2) (desk_reads turns)
         × AsSpecified base found (inputs_of [] (events_of_turns turns))
         (λ answers. (radio ≡ radio_of answers) × (lines ≡ lines_of explains answers)) new.0.handler)
         (λ _. BrokenOff base found (inputs_of [] (events_of_turns turns))

@@ -1,7 +1,7 @@
 -- What a live gateway reads, handles and writes.
 use Rattle.std.specs.Prelude.{◌≡◌, ◌↔◌, ◌+◌, ◌-◌, ◌^◌, min, ℕ, Bool, List, [], ◌∷◌, ◌++◌, length}
 use Rattle.std.specs.Prelude.{Option, None, Some, Result, IsOk}
-use Rattle.learned_devices.specs.StoreState.{StoreState}
+use Rattle.learned_devices.specs.DeviceStoreState.{DeviceStoreState}
 use Rattle.gateway_core.specs.Step.{Answer}
 use Rattle.gateway_core.specs.Calls.{GatewayValue}
 use Rattle.gateway_core.specs.Events.{Event, Chunk, inputs_of}
@@ -12,7 +12,7 @@ use Rattle.gateway_loop.specs.declared.runs.RunFault.{RunFault}
 use Rattle.gateway_loop.specs.declared.runs.RunFault.TheVariants.{Read, Write, TooManyTurns}
 use Rattle.gateway_loop.specs.declared.runs.Summary.{Summary}
 use Rattle.gateway_loop.specs.Processing.{Breaks, Processes}
-use Rattle.gateway_loop.specs.Reads.{ReadsFail, ReadsSucceed}
+use Rattle.gateway_loop.specs.Reads.{LastReadFails, AllReadsSucceed}
 use Rattle.gateway_loop.specs.Streams.{SinkValue, SourceValue, sink_value, source_value}
 use Rattle.gateway_loop.specs.Turns.{Turn, desk_reads, events_of_turns, serial_reads}
 use Rattle.gateway_loop.specs.LiveOutputs.{live_output}
@@ -24,9 +24,9 @@ pub record LiveValue (S : Type 0) : Type 0 where
   pub desk : SourceValue
   pub sinks : SinkValue × SinkValue
 
-abbrev pub live_at : {P Q R D S : Type 0} → sources.Ghosts P → sources.Ghosts Q → sinks.Ghosts R → sinks.Ghosts D
+abbrev pub live_value : {P Q R D S : Type 0} → sources.Ghosts P → sources.Ghosts Q → sinks.Ghosts R → sinks.Ghosts D
     → GatewayValue S × P × Q × R × D → LiveValue S
-live_at serial_in desk_in serial_out desk_out now = record {
+live_value serial_in desk_in serial_out desk_out now = record {
   gateway = now.0;
   serial = source_value serial_in now.1;
   desk = source_value desk_in now.2;
@@ -46,10 +46,10 @@ module _ {S : Type 0} (old new : LiveValue S) where
   -- After the turns the next read failed: of the serial line, or, after a chunk, of the desk.
   abbrev pub NextReadFails : List Turn → Option (List ℕ) → Type 0
   NextReadFails turns None =
-      ReadsFail old.serial new.serial (serial_reads turns) × ReadsSucceed old.desk new.desk (desk_reads turns)
+      LastReadFails old.serial new.serial (serial_reads turns) × AllReadsSucceed old.desk new.desk (desk_reads turns)
   NextReadFails turns (Some chunk) =
-      ReadsSucceed old.serial new.serial (serial_reads turns ++ chunk ∷ [])
-      × ReadsFail old.desk new.desk (desk_reads turns)
+      AllReadsSucceed old.serial new.serial (serial_reads turns ++ chunk ∷ [])
+      × LastReadFails old.desk new.desk (desk_reads turns)
 
   -- this many reads of each source were made, no read failed, and all writes succeeded
   pub record AllSucceeded (turns : ℕ) : Type 0 where
@@ -68,7 +68,7 @@ pub record HasRoomForTurns {S : Type 0} (now : LiveValue S) (turns : ℕ) : Type
   pub serial_out : HasCountRoom now.sinks.0.counts 0
   pub desk_out : HasCountRoom now.sinks.1.counts 0
 
-module _ {S : Type 0} (stored : S → StoreState) where
+module _ {S : Type 0} (stored : S → DeviceStoreState) where
   -- an answer to an order of the last turn was not written completely
   pub record BreaksAtOrder (old new : GatewayValue S) (turns : List Turn) (breaks : List Answer → Answer → Type 0)
       : Type 0 where
@@ -89,14 +89,14 @@ module _ {S : Type 0} (stored : S → StoreState) where
   BreaksTurn old new turns None breaks = BreaksAtOrder old new turns breaks
 
 -- Below, `at` is the state of the live gateway before and after the call, and `explains` whether packets are explained.
-module _ {S T : Type 0} (stored : S → StoreState) (at : T → LiveValue S) (explains : Bool) where
+module _ {S T : Type 0} (stored : S → DeviceStoreState) (at : T → LiveValue S) (explains : Bool) where
   -- this many turns were read, exactly the inputs of their events were handled and counted, and the radio bytes and
   -- texts of their answers were written
   pub record Serves (old new : T) (turns : ℕ) (summary : Summary) : Type 0 where
     pub read : List Turn
     pub count : length read ≡ turns
-    pub serial : ReadsSucceed (at old).serial (at new).serial (serial_reads read)
-    pub desk : ReadsSucceed (at old).desk (at new).desk (desk_reads read)
+    pub serial : AllReadsSucceed (at old).serial (at new).serial (serial_reads read)
+    pub desk : AllReadsSucceed (at old).desk (at new).desk (desk_reads read)
     pub processed : Processes stored (at old).gateway (at new).gateway (events_of_turns read)
         ((live_output explains).puts (at old).sinks (at new).sinks)
     pub counted : summary.items ≡ min (length (inputs_of (at old).gateway.rest (events_of_turns read))) (2 ^ 64 - 1)
@@ -113,8 +113,8 @@ module _ {S T : Type 0} (stored : S → StoreState) (at : T → LiveValue S) (ex
   pub record ServesUntilWrite (old new : T) : Type 0 where
     pub read : List Turn
     pub chunk : Option (List ℕ)
-    pub serial : ReadsSucceed (at old).serial (at new).serial (serial_reads_with read chunk)
-    pub desk : ReadsSucceed (at old).desk (at new).desk (desk_reads read)
+    pub serial : AllReadsSucceed (at old).serial (at new).serial (serial_reads_with read chunk)
+    pub desk : AllReadsSucceed (at old).desk (at new).desk (desk_reads read)
     pub broken : BreaksTurn stored (at old).gateway (at new).gateway read chunk
         ((live_output explains).breaks (at old).sinks (at new).sinks)
 

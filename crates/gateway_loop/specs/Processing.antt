@@ -1,6 +1,6 @@
 -- What a `Driver` handles and writes, for any output.
 use Rattle.std.specs.Prelude.{◌≡◌, ◌<◌, List, [], ◌∷◌, ◌++◌, length, map, ℕ}
-use Rattle.learned_devices.specs.StoreState.{StoreState}
+use Rattle.learned_devices.specs.DeviceStoreState.{DeviceStoreState}
 use Rattle.esp3_frames.specs.Framing.{MayBecomePacket}
 use Rattle.esp3_frames.specs.Frames.{rest_of}
 use Rattle.gateway_core.specs.Step.{Input, Received, Answer}
@@ -21,7 +21,7 @@ IsEventPrefix (Line line) (Line other) = other ≡ line
 IsEventPrefix event other = ⊥
 
 -- Below, `puts` says that exactly these answers were written, and `breaks` that they were, and one more incompletely.
-module _ {S : Type 0} (stored : S → StoreState) where
+module _ {S : Type 0} (stored : S → DeviceStoreState) where
   -- the inputs were handled, and their answers written
   pub record Answers (old new : HandlerValue S) (items : List Input) (puts : List Answer → Type 0) : Type 0 where
     pub answers : List Answer
@@ -49,7 +49,7 @@ module _ {S : Type 0} (stored : S → StoreState) where
       : Type 0 where
     pub begun : Event
     pub begins : IsEventPrefix event begun
-    pub items : List Input
+    pub inputs : List Input
     pub own : List Input
     pub behind : items ≡ inputs_of old.rest events ++ own
     pub some : 0 < length own

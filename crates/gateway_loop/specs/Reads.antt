@@ -2,7 +2,7 @@
 use Rattle.std.specs.Prelude.{◌≡◌, ◌≤◌, ◌+◌, ◌⊎◌, ⊤, IfSome, Option, ℕ, List, [], ◌∷◌, ◌++◌, length}
 use Rattle.std.specs.Io.KnownBytes.{Consumes}
 use Rattle.std.specs.List.{concat}
-use Rattle.byte_io.specs.Counts.{CallsMade, NoneFailed, OneMoreFailed}
+use Rattle.byte_io.specs.Counts.{CallsMade, NoneFailed, FailedOnceMore}
 use Rattle.byte_io.specs.Limits.{max_read}
 use Rattle.gateway_loop.specs.Streams.{SourceValue}
 
@@ -23,19 +23,19 @@ pub record GivesBytes (old new : SourceValue) (reads : List (List ℕ)) : Type 0
   pub each : AreReads old.left [] reads
 
 -- exactly this many reads were made, none failed, and they returned these bytes, split in some way
-pub record ReadsSucceed (old new : SourceValue) (reads : List (List ℕ)) : Type 0 where
+pub record AllReadsSucceed (old new : SourceValue) (reads : List (List ℕ)) : Type 0 where
   pub gave : GivesBytes old new reads
   pub made : CallsMade old.counts new.counts (length reads)
   pub well : NoneFailed old.counts new.counts
 
 -- one read more than these was made, and one failed
-pub record ReadsFail (old new : SourceValue) (reads : List (List ℕ)) : Type 0 where
+pub record LastReadFails (old new : SourceValue) (reads : List (List ℕ)) : Type 0 where
   pub gave : GivesBytes old new reads
   pub made : CallsMade old.counts new.counts (length reads + 1)
-  pub failed : OneMoreFailed old.counts new.counts
+  pub failed : FailedOnceMore old.counts new.counts
 
 -- at most this many reads were made; perhaps one failed, and returned nothing
 abbrev pub MakesReads : SourceValue → SourceValue → ℕ → Type 0
 MakesReads old new most =
-    (reads : List (List ℕ)) × ((ReadsSucceed old new reads × (length reads ≤ most))
-    ⊎ (ReadsFail old new reads × (length reads + 1 ≤ most)))
+    (reads : List (List ℕ)) × ((AllReadsSucceed old new reads × (length reads ≤ most))
+    ⊎ (LastReadFails old new reads × (length reads + 1 ≤ most)))

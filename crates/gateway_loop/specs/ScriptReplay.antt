@@ -1,10 +1,10 @@
 -- What a replay reads, handles and writes.
 use Rattle.std.specs.Prelude.{◌≡◌, ◌↔◌, ◌⊎◌, ◌+◌, ◌-◌, ◌^◌, min, ℕ, Bool, List, length, Result, Err}
 use Rattle.std.specs.Io.KnownBytes.{Consumes, IsAtEnd}
-use Rattle.learned_devices.specs.StoreState.{StoreState}
+use Rattle.learned_devices.specs.DeviceStoreState.{DeviceStoreState}
 use Rattle.gateway_core.specs.Calls.{GatewayValue}
 use Rattle.gateway_core.specs.Events.{inputs_of}
-use Rattle.byte_io.specs.Counts.{HasCountRoom, OneEmpty, NoneFailedOrEmpty}
+use Rattle.byte_io.specs.Counts.{HasCountRoom, OnlyEmptyOnce, NoneFailedOrEmpty}
 use Rattle.byte_io.specs.declared.sink.Sink as sinks
 use Rattle.byte_io.specs.declared.source.Source as sources
 use Rattle.gateway_loop.specs.declared.runs.RunFault.{RunFault}
@@ -21,12 +21,12 @@ pub record ReplayValue (S : Type 0) : Type 0 where
   pub source : SourceValue
   pub sink : SinkValue
 
-abbrev pub replay_at : {R W S : Type 0} → sources.Ghosts R → sinks.Ghosts W → GatewayValue S × R × W → ReplayValue S
-replay_at source sink now =
+abbrev pub replay_value : {R W S : Type 0} → sources.Ghosts R → sinks.Ghosts W → GatewayValue S × R × W → ReplayValue S
+replay_value source sink now =
     record { gateway = now.0; source = source_value source now.1; sink = sink_value sink now.2 }
 
 -- Below, `at` is the state of the replay before and after the call, and `explains` whether packets are explained.
-module _ {S T : Type 0} (stored : S → StoreState) (at : T → ReplayValue S) (explains : Bool) where
+module _ {S T : Type 0} (stored : S → DeviceStoreState) (at : T → ReplayValue S) (explains : Bool) where
   -- the source was read to its end, exactly the inputs of the script were handled and counted, and the text of their
   -- answers was written
   pub record Replays (old new : T) (summary : Summary) : Type 0 where
@@ -52,7 +52,7 @@ module _ {S T : Type 0} (stored : S → StoreState) (at : T → ReplayValue S) (
 
   -- a write failed at the last event of the script, and one read returned nothing
   pub record BreaksAtEnd (old new : T) (input : List ℕ) : Type 0 where
-    pub reads : OneEmpty (at old).source.counts (at new).source.counts
+    pub reads : OnlyEmptyOnce (at old).source.counts (at new).source.counts
     pub at_end : IsAtEnd (at new).source.left
     pub broken : BreaksAtLastEvent stored (at old).gateway (at new).gateway (script input)
         (WritesPart explains (at old).sink.held (at new).sink.held)

@@ -8,7 +8,7 @@ use Rattle.std.proofs.lemmas.List.Concat.{flat_map-append}
 use Rattle.gateway_core.specs.Step.{Answer}
 use Rattle.byte_io.specs.Counts.{NoneFailedOrEmpty}
 use Rattle.byte_io.specs.Writes.{AppendsPart}
-use Rattle.gateway_loop.specs.CallCounts.{OneFailedOrEmpty, well_behind, wrong_behind}
+use Rattle.gateway_loop.specs.CallCounts.{OneFailedOrEmpty, none_failed_in_both, failed_in_second}
 use Rattle.gateway_loop.specs.OutputSpecs.{OutputSpec}
 use Rattle.gateway_loop.specs.Streams.{SinkValue}
 
@@ -41,7 +41,7 @@ module _ (says : Answer → List ℕ) where
     more = λ old mid new first second a b. record {
       text = subst (Appends old.held new.held) (sym (flat_map-append says first second))
           (Appends-trans old.held mid.held new.held (flat_map says first) (flat_map says second) a.text b.text);
-      went = well_behind old.counts mid.counts new.counts a.went b.went;
+      went = none_failed_in_both old.counts mid.counts new.counts a.went b.went;
     };
     broken = λ old mid new first second last a b. record {
       text = record {
@@ -51,6 +51,6 @@ module _ (says : Answer → List ℕ) where
         proper = b.text.proper;
         grown = more_text old mid new first second b.text.part a.text b.text.grown;
       };
-      went = wrong_behind old.counts mid.counts new.counts a.went b.went;
+      went = failed_in_second old.counts mid.counts new.counts a.went b.went;
     };
   }

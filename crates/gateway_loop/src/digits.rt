@@ -4,7 +4,7 @@ ghost use Rattle.std.specs.Prelude.{if◌then◌else◌, nat_lt, Some, None, IsE
 ghost use Rattle.hex.specs.Hex.{decode_of, hex_digit_value};
 
 // The value of each byte as a digit, upper or lower case; 0x10 for a byte that is not a digit.
-static VALUES: [u8; 256] = [
+static DIGIT_VALUES: [u8; 256] = [
     0x10, 0x10, 0x10, 0x10, 0x10, 0x10, 0x10, 0x10, 0x10, 0x10, 0x10, 0x10, 0x10, 0x10, 0x10, 0x10,
     0x10, 0x10, 0x10, 0x10, 0x10, 0x10, 0x10, 0x10, 0x10, 0x10, 0x10, 0x10, 0x10, 0x10, 0x10, 0x10,
     0x10, 0x10, 0x10, 0x10, 0x10, 0x10, 0x10, 0x10, 0x10, 0x10, 0x10, 0x10, 0x10, 0x10, 0x10, 0x10,
@@ -24,10 +24,10 @@ static VALUES: [u8; 256] = [
 ];
 
 // The value of a digit, or 0x10 for another byte.
-fn value_of(digit: u8) -> u8
+fn digit_value(digit: u8) -> u8
     ensures { hex_digit_value digit ≡ (if nat_lt result 16 then Some result else None) }
 {
-    VALUES[digit as usize]
+    DIGIT_VALUES[digit as usize]
 }
 
 /// Writes the bytes that hexadecimal digits spell, two digits for each. Returns false if a byte is not a digit or the
@@ -42,8 +42,8 @@ pub fn decode(digits: &[u8], bytes: &mut [u8]) -> bool
     // One test after the loop costs less than one for each byte.
     let mut seen = 0;
     for i in 0..bytes.len() {
-        let high = value_of(digits[2 * i]);
-        let low = value_of(digits[2 * i + 1]);
+        let high = digit_value(digits[2 * i]);
+        let low = digit_value(digits[2 * i + 1]);
         seen |= high | low;
         bytes[i] = high << 4 | low;
     }

@@ -2,7 +2,7 @@
 //! gateway's answers.
 ghost use Rattle.std.specs.Prelude.{◌≡◌, ◌<◌, ◌≤◌, [], ◌∷◌, length, take, drop, IfOk, OnOk, OnErr, MatchResult};
 ghost use Rattle.hex.specs.Hex.{decode_of};
-ghost use Rattle.json_lines.specs.Counts.{saturated_next};
+ghost use Rattle.json_lines.specs.Counts.{saturated_increment};
 ghost use Rattle.actuator_commands.specs.Limits.{max_line};
 ghost use Rattle.gateway_core.specs.Events.{Line as LineEvent, Chunk as ChunkEvent};
 ghost use Rattle.gateway_core.specs.Replies.{answer_of, packet_answer};
@@ -28,7 +28,7 @@ pub struct Driver<'g, O, S: DeviceStore> {
 
 impl<O: ReplySink, S: DeviceStore> Driver<'_, O, S> {
     /// Takes a chunk of the serial stream, and answers each packet that it completes.
-    pub fn take_chunk(&mut self, chunk: &[u8]) -> Result<(), Failed>
+    pub fn process_chunk(&mut self, chunk: &[u8]) -> Result<(), Failed>
         requires { IsDrained self.old.gateway.now }
         ensures gateway { self.new.gateway.ghost_name ≡ self.old.gateway.ghost_name }
         ensures loans { O.loans self.new.reply_sink ≡ O.loans self.old.reply_sink }
@@ -38,14 +38,14 @@ impl<O: ReplySink, S: DeviceStore> Driver<'_, O, S> {
         let _start = self.items;
         let mut count = 0;
         while count < chunk.len() {
-            count += self.take_run(&chunk[count..])?;
+            count += self.process_run(&chunk[count..])?;
         }
         Ok(())
     }
 
     /// Takes the whole packet at the front of these bytes, or, if there is none, the bytes up to the one that makes
     /// packets ready. Answers the packets that they complete, and returns how many bytes it took.
-    fn take_run(&mut self, bytes: &[u8]) -> Result<usize, Failed>
+    fn process_run(&mut self, bytes: &[u8]) -> Result<usize, Failed>
         requires idle { IsDrained self.old.gateway.now }
         requires some { 0 < length bytes.now }
         ensures gateway { self.new.gateway.ghost_name ≡ self.old.gateway.ghost_name }
@@ -87,7 +87,7 @@ impl<O: ReplySink, S: DeviceStore> Driver<'_, O, S> {
     }
 
     /// Takes an order of the desk, without its line end, and answers it.
-    pub fn take_order(&mut self, line: &[u8]) -> Result<(), Failed>
+    pub fn process_order(&mut self, line: &[u8]) -> Result<(), Failed>
         requires { IsDrained self.old.gateway.now }
         ensures gateway { self.new.gateway.ghost_name ≡ self.old.gateway.ghost_name }
         ensures loans { O.loans self.new.reply_sink ≡ O.loans self.old.reply_sink }
@@ -98,21 +98,21 @@ impl<O: ReplySink, S: DeviceStore> Driver<'_, O, S> {
     }
 
     /// Takes a line of a script, without its end.
-    pub fn take_script_line(&mut self, line: &[u8]) -> Result<(), Failed>
+    pub fn process_script_line(&mut self, line: &[u8]) -> Result<(), Failed>
         requires { IsDrained self.old.gateway.now }
         ensures gateway { self.new.gateway.ghost_name ≡ self.old.gateway.ghost_name }
         ensures loans { O.loans self.new.reply_sink ≡ O.loans self.old.reply_sink }
         ensures taken { TakesOrBreaks S.store_state O.output result self.old self.new (event_of line.now) }
     {
         if line.starts_with(b"S ".as_slice()) && line.len() <= MAX_LINE {
-            self.take_digits(line)
+            self.process_hex_line(line)
         } else {
-            self.take_order(line)
+            self.process_order(line)
         }
     }
 
     /// Takes a line that begins with `S` and a space: as a chunk if digits follow, otherwise as an order.
-    fn take_digits(&mut self, line: &[u8]) -> Result<(), Failed>
+    fn process_hex_line(&mut self, line: &[u8]) -> Result<(), Failed>
         requires idle { IsDrained self.old.gateway.now }
         requires long { 2 ≤ length line.now }
         requires short { length line.now ≤ max_line }
@@ -125,14 +125,14 @@ impl<O: ReplySink, S: DeviceStore> Driver<'_, O, S> {
         let mut bytes = [0u8; MAX_CHUNK];
         let chunk = &mut bytes[..digits.len() / 2];
         if decode(digits, chunk) {
-            self.take_chunk(chunk)
+            self.process_chunk(chunk)
         } else {
-            self.take_order(line)
+            self.process_order(line)
         }
     }
 
-    fn count_item(&mut self)
-        ensures { self.new ≡ record self.old { items = saturated_next self.old.items } }
+    fn count_input(&mut self)
+        ensures { self.new ≡ record self.old { items = saturated_increment self.old.items } }
     {
         self.items = self.items.saturating_add(1);
     }
@@ -142,10 +142,10 @@ impl<O: ReplySink, S: DeviceStore> Driver<'_, O, S> {
         ensures gateway { self.new.gateway.ghost_name ≡ self.old.gateway.ghost_name }
         ensures kept { self.new.gateway.now ≡ self.old.gateway.now }
         ensures loans { O.loans self.new.reply_sink ≡ O.loans self.old.reply_sink }
-        ensures counted { self.new.items ≡ saturated_next self.old.items }
+        ensures counted { self.new.items ≡ saturated_increment self.old.items }
         ensures put { Puts O.output result self.old.reply_sink self.new.reply_sink (packet_answer handled.now) }
     {
-        self.count_item();
+        self.count_input();
         self.reply_sink.put(Some(&handled.line), &handled.reply)
     }
 
@@ -154,10 +154,10 @@ impl<O: ReplySink, S: DeviceStore> Driver<'_, O, S> {
         ensures gateway { self.new.gateway.ghost_name ≡ self.old.gateway.ghost_name }
         ensures kept { self.new.gateway.now ≡ self.old.gateway.now }
         ensures loans { O.loans self.new.reply_sink ≡ O.loans self.old.reply_sink }
-        ensures counted { self.new.items ≡ saturated_next self.old.items }
+        ensures counted { self.new.items ≡ saturated_increment self.old.items }
         ensures put { Puts O.output result self.old.reply_sink self.new.reply_sink (answer_of reply.now) }
     {
-        self.count_item();
+        self.count_input();
         self.reply_sink.put(None, reply)
     }
 }

@@ -15,7 +15,6 @@ mod reply_sink;
 mod runs;
 mod script_replay;
 
-pub use limits::MAX_READ;
 pub use live_gateway::live;
 pub use runs::{RunFault, Summary};
 pub use script_replay::replay;

@@ -1,8 +1,5 @@
-//! The maximum sizes of reads, chunks and kept lines.
+//! The maximum sizes of chunks and kept lines.
 use gateway_core::MAX_LINE;
-
-/// The maximum number of bytes that one read returns. Own choice.
-pub const MAX_READ: usize = 256;
 
 /// The maximum number of bytes that a line of a script spells: two digits each, after `S` and a space. Own choice, like
 /// `MAX_LINE`.

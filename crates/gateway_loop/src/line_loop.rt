@@ -33,7 +33,7 @@ pub struct LineDispatcher<'g, O, S: DeviceStore> {
 // In the postconditions below `tail` is everything read so far of the partial line.
 impl<O: ReplySink, S: DeviceStore> LineDispatcher<'_, O, S> {
     /// Takes the next bytes, and so each line that ends in them.
-    pub fn take_bytes(&mut self, lines: Lines, bytes: &[u8]) -> Result<(), Failed>
+    pub fn process_bytes(&mut self, lines: Lines, bytes: &[u8]) -> Result<(), Failed>
         requires { IsDrained self.old.driver.gateway.now }
         ensures gateway { self.new.driver.gateway.ghost_name ≡ self.old.driver.gateway.ghost_name }
         ensures loans { O.loans self.new.driver.reply_sink ≡ O.loans self.old.driver.reply_sink }
@@ -47,7 +47,7 @@ impl<O: ReplySink, S: DeviceStore> LineDispatcher<'_, O, S> {
         let _start = self.driver.items;
         let mut rest = bytes;
         while let Some(end) = memchr(b'\n', rest) {
-            self.take_ended(lines, &rest[..end])?;
+            self.process_ended_lines(lines, &rest[..end])?;
             rest = &rest[end + 1..];
         }
         self.partial.extend(rest);
@@ -55,7 +55,7 @@ impl<O: ReplySink, S: DeviceStore> LineDispatcher<'_, O, S> {
     }
 
     /// Takes the line that LF ends after these bytes.
-    fn take_ended(&mut self, lines: Lines, bytes: &[u8]) -> Result<(), Failed>
+    fn process_ended_lines(&mut self, lines: Lines, bytes: &[u8]) -> Result<(), Failed>
         requires { IsDrained self.old.driver.gateway.now }
         ensures gateway { self.new.driver.gateway.ghost_name ≡ self.old.driver.gateway.ghost_name }
         ensures loans { O.loans self.new.driver.reply_sink ≡ O.loans self.old.driver.reply_sink }
@@ -66,16 +66,16 @@ impl<O: ReplySink, S: DeviceStore> LineDispatcher<'_, O, S> {
             (event_by lines (strip_carriage_return (tail ++ bytes.now))) }
     {
         if self.partial.as_slice().is_empty() {
-            return take_line(&mut self.driver, lines, strip(bytes));
+            return process_line(&mut self.driver, lines, strip(bytes));
         }
         self.partial.extend(bytes);
-        take_line(&mut self.driver, lines, strip(self.partial.as_slice()))?;
+        process_line(&mut self.driver, lines, strip(self.partial.as_slice()))?;
         self.partial.clear();
         Ok(())
     }
 
     /// Takes the line that the end of a script ends, if there is one.
-    pub fn take_last(&mut self) -> Result<(), Failed>
+    pub fn process_last_line(&mut self) -> Result<(), Failed>
         requires { IsDrained self.old.driver.gateway.now }
         ensures gateway { self.new.driver.gateway.ghost_name ≡ self.old.driver.gateway.ghost_name }
         ensures loans { O.loans self.new.driver.reply_sink ≡ O.loans self.old.driver.reply_sink }
@@ -88,7 +88,7 @@ impl<O: ReplySink, S: DeviceStore> LineDispatcher<'_, O, S> {
         if line.is_empty() {
             return Ok(());
         }
-        self.driver.take_script_line(line)
+        self.driver.process_script_line(line)
     }
 }
 
@@ -103,7 +103,7 @@ fn strip(line: &[u8]) -> &[u8]
 }
 
 /// Takes a line without its end.
-fn take_line<O: ReplySink, S: DeviceStore>(
+fn process_line<O: ReplySink, S: DeviceStore>(
     driver: &mut Driver<'_, O, S>,
     lines: Lines,
     line: &[u8],
@@ -114,7 +114,7 @@ fn take_line<O: ReplySink, S: DeviceStore>(
     ensures taken { TakesOrBreaks S.store_state O.output result driver.old driver.new (event_by lines line.now) }
 {
     match lines {
-        Lines::ScriptLines => driver.take_script_line(line),
-        Lines::DeskLines => driver.take_order(line),
+        Lines::ScriptLines => driver.process_script_line(line),
+        Lines::DeskLines => driver.process_order(line),
     }
 }

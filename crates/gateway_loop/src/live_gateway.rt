@@ -2,15 +2,14 @@
 ghost use Rattle.std.specs.Prelude.{◌≡◌, ◌+◌, ◌≤◌, ℕ, [], IfErr, IfOk};
 ghost use Rattle.byte_io.specs.Counts.{CallsMade};
 ghost use Rattle.gateway_loop.specs.Headline.{ServesAsSpecified};
-ghost use Rattle.gateway_loop.specs.LiveGateway.{Serves, ServesUntil, SucceedsIffAllTurns, live_at};
+ghost use Rattle.gateway_loop.specs.LiveGateway.{Serves, ServesUntil, SucceedsIffAllTurns, live_value};
 
 use crate::driver::Driver;
-use crate::limits::MAX_READ;
 use crate::line_loop::{LineDispatcher, Lines};
 use crate::live_outputs::LiveOutputs;
 use crate::partial_line::PartialLine;
 use crate::runs::{RunFault, Summary};
-use byte_io::{Sink, Source};
+use byte_io::{MAX_READ, Sink, Source};
 use gateway_core::{DeviceStore, GatewayOver};
 
 /// Serves a serial line and a desk: reads from both, and writes the gateway's answers.
@@ -40,10 +39,10 @@ pub fn live<P: Source, Q: Source, R: Sink, D: Sink, S: DeviceStore>(
         (gateway.new, serial_in.new, desk_in.new, serial_out.new, desk_out.new) turns }
 
     // What is read, handled and written.
-    ensures ok { IfOk result (Serves S.store_state (live_at P.Source Q.Source R.Sink D.Sink) explains
+    ensures ok { IfOk result (Serves S.store_state (live_value P.Source Q.Source R.Sink D.Sink) explains
         (gateway.old, serial_in.old, desk_in.old, serial_out.old, desk_out.old)
         (gateway.new, serial_in.new, desk_in.new, serial_out.new, desk_out.new) turns) }
-    ensures err { IfErr result (ServesUntil S.store_state (live_at P.Source Q.Source R.Sink D.Sink) explains
+    ensures err { IfErr result (ServesUntil S.store_state (live_value P.Source Q.Source R.Sink D.Sink) explains
         (gateway.old, serial_in.old, desk_in.old, serial_out.old, desk_out.old)
         (gateway.new, serial_in.new, desk_in.new, serial_out.new, desk_out.new)) }
 
@@ -51,7 +50,7 @@ pub fn live<P: Source, Q: Source, R: Sink, D: Sink, S: DeviceStore>(
     ensures reads { (n m : ℕ) × (n ≤ turns) × (m ≤ n) × (n ≤ m + 1)
         × CallsMade (P.counts serial_in.old) (P.counts serial_in.new) n
         × CallsMade (Q.counts desk_in.old) (Q.counts desk_in.new) m }
-    ensures whole { SucceedsIffAllTurns (live_at P.Source Q.Source R.Sink D.Sink) result
+    ensures whole { SucceedsIffAllTurns (live_value P.Source Q.Source R.Sink D.Sink) result
         (gateway.old, serial_in.old, desk_in.old, serial_out.old, desk_out.old)
         (gateway.new, serial_in.new, desk_in.new, serial_out.new, desk_out.new) turns }
 {
@@ -74,13 +73,13 @@ pub fn live<P: Source, Q: Source, R: Sink, D: Sink, S: DeviceStore>(
         let Ok(length) = serial_in.read(&mut buffer) else {
             return Err(RunFault::Read);
         };
-        let Ok(()) = dispatcher.driver.take_chunk(&buffer[..length]) else {
+        let Ok(()) = dispatcher.driver.process_chunk(&buffer[..length]) else {
             return Err(RunFault::Write);
         };
         let Ok(length) = desk_in.read(&mut buffer) else {
             return Err(RunFault::Read);
         };
-        let Ok(()) = dispatcher.take_bytes(Lines::DeskLines, &buffer[..length]) else {
+        let Ok(()) = dispatcher.process_bytes(Lines::DeskLines, &buffer[..length]) else {
             return Err(RunFault::Write);
         };
     }

@@ -1,19 +1,18 @@
 //! The loop that replays a script.
 ghost use Rattle.std.specs.Prelude.{◌≡◌, Err, [], IfErr, IfOk, OnOk};
-ghost use Rattle.byte_io.specs.Counts.{OneEmpty, OneFailed, NoneFailedOrEmpty};
+ghost use Rattle.byte_io.specs.Counts.{OnlyEmptyOnce, OnlyFailedOnce, NoneFailedOrEmpty};
 ghost use Rattle.gateway_loop.specs.CallCounts.{OneFailedOrEmpty, AtMostOneEmpty};
 ghost use Rattle.gateway_loop.specs.Headline.{ReplaysAsSpecified};
 ghost use Rattle.gateway_loop.specs.Reads.{MakesReads};
-ghost use Rattle.gateway_loop.specs.ScriptReplay.{Replays, ReplaysUntil, FailsIffTooManyTurns, replay_at};
+ghost use Rattle.gateway_loop.specs.ScriptReplay.{Replays, ReplaysUntil, FailsIffTooManyTurns, replay_value};
 ghost use Rattle.gateway_loop.specs.Streams.{source_value};
 
 use crate::driver::Driver;
-use crate::limits::MAX_READ;
 use crate::line_loop::{LineDispatcher, Lines};
 use crate::partial_line::PartialLine;
 use crate::replay_text::ReplayText;
 use crate::runs::{RunFault, Summary};
-use byte_io::{Sink, Source};
+use byte_io::{MAX_READ, Sink, Source};
 use gateway_core::{DeviceStore, GatewayOver};
 
 /// Replays a script: reads its lines, and writes the gateway's answers.
@@ -41,20 +40,20 @@ pub fn replay<R: Source, W: Sink, S: DeviceStore>(
         (gateway.old, reader.old, writer.old) (gateway.new, reader.new, writer.new) }
 
     // What is read, handled and written.
-    ensures ok { IfOk result (Replays S.store_state (replay_at R.Source W.Sink) explains
+    ensures ok { IfOk result (Replays S.store_state (replay_value R.Source W.Sink) explains
         (gateway.old, reader.old, writer.old) (gateway.new, reader.new, writer.new)) }
-    ensures err { IfErr result (ReplaysUntil S.store_state (replay_at R.Source W.Sink) explains
+    ensures err { IfErr result (ReplaysUntil S.store_state (replay_value R.Source W.Sink) explains
         (gateway.old, reader.old, writer.old) (gateway.new, reader.new, writer.new)) }
 
     // How the reads and the writes went.
     ensures reads { MakesReads (source_value R.Source reader.old) (source_value R.Source reader.new) turns }
-    ensures ended { OnOk result (OneEmpty (R.counts reader.old) (R.counts reader.new)
+    ensures ended { OnOk result (OnlyEmptyOnce (R.counts reader.old) (R.counts reader.new)
         × NoneFailedOrEmpty (W.counts writer.old) (W.counts writer.new)) }
-    ensures read { result ≡ Err RunFault.Read → OneFailed (R.counts reader.old) (R.counts reader.new)
+    ensures read { result ≡ Err RunFault.Read → OnlyFailedOnce (R.counts reader.old) (R.counts reader.new)
         × NoneFailedOrEmpty (W.counts writer.old) (W.counts writer.new) }
     ensures write { result ≡ Err RunFault.Write → AtMostOneEmpty (R.counts reader.old) (R.counts reader.new)
         × OneFailedOrEmpty (W.counts writer.old) (W.counts writer.new) }
-    ensures too_many { FailsIffTooManyTurns (replay_at R.Source W.Sink) result (gateway.old, reader.old, writer.old)
+    ensures too_many { FailsIffTooManyTurns (replay_value R.Source W.Sink) result (gateway.old, reader.old, writer.old)
         (gateway.new, reader.new, writer.new) turns }
 {
     let is_ready = gateway.is_ready();
@@ -77,14 +76,14 @@ pub fn replay<R: Source, W: Sink, S: DeviceStore>(
             Err(_) => return Err(RunFault::Read),
         };
         if length == 0 {
-            let Ok(()) = dispatcher.take_last() else {
+            let Ok(()) = dispatcher.process_last_line() else {
                 return Err(RunFault::Write);
             };
             return Ok(Summary {
                 items: dispatcher.driver.items,
             });
         }
-        let Ok(()) = dispatcher.take_bytes(Lines::ScriptLines, &buffer[..length]) else {
+        let Ok(()) = dispatcher.process_bytes(Lines::ScriptLines, &buffer[..length]) else {
             return Err(RunFault::Write);
         };
     }

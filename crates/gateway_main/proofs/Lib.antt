@@ -1,2 +1,2 @@
 pub mod StartLemmas
-pub mod LifeLemmas
+pub mod SessionLemmas

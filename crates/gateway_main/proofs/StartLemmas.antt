@@ -7,7 +7,7 @@ use Rattle.learned_devices.specs.Devices.{Devices}
 use Rattle.device_registry.specs.Holding.{Finds, registry_state_of}
 use Rattle.device_registry.specs.Opening.{IsOpened, RefusesAndDrops}
 use Rattle.device_registry.specs.declared.fault.OpenFault.{OpenFault}
-use Rattle.device_registry.specs.declared.fault.OpenFault.TheVariants.{NotARegistry, Refused}
+use Rattle.device_registry.specs.declared.fault.OpenFault.TheVariants.{NotARegistry, Failed}
 use Rattle.gateway_core.specs.Calls.{GatewayValue, new_gateway_value}
 use Rattle.gateway_loop.specs.Processing.{IsDrained}
 use Rattle.gateway_main.specs.Faults.{fault_of_open}
@@ -67,4 +67,4 @@ memory_or_store state database false = tt
 pub refuses_as_open : {C : Type 0} (state : C → State) (database : C) (why : OpenFault)
     → RefusesAndDrops state database why → RefusesToStart state database (fault_of_open why)
 refuses_as_open state database NotARegistry refused = refused refl
-refuses_as_open state database (Refused fault) refused = memory_or_store state database fault.is_memory
+refuses_as_open state database (Failed fault) refused = memory_or_store state database fault.is_memory

@@ -16,7 +16,7 @@ fault_of_store error = fault.Store
 
 abbrev pub fault_of_open : OpenFault → Fault
 fault_of_open opening.NotARegistry = fault.NotARegistry
-fault_of_open (opening.Refused why) = if why.is_memory then fault.Memory else fault.Store
+fault_of_open (opening.Failed why) = if why.is_memory then fault.Memory else fault.Store
 
 abbrev pub fault_of_run : RunFault → Fault
 fault_of_run Read = fault.Read

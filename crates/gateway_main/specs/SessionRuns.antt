@@ -2,7 +2,7 @@
 use Rattle.std.specs.Prelude.{ℕ, List, [], ◌∷◌, ◌++◌, None}
 use Rattle.sqlite.specs.State.{State, HasCleanDisk}
 use Rattle.learned_devices.specs.Devices.{Devices}
-use Rattle.device_registry.specs.Holding.{Finds, IsReturned, Opens, registry_state_of}
+use Rattle.device_registry.specs.Holding.{Finds, IsReturnedByClose, Opens, registry_state_of}
 use Rattle.gateway_core.specs.SessionCalls.{BeginsSession, ClosedSessionLeaves, SessionMayLeave}
 use Rattle.gateway_core.specs.Calls.{GatewayValue}
 use Rattle.gateway_core.specs.Handling.{HandlerValue, Handles}
@@ -37,7 +37,7 @@ module _ {C : Type 0} (state : C → State) where
       → (began : Starts state database base old.handler)
       → (broken : Breaks (registry_state_of state) old new events event breaks)
       → HasCleanDisk (state new.handler.registry)
-      → CrashEndsSession (state new.handler.registry) base began.found broken.items
+      → CrashEndsSession (state new.handler.registry) base began.found broken.inputs
       (broken.answered.answers ++ broken.answered.last ∷ [])
 
   -- The session ends by `close`, and the next open finds what it leaves, which is what was known at its end.
@@ -46,7 +46,7 @@ module _ {C : Type 0} (state : C → State) where
       (database opened : C) (base : ℕ) (old new : GatewayValue C) (events : List Event) (next : Devices)
       → (began : Starts state database base old.handler)
       → (done : Processes (registry_state_of state) old new events puts)
-      → HasCleanDisk (state new.handler.registry) → IsReturned (state new.handler.registry)
+      → HasCleanDisk (state new.handler.registry) → IsReturnedByClose (state new.handler.registry)
       → Opens (state new.handler.registry) (state opened) next
       → ClosedSessionLeaves base began.found (inputs_of old.rest events) done.answered.answers next
 
@@ -56,9 +56,9 @@ module _ {C : Type 0} (state : C → State) where
       (database opened : C) (base : ℕ) (old new : GatewayValue C) (events : List Event) (event : Event) (next : Devices)
       → (began : Starts state database base old.handler)
       → (broken : Breaks (registry_state_of state) old new events event breaks)
-      → HasCleanDisk (state new.handler.registry) → IsReturned (state new.handler.registry)
+      → HasCleanDisk (state new.handler.registry) → IsReturnedByClose (state new.handler.registry)
       → Opens (state new.handler.registry) (state opened) next
-      → ClosedSessionLeaves base began.found broken.items (broken.answered.answers ++ broken.answered.last ∷ []) next
+      → ClosedSessionLeaves base began.found broken.inputs (broken.answered.answers ++ broken.answered.last ∷ []) next
 
 -- ---- theorems about a gateway over a registry
 
@@ -67,5 +67,5 @@ abbrev pub ClosesEndRegistrySessions : {C : Type 0} → (C → State) → Type 0
 ClosesEndRegistrySessions {C} state =
     (old new : HandlerValue C) (opened : C) (found next : Devices) (items : List Input) (answers : List Answer)
     → HasCleanDisk (state new.registry) → BeginsSession (registry_state_of state) old found
-    → Handles (registry_state_of state) old items answers new → IsReturned (state new.registry)
+    → Handles (registry_state_of state) old items answers new → IsReturnedByClose (state new.registry)
     → Opens (state new.registry) (state opened) next → ClosedSessionLeaves old.base found items answers next

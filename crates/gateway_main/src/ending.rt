@@ -48,7 +48,7 @@ impl From<CommandLineFault> for Ending {
 }
 
 /// The ending if the program's arguments are not available.
-pub fn without_arguments(error: &io::Error) -> Ending
+pub fn ending_without_arguments(error: &io::Error) -> Ending
     ensures { result ≡ ending_of_arguments (error_kind error.now) }
 {
     match error.kind() {
@@ -58,10 +58,10 @@ pub fn without_arguments(error: &io::Error) -> Ending
 }
 
 /// Result of the run, or the fault that prevented it.
-pub type Served = Result<Result<Summary, RunFault>, Fault>;
+pub type ServeResult = Result<Result<Summary, RunFault>, Fault>;
 
 /// The result of the gateway's work and of closing its database: a fault of the work takes precedence.
-pub fn first_fault(served: Served, closed: Result<(), sqlite::Error>) -> Result<(), Fault>
+pub fn first_fault(served: ServeResult, closed: Result<(), sqlite::Error>) -> Result<(), Fault>
     ensures { result ≡ first_fault_of served closed }
 {
     served??;

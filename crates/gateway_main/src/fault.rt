@@ -64,8 +64,8 @@ impl From<OpenFault> for Fault {
     fn from(refused: OpenFault) -> Fault {
         match refused {
             OpenFault::NotARegistry => Fault::NotARegistry,
-            OpenFault::Refused(why) if why.is_memory() => Fault::Memory,
-            OpenFault::Refused(_) => Fault::Store,
+            OpenFault::Failed(why) if why.is_memory() => Fault::Memory,
+            OpenFault::Failed(_) => Fault::Store,
         }
     }
 }

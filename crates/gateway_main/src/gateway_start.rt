@@ -27,7 +27,7 @@ pub fn start<C: SqlConnection + Drop>(
     base: u32,
     remembered: usize,
 ) -> Result<GatewayOver<RegistryOver<C>>, Fault>
-    requires base { Address.is_base base ≡ true }
+    requires base { Address.is_base_id base ≡ true }
     requires room { (1 ≤ remembered) × (remembered ≤ max_cached) }
     requires idle { (C.state conn).in_transaction ≡ false }
     // How the headline begins: with the devices that were committed last, over an open connection.
@@ -50,7 +50,7 @@ fn gateway_over<C: SqlConnection + Drop>(
     registry: RegistryOver<C>,
     base: u32,
 ) -> Result<GatewayOver<RegistryOver<C>>, AllocError>
-    requires { Address.is_base base ≡ true }
+    requires { Address.is_base_id base ≡ true }
     ensures { IfOk result (λ gateway. gateway ≡ new_gateway_value base registry) }
 {
     match GatewayOver::new(alloc, registry, base) {

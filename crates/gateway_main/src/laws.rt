@@ -18,7 +18,7 @@ pub use gateway_loop::laws::explanations_stand_apart;
 
 /// Every gateway over a registry knows a state, while the disk has returned what was written and the connection is
 /// open.
-pub fn a_state_is_known<C: SqlConnection>(gateway: &GatewayOver<RegistryOver<C>>)
+pub fn gateways_have_a_state<C: SqlConnection>(gateway: &GatewayOver<RegistryOver<C>>)
     ensures { HasSomeState (registry_state_of C.state) gateway.now.handler }
 {
     devices_are_held(gateway.store());

@@ -9,7 +9,7 @@ pub mod laws;
 mod program_run;
 pub mod registry_gateway;
 
-pub use byte_io::{Failed, OverRead, OverWrite, Sink, Source};
-pub use gateway_loop::{MAX_READ, RunFault, Summary, live, replay};
+pub use byte_io::{Failed, MAX_READ, OverRead, OverWrite, Sink, Source};
+pub use gateway_loop::{RunFault, Summary, live, replay};
 pub use gateway_start::start;
 pub use program_run::program;

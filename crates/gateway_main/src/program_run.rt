@@ -4,7 +4,7 @@ ghost use Rattle.erp1_telegrams.specs.Address;
 ghost use Rattle.gateway_loop.specs.Processing.{IsDrained};
 
 use crate::command_line;
-use crate::ending::{Ending, Served, first_fault, status, without_arguments};
+use crate::ending::{Ending, ServeResult, first_fault, status, ending_without_arguments};
 use crate::fault::Fault;
 use crate::gateway_start::start;
 use crate::registry_gateway::{live, replay};
@@ -23,7 +23,7 @@ use std::{env, io};
 /// The exit status is 0 if it did what it was asked; 1 for a fault, which it prints in one line on standard error; 2
 /// for a command line that is rejected. Help and the version go to standard output, with status 0.
 pub fn program(rt: &HostRuntime) -> ExitCode {
-    let ended = work(rt);
+    let ended = run_command_line(rt);
     if let Err(ending) = &ended {
         print_ending(rt, ending);
     }
@@ -31,19 +31,19 @@ pub fn program(rt: &HostRuntime) -> ExitCode {
 }
 
 /// Does what the command line asks.
-fn work(rt: &HostRuntime) -> Result<(), Ending> {
-    let words = words_of(rt).map_err(|error| without_arguments(&error))?;
+fn run_command_line(rt: &HostRuntime) -> Result<(), Ending> {
+    let words = arguments_of(rt).map_err(|error| ending_without_arguments(&error))?;
     let options = command_line::read(rt.alloc(), words.as_slice())?;
     Ok(run(rt, options.plan())?)
 }
 
-fn words_of(rt: &HostRuntime) -> io::Result<Vec<String>> {
+fn arguments_of(rt: &HostRuntime) -> io::Result<Vec<String>> {
     Ok(env::args(rt)?.collect(rt.alloc())?)
 }
 
 /// Carries out the plan.
 fn run(rt: &HostRuntime, plan: Plan<'_>) -> Result<(), Fault>
-    requires base { Address.is_base plan.base ≡ true }
+    requires base { Address.is_base_id plan.base ≡ true }
 {
     match plan.db {
         None => {
@@ -62,8 +62,8 @@ fn serve<C: SqlConnection + Drop>(
     rt: &HostRuntime,
     conn: C,
     plan: Plan<'_>,
-) -> Result<(C, Served), Fault>
-    requires base { Address.is_base plan.base ≡ true }
+) -> Result<(C, ServeResult), Fault>
+    requires base { Address.is_base_id plan.base ≡ true }
     requires idle { (C.state conn).in_transaction ≡ false }
 {
     let mut gateway = start(rt.alloc(), conn, plan.base, MAX_CACHED)?;
@@ -103,7 +103,7 @@ fn live_on_files<C: SqlConnection>(
     gateway: &mut GatewayOver<RegistryOver<C>>,
     explains: bool,
     turns: u64,
-) -> Served
+) -> ServeResult
     requires { IsDrained gateway.old }
 {
     let (serial, desk, out) = files;

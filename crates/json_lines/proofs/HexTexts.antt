@@ -14,7 +14,7 @@ use Rattle.hex.specs.Hex.{upper_digits, encode_with, encode_upper, IsBytes}
 use Rattle.hex.proofs.HexLemmas.{IsAscii-encode_with}
 use Rattle.erp1_telegrams.specs.declared.eep.Eep.{Eep}
 use Rattle.json_lines.specs.Lines.{byte_text, id_text, eep_text, learn_as_text}
-use Rattle.json_lines.specs.private.LineData.{IsPlain}
+use Rattle.json_lines.specs.private.LineData.{NeedsNoEscape}
 
 -- ---- one digit
 
@@ -54,7 +54,7 @@ plain-digit digit below =
 
 -- ---- the digits of bytes
 
-pub plain_bytes : (bytes : List ℕ) → IsBytes bytes → IsPlain (encode_upper bytes)
+pub plain_bytes : (bytes : List ℕ) → IsBytes bytes → NeedsNoEscape (encode_upper bytes)
 unfolding encode_with
 plain_bytes [] h = refl
 plain_bytes (byte ∷ rest) h =
@@ -103,34 +103,34 @@ on_eep P append dash of_byte eep =
     append (byte_text eep.rorg ++ codes "-" ++ byte_text eep.func ++ codes "-") (byte_text eep.typ)
     (append (byte_text eep.rorg ++ codes "-" ++ byte_text eep.func) (codes "-") func dash) (of_byte eep.typ)
 
-pub plain-append : (a b : List ℕ) → IsPlain a → IsPlain b → IsPlain (a ++ b)
+pub plain-append : (a b : List ℕ) → NeedsNoEscape a → NeedsNoEscape b → NeedsNoEscape (a ++ b)
 plain-append a b ha hb = flat_map-append escape_byte a b ∙ ap₂ (λ x y. x ++ y) ha hb
 
 pub byte_bytes : (byte : ℕ) → IsBytes (to_be_bytes w8 byte)
 byte_bytes byte = all_below 256 (to_be_bytes w8 byte) (omega arith) (omega arith, tt)
 
-plain-byte : (byte : ℕ) → IsPlain (byte_text byte)
+plain-byte : (byte : ℕ) → NeedsNoEscape (byte_text byte)
 plain-byte byte = plain_bytes (to_be_bytes w8 byte) (byte_bytes byte)
 
 pub id_bytes : (id : ℕ) → IsBytes (to_be_bytes w32 id)
 id_bytes id = all_below 256 (to_be_bytes w32 id) (omega arith)
     (omega arith, (omega arith, (omega arith, (omega arith, tt))))
 
-pub plain-id : (id : ℕ) → IsPlain (id_text id)
+pub plain-id : (id : ℕ) → NeedsNoEscape (id_text id)
 plain-id id = plain_bytes (to_be_bytes w32 id) (id_bytes id)
 
-plain-dash : IsPlain (codes "-")
+plain-dash : NeedsNoEscape (codes "-")
 unfolding escape_byte
 plain-dash = refl
 
-plain-as : IsPlain (codes "as ")
+plain-as : NeedsNoEscape (codes "as ")
 unfolding escape_byte
 plain-as = refl
 
-pub plain-eep : (eep : Eep) → IsPlain (eep_text eep)
-plain-eep eep = on_eep IsPlain plain-append plain-dash plain-byte eep
+pub plain-eep : (eep : Eep) → NeedsNoEscape (eep_text eep)
+plain-eep eep = on_eep NeedsNoEscape plain-append plain-dash plain-byte eep
 
-pub plain-learn_as_text : (eep : Eep) → IsPlain (learn_as_text eep)
+pub plain-learn_as_text : (eep : Eep) → NeedsNoEscape (learn_as_text eep)
 plain-learn_as_text eep = plain-append (codes "as ") (eep_text eep) plain-as (plain-eep eep)
 
 ascii-dash : IsAscii (codes "-")

@@ -22,7 +22,7 @@ use Rattle.json_lines.specs.declared.counts.Counts.{Counts}
 use Rattle.json_lines.specs.Lines.{TeachLine, Response, text, or_null, in_quotes, member_text, object_text}
 use Rattle.json_lines.specs.Lines.{Teach, DeviceLine, ListEnd, StatusLine, ResponseLine}
 use Rattle.json_lines.specs.Lines.{profile_text, outcome_word, mode_word, code_names}
-use Rattle.json_lines.specs.private.LineData.{IsPlain, IsLineOf, or_null as data_or_null, members, object_of}
+use Rattle.json_lines.specs.private.LineData.{NeedsNoEscape, IsLineOf, or_null as data_or_null, members, object_of}
 use Rattle.json_lines.specs.private.LineData.{number_data}
 use Rattle.json_lines.specs.private.LineData.{profile_data}
 use Rattle.json_lines.specs.private.LineData.{teach_members, device_members, list_members, status_members}
@@ -36,10 +36,10 @@ abbrev named_texts : List (List ℕ × Data) → List (List ℕ × List ℕ)
 named_texts ms = map (λ m. (m.0, compact_text m.1)) ms
 
 abbrev ArePlain : List (List ℕ × Data) → Type 0
-ArePlain ms = AllByRecursion (λ m. IsPlain m.0) ms
+ArePlain ms = AllByRecursion (λ m. NeedsNoEscape m.0) ms
 
 -- a member, as the writer and as the definition group it
-grouped : (name text rest : List ℕ) → IsPlain name
+grouped : (name text rest : List ℕ) → NeedsNoEscape name
     → quoted name ++ 58 ∷ (text ++ rest) ≡ member_text (name, text) ++ rest
 grouped name text rest plain =
     let regrouped = ap (λ (t : List ℕ). t ++ rest) (append_assoc (in_quotes name) (codes ":") text)
@@ -99,7 +99,7 @@ no_float-known_profile : (eep : Option Eep) → has_float (data_or_null profile_
 no_float-known_profile = no_float-or_null profile_data (λ eep. refl)
 
 -- the words need no escape
-plain-outcome : (outcome : Outcome) → IsPlain (outcome_word outcome)
+plain-outcome : (outcome : Outcome) → NeedsNoEscape (outcome_word outcome)
 unfolding serde_json_on_literals
 plain-outcome Accepted = refl
 plain-outcome Deleted = refl
@@ -108,7 +108,7 @@ plain-outcome Full = refl
 plain-outcome General = refl
 plain-outcome NoProfile = refl
 
-plain-mode : (mode : Mode) → IsPlain (mode_word mode)
+plain-mode : (mode : Mode) → NeedsNoEscape (mode_word mode)
 unfolding serde_json_on_literals
 plain-mode Closed = refl
 plain-mode Learn = refl

@@ -1,7 +1,7 @@
 -- The counters of the gateway. Own choice: a counter of 64 bits that has reached its maximum does not change.
 use Rattle.std.specs.Prelude.{ℕ, ◌+◌, ◌-◌, ◌^◌, min, Option, Some, None}
-use Rattle.json_lines.specs.declared.counts.Count.{Count}
-use Rattle.json_lines.specs.declared.counts.Count.TheVariants.{Ignored, Reading, Refused, Response, Teach}
+use Rattle.json_lines.specs.declared.counts.Counter.{Counter}
+use Rattle.json_lines.specs.declared.counts.Counter.TheVariants.{Ignored, Reading, Refused, Response, Teach}
 use Rattle.json_lines.specs.declared.counts.Counts.{Counts}
 
 -- all counters are 0
@@ -13,18 +13,18 @@ abbrev pub saturated_sum : ℕ → ℕ → ℕ
 saturated_sum count n = min (count + n) (2 ^ 64 - 1)
 
 -- a counter, plus one
-abbrev pub saturated_next : ℕ → ℕ
-saturated_next count = saturated_sum count 1
+abbrev pub saturated_increment : ℕ → ℕ
+saturated_increment count = saturated_sum count 1
 
 -- one counter is incremented, and the others stay
-abbrev pub increment : Counts → Count → Counts
-increment counts Ignored = record counts { ignored = saturated_next counts.ignored }
-increment counts Reading = record counts { readings = saturated_next counts.readings }
-increment counts Refused = record counts { refused = saturated_next counts.refused }
-increment counts Response = record counts { responses = saturated_next counts.responses }
-increment counts Teach = record counts { teach = saturated_next counts.teach }
+abbrev pub increment : Counts → Counter → Counts
+increment counts Ignored = record counts { ignored = saturated_increment counts.ignored }
+increment counts Reading = record counts { readings = saturated_increment counts.readings }
+increment counts Refused = record counts { refused = saturated_increment counts.refused }
+increment counts Response = record counts { responses = saturated_increment counts.responses }
+increment counts Teach = record counts { teach = saturated_increment counts.teach }
 
 -- one counter is incremented, or none
-abbrev pub increment_if_any : Counts → Option Count → Counts
+abbrev pub increment_if_any : Counts → Option Counter → Counts
 increment_if_any counts None = counts
 increment_if_any counts (Some count) = increment counts count

@@ -4,7 +4,7 @@ ghost use Rattle.json_lines.specs.Counts.{increment, zero_counts};
 
 /// The counter that an input increments.
 #[derive(Clone, Copy, Debug, PartialEq, Eq)]
-pub enum Count {
+pub enum Counter {
     /// A packet without a line for the desk.
     Ignored,
     /// A telegram that was read.
@@ -48,15 +48,15 @@ impl Counts {
     }
 
     /// Increments one counter.
-    pub fn raise(&mut self, count: Count)
+    pub fn increment(&mut self, count: Counter)
         ensures { self.new ≡ increment self.old count }
     {
         match count {
-            Count::Ignored => self.ignored = self.ignored.saturating_add(1),
-            Count::Reading => self.readings = self.readings.saturating_add(1),
-            Count::Refused => self.refused = self.refused.saturating_add(1),
-            Count::Response => self.responses = self.responses.saturating_add(1),
-            Count::Teach => self.teach = self.teach.saturating_add(1),
+            Counter::Ignored => self.ignored = self.ignored.saturating_add(1),
+            Counter::Reading => self.readings = self.readings.saturating_add(1),
+            Counter::Refused => self.refused = self.refused.saturating_add(1),
+            Counter::Response => self.responses = self.responses.saturating_add(1),
+            Counter::Teach => self.teach = self.teach.saturating_add(1),
         }
     }
 }

@@ -6,7 +6,7 @@ ghost use Rattle.json_lines.specs.Lines.{learn_as_text, byte_text, eep_text, id_
 use erp1_telegrams::Eep;
 
 // The two hexadecimal digits of each byte, in upper case.
-static DIGITS: [u8; 512] = *b"\
+static HEX_PAIRS: [u8; 512] = *b"\
     000102030405060708090A0B0C0D0E0F101112131415161718191A1B1C1D1E1F\
     202122232425262728292A2B2C2D2E2F303132333435363738393A3B3C3D3E3F\
     404142434445464748494A4B4C4D4E4F505152535455565758595A5B5C5D5E5F\
@@ -21,7 +21,7 @@ pub(crate) fn byte_digits(byte: u8) -> [u8; 2]
     ensures ascii { IsAscii result }
 {
     let at = 2 * usize::from(byte);
-    [DIGITS[at], DIGITS[at + 1]]
+    [HEX_PAIRS[at], HEX_PAIRS[at + 1]]
 }
 
 pub(crate) fn id_digits(id: u32) -> [u8; 8]

@@ -21,7 +21,7 @@ mod status;
 mod teach;
 mod text_parts;
 
-pub use counts::{Count, Counts};
+pub use counts::{Counter, Counts};
 pub use devices::device_lines;
 pub use done::done_line;
 pub use error_lines::ErrorName;

@@ -8,7 +8,7 @@ ghost use Rattle.json_lines.specs.PacketLines.{max_content_members, max_end_memb
 ghost use Rattle.json_lines.specs.PacketLines.{max_sender_members};
 
 use crate::limits::MAX_PACKET_LINE;
-use crate::teach::word_of;
+use crate::teach::outcome_word;
 use crate::text_parts::{
     Text, put, put_byte, put_dbm, put_dest, put_id, put_known_profile, put_maker, put_number,
     put_payload, put_string,
@@ -74,7 +74,7 @@ fn why_word(why: Why) -> &'static str
         Why::FromBroadcast => "from_broadcast",
         Why::ForOthers => "for_others",
         Why::TeachInReply => "teach_in_reply",
-        Why::TeachIn(outcome) => word_of(outcome),
+        Why::TeachIn(outcome) => outcome_word(outcome),
         Why::WindowClosed => "window_closed",
         Why::OtherMode => "other_mode",
         Why::Read => "read",

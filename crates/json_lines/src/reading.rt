@@ -10,7 +10,7 @@ ghost use Rattle.exact_values.specs.Fraction.{ratio};
 ghost use Rattle.json_lines.specs.Lines as lines;
 ghost use Rattle.json_lines.specs.Lines.{dbm_text, entry_text, id_text, in_quotes, member_text, reading_text, or_null};
 ghost use Rattle.json_lines.specs.Lines.{profile_text};
-ghost use Rattle.json_lines.specs.private.LineData.{IsPlain};
+ghost use Rattle.json_lines.specs.private.LineData.{NeedsNoEscape};
 
 use crate::digits::{eep_digits, id_digits};
 use crate::limits::MAX_USUAL_LINE;
@@ -52,8 +52,8 @@ fn sender_part(eep: Eep, id: u32) -> [u8; 46]
 
 // Whether a text needs no escape. Also false for a text with a space or `!`, which saves a comparison for each byte. No
 // profile has such a text.
-fn is_plain(text: &[u8]) -> bool
-    ensures { OnTrue result (IsPlain text.now) }
+fn needs_no_escape(text: &[u8]) -> bool
+    ensures { OnTrue result (NeedsNoEscape text.now) }
 {
     for &byte in text {
         if byte <= b'"' || byte == b'\\' {
@@ -85,7 +85,7 @@ fn put_escaped(text: &str, out: &mut Vec<u8>) -> Result<(), AllocError>
 fn put_text(text: &str, out: &mut Vec<u8>) -> Result<(), AllocError>
     ensures { OnOk result (out.new.items ≡ out.old.items ++ escape text.now) }
 {
-    if is_plain(text.as_bytes()) {
+    if needs_no_escape(text.as_bytes()) {
         out.extend_from_slice(text.as_bytes())
     } else {
         put_escaped(text, out)

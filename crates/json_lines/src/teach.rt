@@ -13,7 +13,7 @@ use std::alloc::{AllocError, Global};
 use teach_in::{Outcome, Verdict};
 
 // The word of an outcome.
-pub(crate) fn word_of(outcome: Outcome) -> &'static str
+pub(crate) fn outcome_word(outcome: Outcome) -> &'static str
     ensures { result.now ≡ outcome_word outcome }
 {
     match outcome {
@@ -60,7 +60,7 @@ impl Serialize for TeachObject {
         out.key("maker")?;
         put_maker(self.maker, out)?;
         out.key("result")?;
-        out.str(word_of(self.outcome))?;
+        out.str(outcome_word(self.outcome))?;
         out.key("type")?;
         out.str("teach")?;
         out.end_map()

@@ -1,7 +1,7 @@
 //! Telegrams with known packets, each fault, the capacity that a packet needs, and the IDs of a gateway.
 use arrayvec::ArrayVec;
 use erp1_telegrams::{
-    BROADCAST, Eep, FilterReason, Telegram, TelegramFault, filter_reason, is_base, is_own, read,
+    BROADCAST, Eep, FilterReason, Telegram, TelegramFault, filter_reason, is_base_id, is_gateway_id, read,
     write,
 };
 use esp3_frames::{PacketFault, PacketRef, read_packet};
@@ -396,8 +396,8 @@ fn profile_of_its_numbers(rt: HostRuntime) {
 fn questions(rt: HostRuntime) {
     for (row, case) in ASKED.iter().enumerate() {
         let found = match case.question {
-            Question::IsBase { id } => is_base(id),
-            Question::IsOwnRegistry { base, id } => is_own(base, id),
+            Question::IsBase { id } => is_base_id(id),
+            Question::IsOwnRegistry { base, id } => is_gateway_id(base, id),
         };
         assert_eq!(rt; found, case.wanted, "row {row}");
     }

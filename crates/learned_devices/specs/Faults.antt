@@ -3,9 +3,9 @@ use Rattle.std.specs.Prelude.{true, false}
 use Rattle.learned_devices.specs.declared.fault.StoreFault.{StoreFault}
 
 -- out of memory
-abbrev pub no_memory : StoreFault
-no_memory = record { is_memory = true }
+abbrev pub out_of_memory : StoreFault
+out_of_memory = record { is_memory = true }
 
 -- the database does not answer
-abbrev pub no_answer : StoreFault
-no_answer = record { is_memory = false }
+abbrev pub store_failed : StoreFault
+store_failed = record { is_memory = false }

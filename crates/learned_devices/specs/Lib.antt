@@ -2,5 +2,5 @@ pub mod Labels
 pub mod Devices
 pub mod Ranges
 pub mod Faults
-pub mod StoreState
+pub mod DeviceStoreState
 pub mod StoreCalls

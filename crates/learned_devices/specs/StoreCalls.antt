@@ -5,13 +5,13 @@ use Rattle.std.specs.declared.alloc.Global.{Global}
 use Rattle.std.specs.FinMap.{get}
 use Rattle.learned_devices.specs.declared.Device.{Device}
 use Rattle.learned_devices.specs.declared.fault.LearnFault.{LearnFault}
-use Rattle.learned_devices.specs.declared.fault.LearnFault.TheVariants.{Full, Refused}
+use Rattle.learned_devices.specs.declared.fault.LearnFault.TheVariants.{Full, Failed}
 use Rattle.learned_devices.specs.Devices.{Devices, DeviceUpdate, device_of, all_of, is_full, learn_update}
 use Rattle.learned_devices.specs.Devices.{forget_update, relabel_update}
-use Rattle.learned_devices.specs.StoreState.{StoreState, Keeps, Commits, LeavesPending}
+use Rattle.learned_devices.specs.DeviceStoreState.{DeviceStoreState, Keeps, Commits, LeavesPending}
 
 -- a sender is looked up
-pub record LooksUp {E : Type 0} (old new : StoreState) (id : ℕ) (result : Result (Option Device) E) : Type 0 where
+pub record LooksUp {E : Type 0} (old new : DeviceStoreState) (id : ℕ) (result : Result (Option Device) E) : Type 0 where
   pub clean : new.honest → old.honest
   pub registries : new.honest → new.sound
   pub devices : new.honest → (devices : Devices) → old.holds devices
@@ -19,20 +19,20 @@ pub record LooksUp {E : Type 0} (old new : StoreState) (id : ℕ) (result : Resu
       (λ _. Keeps old new devices)
 
 -- an update is committed, or the call failed, at its commit or before
-pub record Updates {A E : Type 0} (old new : StoreState) (update : DeviceUpdate) (result : Result A E) : Type 0 where
+pub record Updates {A E : Type 0} (old new : DeviceStoreState) (update : DeviceUpdate) (result : Result A E) : Type 0 where
   pub clean : new.honest → old.honest
   pub registries : new.honest → new.sound
   pub devices : new.honest → (devices : Devices) → old.holds devices
       → MatchResult result (λ _. Commits new update devices) (λ _. LeavesPending old new update devices)
 
 -- A device is not learned. If 1,000 others are, nothing is written; otherwise the call failed, at its commit or before.
-abbrev pub RefusesToLearn : StoreState → StoreState → Device → Devices → LearnFault → Type 0
+abbrev pub RefusesToLearn : DeviceStoreState → DeviceStoreState → Device → Devices → LearnFault → Type 0
 RefusesToLearn old new it devices Full = IsTrue (is_full devices it.id) × Keeps old new devices
-RefusesToLearn old new it devices (Refused fault) =
+RefusesToLearn old new it devices (Failed fault) =
     MatchBool (is_full devices it.id) (Keeps old new devices) (LeavesPending old new (learn_update it) devices)
 
 -- a device is learned and replaces the data of its sender, except for the label
-pub record Learns {A : Type 0} (old new : StoreState) (it : Device) (result : Result A LearnFault) : Type 0 where
+pub record Learns {A : Type 0} (old new : DeviceStoreState) (it : Device) (result : Result A LearnFault) : Type 0 where
   pub clean : new.honest → old.honest
   pub registries : new.honest → new.sound
   pub devices : new.honest → (devices : Devices) → old.holds devices
@@ -40,11 +40,11 @@ pub record Learns {A : Type 0} (old new : StoreState) (it : Device) (result : Re
       (RefusesToLearn old new it devices)
 
 -- a sender is forgotten, even if it was not learned
-abbrev pub Forgets : {A E : Type 0} → StoreState → StoreState → ℕ → Result A E → Type 0
+abbrev pub Forgets : {A E : Type 0} → DeviceStoreState → DeviceStoreState → ℕ → Result A E → Type 0
 Forgets old new id result = Updates old new (forget_update id) result
 
 -- A sender gets a label, if it is learned: the result is whether it is. If it is not, nothing is written.
-pub record Relabels {E : Type 0} (old new : StoreState) (id : ℕ) (label : List ℕ) (result : Result Bool E) : Type 0
+pub record Relabels {E : Type 0} (old new : DeviceStoreState) (id : ℕ) (label : List ℕ) (result : Result Bool E) : Type 0
   where
     pub clean : new.honest → old.honest
     pub registries : new.honest → new.sound
@@ -55,7 +55,7 @@ pub record Relabels {E : Type 0} (old new : StoreState) (id : ℕ) (label : List
         (Keeps old new devices))
 
 -- all devices are listed
-pub record ListsAll {E : Type 0} (old new : StoreState) (result : Result (Vec Device Global) E) : Type 0 where
+pub record ListsAll {E : Type 0} (old new : DeviceStoreState) (result : Result (Vec Device Global) E) : Type 0 where
   pub clean : new.honest → old.honest
   pub registries : new.honest → new.sound
   pub devices : new.honest → (devices : Devices) → old.holds devices

@@ -1,7 +1,7 @@
 //! A device store, and the receipts for its updates.
 ghost use Rattle.std.specs.Prelude.{◌≡◌, [], false, IfOk, IsTrue, OnOk};
 ghost use Rattle.learned_devices.specs.Devices.{Devices, DeviceUpdate, forget_update, learn_update, relabel_update};
-ghost use Rattle.learned_devices.specs.StoreState.{StoreState};
+ghost use Rattle.learned_devices.specs.DeviceStoreState.{DeviceStoreState};
 ghost use Rattle.learned_devices.specs.StoreCalls.{LooksUp, Learns, Forgets, Relabels, ListsAll};
 
 use crate::fault::{LearnFault, StoreFault};
@@ -28,7 +28,7 @@ impl Receipt {
 /// Stores at most 1,000 devices, each under the ID of its sender.
 pub trait DeviceStore {
     /// What it keeps.
-    ghost store_state: { Self → StoreState };
+    ghost store_state: { Self → DeviceStoreState };
 
     /// What the call between these two values wrote for this update of these devices, even if it changed none of them.
     ghost wrote: { Self → Self → DeviceUpdate → Devices → Type 0 };

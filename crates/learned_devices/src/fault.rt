@@ -1,6 +1,6 @@
 //! Why a call of a device store fails.
 ghost use Rattle.std.specs.Prelude.{◌≡◌};
-ghost use Rattle.learned_devices.specs.Faults.{no_answer};
+ghost use Rattle.learned_devices.specs.Faults.{store_failed};
 
 use std::alloc::AllocError;
 
@@ -13,8 +13,8 @@ pub struct StoreFault {
 
 impl StoreFault {
     /// The database does not answer. A fault for lack of memory is made only from the allocator's error.
-    pub fn no_answer() -> StoreFault
-        ensures { result ≡ no_answer }
+    pub fn store_failed() -> StoreFault
+        ensures { result ≡ store_failed }
     {
         StoreFault { is_memory: false }
     }
@@ -29,9 +29,9 @@ impl StoreFault {
 
 impl From<AllocError> for StoreFault {
     ghost use Rattle.std.specs.Prelude.{◌≡◌};
-    ghost use Rattle.learned_devices.specs.Faults.{no_memory};
+    ghost use Rattle.learned_devices.specs.Faults.{out_of_memory};
 
-    ghost from_gives = { λ _ fault. fault ≡ no_memory };
+    ghost from_gives = { λ _ fault. fault ≡ out_of_memory };
 
     fn from(_error: AllocError) -> StoreFault {
         StoreFault { is_memory: true }
@@ -46,16 +46,16 @@ pub enum LearnFault {
     Full,
     /// The device store does not answer, or is out of memory.
     #[error(transparent)]
-    Refused(StoreFault),
+    Failed(StoreFault),
 }
 
 impl From<StoreFault> for LearnFault {
     ghost use Rattle.std.specs.Prelude.{◌≡◌};
-    ghost use Rattle.learned_devices.specs.declared.fault.LearnFault.TheVariants.{Refused};
+    ghost use Rattle.learned_devices.specs.declared.fault.LearnFault.TheVariants.{Failed};
 
-    ghost from_gives = { λ fault why. why ≡ Refused fault };
+    ghost from_gives = { λ fault why. why ≡ Failed fault };
 
     fn from(fault: StoreFault) -> LearnFault {
-        LearnFault::Refused(fault)
+        LearnFault::Failed(fault)
     }
 }

@@ -89,13 +89,13 @@ fn labels_are_printed(rt: HostRuntime) -> Result<(), Fail> {
 
 #[test]
 fn each_fault_says_why(rt: HostRuntime) -> Result<(), Fail> {
-    let no_memory = StoreFault::from(AllocError);
-    let no_answer = StoreFault::no_answer();
-    assert!(rt; no_memory.is_memory());
-    assert!(rt; !no_answer.is_memory());
+    let out_of_memory = StoreFault::from(AllocError);
+    let store_failed = StoreFault::store_failed();
+    assert!(rt; out_of_memory.is_memory());
+    assert!(rt; !store_failed.is_memory());
     for (fault, printed) in [
-        (LearnFault::from(no_memory), "there is no memory"),
-        (LearnFault::from(no_answer), "the store does not answer"),
+        (LearnFault::from(out_of_memory), "there is no memory"),
+        (LearnFault::from(store_failed), "the store does not answer"),
         (LearnFault::Full, "1,000 other devices are learned"),
     ] {
         let written = format!(in rt.alloc(); "{fault}")?;

@@ -5,7 +5,7 @@ use Rattle.erp1_telegrams.specs.declared.eep.Eep.{Eep}
 use Rattle.profile_rows.specs.Rows.{Row}
 
 -- profiles with the same rows: these types of one RORG and FUNC
-pub record Profiles : Type 0 where
+pub record ProfileGroup : Type 0 where
   pub rorg : ℕ
   pub func : ℕ
   pub types : List ℕ
@@ -16,5 +16,5 @@ unfoldable pub is_one_of : ℕ → ℕ → List ℕ → Eep → Bool
 is_one_of rorg func types eep = eep.rorg == rorg && eep.func == func && list_any (λ typ. eep.typ == typ) types
 
 -- the rows of a profile, if a table has it
-abbrev pub rows_in : List Profiles → Eep → Option (List Row)
+abbrev pub rows_in : List ProfileGroup → Eep → Option (List Row)
 rows_in table eep = option_map (λ ps. ps.rows) (find (λ ps. is_one_of ps.rorg ps.func ps.types eep) table)

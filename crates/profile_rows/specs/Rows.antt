@@ -48,38 +48,38 @@ pub record Row : Type 0 where
   pub kind : Kind
 
 -- the bit NU of a status byte (ISO/IEC 14543-3-10, "Status": the fourth bit from the left)
-abbrev pub nu_of : ℕ → ℕ
-nu_of status = field (status ∷ []) 3 1
+abbrev pub nu_bit : ℕ → ℕ
+nu_bit status = field (status ∷ []) 3 1
 
 -- a condition holds for a telegram with this status and this payload
-abbrev pub holds : Condition → ℕ → List ℕ → Bool
-holds always status payload = true
-holds (where_field offset len n) status payload = field payload offset len == n
-holds (where_above offset len n) status payload = nat_lt n (field payload offset len)
-holds (where_nu n) status payload = nu_of status == n
-holds (both a b) status payload = holds a status payload && holds b status payload
+abbrev pub condition_holds : Condition → ℕ → List ℕ → Bool
+condition_holds always status payload = true
+condition_holds (where_field offset len n) status payload = field payload offset len == n
+condition_holds (where_above offset len n) status payload = nat_lt n (field payload offset len)
+condition_holds (where_nu n) status payload = nu_bit status == n
+condition_holds (both a b) status payload = condition_holds a status payload && condition_holds b status payload
 
 -- a value with a unit, or no value
-abbrev pub value_or_none : List ℕ → ℕ → Option Ratio → Meaning
-value_or_none unit n None = out_of_range n
-value_or_none unit n (Some ratio) = value ratio unit
+abbrev pub value_or_out_of_range : List ℕ → ℕ → Option Ratio → Meaning
+value_or_out_of_range unit n None = out_of_range n
+value_or_out_of_range unit n (Some ratio) = value ratio unit
 
 -- the value of n if a means x tenths of a unit and b means y tenths
 abbrev pub value_in_range : ℕ → ℕ → ℤ → ℤ → List ℕ → ℕ → Meaning
-value_in_range a b x y unit n = value_or_none unit n (scaled n a b x y)
+value_in_range a b x y unit n = value_or_out_of_range unit n (scaled n a b x y)
 
 -- the word that was found, or none
-abbrev pub word_or_none : ℕ → Option (ℕ × List ℕ) → Meaning
-word_or_none n None = out_of_range n
-word_or_none n (Some found) = word found.1
+abbrev pub word_or_out_of_range : ℕ → Option (ℕ × List ℕ) → Meaning
+word_or_out_of_range n None = out_of_range n
+word_or_out_of_range n (Some found) = word found.1
 
 -- the word listed with n in a list of numbers and words
-abbrev pub word_beside : List (ℕ × List ℕ) → ℕ → Meaning
-word_beside list n = word_or_none n (find (λ entry. entry.0 == n) list)
+abbrev pub word_for : List (ℕ × List ℕ) → ℕ → Meaning
+word_for list n = word_or_out_of_range n (find (λ entry. entry.0 == n) list)
 
 -- one word below a bound, another from the bound on
-abbrev pub word_by : ℕ → List ℕ → List ℕ → ℕ → Meaning
-word_by bound below from n = if nat_lt n bound then word below else word from
+abbrev pub word_at_threshold : ℕ → List ℕ → List ℕ → ℕ → Meaning
+word_at_threshold bound below from n = if nat_lt n bound then word below else word from
 
 -- a percentage, and a word for 127
 abbrev pub percentage_or : List ℕ → ℕ → Meaning
@@ -92,8 +92,8 @@ quotient divisor unit n = value (lowest (pos n) divisor) unit
 -- the meaning of the number n in a field of this payload
 abbrev pub row_meaning : Kind → List ℕ → ℕ → Meaning
 row_meaning (range a b x y unit) payload n = value_in_range a b x y unit n
-row_meaning (words list) payload n = word_beside list n
-row_meaning (threshold bound below from) payload n = word_by bound below from n
+row_meaning (words list) payload n = word_for list n
+row_meaning (threshold bound below from) payload n = word_at_threshold bound below from n
 row_meaning (percent_or text) payload n = percentage_or text n
 row_meaning (over divisor unit) payload n = quotient divisor unit n
 row_meaning (over_power offset len unit) payload n = quotient (10 ^ field payload offset len) unit n
@@ -103,7 +103,7 @@ row_meaning reserved payload n = out_of_range n
 -- the readings of a row in a telegram with this status and this payload: none if its condition does not hold
 abbrev pub row_entries : ℕ → List ℕ → Row → List Entry
 row_entries status payload row =
-    if holds row.condition status payload
+    if condition_holds row.condition status payload
     then record { name = row.name; meaning = row_meaning row.kind payload (field payload row.offset row.len) } ∷ []
     else []
 

@@ -3,7 +3,7 @@
 
 ghost use Rattle.std.specs.Prelude.{◌≡◌, ◌≢◌, ◌^◌, ◌≤◌, ℤ, pos, negsuc, ◌≤ℤ◌, map};
 ghost use Rattle.profile_rows.specs.Reading.{meaning_of, raw as itself, out_of_range};
-ghost use Rattle.profile_rows.specs.Rows.{value_in_range, word_beside, word_by, percentage_or, quotient};
+ghost use Rattle.profile_rows.specs.Rows.{value_in_range, word_for, word_at_threshold, percentage_or, quotient};
 
 use crate::What;
 use exact_values::scale;
@@ -33,7 +33,7 @@ pub fn range(
 
 /// The first word that is listed with the number. A number without a word is out of range.
 pub fn words(raw: u32, list: &[(u32, &'static str)]) -> What
-    ensures { meaning_of result ≡ word_beside (map (λ entry. (entry.0, entry.1.now)) list.now) raw }
+    ensures { meaning_of result ≡ word_for (map (λ entry. (entry.0, entry.1.now)) list.now) raw }
 {
     for (number, word) in list {
         if *number == raw {
@@ -45,7 +45,7 @@ pub fn words(raw: u32, list: &[(u32, &'static str)]) -> What
 
 /// The word `below` for numbers below the bound, and the word `from` from the bound on.
 pub fn threshold(raw: u32, bound: u32, below: &'static str, from: &'static str) -> What
-    ensures { meaning_of result ≡ word_by bound below.now from.now raw }
+    ensures { meaning_of result ≡ word_at_threshold bound below.now from.now raw }
 {
     What::Word(if raw < bound { below } else { from })
 }

@@ -1,7 +1,7 @@
 -- The gas sensor (EnOcean Equipment Profiles 2.6, "A5-09: Gas Sensor"; its rows are an own choice).
 use Rattle.std.specs.Prelude.{pos, List, [], ◌∷◌, codes}
 use Rattle.profile_rows.specs.Rows.{Row, range, always, where_field}
-use Rattle.profile_rows.specs.Profile.{Profiles}
+use Rattle.profile_rows.specs.Profile.{ProfileGroup}
 
 -- the concentration of CO2, with the humidity and the temperature if there are sensors for these
 abbrev pub carbon_dioxide : List Row
@@ -30,5 +30,5 @@ carbon_dioxide =
     ∷ []
 
 -- A5-09-04
-abbrev pub gas : List Profiles
-gas = record { rorg = 0xA5; func = 0x09; types = 0x04 ∷ []; rows = carbon_dioxide } ∷ []
+abbrev pub gas_profiles : List ProfileGroup
+gas_profiles = record { rorg = 0xA5; func = 0x09; types = 0x04 ∷ []; rows = carbon_dioxide } ∷ []

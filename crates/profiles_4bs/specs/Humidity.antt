@@ -1,7 +1,7 @@
 -- The temperature and humidity sensors (EnOcean Equipment Profiles 2.6, "A5-04: Temperature and Humidity Sensor").
 use Rattle.std.specs.Prelude.{ℤ, pos, List, [], ◌∷◌, codes}
 use Rattle.profile_rows.specs.Rows.{Row, range, always, where_field}
-use Rattle.profile_rows.specs.Profile.{Profiles}
+use Rattle.profile_rows.specs.Profile.{ProfileGroup}
 use Rattle.profiles_4bs.specs.Tenths.{minus}
 
 -- the humidity, and the temperature between two bounds, in tenths, if there is a temperature sensor
@@ -24,8 +24,8 @@ humidity_and_temperature coldest hottest =
     ∷ []
 
 -- A5-04-01: 0 to 40 C, A5-04-02: -20 to 60 C
-abbrev pub humidity : List Profiles
-humidity =
+abbrev pub humidity_profiles : List ProfileGroup
+humidity_profiles =
     record { rorg = 0xA5; func = 0x04; types = 0x01 ∷ []; rows = humidity_and_temperature (pos 0) (pos 400) }
     ∷ record { rorg = 0xA5; func = 0x04; types = 0x02 ∷ []; rows = humidity_and_temperature (minus 200) (pos 600) }
     ∷ []

@@ -1,7 +1,7 @@
 -- The light sensors (EnOcean Equipment Profiles 2.6, "A5-06: Light Sensor").
 use Rattle.std.specs.Prelude.{ℤ, pos, List, [], ◌∷◌, codes}
 use Rattle.profile_rows.specs.Rows.{Row, range, always, where_field}
-use Rattle.profile_rows.specs.Profile.{Profiles}
+use Rattle.profile_rows.specs.Profile.{ProfileGroup}
 
 -- the supply voltage, and the one of two illuminations that the range select chooses: first the bounds of ILL2, then
 -- those of ILL1, in tenths
@@ -31,8 +31,8 @@ voltage_and_light darkest2 brightest2 darkest1 brightest1 =
     ∷ []
 
 -- A5-06-01: ILL2 of 300 to 30000 lx and ILL1 of 600 to 60000 lx, A5-06-02: 0 to 510 lx and 0 to 1020 lx
-abbrev pub light : List Profiles
-light =
+abbrev pub light_profiles : List ProfileGroup
+light_profiles =
     record {
       rorg = 0xA5;
       func = 0x06;

@@ -2,7 +2,7 @@
 -- Occupancy Sensor").
 use Rattle.std.specs.Prelude.{ℕ, ℤ, pos, List, [], ◌∷◌, codes}
 use Rattle.profile_rows.specs.Rows.{Row, range, words, always}
-use Rattle.profile_rows.specs.Profile.{Profiles}
+use Rattle.profile_rows.specs.Profile.{ProfileGroup}
 use Rattle.profiles_4bs.specs.Tenths.{minus}
 use Rattle.profiles_4bs.specs.OccupancyButton.{pressed_or_released}
 
@@ -12,8 +12,8 @@ on_or_off = (0, codes "on") ∷ (1, codes "off") ∷ []
 
 -- the supply voltage, the light up to a bound, the temperature between two bounds, the motion and the occupancy button;
 -- the bounds are in tenths
-abbrev pub all_in_one : ℤ → ℤ → ℤ → List Row
-all_in_one brightest coldest hottest =
+abbrev pub light_temperature_occupancy_rows : ℤ → ℤ → ℤ → List Row
+light_temperature_occupancy_rows brightest coldest hottest =
     record {
       name = codes "SVC";
       offset = 0;
@@ -40,9 +40,9 @@ all_in_one brightest coldest hottest =
     ∷ []
 
 -- A5-08-01: up to 510 lx, 0 to 51 C, A5-08-02: up to 1020 lx, 0 to 51 C, A5-08-03: up to 1530 lx, -30 to 50 C
-abbrev pub light_temperature_occupancy : List Profiles
-light_temperature_occupancy =
-    record { rorg = 0xA5; func = 0x08; types = 0x01 ∷ []; rows = all_in_one (pos 5100) (pos 0) (pos 510) }
-    ∷ record { rorg = 0xA5; func = 0x08; types = 0x02 ∷ []; rows = all_in_one (pos 10200) (pos 0) (pos 510) }
-    ∷ record { rorg = 0xA5; func = 0x08; types = 0x03 ∷ []; rows = all_in_one (pos 15300) (minus 300) (pos 500) }
+abbrev pub light_temperature_occupancy_profiles : List ProfileGroup
+light_temperature_occupancy_profiles =
+    record { rorg = 0xA5; func = 0x08; types = 0x01 ∷ []; rows = light_temperature_occupancy_rows (pos 5100) (pos 0) (pos 510) }
+    ∷ record { rorg = 0xA5; func = 0x08; types = 0x02 ∷ []; rows = light_temperature_occupancy_rows (pos 10200) (pos 0) (pos 510) }
+    ∷ record { rorg = 0xA5; func = 0x08; types = 0x03 ∷ []; rows = light_temperature_occupancy_rows (pos 15300) (minus 300) (pos 500) }
     ∷ []

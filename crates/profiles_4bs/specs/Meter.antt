@@ -1,7 +1,7 @@
 -- The meters (EnOcean Equipment Profiles 2.6, "A5-12: Automated Meter Reading (AMR)"; their rows are an own choice).
 use Rattle.std.specs.Prelude.{ℕ, List, [], ◌∷◌, codes}
 use Rattle.profile_rows.specs.Rows.{Row, over_power, number, always, where_field}
-use Rattle.profile_rows.specs.Profile.{Profiles}
+use Rattle.profile_rows.specs.Profile.{ProfileGroup}
 
 -- The meter reading divided by ten to the power of the field of two bits at offset 30, and the tariff as the number
 -- itself. The bit at offset 29 selects the unit: that of a cumulative value, or that of a current one
@@ -19,8 +19,8 @@ reading_and_tariff cumulative current =
     ∷ []
 
 -- A5-12-01: electricity, A5-12-02: gas, A5-12-03: water
-abbrev pub meter : List Profiles
-meter =
+abbrev pub meter_profiles : List ProfileGroup
+meter_profiles =
     record { rorg = 0xA5; func = 0x12; types = 0x01 ∷ []; rows = reading_and_tariff (codes "kWh") (codes "W") }
     ∷ record {
       rorg = 0xA5;

@@ -1,7 +1,7 @@
 -- The occupancy sensor (EnOcean Equipment Profiles 2.6, "A5-07: Occupancy Sensor").
 use Rattle.std.specs.Prelude.{pos, List, [], ◌∷◌, codes}
 use Rattle.profile_rows.specs.Rows.{Row, range, threshold, always, where_field}
-use Rattle.profile_rows.specs.Profile.{Profiles}
+use Rattle.profile_rows.specs.Profile.{ProfileGroup}
 
 -- the supply voltage if it is available, and whether there is motion
 abbrev pub voltage_and_motion : List Row
@@ -23,5 +23,5 @@ voltage_and_motion =
     ∷ []
 
 -- A5-07-01
-abbrev pub occupancy : List Profiles
-occupancy = record { rorg = 0xA5; func = 0x07; types = 0x01 ∷ []; rows = voltage_and_motion } ∷ []
+abbrev pub occupancy_profiles : List ProfileGroup
+occupancy_profiles = record { rorg = 0xA5; func = 0x07; types = 0x01 ∷ []; rows = voltage_and_motion } ∷ []

@@ -4,29 +4,29 @@ use Rattle.erp1_telegrams.specs.declared.eep.Eep.{Eep}
 use Rattle.erp1_telegrams.specs.Telegram.{Telegram}
 use Rattle.profile_rows.specs.Reading.{Entry}
 use Rattle.profile_rows.specs.Rows.{Row, entries_of}
-use Rattle.profile_rows.specs.Profile.{Profiles, rows_in}
+use Rattle.profile_rows.specs.Profile.{ProfileGroup, rows_in}
 use Rattle.profile_rows.specs.Payload.{payload_of, readings_by}
 use Rattle.profile_rows.specs.declared.unreadable.Unreadable.{Unreadable}
-use Rattle.profiles_4bs.specs.Temperature.{temperature}
-use Rattle.profiles_4bs.specs.Humidity.{humidity}
-use Rattle.profiles_4bs.specs.Light.{light}
-use Rattle.profiles_4bs.specs.Occupancy.{occupancy}
-use Rattle.profiles_4bs.specs.LightTemperatureOccupancy.{light_temperature_occupancy}
-use Rattle.profiles_4bs.specs.Gas.{gas}
-use Rattle.profiles_4bs.specs.RoomOperatingPanel.{room_operating_panel}
-use Rattle.profiles_4bs.specs.Meter.{meter}
+use Rattle.profiles_4bs.specs.Temperature.{temperature_profiles}
+use Rattle.profiles_4bs.specs.Humidity.{humidity_profiles}
+use Rattle.profiles_4bs.specs.Light.{light_profiles}
+use Rattle.profiles_4bs.specs.Occupancy.{occupancy_profiles}
+use Rattle.profiles_4bs.specs.LightTemperatureOccupancy.{light_temperature_occupancy_profiles}
+use Rattle.profiles_4bs.specs.Gas.{gas_profiles}
+use Rattle.profiles_4bs.specs.RoomOperatingPanel.{room_operating_panel_profiles}
+use Rattle.profiles_4bs.specs.Meter.{meter_profiles}
 
 -- the supported profiles (own choice), and their rows
-abbrev pub table : List Profiles
+abbrev pub table : List ProfileGroup
 table =
-    temperature
-    ++ humidity
-    ++ light
-    ++ occupancy
-    ++ light_temperature_occupancy
-    ++ gas
-    ++ room_operating_panel
-    ++ meter
+    temperature_profiles
+    ++ humidity_profiles
+    ++ light_profiles
+    ++ occupancy_profiles
+    ++ light_temperature_occupancy_profiles
+    ++ gas_profiles
+    ++ room_operating_panel_profiles
+    ++ meter_profiles
 
 -- the rows of a profile, if it is supported
 unfoldable pub rows_of : Eep → Option (List Row)

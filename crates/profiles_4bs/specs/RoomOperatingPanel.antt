@@ -1,7 +1,7 @@
 -- The room operating panels (EnOcean Equipment Profiles 2.6, "A5-10: Room Operating Panel").
 use Rattle.std.specs.Prelude.{pos, List, [], ◌∷◌, ◌++◌, codes}
 use Rattle.profile_rows.specs.Rows.{Row, range, words, number, always}
-use Rattle.profile_rows.specs.Profile.{Profiles}
+use Rattle.profile_rows.specs.Profile.{ProfileGroup}
 use Rattle.profiles_4bs.specs.OccupancyButton.{pressed_or_released}
 
 -- the set point as the number itself, and the temperature, whose number falls from 255 to 0 as it rises
@@ -25,8 +25,8 @@ set_point_temperature_and_button =
     ∷ []
 
 -- A5-10-03, A5-10-05
-abbrev pub room_operating_panel : List Profiles
-room_operating_panel =
+abbrev pub room_operating_panel_profiles : List ProfileGroup
+room_operating_panel_profiles =
     record { rorg = 0xA5; func = 0x10; types = 0x03 ∷ []; rows = set_point_and_temperature }
     ∷ record { rorg = 0xA5; func = 0x10; types = 0x05 ∷ []; rows = set_point_temperature_and_button }
     ∷ []

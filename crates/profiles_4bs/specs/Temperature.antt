@@ -1,12 +1,12 @@
 -- The temperature sensors (EnOcean Equipment Profiles 2.6, "A5-02: Temperature Sensors").
 use Rattle.std.specs.Prelude.{ℕ, ◌-◌, ◌*◌, ℤ, pos, ◌+ℤ◌, ◌-ℤ◌, List, [], ◌∷◌, ◌++◌, map, codes}
 use Rattle.profile_rows.specs.Rows.{Row, range, always}
-use Rattle.profile_rows.specs.Profile.{Profiles}
+use Rattle.profile_rows.specs.Profile.{ProfileGroup}
 use Rattle.profiles_4bs.specs.Tenths.{minus}
 
 -- a number of 8 bits, which falls from 255 to 0 as the temperature rises between two bounds, in tenths
-abbrev pub of_8_bits : ℤ → ℤ → List Row
-of_8_bits coldest hottest =
+abbrev pub temperature_of_8_bits : ℤ → ℤ → List Row
+temperature_of_8_bits coldest hottest =
     record {
       name = codes "TMP";
       offset = 16;
@@ -17,8 +17,8 @@ of_8_bits coldest hottest =
     ∷ []
 
 -- a number of 10 bits, which falls from 1023 to 0 in the same way
-abbrev pub of_10_bits : ℤ → ℤ → List Row
-of_10_bits coldest hottest =
+abbrev pub temperature_of_10_bits : ℤ → ℤ → List Row
+temperature_of_10_bits coldest hottest =
     record {
       name = codes "TMP";
       offset = 14;
@@ -29,33 +29,33 @@ of_10_bits coldest hottest =
     ∷ []
 
 -- A5-02-01: -40 to 0 C; for each further type both bounds are 10 C higher
-abbrev pub of_40_degrees : ℕ → Profiles
-of_40_degrees typ =
+abbrev pub profile_over_40_degrees : ℕ → ProfileGroup
+profile_over_40_degrees typ =
     let more = pos (100 * (typ - 0x01)) in
-    record { rorg = 0xA5; func = 0x02; types = typ ∷ []; rows = of_8_bits (more -ℤ pos 400) more }
+    record { rorg = 0xA5; func = 0x02; types = typ ∷ []; rows = temperature_of_8_bits (more -ℤ pos 400) more }
 
 -- A5-02-10: -60 to 20 C; for each further type both bounds are 10 C higher
-abbrev pub of_80_degrees : ℕ → Profiles
-of_80_degrees typ =
+abbrev pub profile_over_80_degrees : ℕ → ProfileGroup
+profile_over_80_degrees typ =
     let more = pos (100 * (typ - 0x10)) in
-    record { rorg = 0xA5; func = 0x02; types = typ ∷ []; rows = of_8_bits (more -ℤ pos 600) (more +ℤ pos 200) }
+    record { rorg = 0xA5; func = 0x02; types = typ ∷ []; rows = temperature_of_8_bits (more -ℤ pos 600) (more +ℤ pos 200) }
 
 -- A5-02-01 to A5-02-0B
-abbrev pub spans_of_40_degrees : List Profiles
-spans_of_40_degrees =
-    map of_40_degrees (0x01 ∷ 0x02 ∷ 0x03 ∷ 0x04 ∷ 0x05 ∷ 0x06 ∷ 0x07 ∷ 0x08 ∷ 0x09 ∷ 0x0A ∷ 0x0B ∷ [])
+abbrev pub profiles_over_40_degrees : List ProfileGroup
+profiles_over_40_degrees =
+    map profile_over_40_degrees (0x01 ∷ 0x02 ∷ 0x03 ∷ 0x04 ∷ 0x05 ∷ 0x06 ∷ 0x07 ∷ 0x08 ∷ 0x09 ∷ 0x0A ∷ 0x0B ∷ [])
 
 -- A5-02-10 to A5-02-1B
-abbrev pub spans_of_80_degrees : List Profiles
-spans_of_80_degrees =
-    map of_80_degrees (0x10 ∷ 0x11 ∷ 0x12 ∷ 0x13 ∷ 0x14 ∷ 0x15 ∷ 0x16 ∷ 0x17 ∷ 0x18 ∷ 0x19 ∷ 0x1A ∷ 0x1B ∷ [])
+abbrev pub profiles_over_80_degrees : List ProfileGroup
+profiles_over_80_degrees =
+    map profile_over_80_degrees (0x10 ∷ 0x11 ∷ 0x12 ∷ 0x13 ∷ 0x14 ∷ 0x15 ∷ 0x16 ∷ 0x17 ∷ 0x18 ∷ 0x19 ∷ 0x1A ∷ 0x1B ∷ [])
 
 -- A5-02-20: -10 to 41.2 C, A5-02-30: -40 to 62.3 C
-abbrev pub of_10_bits_each : List Profiles
-of_10_bits_each =
-    record { rorg = 0xA5; func = 0x02; types = 0x20 ∷ []; rows = of_10_bits (minus 100) (pos 412) }
-    ∷ record { rorg = 0xA5; func = 0x02; types = 0x30 ∷ []; rows = of_10_bits (minus 400) (pos 623) }
+abbrev pub profiles_of_10_bits : List ProfileGroup
+profiles_of_10_bits =
+    record { rorg = 0xA5; func = 0x02; types = 0x20 ∷ []; rows = temperature_of_10_bits (minus 100) (pos 412) }
+    ∷ record { rorg = 0xA5; func = 0x02; types = 0x30 ∷ []; rows = temperature_of_10_bits (minus 400) (pos 623) }
     ∷ []
 
-abbrev pub temperature : List Profiles
-temperature = spans_of_40_degrees ++ spans_of_80_degrees ++ of_10_bits_each
+abbrev pub temperature_profiles : List ProfileGroup
+temperature_profiles = profiles_over_40_degrees ++ profiles_over_80_degrees ++ profiles_of_10_bits

@@ -5,7 +5,7 @@ ghost use Rattle.std.specs.Bool.{OnFalse};
 ghost use Rattle.profile_rows.specs.Answer.{entries_if};
 ghost use Rattle.profile_rows.specs.Profile.{rows_in};
 ghost use Rattle.profile_rows.specs.Rows.{entries_of};
-ghost use Rattle.profiles_4bs.specs.LightTemperatureOccupancy.{light_temperature_occupancy};
+ghost use Rattle.profiles_4bs.specs.LightTemperatureOccupancy.{light_temperature_occupancy_profiles};
 
 use crate::occupancy_button::PRESSED_OR_RELEASED;
 use erp1_telegrams::Eep;
@@ -17,7 +17,7 @@ const ON_OR_OFF: [(u32, &str); 2] = [(0, "on"), (1, "off")];
 /// Sets `readings` to what the rows of a profile A5-08 read in a payload, and returns whether the profile has rows.
 pub(crate) fn read_into(eep: Eep, bytes: &[u8; 4], readings: &mut Readings) -> bool
     ensures exact { entries_if result readings.new.items
-        ≡ option_map (entries_of bytes.now) (rows_in light_temperature_occupancy eep) }
+        ≡ option_map (entries_of bytes.now) (rows_in light_temperature_occupancy_profiles eep) }
     ensures none { OnFalse result (readings.new ≡ readings.old) }
 {
     read_profiles! { readings, eep, bytes, 4;

@@ -5,7 +5,7 @@ ghost use Rattle.std.specs.Bool.{OnFalse};
 ghost use Rattle.profile_rows.specs.Answer.{entries_if};
 ghost use Rattle.profile_rows.specs.Profile.{rows_in};
 ghost use Rattle.profile_rows.specs.Rows.{entries_of};
-ghost use Rattle.profiles_4bs.specs.RoomOperatingPanel.{room_operating_panel};
+ghost use Rattle.profiles_4bs.specs.RoomOperatingPanel.{room_operating_panel_profiles};
 
 use crate::occupancy_button::PRESSED_OR_RELEASED;
 use erp1_telegrams::Eep;
@@ -14,7 +14,7 @@ use profile_rows::{Readings, read_profiles};
 /// Sets `readings` to what the rows of a profile A5-10 read in a payload, and returns whether the profile has rows.
 pub(crate) fn read_into(eep: Eep, bytes: &[u8; 4], readings: &mut Readings) -> bool
     ensures exact { entries_if result readings.new.items
-        ≡ option_map (entries_of bytes.now) (rows_in room_operating_panel eep) }
+        ≡ option_map (entries_of bytes.now) (rows_in room_operating_panel_profiles eep) }
     ensures none { OnFalse result (readings.new ≡ readings.old) }
 {
     read_profiles! { readings, eep, bytes, 4;

@@ -5,8 +5,8 @@ ghost use Rattle.std.specs.Bool.{OnFalse};
 ghost use Rattle.profile_rows.specs.Answer.{entries_if};
 ghost use Rattle.profile_rows.specs.Profile.{rows_in};
 ghost use Rattle.profile_rows.specs.Rows.{entries_of};
-ghost use Rattle.profiles_4bs.specs.Temperature.{of_10_bits_each, spans_of_40_degrees};
-ghost use Rattle.profiles_4bs.specs.Temperature.{spans_of_80_degrees, temperature};
+ghost use Rattle.profiles_4bs.specs.Temperature.{profiles_of_10_bits, profiles_over_40_degrees};
+ghost use Rattle.profiles_4bs.specs.Temperature.{profiles_over_80_degrees, temperature_profiles};
 
 use erp1_telegrams::Eep;
 use profile_rows::{Readings, read_profiles};
@@ -14,18 +14,18 @@ use profile_rows::{Readings, read_profiles};
 /// Sets `readings` to what the rows of a profile A5-02 read in a payload, and returns whether the profile has rows.
 /// Each of the three functions has a part of the profiles: a single function would cost more to prove.
 pub(crate) fn read_into(eep: Eep, bytes: &[u8; 4], readings: &mut Readings) -> bool
-    ensures exact { entries_if result readings.new.items ≡ option_map (entries_of bytes.now) (rows_in temperature eep) }
+    ensures exact { entries_if result readings.new.items ≡ option_map (entries_of bytes.now) (rows_in temperature_profiles eep) }
     ensures none { OnFalse result (readings.new ≡ readings.old) }
 {
-    over_40_degrees(eep, bytes, readings)
-        || over_80_degrees(eep, bytes, readings)
-        || by_10_bits(eep, bytes, readings)
+    read_over_40_degrees(eep, bytes, readings)
+        || read_over_80_degrees(eep, bytes, readings)
+        || read_10_bits(eep, bytes, readings)
 }
 
 /// A5-02-01 to A5-02-0B.
-fn over_40_degrees(eep: Eep, bytes: &[u8; 4], readings: &mut Readings) -> bool
+fn read_over_40_degrees(eep: Eep, bytes: &[u8; 4], readings: &mut Readings) -> bool
     ensures exact { entries_if result readings.new.items
-        ≡ option_map (entries_of bytes.now) (rows_in spans_of_40_degrees eep) }
+        ≡ option_map (entries_of bytes.now) (rows_in profiles_over_40_degrees eep) }
     ensures none { OnFalse result (readings.new ≡ readings.old) }
 {
     read_profiles! { readings, eep, bytes, 4;
@@ -44,9 +44,9 @@ fn over_40_degrees(eep: Eep, bytes: &[u8; 4], readings: &mut Readings) -> bool
 }
 
 /// A5-02-10 to A5-02-1B.
-fn over_80_degrees(eep: Eep, bytes: &[u8; 4], readings: &mut Readings) -> bool
+fn read_over_80_degrees(eep: Eep, bytes: &[u8; 4], readings: &mut Readings) -> bool
     ensures exact { entries_if result readings.new.items
-        ≡ option_map (entries_of bytes.now) (rows_in spans_of_80_degrees eep) }
+        ≡ option_map (entries_of bytes.now) (rows_in profiles_over_80_degrees eep) }
     ensures none { OnFalse result (readings.new ≡ readings.old) }
 {
     read_profiles! { readings, eep, bytes, 4;
@@ -66,9 +66,9 @@ fn over_80_degrees(eep: Eep, bytes: &[u8; 4], readings: &mut Readings) -> bool
 }
 
 /// A5-02-20 and A5-02-30.
-fn by_10_bits(eep: Eep, bytes: &[u8; 4], readings: &mut Readings) -> bool
+fn read_10_bits(eep: Eep, bytes: &[u8; 4], readings: &mut Readings) -> bool
     ensures exact { entries_if result readings.new.items
-        ≡ option_map (entries_of bytes.now) (rows_in of_10_bits_each eep) }
+        ≡ option_map (entries_of bytes.now) (rows_in profiles_of_10_bits eep) }
     ensures none { OnFalse result (readings.new ≡ readings.old) }
 {
     read_profiles! { readings, eep, bytes, 4;

@@ -4,14 +4,14 @@ use Rattle.erp1_telegrams.specs.declared.eep.Eep.{Eep}
 use Rattle.erp1_telegrams.specs.Telegram.{Telegram}
 use Rattle.profile_rows.specs.Reading.{Entry}
 use Rattle.profile_rows.specs.Rows.{Row, rows_entries}
-use Rattle.profile_rows.specs.Profile.{Profiles, rows_in}
+use Rattle.profile_rows.specs.Profile.{ProfileGroup, rows_in}
 use Rattle.profile_rows.specs.Payload.{payload_of, readings_by}
 use Rattle.profile_rows.specs.declared.unreadable.Unreadable.{Unreadable}
 use Rattle.profiles_rps.specs.Rps.{push_button, two_rockers, four_rockers}
 use Rattle.profiles_rps.specs.OneByte.{single_contact}
 
 -- the supported profiles (own choice), and their rows
-abbrev pub table : List Profiles
+abbrev pub table : List ProfileGroup
 table =
     record { rorg = 0xF6; func = 0x01; types = 0x01 ∷ []; rows = push_button }
     ∷ record { rorg = 0xF6; func = 0x02; types = 0x01 ∷ 0x02 ∷ []; rows = two_rockers }

@@ -4,8 +4,8 @@ ghost use Rattle.std.specs.Prelude.{◌≡◌, OnErr};
 ghost use Rattle.bit_fields.specs.Bits.{field};
 ghost use Rattle.profile_rows.specs.Answer.{read_result};
 ghost use Rattle.profiles_vld.specs.ElectronicSwitches.{status_response, measurement_response};
-ghost use Rattle.profiles_vld.specs.Payload.{of_length};
-ghost use Rattle.profiles_vld.specs.Profiles.{electronic_switches_say};
+ghost use Rattle.profiles_vld.specs.Payload.{entries_if_length};
+ghost use Rattle.profiles_vld.specs.Profiles.{electronic_switch_readings};
 
 use bit_fields::get;
 use profile_rows::{Readings, Unreadable, read_rows};
@@ -13,7 +13,7 @@ use profile_rows::{Readings, Unreadable, read_rows};
 /// Sets `readings` to the readings of a payload, or returns the first error: `OtherMessage` if its command is neither 4
 /// nor 7, and `WrongLength` if it does not have the length of its command's message.
 pub(crate) fn read_into(payload: &[u8], readings: &mut Readings) -> Result<(), Unreadable>
-    ensures exact { read_result result readings.new.items ≡ electronic_switches_say payload.now }
+    ensures exact { read_result result readings.new.items ≡ electronic_switch_readings payload.now }
     ensures err { OnErr result (readings.new ≡ readings.old) }
 {
     match command(payload) {
@@ -36,7 +36,7 @@ fn command(payload: &[u8]) -> u32
 /// Sets `readings` to those of a status, which is the command 4. `WrongLength` if the payload does not have three
 /// bytes.
 fn status_response(payload: &[u8], readings: &mut Readings) -> Result<(), Unreadable>
-    ensures exact { read_result result readings.new.items ≡ of_length 3 payload.now status_response }
+    ensures exact { read_result result readings.new.items ≡ entries_if_length 3 payload.now status_response }
     ensures err { OnErr result (readings.new ≡ readings.old) }
 {
     let Ok(bytes) = <&[u8; 3]>::try_from(payload) else {
@@ -57,7 +57,7 @@ fn status_response(payload: &[u8], readings: &mut Readings) -> Result<(), Unread
 /// Sets `readings` to those of a measurement, which is the command 7. `WrongLength` if the payload does not have six
 /// bytes.
 fn measurement_response(payload: &[u8], readings: &mut Readings) -> Result<(), Unreadable>
-    ensures exact { read_result result readings.new.items ≡ of_length 6 payload.now measurement_response }
+    ensures exact { read_result result readings.new.items ≡ entries_if_length 6 payload.now measurement_response }
     ensures err { OnErr result (readings.new ≡ readings.old) }
 {
     let Ok(bytes) = <&[u8; 6]>::try_from(payload) else {

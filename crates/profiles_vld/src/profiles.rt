@@ -2,7 +2,7 @@
 
 ghost use Rattle.std.specs.Prelude.{◌≡◌, option_map, IfNone, IfSome, OnErr};
 ghost use Rattle.profile_rows.specs.Answer.{read_result};
-ghost use Rattle.profiles_vld.specs.Profiles.{profile_says, supported, readings_of};
+ghost use Rattle.profiles_vld.specs.Profiles.{payload_readings_of, supported, readings_of};
 
 use crate::{blinds_control, electronic_switches};
 use erp1_telegrams::{Eep, Telegram, rorg};
@@ -12,7 +12,7 @@ use profile_rows::{Readings, Unreadable};
 /// supported.
 fn read_into(eep: Eep, payload: &[u8], readings: &mut Readings) -> Option<Result<(), Unreadable>>
     ensures exact { option_map (λ answer. read_result answer readings.new.items) result
-        ≡ option_map (λ says. says payload.now) (profile_says eep) }
+        ≡ option_map (λ says. says payload.now) (payload_readings_of eep) }
     ensures none { IfNone result (readings.new ≡ readings.old) }
     ensures err { IfSome result (λ answer. OnErr answer (readings.new ≡ readings.old)) }
 {
@@ -23,7 +23,7 @@ fn read_into(eep: Eep, payload: &[u8], readings: &mut Readings) -> Option<Result
     }
 }
 
-/// Whether a profile is supported: whether `profile_says` of `specs/Profiles.antt` has it. `read` returns
+/// Whether a profile is supported: whether `payload_readings_of` of `specs/Profiles.antt` has it. `read` returns
 /// `NotSupported` exactly if it has not. The function decodes an empty payload and drops the result, so the code names
 /// each profile only once, in `read_into`.
 pub fn supports(eep: Eep) -> bool

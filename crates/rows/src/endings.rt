@@ -3,7 +3,7 @@ use crate::telling::Telling;
 use anyhow::Result;
 use gateway_core::StartFault;
 use gateway_main::command_line::{CommandLineFault, read};
-use gateway_main::ending::{Ending, first_fault, status, without_arguments};
+use gateway_main::ending::{Ending, first_fault, status, ending_without_arguments};
 use gateway_main::fault::Fault;
 use gateway_main::{RunFault, Summary};
 use std::alloc::{AllocError, Global};
@@ -62,7 +62,7 @@ fn tell_texts(rt: &HostRuntime, telling: &mut Telling) -> Result<()> {
 
 fn tell_statuses(rt: &HostRuntime, telling: &mut Telling) -> Result<()> {
     let not_text = io::Error::from(io::ErrorKind::InvalidData);
-    let no_memory = io::Error::from(AllocError);
+    let out_of_memory = io::Error::from(AllocError);
     for (name, ended, wanted) in [
         ("an end with no fault", Ok(()), 0),
         (
@@ -77,12 +77,12 @@ fn tell_statuses(rt: &HostRuntime, telling: &mut Telling) -> Result<()> {
         ),
         (
             "an argument that is no text",
-            Err(without_arguments(&not_text)),
+            Err(ending_without_arguments(&not_text)),
             2,
         ),
         (
             "no memory for the arguments",
-            Err(without_arguments(&no_memory)),
+            Err(ending_without_arguments(&out_of_memory)),
             1,
         ),
     ] {
@@ -137,7 +137,7 @@ fn status_of_line(alloc: Global, line: &str) -> Result<Option<u8>> {
 fn tell_closes(rt: &HostRuntime, telling: &mut Telling) -> Result<()> {
     let summary = Summary { items: 2 };
     let refused = sqlite::Error::SqliteFailure(sqlite::ErrorCode::TransactionState);
-    let no_memory = sqlite::Error::SqliteFailure(sqlite::ErrorCode::OutOfMemory);
+    let out_of_memory = sqlite::Error::SqliteFailure(sqlite::ErrorCode::OutOfMemory);
     for (name, served, closed, wanted) in [
         ("all well", Ok(Ok(summary)), Ok(()), Ok(())),
         (
@@ -161,7 +161,7 @@ fn tell_closes(rt: &HostRuntime, telling: &mut Telling) -> Result<()> {
         (
             "a close with no memory",
             Ok(Ok(summary)),
-            Err(no_memory),
+            Err(out_of_memory),
             Err(Fault::Memory),
         ),
         (

@@ -66,13 +66,13 @@ pub(crate) fn tell(rt: &HostRuntime, telling: &mut Telling) -> Result<()> {
 
 /// How a gateway served some turns, and what it wrote.
 #[derive(Drop)]
-pub struct Served {
+pub struct ServeResult {
     pub ended: Result<Summary, RunFault>,
     pub radio: Vec<u8>,
     pub desk: Vec<u8>,
 }
 
-impl Served {
+impl ServeResult {
     /// Whether it ended with this result, with these bytes on each side.
     fn is(&self, ended: Result<Summary, RunFault>, radio: &[&[u8]], desk: &[&[u8]]) -> bool {
         self.ended == ended && is_all(&self.radio, radio) && is_all(&self.desk, desk)
@@ -98,7 +98,7 @@ fn serve(
     desk: Parts<'_>,
     turns: u64,
     fails_at: (usize, usize),
-) -> Result<Served> {
+) -> Result<ServeResult> {
     let mut gateway = fresh(alloc)?;
     let inputs = (serial, desk);
     serve_by(alloc, &mut gateway, inputs, false, turns, 7, fails_at)
@@ -106,7 +106,7 @@ fn serve(
 
 /// Serves two turns with explanations: a packet and two orders, and then a query. The writers take at most this many
 /// bytes at a call, and that of the desk fails at this call.
-fn serve_explained(alloc: Global, most: usize, desk_fails_at: usize) -> Result<Served> {
+fn serve_explained(alloc: Global, most: usize, desk_fails_at: usize) -> Result<ServeResult> {
     let mut gateway = fresh(alloc)?;
     let serial = [CONTACT, QUERY];
     let desk = [b"learn on\nbase\n".as_slice()];
@@ -125,7 +125,7 @@ pub(crate) fn serve_by<S: DeviceStore>(
     turns: u64,
     most: usize,
     fails_at: (usize, usize),
-) -> Result<Served> {
+) -> Result<ServeResult> {
     if gateway.is_ready() {
         bail!("a packet waits");
     }
@@ -142,7 +142,7 @@ pub(crate) fn serve_by<S: DeviceStore>(
         explains,
         turns,
     );
-    Ok(Served {
+    Ok(ServeResult {
         ended,
         radio,
         desk: told,
@@ -150,7 +150,7 @@ pub(crate) fn serve_by<S: DeviceStore>(
 }
 
 /// Serves turns that read these parts, with writers that do not fail.
-fn serve_parts(alloc: Global, serial: &[&[u8]], desk: &[&[u8]], turns: u64) -> Result<Served> {
+fn serve_parts(alloc: Global, serial: &[&[u8]], desk: &[&[u8]], turns: u64) -> Result<ServeResult> {
     serve(
         alloc,
         Parts::new(serial, 0),
@@ -274,7 +274,7 @@ fn serve_query(
     alloc: Global,
     read_fails_at: (usize, usize),
     write_fails_at: (usize, usize),
-) -> Result<Served> {
+) -> Result<ServeResult> {
     let (serial_fails_at, desk_fails_at) = read_fails_at;
     let serial = [b"".as_slice(), QUERY];
     let desk = [b"learn on\n".as_slice(), b"base\n"];

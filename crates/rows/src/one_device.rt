@@ -22,7 +22,7 @@ impl OneDevice {
         if self.answers {
             Ok(())
         } else {
-            Err(StoreFault::no_answer())
+            Err(StoreFault::store_failed())
         }
     }
 

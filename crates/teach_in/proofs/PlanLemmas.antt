@@ -19,7 +19,7 @@ use Rattle.teach_in.specs.Profiles.{supported}
 use Rattle.teach_in.specs.Telegrams.{teach_in_of, one_byte_kind, four_byte_kind, ute_kind}
 use Rattle.teach_in.specs.Ute as ute
 use Rattle.teach_in.specs.Ute.{request_in, deletion, not_used}
-use Rattle.teach_in.specs.Plans.{add, ute_plan, can_teach, row_of, in_mode, plan_of}
+use Rattle.teach_in.specs.Plans.{add, ute_plan, can_be_learned_by, plan_row_of, plan_in_mode, plan_of}
 
 -- what holds for both holds for the one that is chosen
 pub either : {A : Type 0} (P : A → Type 0) (b : Bool) (one other : A) → P one → P other
@@ -85,7 +85,7 @@ module _ (P : Plan → Type 0) (t : Telegram) where
       by_request P true one other of_one of_other = of_one refl
       by_request P false one other of_one of_other = of_other
 
-  of-row : (known : Bool) (kind : Teach) (mode : Mode) → OfPlans P t kind mode → P (in_mode (row_of t known kind) mode)
+  of-row : (known : Bool) (kind : Teach) (mode : Mode) → OfPlans P t kind mode → P (plan_in_mode (plan_row_of t known kind) mode)
   of-row known kind Closed each = each.silent
   of-row known Contact Learn each = each.adds tt _ _
   of-row known Contact LearnAnswer each = each.adds tt _ _
@@ -102,7 +102,7 @@ module _ (P : Plan → Type 0) (t : Telegram) where
   of-row known Plain Learn each = each.silent
   of-row known Plain LearnAnswer each = each.silent
   of-row known Plain (LearnAs eep) each =
-      either P (not known && can_teach t) _ _ (either P (eep.rorg == t.rorg) _ _ (each.adds tt _ _) each.silent)
+      either P (not known && can_be_learned_by t) _ _ (either P (eep.rorg == t.rorg) _ _ (each.adds tt _ _) each.silent)
       each.silent
   of-row known (Ute query) Learn each = of-asked query Learn (inl refl) each
   of-row known (Ute query) LearnAnswer each = of-asked query LearnAnswer (inr refl) each
@@ -119,10 +119,10 @@ module _ (P : Plan → Type 0) (t : Telegram) where
 pub plan-unasked : (t : Telegram) (mode : Mode) (known : Bool) (kind : Teach) → teach_in_of t ≡ kind → kind ≢ Plain
     → plan_of t mode known ≡ plan_of t mode false
 plan-unasked t mode known kind is teaches =
-    ap (λ k. in_mode (row_of t known k) mode) is ∙ same kind teaches
-    ∙ ap (λ k. in_mode (row_of t false k) mode) (sym is)
+    ap (λ k. plan_in_mode (plan_row_of t known k) mode) is ∙ same kind teaches
+    ∙ ap (λ k. plan_in_mode (plan_row_of t false k) mode) (sym is)
   where
-    same : (kind : Teach) → kind ≢ Plain → in_mode (row_of t known kind) mode ≡ in_mode (row_of t false kind) mode
+    same : (kind : Teach) → kind ≢ Plain → plan_in_mode (plan_row_of t known kind) mode ≡ plan_in_mode (plan_row_of t false kind) mode
     same Plain teaches = absurd (teaches refl)
     same Contact teaches = refl
     same Bare teaches = refl

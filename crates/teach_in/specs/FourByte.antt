@@ -6,7 +6,7 @@ use Rattle.erp1_telegrams.specs.Telegram.{Telegram}
 use Rattle.teach_in.specs.declared.four_byte.FourByteQuery.{FourByteQuery}
 use Rattle.teach_in.specs.declared.outcome.Outcome.{Outcome}
 use Rattle.teach_in.specs.declared.outcome.Outcome.TheVariants.{Accepted, Unsupported, Full}
-use Rattle.teach_in.specs.Replies.{reply}
+use Rattle.teach_in.specs.Replies.{addressed_reply}
 
 -- the profile of a query: FUNC has 6 bits, and TYPE has 7
 abbrev pub eep_in : FourByteQuery → Eep
@@ -28,4 +28,4 @@ four_byte_code outcome = None
 -- the reply to a query, from the gateway with this base ID, addressed to the sender: the query, except for DB0
 abbrev pub four_byte_reply : FourByteQuery → Outcome → ℕ → Option Telegram
 four_byte_reply query outcome base =
-    option_map (λ code. reply 0xA5 (take 3 query.payload ++ code ∷ []) query.id base) (four_byte_code outcome)
+    option_map (λ code. addressed_reply 0xA5 (take 3 query.payload ++ code ∷ []) query.id base) (four_byte_code outcome)

@@ -26,8 +26,8 @@ abbrev pub add_if_rorg : ℕ → Telegram → Eep → Option ℕ → Plan
 add_if_rorg rorg t eep maker = if eep.rorg == rorg then add t eep maker else Silent
 
 -- the profile of contacts (EnOcean Equipment Profiles 2.6, D5-00-01)
-abbrev pub contact : Eep
-contact = record { rorg = 0xD5; func = 0x00; typ = 0x01 }
+abbrev pub contact_eep : Eep
+contact_eep = record { rorg = 0xD5; func = 0x00; typ = 0x01 }
 
 -- the same with the profile and maker of a query, if the profile is supported
 abbrev pub add_supported : Telegram → Eep → ℕ → Plan
@@ -42,8 +42,8 @@ ute_plan t query =
 
 -- whether a sender can be learned by this data telegram: of RPS if a button is pressed (the bit at offset 3), and any
 -- of VLD
-abbrev pub can_teach : Telegram → Bool
-can_teach t = (t.rorg == 0xF6 && field t.payload 3 1 == 1) || t.rorg == 0xD2
+abbrev pub can_be_learned_by : Telegram → Bool
+can_be_learned_by t = (t.rorg == 0xF6 && field t.payload 3 1 == 1) || t.rorg == 0xD2
 
 -- a row of the table: the plan by the telegram's own profile, in the modes Learn and LearnAnswer, and by the profile
 -- that the desk has given, in the mode LearnAs
@@ -52,27 +52,27 @@ pub record Row : Type 0 where
   pub given : Eep → Plan
 
 -- The table: a row for each role of a telegram in teach-in; for data it depends on whether the sender is already known.
-abbrev pub row_of : Telegram → Bool → Teach → Row
-row_of t known Contact = record { reported = add t contact None; given = λ eep. add_if_rorg 0xD5 t eep None }
-row_of t known Bare = record { reported = Refuse NoProfile; given = λ eep. add_if_rorg 0xA5 t eep None }
-row_of t known (FourByte query) = record {
+abbrev pub plan_row_of : Telegram → Bool → Teach → Row
+plan_row_of t known Contact = record { reported = add t contact_eep None; given = λ eep. add_if_rorg 0xD5 t eep None }
+plan_row_of t known Bare = record { reported = Refuse NoProfile; given = λ eep. add_if_rorg 0xA5 t eep None }
+plan_row_of t known (FourByte query) = record {
   reported = add_supported t (eep_in query) (maker_in query);
   given = λ eep. add_if_rorg 0xA5 t eep (Some (maker_in query));
 }
-row_of t known Plain = record {
+plan_row_of t known Plain = record {
   reported = Silent;
-  given = λ eep. if not known && can_teach t then add_if_rorg t.rorg t eep None else Silent;
+  given = λ eep. if not known && can_be_learned_by t then add_if_rorg t.rorg t eep None else Silent;
 }
-row_of t known (Ute query) = record { reported = ute_plan t query; given = λ eep. Silent }
-row_of t known Answer = record { reported = Silent; given = λ eep. Silent }
+plan_row_of t known (Ute query) = record { reported = ute_plan t query; given = λ eep. Silent }
+plan_row_of t known Answer = record { reported = Silent; given = λ eep. Silent }
 
 -- the plan of a row in each mode
-abbrev pub in_mode : Row → Mode → Plan
-in_mode row Closed = Silent
-in_mode row Learn = row.reported
-in_mode row LearnAnswer = row.reported
-in_mode row (LearnAs eep) = row.given eep
+abbrev pub plan_in_mode : Row → Mode → Plan
+plan_in_mode row Closed = Silent
+plan_in_mode row Learn = row.reported
+plan_in_mode row LearnAnswer = row.reported
+plan_in_mode row (LearnAs eep) = row.given eep
 
 -- the plan for the sender of a telegram, by the mode and by whether it is known
 abbrev pub plan_of : Telegram → Mode → Bool → Plan
-plan_of t mode known = in_mode (row_of t known (teach_in_of t)) mode
+plan_of t mode known = plan_in_mode (plan_row_of t known (teach_in_of t)) mode

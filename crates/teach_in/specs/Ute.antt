@@ -8,7 +8,7 @@ use Rattle.erp1_telegrams.specs.Telegram.{Telegram}
 use Rattle.teach_in.specs.declared.outcome.Outcome.{Outcome}
 use Rattle.teach_in.specs.declared.outcome.Outcome.TheVariants.{Accepted, Deleted, Unsupported, Full, General}
 use Rattle.teach_in.specs.declared.ute.UteQuery.{UteQuery}
-use Rattle.teach_in.specs.Replies.{reply}
+use Rattle.teach_in.specs.Replies.{addressed_reply}
 
 -- the profile of a query: its RORG in DB0, its FUNC in DB1, and its TYPE in DB2
 abbrev pub eep_in : UteQuery → Eep
@@ -52,5 +52,5 @@ reply_first_byte query code = 128 * field query.payload 0 1 + 16 * code + 1
 -- the reply to a query, from the gateway with this base ID, addressed to the sender: the query, except for DB6
 abbrev pub ute_reply : UteQuery → Outcome → ℕ → Option Telegram
 ute_reply query outcome base =
-    option_map (λ code. reply 0xD4 (reply_first_byte query code ∷ drop 1 query.payload) query.id base)
+    option_map (λ code. addressed_reply 0xD4 (reply_first_byte query code ∷ drop 1 query.payload) query.id base)
     (ute_code outcome)

@@ -1,13 +1,13 @@
 //! 4BS teach-in with a profile, and the replies to it.
 ghost use Rattle.std.specs.Prelude.{◌≡◌, true, Some, IsSome};
-ghost use Rattle.erp1_telegrams.specs.Address.{is_base};
+ghost use Rattle.erp1_telegrams.specs.Address.{is_base_id};
 ghost use Rattle.teach_in.specs.FourByte.{eep_in, four_byte_code, four_byte_reply, maker_in};
 
 use crate::outcome::Outcome;
-use crate::reply::reply;
+use crate::reply::addressed_reply;
 use crate::verdict::Verdict;
 use bit_fields::get;
-use erp1_telegrams::{Eep, Telegram, is_base, rorg};
+use erp1_telegrams::{Eep, Telegram, is_base_id, rorg};
 
 /// A 4BS teach-in telegram with its sender's profile and maker.
 ///
@@ -63,11 +63,11 @@ fn four_byte_code(outcome: Outcome) -> u8
 pub fn four_byte_reply(query: &FourByteQuery, verdict: &Verdict, base: u32) -> Telegram
     requires id { verdict.now.id ≡ query.now.id }
     requires outcome { IsSome (four_byte_code verdict.now.outcome) }
-    requires base { is_base base ≡ true }
+    requires base { is_base_id base ≡ true }
     ensures { Some result ≡ four_byte_reply query.now verdict.now.outcome base }
 {
-    prove!(verdict.id() == query.id() && is_base(base));
+    prove!(verdict.id() == query.id() && is_base_id(base));
     let [db3, db2, db1, _] = query.payload;
     let payload = [db3, db2, db1, four_byte_code(verdict.outcome())];
-    reply(rorg::FOUR_BS, &payload, query.id(), base)
+    addressed_reply(rorg::FOUR_BS, &payload, query.id(), base)
 }

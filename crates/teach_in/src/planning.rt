@@ -1,7 +1,7 @@
 //! The plan for the sender of a telegram, by the table of plans.
 ghost use Rattle.std.specs.Prelude.{◌≡◌, Bool};
 ghost use Rattle.teach_in.specs.Telegrams.{teach_in_of};
-ghost use Rattle.teach_in.specs.Plans.{add, add_supported, ute_plan, can_teach, plan_of, row_of};
+ghost use Rattle.teach_in.specs.Plans.{add, add_supported, ute_plan, can_be_learned_by, plan_of, plan_row_of};
 
 use crate::mode::Mode;
 use crate::outcome::Outcome;
@@ -15,7 +15,7 @@ use learned_devices::{Device, Label};
 
 /// The profile of a contact, which its teach-in telegram does not contain (EnOcean Equipment Profiles 2.6, "1BS
 /// Telegram").
-const CONTACT: Eep = Eep {
+const CONTACT_EEP: Eep = Eep {
     rorg: rorg::ONE_BS,
     func: 0x00,
     typ: 0x01,
@@ -57,10 +57,10 @@ fn ute_plan(telegram: &Telegram, query: &UteQuery) -> Plan
 
 // The plan in the modes that learn by a telegram's own profile.
 fn plan_by_query(telegram: &Telegram, teach: &Teach) -> Plan
-    ensures { (known : Bool) → result ≡ (row_of telegram.now known teach.now).reported }
+    ensures { (known : Bool) → result ≡ (plan_row_of telegram.now known teach.now).reported }
 {
     match teach {
-        Teach::Contact => add(telegram, CONTACT, None),
+        Teach::Contact => add(telegram, CONTACT_EEP, None),
         Teach::Bare => Plan::Refuse(Outcome::NoProfile),
         Teach::FourByte(query) => add_supported(telegram, query.eep(), query.maker()),
         Teach::Ute(query) => ute_plan(telegram, query),
@@ -69,8 +69,8 @@ fn plan_by_query(telegram: &Telegram, teach: &Teach) -> Plan
 }
 
 // Whether a sender can be learned by this data telegram.
-fn can_teach(telegram: &Telegram) -> bool
-    ensures { result ≡ can_teach telegram.now }
+fn can_be_learned_by(telegram: &Telegram) -> bool
+    ensures { result ≡ can_be_learned_by telegram.now }
 {
     match telegram.rorg() {
         rorg::RPS => get::<1, 3, 1>(bytes_of(telegram.payload())) == 1,
@@ -81,12 +81,12 @@ fn can_teach(telegram: &Telegram) -> bool
 
 // The plan in the mode that learns with this profile.
 fn plan_by_desk(telegram: &Telegram, teach: &Teach, eep: Eep, known: bool) -> Plan
-    ensures { result ≡ (row_of telegram.now known teach.now).given eep }
+    ensures { result ≡ (plan_row_of telegram.now known teach.now).given eep }
 {
     match (teach, eep.rorg) {
         (Teach::Contact, rorg::ONE_BS) | (Teach::Bare, rorg::FOUR_BS) => add(telegram, eep, None),
         (Teach::FourByte(query), rorg::FOUR_BS) => add(telegram, eep, Some(query.maker())),
-        (Teach::Plain, rorg) if !known && rorg == telegram.rorg() && can_teach(telegram) => {
+        (Teach::Plain, rorg) if !known && rorg == telegram.rorg() && can_be_learned_by(telegram) => {
             add(telegram, eep, None)
         }
         _ => Plan::Silent,

@@ -1,13 +1,13 @@
 //! UTE (universal teach-in): queries that teach devices in and out, and the replies to them.
 ghost use Rattle.std.specs.Prelude.{◌≡◌, true, ◌==◌, ◌<◌, Some, IsSome};
-ghost use Rattle.erp1_telegrams.specs.Address.{is_base};
+ghost use Rattle.erp1_telegrams.specs.Address.{is_base_id};
 ghost use Rattle.teach_in.specs.Ute.{eep_in, reply_first_byte, maker_in, request_in, ute_code, ute_reply, wants_reply};
 
 use crate::outcome::Outcome;
-use crate::reply::reply;
+use crate::reply::addressed_reply;
 use crate::verdict::Verdict;
 use bit_fields::get;
-use erp1_telegrams::{Eep, Telegram, is_base, rorg};
+use erp1_telegrams::{Eep, Telegram, is_base_id, rorg};
 
 /// A UTE query, with its sender's profile and maker, and its request.
 ///
@@ -97,12 +97,12 @@ fn reply_first_byte(query: &UteQuery, code: u32) -> u8
 pub fn ute_reply(query: &UteQuery, verdict: &Verdict, base: u32) -> Telegram
     requires id { verdict.now.id ≡ query.now.id }
     requires outcome { IsSome (ute_code verdict.now.outcome) }
-    requires base { is_base base ≡ true }
+    requires base { is_base_id base ≡ true }
     ensures { Some result ≡ ute_reply query.now verdict.now.outcome base }
 {
-    prove!(verdict.id() == query.id() && is_base(base));
+    prove!(verdict.id() == query.id() && is_base_id(base));
     let [_, db5, db4, db3, db2, db1, db0] = query.payload;
     let db6 = reply_first_byte(query, ute_code(verdict.outcome()));
     let payload = [db6, db5, db4, db3, db2, db1, db0];
-    reply(rorg::UTE, &payload, query.id(), base)
+    addressed_reply(rorg::UTE, &payload, query.id(), base)
 }

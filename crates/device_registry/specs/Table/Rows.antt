@@ -13,7 +13,7 @@ use Rattle.learned_devices.specs.Labels.{is_label}
 use Rattle.device_registry.specs.declared.table.Version.{Version}
 use Rattle.device_registry.specs.declared.table.Version.TheVariants.{First, Second}
 use Rattle.learned_devices.specs.Devices.{DeviceData, Devices, device}
-use Rattle.device_registry.specs.Table.{number_of, max_sender, max_profile, max_maker}
+use Rattle.device_registry.specs.Table.{version_number, max_sender, max_profile, max_maker}
 
 -- ---- the values
 
@@ -105,7 +105,7 @@ upsert_params id it =
 -- the version row
 pub record IsVersion (version : Version) (row : Row) : Type 0 where
   pub key : column row 0 ≡ Int (pos 1)
-  pub number : column row 2 ≡ Int (pos (number_of version))
+  pub number : column row 2 ≡ Int (pos (version_number version))
 
 -- ---- the rows that queries show
 
@@ -127,7 +127,7 @@ pub record ShowsVersion (version : Version) (rows : List Row) : Type 0 where
   pub row : Row
   pub are : rows ≡ row ∷ []
   pub key : column row 0 ≡ Int (pos 1)
-  pub number : column row 1 ≡ Int (pos (number_of version))
+  pub number : column row 1 ≡ Int (pos (version_number version))
 
 -- a number that is not above the last
 abbrev pub is_number : ℕ → Value → Bool

@@ -2,10 +2,10 @@
 use Rattle.std.specs.Prelude.{◌≡◌, Bool, not, MatchBool, MatchResult, Result}
 use Rattle.learned_devices.specs.declared.Device.{Device}
 use Rattle.learned_devices.specs.Devices.{Devices, is_full, learn_update}
-use Rattle.learned_devices.specs.StoreState.{StoreState, Keeps, Commits, LeavesPending}
+use Rattle.learned_devices.specs.DeviceStoreState.{DeviceStoreState, Keeps, Commits, LeavesPending}
 
 -- a device is learned if the registry is not full; the result is whether it is learned
-pub record Adds {E : Type 0} (old new : StoreState) (it : Device) (result : Result Bool E) : Type 0 where
+pub record Adds {E : Type 0} (old new : DeviceStoreState) (it : Device) (result : Result Bool E) : Type 0 where
   pub clean : new.honest → old.honest
   pub registries : new.honest → new.sound
   pub devices : new.honest → (devices : Devices) → old.holds devices

@@ -14,23 +14,23 @@ pub record IsUncommitted (old new : State) : Type 0 where
   pub kept : HasCleanDisk new → KeepsCommit old new
 
 -- these texts were run in turn inside a transaction, and each changed the database as its text means
-abbrev pub RanTexts : {S : Type 0} → Ghosts S → List (List ℕ) → Held S → Held S → Type 0
-RanTexts g [] old new = old ≡ new
-RanTexts g (text ∷ texts) old new =
+abbrev pub HasRunStatements : {S : Type 0} → Ghosts S → List (List ℕ) → Held S → Held S → Type 0
+HasRunStatements g [] old new = old ≡ new
+HasRunStatements g (text ∷ texts) old new =
     (mid : Held _) × (count : ℕ) × ExecutesInside 0 text [] (state g old) (state g mid) (Ok count)
-    × RanTexts g texts mid new
+    × HasRunStatements g texts mid new
 
 -- the transaction is open, and shows the result of these texts on what it showed first
-pub record IsInside {S : Type 0} (g : Ghosts S) (texts : List (List ℕ)) (old new : Held S) : Type 0 where
+pub record IsMidTransaction {S : Type 0} (g : Ghosts S) (texts : List (List ℕ)) (old new : Held S) : Type 0 where
   pub uncommitted : IsUncommitted (state g old) (state g new)
   pub inside : HasCleanDisk (state g new) → IsTrue (state g new).in_transaction
-  pub ran : HasCleanDisk (state g new) → RanTexts g texts old new
+  pub ran : HasCleanDisk (state g new) → HasRunStatements g texts old new
 
 -- the same, and the two tables of this version were seen in its list of objects
-pub record IsListedInside {S : Type 0} (g : Ghosts S) (version : Version) (texts : List (List ℕ)) (old new : Held S)
+pub record IsListedMidTransaction {S : Type 0} (g : Ghosts S) (version : Version) (texts : List (List ℕ)) (old new : Held S)
     : Type 0 where
   pub mid : Held S
-  pub made : IsInside g texts old mid
+  pub made : IsMidTransaction g texts old mid
   pub uncommitted : IsUncommitted (state g old) (state g new)
   pub inside : HasCleanDisk (state g new) → IsTrue (state g new).in_transaction
   pub clean : HasCleanDisk (state g new) → HasCleanDisk (state g mid)

@@ -4,15 +4,15 @@ ghost use Rattle.std.specs.Prelude.{IfOk, IfErr, MatchOption};
 ghost use Rattle.sqlite.specs.declared.types.Value.TheVariants.{Int};
 ghost use Rattle.sqlite.specs.Order.{Row as SqlRow, column};
 ghost use Rattle.learned_devices.specs.declared.Device.{Device};
-ghost use Rattle.device_registry.specs.Faults.{IsMemoryWhere};
-ghost use Rattle.device_registry.specs.Table.{number_of};
+ghost use Rattle.device_registry.specs.Faults.{IsOutOfMemoryIf};
+ghost use Rattle.device_registry.specs.Table.{eep_number};
 ghost use Rattle.device_registry.specs.Table.Rows.{IsDeviceOrNone, ShowsVersion, device_in_row, is_number, is_maker};
 ghost use Rattle.device_registry.specs.Table.Rows.{is_label_text};
 ghost use Rattle.device_registry.specs.Table.Rows.{is_device_row, are_ascending_devices, eep_number, eep_of};
 ghost use Rattle.device_registry.specs.Table.Rows.{maker_number};
 ghost use Rattle.device_registry.specs.Table.Rows.{maker_in, label_in};
 
-use super::{KEY, NO_MAKER, Version};
+use super::{VERSION_ROW_KEY, NO_MAKER, Version};
 use crate::ranges::{MAX_MAKER, MAX_PROFILE, MAX_SENDER};
 use erp1_telegrams::Eep;
 use learned_devices::{Device, Label};
@@ -107,15 +107,15 @@ fn has_number(row: &Row, at: usize, number: i64) -> bool
 /// Whether there is exactly one row, that of this version.
 pub fn is_version(rows: &[Row], version: Version) -> bool
     ensures version { IsTrue result → ShowsVersion version rows.now }
-    ensures complete { rows.now ≡ (Int (pos 1) ∷ Int (pos (number_of version)) ∷ []) ∷ [] → IsTrue result }
+    ensures complete { rows.now ≡ (Int (pos 1) ∷ Int (pos (version_number version)) ∷ []) ∷ [] → IsTrue result }
 {
-    rows.len() == 1 && has_number(&rows[0], 0, KEY) && has_number(&rows[0], 1, version.number())
+    rows.len() == 1 && has_number(&rows[0], 0, VERSION_ROW_KEY) && has_number(&rows[0], 1, version.number())
 }
 
 /// The device that a row shows. No row of a registry gives an error.
 fn decode_device(row: &Row) -> Result<Device, Error>
     ensures shown { IfOk result (λ it. it ≡ device_in_row row.now) }
-    ensures refused { IfErr result (IsMemoryWhere (IsTrue (is_device_row row.now))) }
+    ensures refused { IfErr result (IsOutOfMemoryIf (IsTrue (is_device_row row.now))) }
 {
     device_in(row).ok_or(Error::SqliteFailure(ErrorCode::DatabaseCorrupt))
 }
@@ -123,7 +123,7 @@ fn decode_device(row: &Row) -> Result<Device, Error>
 /// The device of a sender, from the rows of its look-up.
 pub fn decode_found(rows: &[Row]) -> Result<Option<Device>, Error>
     ensures found { (known : Option Device) → IsDeviceOrNone known rows.now → IfOk result (λ found. found ≡ known) }
-    ensures refused { IfErr result (IsMemoryWhere (All (λ row. IsTrue (is_device_row row)) rows.now)) }
+    ensures refused { IfErr result (IsOutOfMemoryIf (All (λ row. IsTrue (is_device_row row)) rows.now)) }
 {
     match rows.first() {
         Some(row) => Ok(Some(decode_device(row)?)),
@@ -134,7 +134,7 @@ pub fn decode_found(rows: &[Row]) -> Result<Option<Device>, Error>
 /// The devices that the rows list.
 pub fn decode_all(alloc: Global, rows: &[Row]) -> Result<Vec<Device>, Error>
     ensures listed { IfOk result (λ all. all.items ≡ map device_in_row rows.now) }
-    ensures refused { IfErr result (IsMemoryWhere (All (λ row. IsTrue (is_device_row row)) rows.now)) }
+    ensures refused { IfErr result (IsOutOfMemoryIf (All (λ row. IsTrue (is_device_row row)) rows.now)) }
 {
     let mut all = Vec::with_capacity(alloc, rows.len())?;
     for row in rows {
@@ -144,10 +144,10 @@ pub fn decode_all(alloc: Global, rows: &[Row]) -> Result<Vec<Device>, Error>
 }
 
 /// The number that a query shows in one row.
-pub fn number(rows: &[Row]) -> Result<u64, Error>
+pub fn shown_count(rows: &[Row]) -> Result<u64, Error>
     ensures number { IfOk result (λ n. (row : SqlRow) × (more : _) × (rows.now ≡ row ∷ more)
         × (column row 0 ≡ Int (pos n))) }
-    ensures refused { IfErr result (IsMemoryWhere ((row : SqlRow) × (more : _) × (rows.now ≡ row ∷ more)
+    ensures refused { IfErr result (IsOutOfMemoryIf ((row : SqlRow) × (more : _) × (rows.now ≡ row ∷ more)
         × (0 < length row) × ((n : ℕ) × (column row 0 ≡ Int (pos n))))) }
 {
     let row = rows.first().ok_or(Error::QueryReturnedNoRows)?;
@@ -155,14 +155,14 @@ pub fn number(rows: &[Row]) -> Result<u64, Error>
 }
 
 /// The number of a profile.
-pub fn number_of(eep: Eep) -> i64
+pub fn eep_number(eep: Eep) -> i64
     ensures { result ≡ pos (eep_number eep) }
 {
     i64::from(eep.rorg) * 65536 + i64::from(eep.func) * 256 + i64::from(eep.typ)
 }
 
 /// The number of a manufacturer ID, or that of none.
-pub fn number_of_maker(maker: Option<u16>) -> i64
+pub fn maker_number(maker: Option<u16>) -> i64
     ensures { result ≡ maker_number maker }
 {
     match maker {

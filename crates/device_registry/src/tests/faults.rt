@@ -14,20 +14,20 @@ fn says(alloc: Global, rt: &impl Abort, fault: &OpenFault, text: &str) -> Result
 #[test]
 fn each_fault_says_why(rt: HostRuntime) -> Result<(), Fail> {
     let no_registry = "the database is no registry of version 1 or 2";
-    let no_memory = "there is no memory";
-    let no_answer = "the store does not answer";
+    let out_of_memory = "there is no memory";
+    let store_failed = "the store does not answer";
     for (fault, text) in [
         (OpenFault::NotARegistry, no_registry),
-        (OpenFault::from(AllocError), no_memory),
+        (OpenFault::from(AllocError), out_of_memory),
         (
             OpenFault::from(Error::SqliteFailure(ErrorCode::OutOfMemory)),
-            no_memory,
+            out_of_memory,
         ),
         (
             OpenFault::from(Error::SqliteFailure(ErrorCode::DiskFull)),
-            no_answer,
+            store_failed,
         ),
-        (OpenFault::from(Error::QueryReturnedNoRows), no_answer),
+        (OpenFault::from(Error::QueryReturnedNoRows), store_failed),
     ] {
         says(rt.alloc(), &rt, &fault, text)?;
     }

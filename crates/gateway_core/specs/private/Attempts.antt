@@ -1,6 +1,6 @@
 -- The result of an input that is tried.
 use Rattle.std.specs.Prelude.{◌≡◌, ℕ, true, false, MatchBool, IsSome, Option, Some, None, Result, Ok, Err}
-use Rattle.learned_devices.specs.StoreState.{StoreState, Keeps, Commits, LeavesPending}
+use Rattle.learned_devices.specs.DeviceStoreState.{DeviceStoreState, Keeps, Commits, LeavesPending}
 use Rattle.learned_devices.specs.declared.Device.{Device}
 use Rattle.learned_devices.specs.Devices.{Devices, DeviceUpdate, is_full, learn_update, forget_update}
 use Rattle.teach_in.specs.declared.mode.Mode.{Mode}
@@ -10,12 +10,12 @@ use Rattle.teach_in.specs.declared.telegrams.Teach.{Teach}
 use Rattle.teach_in.specs.declared.telegrams.Teach.TheVariants.{FourByte, Ute}
 use Rattle.teach_in.specs.FourByte.{four_byte_code}
 use Rattle.teach_in.specs.Ute.{ute_code}
-use Rattle.json_lines.specs.declared.counts.Count.TheVariants as count
+use Rattle.json_lines.specs.declared.counts.Counter.TheVariants as count
 use Rattle.json_lines.specs.declared.counts.Counts.{Counts}
 use Rattle.teach_in.specs.declared.why.Why.TheVariants as why
-use Rattle.gateway_core.specs.declared.handler.learn_forget.Committed.{Committed}
+use Rattle.gateway_core.specs.declared.handler.learn_forget.CommittedTeachLine.{CommittedTeachLine}
 use Rattle.gateway_core.specs.declared.failure.Failure.{Failure}
-use Rattle.gateway_core.specs.declared.failure.Failure.TheVariants.{Before, AtWrite}
+use Rattle.gateway_core.specs.declared.failure.Failure.TheVariants.{Before, AtCommit}
 use Rattle.json_lines.specs.Counts.{increment, increment_if_any}
 use Rattle.json_lines.specs.Lines.{Teach as TeachOf, TeachLine, text}
 use Rattle.gateway_core.specs.declared.disposition.Disposition.{Disposition}
@@ -43,7 +43,7 @@ MatchesEffect done effect =
 abbrev pub state_of : {S : Type 0} → HandlerValue S → Devices → State
 state_of v devices = record { base = v.base; mode = v.mode; counts = v.counts; devices = devices }
 
-module _ (old new : StoreState) (devices : Devices) where
+module _ (old new : DeviceStoreState) (devices : Devices) where
   -- the update, if any, is committed
   abbrev pub IsUpdateCommitted : Option DeviceUpdate → Type 0
   IsUpdateCommitted None = Keeps old new devices
@@ -58,10 +58,10 @@ module _ (old new : StoreState) (devices : Devices) where
   abbrev pub AppliesOrFails : Effect → Result HandlerEffect Failure → Type 0
   AppliesOrFails effect (Ok done) = MatchesEffect done effect × IsUpdateCommitted effect.update
   AppliesOrFails effect (Err (Before fault)) = MayFailFor effect.need (cause_of fault) × Keeps old new devices
-  AppliesOrFails effect (Err (AtWrite fault)) = IsPending effect.need (cause_of fault) effect.update
+  AppliesOrFails effect (Err (AtCommit fault)) = IsPending effect.need (cause_of fault) effect.update
 
 -- the effect, by what the handler knows, happens or fails; it is not counted yet, and its mode is not set
-pub record Attempts {S : Type 0} (stored : S → StoreState) (old : HandlerValue S) (effect : State → Effect)
+pub record Attempts {S : Type 0} (stored : S → DeviceStoreState) (old : HandlerValue S) (effect : State → Effect)
     (result : Result HandlerEffect Failure) (new : HandlerValue S) : Type 0 where
   pub base : new.base ≡ old.base
   pub mode : new.mode ≡ old.mode
@@ -81,13 +81,13 @@ MayReply (Ute query) id outcome = (id ≡ query.id) × IsSome (ute_code outcome)
 MayReply kind id outcome = Unit {0}
 
 -- what is committed is reported with this line
-abbrev pub IsCommittedAs : TeachLine → Committed → Type 0
+abbrev pub IsCommittedAs : TeachLine → CommittedTeachLine → Type 0
 IsCommittedAs line committed =
     (committed.verdict.id ≡ line.id) × (committed.verdict.outcome ≡ line.outcome)
     × (committed.line ≡ text (TeachOf line))
 
 -- only the registry has changed, and this holds for the devices that it had
-pub record ChangesOnlyRegistry {S : Type 0} (stored : S → StoreState) (old : HandlerValue S) (IsSo : Devices → Type 0)
+pub record ChangesOnlyRegistry {S : Type 0} (stored : S → DeviceStoreState) (old : HandlerValue S) (IsSo : Devices → Type 0)
     (new : HandlerValue S) : Type 0 where
   pub same : new ≡ record old { registry = new.registry }
   pub clean : (stored new.registry).honest → (stored old.registry).honest
@@ -96,44 +96,44 @@ pub record ChangesOnlyRegistry {S : Type 0} (stored : S → StoreState) (old : H
   pub is_so : (stored new.registry).honest → (devices : Devices) → (stored old.registry).holds devices
       → IsSo devices
 
-abbrev pub ReportsLearned : Device → Result (Option Committed) Failure → Type 0
+abbrev pub ReportsLearned : Device → Result (Option CommittedTeachLine) Failure → Type 0
 ReportsLearned known (Ok (Some committed)) = IsCommittedAs (device_teach_line known Accepted) committed
 ReportsLearned known result = Unit {0}
 
-abbrev pub ReportsForgotten : TeachLine → Result Committed Failure → Type 0
+abbrev pub ReportsForgotten : TeachLine → Result CommittedTeachLine Failure → Type 0
 ReportsForgotten line (Ok committed) = IsCommittedAs line committed
 ReportsForgotten line result = Unit {0}
 
-module _ (old new : StoreState) (devices : Devices) where
+module _ (old new : DeviceStoreState) (devices : Devices) where
   -- a failure leaves what was known, and perhaps the update, if the call that commits it failed
   abbrev pub FailsToUpdate : DeviceUpdate → Failure → Type 0
   FailsToUpdate update (Before fault) = Keeps old new devices
-  FailsToUpdate update (AtWrite fault) = LeavesPending old new update devices
+  FailsToUpdate update (AtCommit fault) = LeavesPending old new update devices
 
   -- a device is committed, or the registry is full, or the input fails
-  abbrev pub LearnsOrFails : Device → Result (Option Committed) Failure → Type 0
+  abbrev pub LearnsOrFails : Device → Result (Option CommittedTeachLine) Failure → Type 0
   LearnsOrFails known (Ok (Some committed)) =
       (is_full devices known.id ≡ false) × Commits new (learn_update known) devices
   LearnsOrFails known (Ok None) = (is_full devices known.id ≡ true) × Keeps old new devices
   LearnsOrFails known (Err (Before fault)) = Keeps old new devices
-  LearnsOrFails known (Err (AtWrite fault)) =
+  LearnsOrFails known (Err (AtCommit fault)) =
       MatchBool (is_full devices known.id) (Keeps old new devices) (LeavesPending old new (learn_update known) devices)
 
   -- the forgetting of a sender is committed, or the input fails
-  abbrev pub ForgetsOrFails : ℕ → Result Committed Failure → Type 0
+  abbrev pub ForgetsOrFails : ℕ → Result CommittedTeachLine Failure → Type 0
   ForgetsOrFails id (Ok committed) = Commits new (forget_update id) devices
   ForgetsOrFails id (Err failure) = FailsToUpdate (forget_update id) failure
 
 -- a device is learned
-pub record Learns {S : Type 0} (stored : S → StoreState) (old : HandlerValue S) (known : Device)
-    (result : Result (Option Committed) Failure) (new : HandlerValue S) : Type 0 where
+pub record Learns {S : Type 0} (stored : S → DeviceStoreState) (old : HandlerValue S) (known : Device)
+    (result : Result (Option CommittedTeachLine) Failure) (new : HandlerValue S) : Type 0 where
   pub reported : ReportsLearned known result
   pub alone : ChangesOnlyRegistry stored old
       (λ devices. LearnsOrFails (stored old.registry) (stored new.registry) devices known result) new
 
 -- a sender is forgotten, and this line reports it
-pub record Forgets {S : Type 0} (stored : S → StoreState) (old : HandlerValue S) (line : TeachLine)
-    (result : Result Committed Failure) (new : HandlerValue S) : Type 0 where
+pub record Forgets {S : Type 0} (stored : S → DeviceStoreState) (old : HandlerValue S) (line : TeachLine)
+    (result : Result CommittedTeachLine Failure) (new : HandlerValue S) : Type 0 where
   pub reported : ReportsForgotten line result
   pub alone : ChangesOnlyRegistry stored old
       (λ devices. ForgetsOrFails (stored old.registry) (stored new.registry) devices line.id result) new

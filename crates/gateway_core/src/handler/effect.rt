@@ -132,7 +132,7 @@ pub(crate) fn send_effect(packet: ArrayVec<u8, 64>) -> OrderEffect
 pub(crate) fn error_reply(failure: Failure) -> Reply
     ensures { answer_of result ≡ text_answer (cause_text (cause_in failure)) }
 {
-    let (Failure::Before(fault) | Failure::AtWrite(fault)) = failure;
+    let (Failure::Before(fault) | Failure::AtCommit(fault)) = failure;
     let name = if fault.is_memory() {
         ErrorName::Memory
     } else {

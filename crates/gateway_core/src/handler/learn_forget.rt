@@ -16,7 +16,7 @@ use teach_in::{Outcome, Verdict};
 
 // The outcome for a device that was learned or forgotten, and the line that reports it.
 #[derive(Drop)]
-pub(crate) struct Committed {
+pub(crate) struct CommittedTeachLine {
     pub(crate) verdict: Verdict,
     pub(crate) line: Line,
 }
@@ -24,7 +24,7 @@ pub(crate) struct Committed {
 impl<S: DeviceStore> Handler<S> {
     // Learns a device without a label; a known sender keeps its own. Returns `None`, before any write, if the registry
     // is full.
-    pub(crate) fn learn(&mut self, device: Device) -> Result<Option<Committed>, Failure>
+    pub(crate) fn learn(&mut self, device: Device) -> Result<Option<CommittedTeachLine>, Failure>
         requires { device.label ≡ [] }
         ensures { Learns S.store_state self.old device result self.new }
     {
@@ -38,11 +38,11 @@ impl<S: DeviceStore> Handler<S> {
         let receipt = match self.registry.learn(device) {
             Ok(receipt) => receipt,
             Err(LearnFault::Full) => return Ok(None),
-            Err(LearnFault::Refused(fault)) => return Err(Failure::AtWrite(fault)),
+            Err(LearnFault::Failed(fault)) => return Err(Failure::AtCommit(fault)),
         };
         let verdict = Verdict::committed(receipt);
         let line = draft.tell(&verdict);
-        Ok(Some(Committed { verdict, line }))
+        Ok(Some(CommittedTeachLine { verdict, line }))
     }
 
     // Forgets the device with this ID, learned or not. The line reports this profile and this maker.
@@ -51,18 +51,18 @@ impl<S: DeviceStore> Handler<S> {
         id: u32,
         eep: Option<Eep>,
         maker: Option<u16>,
-    ) -> Result<Committed, Failure>
+    ) -> Result<CommittedTeachLine, Failure>
         ensures { Forgets S.store_state self.old
             (record { eep = eep; id = id; maker = maker; outcome = Outcome.Deleted }) result self.new }
     {
         let draft = teach_line(self.alloc, id, eep, maker, Outcome::Deleted)?;
         let receipt = match self.registry.forget(id) {
             Ok(receipt) => receipt,
-            Err(fault) => return Err(Failure::AtWrite(fault)),
+            Err(fault) => return Err(Failure::AtCommit(fault)),
         };
         let verdict = Verdict::committed(receipt);
         let line = draft.tell(&verdict);
-        Ok(Committed { verdict, line })
+        Ok(CommittedTeachLine { verdict, line })
     }
 
     // Learns a device that the desk names.

@@ -8,7 +8,7 @@ ghost use Rattle.gateway_core.specs.private.Attempts.{MatchesEffect, Attempts};
 use crate::failure::Failure;
 use crate::handler::Handler;
 use crate::handler::effect::{OrderEffect, desk_effect, error_effect, mode_effect, relabel_effect};
-use crate::handler::send::{ask_base, error_of};
+use crate::handler::send::{request_base_id, order_error_name};
 use crate::reply::Desk;
 use actuator_commands::{MAX_LINE, Order, parse};
 use erp1_telegrams::Eep;
@@ -61,7 +61,7 @@ impl<S: DeviceStore> Handler<S> {
         match self.registry.relabel(id, label) {
             Ok(true) => Ok(relabel_effect()),
             Ok(false) => Ok(error_effect(ErrorName::UnknownDevice)),
-            Err(fault) => Err(Failure::AtWrite(fault)),
+            Err(fault) => Err(Failure::AtCommit(fault)),
         }
     }
 
@@ -95,7 +95,7 @@ impl<S: DeviceStore> Handler<S> {
             Order::Label { id, label } => self.try_label(id, label),
             Order::List => self.try_list(),
             Order::Status => self.try_status(),
-            Order::Base => Ok(ask_base()),
+            Order::Base => Ok(request_base_id()),
             // An order to devices.
             order => self.try_send(&order),
         }
@@ -109,7 +109,7 @@ impl<S: DeviceStore> Handler<S> {
         }
         match parse(line) {
             Ok(order) => self.try_order(order),
-            Err(fault) => Ok(error_effect(error_of(fault))),
+            Err(fault) => Ok(error_effect(order_error_name(fault))),
         }
     }
 }

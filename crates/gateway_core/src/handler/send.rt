@@ -2,7 +2,7 @@
 ghost use Rattle.std.specs.Prelude.{◌≡◌, Bool, Ok, true};
 ghost use Rattle.std.specs.Option.{option_copied};
 ghost use Rattle.esp3_frames.specs.Packet.{spelling};
-ghost use Rattle.erp1_telegrams.specs.Address.{is_base};
+ghost use Rattle.erp1_telegrams.specs.Address.{is_base_id};
 ghost use Rattle.erp1_telegrams.specs.Telegram.{radio_packet};
 ghost use Rattle.actuator_commands.specs.Orders.{IsInRange};
 ghost use Rattle.actuator_commands.specs.Packets.{order_telegram, sends};
@@ -35,8 +35,8 @@ pub(crate) fn packet_with(telegram: &Telegram) -> ArrayVec<u8, 64>
     }
 }
 
-pub(crate) fn error_of(fault: OrderFault) -> ErrorName
-    ensures { result ≡ Step.error_of fault }
+pub(crate) fn order_error_name(fault: OrderFault) -> ErrorName
+    ensures { result ≡ Step.order_error_name fault }
 {
     match fault {
         OrderFault::Syntax => ErrorName::Syntax,
@@ -47,8 +47,8 @@ pub(crate) fn error_of(fault: OrderFault) -> ErrorName
 }
 
 // Asks the radio module for its base ID.
-pub(crate) fn ask_base() -> OrderEffect
-    ensures { (asked : Bool) → MatchesEffect result (Step.send_effect asked (spelling Step.base_query)) }
+pub(crate) fn request_base_id() -> OrderEffect
+    ensures { (asked : Bool) → MatchesEffect result (Step.send_effect asked (spelling Step.base_id_request)) }
 {
     let mut packet = ArrayVec::new();
     match write_packet(COMMON_COMMAND, &[READ_BASE_ID], &[], &mut packet) {
@@ -61,13 +61,13 @@ pub(crate) fn ask_base() -> OrderEffect
 fn send(order: &Order, device: Option<&Device>, base: u32) -> OrderEffect
     requires sends { sends order.now ≡ true }
     requires in_range { IsInRange order.now }
-    requires base { is_base base ≡ true }
+    requires base { is_base_id base ≡ true }
     ensures { (asked : Bool)
         → MatchesEffect result (send_result_effect asked (order_telegram order.now (option_copied device.entry) base)) }
 {
     match packet_of(order, device, base) {
         Ok(telegram) => send_effect(packet_with(&telegram)),
-        Err(fault) => error_effect(error_of(fault)),
+        Err(fault) => error_effect(order_error_name(fault)),
     }
 }
 

@@ -14,7 +14,7 @@ use crate::disposition::{Disposition, query_device, why_silent};
 use crate::failure::Failure;
 use crate::handler::Handler;
 use crate::handler::effect::{PacketEffect, ignored_effect};
-use crate::handler::learn_forget::Committed;
+use crate::handler::learn_forget::CommittedTeachLine;
 use crate::handler::send::packet_with;
 use crate::reply::{Desk, Reply};
 use arrayvec::ArrayVec;
@@ -105,7 +105,7 @@ impl<S: DeviceStore> Handler<S> {
     {
         let (id, eep, maker) = (device.id, device.eep, device.maker);
         let disposition = Disposition::for_device(&device, Why::TeachIn(Outcome::Accepted));
-        let Some(Committed { verdict, line }) = self.learn(device)? else {
+        let Some(CommittedTeachLine { verdict, line }) = self.learn(device)? else {
             let full = self.refuse(teach, id, Some(eep), maker, Outcome::Full)?;
             return Ok(full);
         };
@@ -122,7 +122,7 @@ impl<S: DeviceStore> Handler<S> {
         ensures { Attempts S.store_state self.old (λ state. delete_effect state teach.now id) result self.new }
     {
         let (eep, maker) = query_device(teach);
-        let Committed { verdict, line } = self.forget(id, eep, maker)?;
+        let CommittedTeachLine { verdict, line } = self.forget(id, eep, maker)?;
         Ok(PacketEffect {
             disposition: Disposition::without_device(Why::TeachIn(Outcome::Deleted)),
             mode: None,

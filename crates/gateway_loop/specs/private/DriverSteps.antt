@@ -1,6 +1,6 @@
 -- What a `Driver` does with ready packets, and with events.
 use Rattle.std.specs.Prelude.{◌≡◌, ◌<◌, ℕ, List, [], ◌∷◌, ◌++◌, length, map, Result, MatchResult}
-use Rattle.learned_devices.specs.StoreState.{StoreState}
+use Rattle.learned_devices.specs.DeviceStoreState.{DeviceStoreState}
 use Rattle.esp3_frames.specs.Packet.{Packet}
 use Rattle.json_lines.specs.Counts.{saturated_sum}
 use Rattle.gateway_core.specs.Step.{Received, Answer}
@@ -10,7 +10,7 @@ use Rattle.gateway_loop.specs.declared.driver.Driver.{Driver}
 use Rattle.gateway_loop.specs.OutputSpecs.{OutputSpec}
 use Rattle.gateway_loop.specs.Processing.{Answers, AnswersPart, Processes, BreaksAtLastEvent, Breaks}
 
-module _ {S : Type 0} (stored : S → StoreState) where
+module _ {S : Type 0} (stored : S → DeviceStoreState) where
   -- the packets that were ready first were handled, and no others
   pub record Drains (old new : GatewayValue S) (puts : List Answer → Type 0) (count total : ℕ) : Type 0 where
     pub packets : List Packet
@@ -27,7 +27,7 @@ module _ {S : Type 0} (stored : S → StoreState) where
     pub rest : new.rest ≡ old.rest
     pub answered : AnswersPart stored old.handler new.handler (map Received packets) breaks
 
-module _ {O S : Type 0} (stored : S → StoreState) (output : OutputSpec O) where
+module _ {O S : Type 0} (stored : S → DeviceStoreState) (output : OutputSpec O) where
   -- the events were processed, and their answers written
   abbrev pub DriverProcesses : Driver O S → Driver O S → List Event → Type 0
   DriverProcesses old new events =

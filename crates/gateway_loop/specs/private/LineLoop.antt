@@ -2,7 +2,7 @@
 use Rattle.std.specs.Prelude.{◌≡◌, ℕ, List, ◌∷◌, ◌++◌, All}
 use Rattle.std.specs.List.{flat_map}
 use Rattle.std.specs.Str.Lines.{strip_carriage_return}
-use Rattle.learned_devices.specs.StoreState.{StoreState}
+use Rattle.learned_devices.specs.DeviceStoreState.{DeviceStoreState}
 use Rattle.gateway_loop.specs.declared.line_loop.Lines.{Lines}
 use Rattle.gateway_loop.specs.declared.line_loop.LineDispatcher.{LineDispatcher}
 use Rattle.gateway_loop.specs.private.Lines.{KeepsPartialLine, event_by, events_by}
@@ -11,7 +11,7 @@ use Rattle.gateway_loop.specs.private.DriverSteps.{DriverBreaks, Takes}
 use Rattle.gateway_loop.specs.Script.{HasNoLf, with_lf}
 
 -- Below, `bytes` are those of the first partial line, followed by those that arrived after it.
-module _ {O S : Type 0} (stored : S → StoreState) (output : OutputSpec O) (lines : Lines) where
+module _ {O S : Type 0} (stored : S → DeviceStoreState) (output : OutputSpec O) (lines : Lines) where
   -- the lines that LF ends in the bytes were taken, and the first bytes of the partial line after them are kept
   pub record TakesBytes (old new : LineDispatcher O S) (bytes : List ℕ) : Type 0 where
     pub ended : List (List ℕ)

@@ -11,8 +11,8 @@ use Rattle.json_lines.specs.declared.counts.Counts.{Counts}
 use Rattle.json_lines.specs.Lines.{TeachLine, id_text, eep_text, outcome_word, mode_word, code_names}
 
 -- the text appears in a JSON string unchanged, with no escape
-abbrev pub IsPlain : List ℕ → Type 0
-IsPlain text = escape text ≡ text
+abbrev pub NeedsNoEscape : List ℕ → Type 0
+NeedsNoEscape text = escape text ≡ text
 
 -- the line is the text made of what was sent, and a line feed
 pub record IsLineOf (Writes : Log → Log → Type 0) (line : List ℕ) : Type 0 where

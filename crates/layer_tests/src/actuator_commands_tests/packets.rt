@@ -1,7 +1,7 @@
 //! The telegrams of orders: their recipients, their content, and the orders that have none.
 use actuator_commands::{Order, OrderFault, Quantity, id_of, packet_of, parse};
 use arrayvec::ArrayVec;
-use erp1_telegrams::{BROADCAST, Eep, Telegram, is_base, read, write};
+use erp1_telegrams::{BROADCAST, Eep, Telegram, is_base_id, read, write};
 use esp3_frames::read_packet;
 use learned_devices::{Device, Label};
 use std::alloc::Global;
@@ -28,7 +28,7 @@ fn telegram(
     base: u32,
 ) -> Result<Result<Telegram, OrderFault>, Fail> {
     let order = parse(line)?;
-    if !order.sends() || !is_base(base) {
+    if !order.sends() || !is_base_id(base) {
         return Err(Fail::from("an order of no telegram, or no base ID"));
     }
     let device = profile.map(|(rorg, func, typ)| Device {

@@ -2,7 +2,7 @@
 use erp1_telegrams::{BROADCAST, Eep, Telegram};
 use exact_values::{over, scale};
 use json_lines::{
-    Count, Counts, ErrorName, device_lines, done_line, reading_line, response_line, status_line,
+    Counter, Counts, ErrorName, device_lines, done_line, reading_line, response_line, status_line,
 };
 use learned_devices::{Device, Label};
 use profile_rows::{Reading, Readings, What};
@@ -232,12 +232,12 @@ const GREATEST: Counts = Counts {
     teach: 18_446_744_073_709_551_615,
 };
 
-const OF_COUNTS: [(Count, usize); 5] = [
-    (Count::Ignored, 1),
-    (Count::Reading, 2),
-    (Count::Refused, 3),
-    (Count::Response, 4),
-    (Count::Teach, 5),
+const OF_COUNTS: [(Counter, usize); 5] = [
+    (Counter::Ignored, 1),
+    (Counter::Reading, 2),
+    (Counter::Refused, 3),
+    (Counter::Response, 4),
+    (Counter::Teach, 5),
 ];
 
 // A counter at its maximum does not change.
@@ -247,9 +247,9 @@ fn counts(rt: HostRuntime) {
     let mut greatest = GREATEST;
     for (count, times) in OF_COUNTS {
         for _ in 0..times {
-            counts.raise(count);
+            counts.increment(count);
         }
-        greatest.raise(count);
+        greatest.increment(count);
         assert_eq!(rt; greatest, GREATEST, "{times}");
     }
     assert_eq!(rt; (counts, Counts::none()), (RAISED, NONE));

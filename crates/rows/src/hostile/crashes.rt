@@ -165,7 +165,7 @@ fn is_prepared<C: SqlConnection>(conn: &mut C) -> Option<bool> {
     }
     match prepare(conn) {
         Ok(()) => Some(true),
-        Err(OpenFault::Refused(fault)) if !fault.is_memory() => Some(false),
+        Err(OpenFault::Failed(fault)) if !fault.is_memory() => Some(false),
         Err(_) => None,
     }
 }

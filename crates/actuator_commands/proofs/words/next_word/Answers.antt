@@ -1,13 +1,13 @@
 use Rattle.std.proofs.Common.{ap, ◌∙◌}
 use Rattle.std.proofs.lemmas.List.{take_rest}
-use Rattle.actuator_commands.specs.Words.{words_left}
+use Rattle.actuator_commands.specs.Words.{remaining_words}
 use Rattle.actuator_commands.proofs.WordLemmas.{words-found, words-none}
 use Rattle.actuator_commands.proofs.words.next_word.Goals as goal
 
 pub returns-in-Some : goal.returns-in-Some
 returns-in-Some c =
     rw take_rest
-    (ap words_left c.in_ok-line.was ∙ words-found c.in_ok-line.line.now c.in-Some.at c.in-Some.ensures)
+    (ap remaining_words c.in_ok-line.was ∙ words-found c.in_ok-line.line.now c.in-Some.at c.in-Some.ensures)
 
 pub returns-in-None : goal.returns-in-None
-returns-in-None c = ap words_left c.in_ok-line.was ∙ words-none c.in_ok-line.line.now c.in-None.ensures
+returns-in-None c = ap remaining_words c.in_ok-line.was ∙ words-none c.in_ok-line.line.now c.in-None.ensures

@@ -8,7 +8,7 @@ use Rattle.bit_fields.proofs.fields.set_field_at.Goals as goal
 
 pub write-requires-clause-fits : goal.write-requires-clause-fits
 write-requires-clause-fits c =
-    let span = c.span_of-first.result in
+    let span = c.byte_span_of-first.result in
     let len = c.args.len in
     let part = take (span.end - span.first) (drop span.first c.args.bytes.now) in
     let rest : length (drop span.first c.args.bytes.now) ≡ length c.args.bytes.now - span.first =
@@ -25,7 +25,7 @@ write-requires-clause-fits c =
 
 pub returns : goal.returns
 returns c =
-    let span = c.span_of-first.result in
+    let span = c.byte_span_of-first.result in
     let bytes = c.args.bytes.now in
     let len = c.args.len in
     let count = span.end - span.first in

@@ -1,5 +1,5 @@
 use Rattle.std.proofs.Common.{rules, ◌≡◌}
-use Rattle.device_registry.proofs.MakeEffect.{sound_inside, make_ends}
+use Rattle.device_registry.proofs.CreateEffect.{sound_inside, make_ends}
 use Rattle.device_registry.proofs.TransactionEnd.{made_empty, stop_empty}
 use Rattle.device_registry.proofs.create.create_registry.Goals as goal
 

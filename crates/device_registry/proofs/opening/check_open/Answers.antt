@@ -1,5 +1,5 @@
 use Rattle.std.proofs.Common.{rules, codes, [], IsTrue}
-use Rattle.device_registry.specs.Opening.{IsAtRest}
+use Rattle.device_registry.specs.Opening.{IsSettledOpen}
 use Rattle.device_registry.proofs.RefusalKeeps.{err_told, not_run_kept}
 use Rattle.device_registry.proofs.opening.check_open.Goals as goal
 
@@ -9,7 +9,7 @@ returns-in_err-_statement-clause-kept g c clean =
     let new = g.C.SqlConnection.state c.prepare.new.self in
     let auto : IsTrue c.is_autocommit-idle.result = search rules in
     let at_rest = λ (is_open : IsTrue old.is_open).
-    let it : IsAtRest old =
+    let it : IsSettledOpen old =
     record {
       is_open = is_open;
       idle = c.requires.idle;

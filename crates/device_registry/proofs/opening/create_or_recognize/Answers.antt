@@ -7,7 +7,7 @@ use Rattle.device_registry.specs.Opening.{IsOwnRegistry}
 use Rattle.device_registry.proofs.OpenCalls.{begun, begun_bare, begun_stop, took, first_asked, migrated}
 use Rattle.device_registry.proofs.OpenCalls.{migrated_other, migrated_stop, taken, taken_ready, taken_rows}
 use Rattle.device_registry.proofs.OpenCalls.{taken_stop, taken_others, migrated_others, is_other}
-use Rattle.device_registry.proofs.OpenRenews.{renewed_by}
+use Rattle.device_registry.proofs.OpenRewritesVersion.{renewed_by}
 use Rattle.device_registry.proofs.opening.create_or_recognize.Goals as goal
 
 -- ---- the tables are created

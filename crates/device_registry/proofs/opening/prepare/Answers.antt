@@ -2,7 +2,7 @@ use Rattle.std.proofs.Common.{arith, sym, ◌∙◌}
 use Rattle.std.proofs.lemmas.Result.{err_from_is_err_and}
 use Rattle.sqlite.specs.State.{HasCleanDisk}
 use Rattle.device_registry.proofs.OpenCalls.{opened_if, rows_on, others_then, refused_first, refused_then}
-use Rattle.device_registry.proofs.OpenRenews.{renewed_if}
+use Rattle.device_registry.proofs.OpenRewritesVersion.{renewed_if}
 use Rattle.device_registry.proofs.opening.prepare.Goals as goal
 
 pub returns-clause-opened : goal.returns-clause-opened

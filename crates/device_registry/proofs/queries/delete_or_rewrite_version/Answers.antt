@@ -1,7 +1,7 @@
 use Rattle.std.proofs.Common.{rules, arith, ◌≡◌, []}
 use Rattle.std.proofs.lemmas.Grind.{common_steps}
 use Rattle.device_registry.proofs.FindAnswer.{unknown_is_removed}
-use Rattle.device_registry.specs.Table.{rewrite_version_text}
+use Rattle.device_registry.specs.Table.{rewrite_version_sql}
 use Rattle.device_registry.proofs.WritesTurn.{executed_if}
 use Rattle.learned_devices.specs.Devices.{forget_update}
 use Rattle.device_registry.proofs.queries.delete_or_rewrite_version.Goals as goal
@@ -14,7 +14,7 @@ returns-then-is_empty-clause-turns g c =
 
 pub returns-then-is_empty-clause-written : goal.returns-then-is_empty-clause-written
 returns-then-is_empty-clause-written g c clean none =
-    executed_if rewrite_version_text [] (g.C.SqlConnection.state c.args.conn.now)
+    executed_if rewrite_version_sql [] (g.C.SqlConnection.state c.args.conn.now)
     (g.C.SqlConnection.state c.rewrite_version.new.conn)
     c.rewrite_version.result
     (c.rewrite_version.ensures.runs clean)

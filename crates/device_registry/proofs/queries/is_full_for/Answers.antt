@@ -1,6 +1,6 @@
 use Rattle.std.proofs.Common.{rules, arith, subst}
 use Rattle.sqlite.specs.State.{HasCleanDisk, Shown}
-use Rattle.device_registry.specs.Table.{count_others_text}
+use Rattle.device_registry.specs.Table.{count_others_sql}
 use Rattle.device_registry.proofs.SenderTests.{asked}
 use Rattle.device_registry.proofs.StatementSteps.{query_ready}
 use Rattle.device_registry.proofs.CountOthersAnswer.{others_plain, others_stay, told_full}
@@ -15,8 +15,8 @@ returns-in_err-rows-clause-stays g c =
     c.in_ok-others.ensures.ready c.query_by_sender.ensures.survives c.query_by_sender.ensures.shown
     c.query_by_sender.ensures.failed
 
-pub returns-in_err-number-clause-stays : goal.returns-in_err-number-clause-stays
-returns-in_err-number-clause-stays g c =
+pub returns-in_err-shown_count-clause-stays : goal.returns-in_err-shown_count-clause-stays
+returns-in_err-shown_count-clause-stays g c =
     others_stay c.args.id c.in_ok-others.others.text (g.C.SqlConnection.state c.args.conn.now)
     (g.C.SqlConnection.state c.compile.new.conn)
     (g.C.SqlConnection.state c.query_by_sender.new.conn) (λ v. v.items) c.query_by_sender.result c.compile.ensures.stays
@@ -40,13 +40,13 @@ returns-clause-full g c clean =
     let early : HasCleanDisk mid = omega (arith, clean, c.query_by_sender.ensures.survives.clean) in
     let ready = c.in_ok-others.ensures.ready early in
     let rows = c.in_ok-rows.rows.items in
-    let shown : Shown count_others_text (asked c.args.id) mid new rows =
+    let shown : Shown count_others_sql (asked c.args.id) mid new rows =
     subst (λ t. Shown t (asked c.args.id) mid new rows) (c.in_ok-others.ensures.text early)
     (c.in_ok-rows.ensures.shown clean) in
-    let told = c.in_ok-number.ensures.number in (
-      query_ready count_others_text (asked c.args.id) mid new rows (others_plain mid ready) ready shown,
+    let told = c.in_ok-shown_count.ensures.number in (
+      query_ready count_others_sql (asked c.args.id) mid new rows (others_plain mid ready) ready shown,
       λ devices shows.
           let showed = (c.compile.ensures.stays.goes_on early ready.shows.is_open).1 devices shows in
-          told_full mid new c.args.id rows c.in_ok-number.field-0 told.0 told.1 devices showed shown
+          told_full mid new c.args.id rows c.in_ok-shown_count.field-0 told.0 told.1 devices showed shown
           (search rules) told.3,
     )

@@ -4,7 +4,7 @@ use Rattle.learned_devices.specs.Devices.{Devices, all_of}
 use Rattle.device_registry.specs.Ready.{IsReadyWith, IsReady}
 use Rattle.device_registry.specs.Table.Rows.{device_in_row}
 use Rattle.device_registry.specs.declared.table.Version.TheVariants.{Second}
-use Rattle.device_registry.specs.Table.{find_all_text}
+use Rattle.device_registry.specs.Table.{find_all_sql}
 use Rattle.device_registry.proofs.StatementSteps.{compiled_query_stays, query_ready, ok_then}
 use Rattle.device_registry.proofs.ListDevicesAnswer.{all_plain, lists}
 use Rattle.device_registry.proofs.queries.list_devices.Goals as goal
@@ -12,7 +12,7 @@ use Rattle.device_registry.proofs.queries.list_devices.Goals as goal
 pub returns-clause-stays : goal.returns-clause-stays
 returns-clause-stays g c =
     let mid = g.C.SqlConnection.state c.compile.new.conn in
-    compiled_query_stays (find_all_text Second) c.in_ok-all.all.text [] (g.C.SqlConnection.state c.args.conn.now) mid
+    compiled_query_stays (find_all_sql Second) c.in_ok-all.all.text [] (g.C.SqlConnection.state c.args.conn.now) mid
     (g.C.SqlConnection.state c.query_all_prepared.new.self) (λ v. v.items) c.query_all_prepared.result
     c.compile.ensures.stays
     c.in_ok-all.ensures.text (λ clean. all_plain mid (c.in_ok-all.ensures.ready clean))
@@ -31,7 +31,7 @@ returns-clause-all g c clean =
     c.query_all_prepared.result
     (λ v shown.
     let all = subst (λ t. Shown t [] mid new v.items) (c.in_ok-all.ensures.text early) shown in (
-      query_ready (find_all_text Second) [] mid new v.items (all_plain mid ready) ready all,
+      query_ready (find_all_sql Second) [] mid new v.items (all_plain mid ready) ready all,
       λ devices shows. lists mid new v.items devices
           ((c.compile.ensures.stays.goes_on early ready.shows.is_open).1 devices shows).registers all,
     ))

@@ -3,7 +3,7 @@ use Rattle.sqlite.specs.State.{HasCleanDisk, Shown}
 use Rattle.learned_devices.specs.Devices.{Devices, device_of}
 use Rattle.device_registry.specs.Ready.{IsReadyWith, IsReady}
 use Rattle.device_registry.specs.Table.Rows.{IsDeviceOrNone}
-use Rattle.device_registry.specs.Table.{find_text}
+use Rattle.device_registry.specs.Table.{find_sql}
 use Rattle.device_registry.proofs.SenderTests.{asked}
 use Rattle.device_registry.proofs.StatementSteps.{compiled_query_stays, query_survives, answered_same, ok_then}
 use Rattle.device_registry.proofs.FindAnswer.{find_plain, looked_up}
@@ -22,11 +22,11 @@ returns g c =
     let before = λ (clean : HasCleanDisk new).
     let early : HasCleanDisk mid = omega (arith, clean, rows.survives.clean) in early in
     record {
-      stays = compiled_query_stays find_text text (asked id) old mid new (λ v. v.items) c.query_by_sender.result
+      stays = compiled_query_stays find_sql text (asked id) old mid new (λ v. v.items) c.query_by_sender.result
           c.compile.ensures.stays find.text plain rows.survives rows.shown rows.failed;
-      same = λ clean. answered_same find_text text (asked id) old mid new (λ v. v.items) c.query_by_sender.result
+      same = λ clean. answered_same find_sql text (asked id) old mid new (λ v. v.items) c.query_by_sender.result
           (find.same (before clean)) (find.text (before clean)) (plain (before clean)) (rows.shown clean);
-      survives = query_survives find_text text (asked id) old mid new c.compile.ensures.survives find.text plain
+      survives = query_survives find_sql text (asked id) old mid new c.compile.ensures.survives find.text plain
           rows.survives;
       found = λ clean.
           let ready = find.ready (before clean) in

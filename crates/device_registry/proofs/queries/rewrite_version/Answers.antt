@@ -1,7 +1,7 @@
 use Rattle.device_registry.proofs.WritesTurn.{renew_turns}
 use Rattle.device_registry.proofs.VersionWrites.{renewed_if, renew_stop, rows_if}
 use Rattle.std.proofs.Common.{[]}
-use Rattle.device_registry.specs.Table.{rewrite_version_text}
+use Rattle.device_registry.specs.Table.{rewrite_version_sql}
 use Rattle.device_registry.proofs.RefusalKeeps.{executed_if}
 use Rattle.device_registry.proofs.queries.rewrite_version.Goals as goal
 
@@ -25,7 +25,7 @@ returns-clause-rows g c clean = rows_if (g.C.SqlConnection.state c.args.conn.now
     (g.C.SqlConnection.state c.execute.new.self) c.execute.result (c.execute.ensures.runs clean)
 
 pub returns-clause-remains : goal.returns-clause-remains
-returns-clause-remains g c clean = executed_if rewrite_version_text [] (g.C.SqlConnection.state c.args.conn.now)
+returns-clause-remains g c clean = executed_if rewrite_version_sql [] (g.C.SqlConnection.state c.args.conn.now)
     (g.C.SqlConnection.state c.execute.new.self) c.execute.result (c.execute.ensures.runs clean)
 
 pub returns-clause-runs : goal.returns-clause-runs

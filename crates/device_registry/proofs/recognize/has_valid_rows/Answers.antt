@@ -6,7 +6,7 @@ use Rattle.sqlite.specs.Given.{IsPlain}
 use Rattle.sqlite.specs.Listing.{understood}
 use Rattle.sqlite.specs.Effect.{Database}
 use Rattle.sqlite.proofs.Callers.{unchanged_then}
-use Rattle.device_registry.specs.Table.{number_of, find_all_text}
+use Rattle.device_registry.specs.Table.{version_number, find_all_sql}
 use Rattle.learned_devices.specs.Devices.{max_devices}
 use Rattle.device_registry.specs.Table.Rows.{ShowsVersion, are_ascending_devices}
 use Rattle.device_registry.proofs.ListDevicesMeaning.{all_means}
@@ -25,15 +25,15 @@ query_rows-requires-2 g c clean =
     let early : HasCleanDisk old = omega (arith, clean, c.query_rows.ensures.crash.clean) in
     let t = c.requires early in
     let same = ap (λ (d : Database). d.schema) (c.in_ok-versions.ensures.shown clean).1.0.now_is in
-    let plain = subst (λ s. IsPlain (understood s (find_all_text c.args.version))) (sym same)
+    let plain = subst (λ s. IsPlain (understood s (find_all_sql c.args.version))) (sym same)
     (all_means c.args.version old.now.schema t.devices_at t.devices t.devices_stand).plain in
-    rw c.find_all.ensures plain
+    rw c.find_all_sql.ensures plain
 
 pub returns-then-not-is_version-clause-other : goal.returns-then-not-is_version-clause-other
 returns-then-not-is_version-clause-other g c clean none t it =
     let old = g.C.SqlConnection.state c.args.conn.now in
     let mid = g.C.SqlConnection.state c.query_rows.new.conn in
-    let told : c.in_ok-versions.versions.items ≡ (Int (pos 1) ∷ Int (pos (number_of c.args.version)) ∷ []) ∷ [] =
+    let told : c.in_ok-versions.versions.items ≡ (Int (pos 1) ∷ Int (pos (version_number c.args.version)) ∷ []) ∷ [] =
     version_told c.args.version old mid c.in_ok-versions.versions.items t it (c.in_ok-versions.ensures.shown clean).0 in
     let is_one : IsTrue c.is_version.result = c.is_version.ensures.complete (search (rules, told)) in
     absurd (let e = c.if-not-is_version.true in cc)
@@ -45,7 +45,7 @@ returns-clause-whole g c clean =
     let new = g.C.SqlConnection.state c.query_rows-2.new.conn in
     let between : HasCleanDisk mid = omega (arith, clean, c.query_rows-2.ensures.crash.clean) in
     let first = c.in_ok-versions.ensures.shown between in
-    let second = rw c.find_all.ensures at (c.in_ok-devices.ensures.shown clean) in (
+    let second = rw c.find_all_sql.ensures at (c.in_ok-devices.ensures.shown clean) in (
       unchanged_then old mid new first.1 second.1,
       λ yes t.
           let version : ShowsVersion c.args.version c.in_ok-versions.versions.items = search rules in
@@ -67,7 +67,7 @@ returns-then-len-gt-MAX_DEVICES-clause-other g c clean none t it =
     let between : HasCleanDisk mid = omega (arith, clean, c.query_rows-2.ensures.crash.clean) in
     let count = devices_told c.args.version old mid new c.in_ok-devices.devices.items t
     (c.in_ok-versions.ensures.shown between).1
-    (rw c.find_all.ensures at (c.in_ok-devices.ensures.shown clean)).0 in
+    (rw c.find_all_sql.ensures at (c.in_ok-devices.ensures.shown clean)).0 in
     let many : max_devices < length c.in_ok-devices.devices.items = search rules in
     absurd (told_count _ _ count it.few many)
 
@@ -79,6 +79,6 @@ returns-clause-other g c clean none t it =
     let between : HasCleanDisk mid = omega (arith, clean, c.query_rows-2.ensures.crash.clean) in
     let up = rise_told c.args.version old mid new c.in_ok-devices.devices.items t it
     (c.in_ok-versions.ensures.shown between).1
-    (rw c.find_all.ensures at (c.in_ok-devices.ensures.shown clean)).0 in
+    (rw c.find_all_sql.ensures at (c.in_ok-devices.ensures.shown clean)).0 in
     let not_up : are_ascending_devices 0 c.in_ok-devices.devices.items ≡ false = search (rules, none) in
     absurd (let e = sym up ∙ not_up in cc)

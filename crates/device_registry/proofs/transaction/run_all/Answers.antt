@@ -1,7 +1,7 @@
 use Rattle.std.proofs.Common.{rules, ◌∙◌, ◌<◌, map, take, length, subst, sym}
 use Rattle.std.proofs.lemmas.List.{map_more}
-use Rattle.device_registry.specs.private.Transaction.{IsInside}
-use Rattle.device_registry.proofs.TransactionSteps.{uncommitted, saturated_next, if_refused}
+use Rattle.device_registry.specs.private.Transaction.{IsMidTransaction}
+use Rattle.device_registry.proofs.TransactionSteps.{uncommitted, saturated_increment, if_refused}
 use Rattle.device_registry.proofs.transaction.run_all.Goals as goal
 
 pub loop-text-preserved : goal.loop-text-preserved
@@ -10,9 +10,9 @@ loop-text-preserved g c =
     let at = c.loop-text.text-index in
     let within : at < length texts = search rules in (
       c.execute.ensures.same_reference ∙ c.loop-text.invariant.0,
-      subst (λ ts. IsInside g.S.Store ts c.args.ours.now.conn.now c.execute.new.self.conn.now)
+      subst (λ ts. IsMidTransaction g.S.Store ts c.args.ours.now.conn.now c.execute.new.self.conn.now)
           (sym (map_more (λ text. text.now) texts at _ within))
-          (saturated_next g.S.Store (map (λ text. text.now) (take at texts)) _ c.args.ours.now.conn.now
+          (saturated_increment g.S.Store (map (λ text. text.now) (take at texts)) _ c.args.ours.now.conn.now
           c.loop-text.ours.conn.now c.execute.new.self.conn.now c.execute.result c.loop-text.invariant.1
           c.execute.ensures.survives c.execute.ensures.runs c.in_ok-execute.field-0 c.in_ok-execute.was),
     )

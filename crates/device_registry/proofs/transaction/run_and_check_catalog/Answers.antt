@@ -1,7 +1,7 @@
 use Rattle.std.proofs.Common.{rules, ◌≡◌, map, true}
 use Rattle.sqlite.specs.State.{HasCleanDisk}
 use Rattle.sqlite.specs.Held.{state}
-use Rattle.device_registry.specs.private.CatalogRows.{are_ours}
+use Rattle.device_registry.specs.private.CatalogRows.{are_our_tables}
 use Rattle.device_registry.proofs.ListedInside.{seen_uncommitted, listed_inside}
 use Rattle.device_registry.proofs.TransactionSteps.{if_refused}
 use Rattle.device_registry.proofs.transaction.run_and_check_catalog.Goals as goal
@@ -17,8 +17,8 @@ returns-in_err-rows-clause-inside g c =
     (λ clean. c.requires.sound mid clean made) c.query_all.ensures.survives (λ v. v.items) c.query_all.result
     c.query_all.ensures.ok c.query_all.ensures.err)
 
-pub returns-then-not-are_ours-clause-inside : goal.returns-then-not-are_ours-clause-inside
-returns-then-not-are_ours-clause-inside g c =
+pub returns-then-not-are_our_tables-clause-inside : goal.returns-then-not-are_our_tables-clause-inside
+returns-then-not-are_our_tables-clause-inside g c =
     let start = c.args.ours.now.conn.now in
     let mid = c.run_all.new.ours.conn.now in
     let texts = map (λ text. text.now) c.args.texts.now in
@@ -36,6 +36,6 @@ returns-clause-inside g c =
     let sound = λ (clean : HasCleanDisk (state g.S.Store mid)). c.requires.sound mid clean made in
     let uncommitted = seen_uncommitted g.S.Store texts start mid c.query_all.new.self.conn.now made sound
     c.query_all.ensures.survives (λ v. v.items) c.query_all.result c.query_all.ensures.ok c.query_all.ensures.err in
-    let ours : are_ours c.args.version c.in_ok-rows.rows.items ≡ true = search rules in
+    let ours : are_our_tables c.args.version c.in_ok-rows.rows.items ≡ true = search rules in
     listed_inside g.S.Store texts start mid c.query_all.new.self.conn.now made sound c.query_all.ensures.survives
     c.args.version c.in_ok-rows.rows.items uncommitted c.in_ok-rows.ensures.ok ours

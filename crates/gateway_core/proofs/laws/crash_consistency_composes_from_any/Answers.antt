@@ -1,4 +1,4 @@
-use Rattle.gateway_core.proofs.StopLemmas.{crash_consistency_composes}
+use Rattle.gateway_core.proofs.CrashLemmas.{crash_consistency_composes}
 use Rattle.gateway_core.proofs.laws.crash_consistency_composes_from_any.Goals as goal
 
 pub returns : goal.returns

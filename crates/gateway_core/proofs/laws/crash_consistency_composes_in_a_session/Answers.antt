@@ -1,7 +1,7 @@
 use Rattle.std.proofs.Common.{◌≡◌}
 use Rattle.learned_devices.specs.Devices.{Devices}
 use Rattle.gateway_core.specs.CrashStates.{IsOneOf}
-use Rattle.gateway_core.proofs.StopLemmas.{crash_consistency_composes}
+use Rattle.gateway_core.proofs.CrashLemmas.{crash_consistency_composes}
 use Rattle.gateway_core.proofs.laws.crash_consistency_composes_in_a_session.Goals as goal
 
 pub returns-clause-found : goal.returns-clause-found

@@ -1,4 +1,4 @@
-use Rattle.gateway_core.proofs.TellingLemmas.{labels_are_acknowledged}
+use Rattle.gateway_core.proofs.ReportingLemmas.{labels_are_acknowledged}
 use Rattle.gateway_core.proofs.laws.labels_are_acknowledged.Goals as goal
 
 pub returns : goal.returns

@@ -1,4 +1,4 @@
-use Rattle.gateway_core.proofs.TellingLemmas.{updates_are_reported}
+use Rattle.gateway_core.proofs.ReportingLemmas.{updates_are_reported}
 use Rattle.gateway_core.proofs.laws.updates_are_reported.Goals as goal
 
 pub returns : goal.returns

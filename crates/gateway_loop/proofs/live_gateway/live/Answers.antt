@@ -1,5 +1,5 @@
 use Rattle.std.proofs.Common.{rules, [], ◌∷◌, ◌++◌, ◌+◌, refl, take, ap, arith, None, Some, ◌∙◌, length-append}
-use Rattle.byte_io.specs.Counts.{saturated_next}
+use Rattle.byte_io.specs.Counts.{saturated_increment}
 use Rattle.gateway_loop.specs.Processing.{IsDrained}
 use Rattle.gateway_loop.specs.Streams.{source_value}
 use Rattle.gateway_loop.specs.Turns.{Turn, desk_reads, serial_reads}
@@ -12,7 +12,7 @@ use Rattle.gateway_loop.proofs.ReadLemmas.{reads_fail, reads_more, reads_none}
 use Rattle.gateway_loop.proofs.TurnLemmas.{desk_reads-more, first_player, order_stops, piece_stops, piece_taken}
 use Rattle.gateway_loop.proofs.TurnLemmas.{serial_reads-more}
 use Rattle.gateway_loop.proofs.TurnLemmas.{turn_taken, turns_none}
-use Rattle.gateway_loop.proofs.WiresLemmas.{breaks_at, breaks_at_order, not_all_well, plays_at}
+use Rattle.gateway_loop.proofs.LiveOutputsLemmas.{breaks_at, breaks_at_order, not_all_well, plays_at}
 use Rattle.gateway_loop.proofs.live_gateway.live.Goals as goal
 
 pub loop-turn-init : goal.loop-turn-init
@@ -34,8 +34,8 @@ loop-turn-init g c =
       desk_made = made_none (g.Q.Source.counts c.args.desk_in.now);
     }
 
-pub take_chunk-requires : goal.take_chunk-requires
-take_chunk-requires g c = c.loop-turn.invariant.idle
+pub process_chunk-requires : goal.process_chunk-requires
+process_chunk-requires g c = c.loop-turn.invariant.idle
 
 -- ---- a read of the serial line fails
 
@@ -74,13 +74,13 @@ returns-in_default-clause-whole g c =
     λ room. (
       λ ok. absurd cc,
       λ all. absurd (not_failed (counts c.args.serial_in.now) (counts c.read.new.self) c.args.turns room.serial_in
-          (ap (λ t. t.failed) c.in_default.ensures.told ∙ ap saturated_next serial.well) all.serial_well),
+          (ap (λ t. t.failed) c.in_default.ensures.told ∙ ap saturated_increment serial.well) all.serial_well),
     )
 
 -- ---- an answer to a packet is not written completely
 
-pub returns-in_default-take_chunk-clause-err : goal.returns-in_default-take_chunk-clause-err
-returns-in_default-take_chunk-clause-err g c =
+pub returns-in_default-process_chunk-clause-err : goal.returns-in_default-process_chunk-clause-err
+returns-in_default-process_chunk-clause-err g c =
     let chunk = take c.in-Ok.length c.read.new.buffer in
     let (read, count, serial, desk, taken) = c.loop-turn.invariant.progress in
     let stored = g.S.DeviceStore.store_state in
@@ -95,14 +95,14 @@ returns-in_default-take_chunk-clause-err g c =
           c.in-Ok.ensures.bytes c.in-Ok.ensures.told;
       desk = desk;
       broken =
-          breaks_at stored g.R.Sink g.D.Sink entry.driver c.take_chunk.new.self _ _ _ (search rules)
+          breaks_at stored g.R.Sink g.D.Sink entry.driver c.process_chunk.new.self _ _ _ (search rules)
           (search rules) (search rules) _ _
-          (piece_stops stored output entry c.loop-turn.dispatcher read chunk taken c.take_chunk.new.self
-          c.in_default-take_chunk.ensures.taken);
+          (piece_stops stored output entry c.loop-turn.dispatcher read chunk taken c.process_chunk.new.self
+          c.in_default-process_chunk.ensures.taken);
     }
 
-pub returns-in_default-take_chunk-clause-reads : goal.returns-in_default-take_chunk-clause-reads
-returns-in_default-take_chunk-clause-reads g c =
+pub returns-in_default-process_chunk-clause-reads : goal.returns-in_default-process_chunk-clause-reads
+returns-in_default-process_chunk-clause-reads g c =
     let serial = g.P.Source.counts in
     let desk = g.Q.Source.counts in
     let before = c.loop-turn.invariant in
@@ -110,9 +110,9 @@ returns-in_default-take_chunk-clause-reads g c =
     (desk c.args.desk_in.now) (desk c.loop-turn.desk_in) c.loop-turn._turn c.args.turns c.loop-turn-test.true
     before.serial_made (ap (λ t. t.calls) c.in-Ok.ensures.told) before.desk_made
 
-pub returns-in_default-take_chunk-clause-whole : goal.returns-in_default-take_chunk-clause-whole
-returns-in_default-take_chunk-clause-whole g c =
-    let new = c.take_chunk.new.self in
+pub returns-in_default-process_chunk-clause-whole : goal.returns-in_default-process_chunk-clause-whole
+returns-in_default-process_chunk-clause-whole g c =
+    let new = c.process_chunk.new.self in
     let chunk = take c.in-Ok.length c.read.new.buffer in
     let (read, count, serial, desk, taken) = c.loop-turn.invariant.progress in
     let stored = g.S.DeviceStore.store_state in
@@ -120,7 +120,7 @@ returns-in_default-take_chunk-clause-whole g c =
     let entry = first_player stored output taken in
     let part =
     (piece_stops stored output entry c.loop-turn.dispatcher read chunk taken new
-    c.in_default-take_chunk.ensures.taken).answered in
+    c.in_default-process_chunk.ensures.taken).answered in
     λ room. (
       λ ok. absurd cc,
       λ all. absurd (not_all_well stored g.R.Sink g.D.Sink entry.driver new new.gateway.now _ _ refl (search rules)
@@ -132,7 +132,7 @@ returns-in_default-take_chunk-clause-whole g c =
 
 pub returns-in_default-read-clause-err : goal.returns-in_default-read-clause-err
 returns-in_default-read-clause-err g c =
-    let new = c.take_chunk.new.self in
+    let new = c.process_chunk.new.self in
     let chunk = take c.in-Ok.length c.read.new.buffer in
     let (read, count, serial, desk, taken) = c.loop-turn.invariant.progress in
     let stored = g.S.DeviceStore.store_state in
@@ -151,7 +151,7 @@ returns-in_default-read-clause-err g c =
       processed =
           plays_at stored g.R.Sink g.D.Sink entry.driver new _ _ _ (search rules) (search rules) (search rules) _
           (piece_taken stored output entry c.loop-turn.dispatcher read chunk taken new
-          c.in-Ok-take_chunk.ensures.taken).processed;
+          c.in-Ok-process_chunk.ensures.taken).processed;
     }
 
 pub returns-in_default-read-clause-reads : goal.returns-in_default-read-clause-reads
@@ -171,15 +171,15 @@ returns-in_default-read-clause-whole g c =
     λ room. (
       λ ok. absurd cc,
       λ all. absurd (not_failed (counts c.args.desk_in.now) (counts c.read-in-loop-turn.new.self) c.args.turns
-          room.desk_in (ap (λ t. t.failed) c.in_default-read.ensures.told ∙ ap saturated_next desk.well) all.desk_well),
+          room.desk_in (ap (λ t. t.failed) c.in_default-read.ensures.told ∙ ap saturated_increment desk.well) all.desk_well),
     )
 
 -- ---- an answer to an order is not written completely
 
-pub returns-in_default-take_bytes-clause-err : goal.returns-in_default-take_bytes-clause-err
-returns-in_default-take_bytes-clause-err g c =
-    let mid = record c.loop-turn.dispatcher { driver = c.take_chunk.new.self } in
-    let new = c.take_bytes.new.self in
+pub returns-in_default-process_bytes-clause-err : goal.returns-in_default-process_bytes-clause-err
+returns-in_default-process_bytes-clause-err g c =
+    let mid = record c.loop-turn.dispatcher { driver = c.process_chunk.new.self } in
+    let new = c.process_bytes.new.self in
     let chunk = take c.in-Ok.length c.read.new.buffer in
     let bytes = take c.in-Ok-read.length c.read-in-loop-turn.new.buffer in
     let turn : Turn = record { chunk = chunk; desk = bytes } in
@@ -201,11 +201,11 @@ returns-in_default-take_bytes-clause-err g c =
           breaks_at_order stored g.R.Sink g.D.Sink entry.driver new.driver _ _ _ (search rules) (search rules)
           (search rules) _
           (order_stops stored output entry c.loop-turn.dispatcher read chunk taken mid new bytes
-          c.in-Ok-take_chunk.ensures.taken (c.in_default-take_bytes.ensures.stopped taken.rest taken.keeps));
+          c.in-Ok-process_chunk.ensures.taken (c.in_default-process_bytes.ensures.stopped taken.rest taken.keeps));
     }
 
-pub returns-in_default-take_bytes-clause-reads : goal.returns-in_default-take_bytes-clause-reads
-returns-in_default-take_bytes-clause-reads g c =
+pub returns-in_default-process_bytes-clause-reads : goal.returns-in_default-process_bytes-clause-reads
+returns-in_default-process_bytes-clause-reads g c =
     let serial = g.P.Source.counts in
     let desk = g.Q.Source.counts in
     let before = c.loop-turn.invariant in
@@ -214,10 +214,10 @@ returns-in_default-take_bytes-clause-reads g c =
     c.args.turns c.loop-turn-test.true before.serial_made (ap (λ t. t.calls) c.in-Ok.ensures.told) before.desk_made
     (ap (λ t. t.calls) c.in-Ok-read.ensures.told)
 
-pub returns-in_default-take_bytes-clause-whole : goal.returns-in_default-take_bytes-clause-whole
-returns-in_default-take_bytes-clause-whole g c =
-    let mid = record c.loop-turn.dispatcher { driver = c.take_chunk.new.self } in
-    let new = c.take_bytes.new.self in
+pub returns-in_default-process_bytes-clause-whole : goal.returns-in_default-process_bytes-clause-whole
+returns-in_default-process_bytes-clause-whole g c =
+    let mid = record c.loop-turn.dispatcher { driver = c.process_chunk.new.self } in
+    let new = c.process_bytes.new.self in
     let chunk = take c.in-Ok.length c.read.new.buffer in
     let bytes = take c.in-Ok-read.length c.read-in-loop-turn.new.buffer in
     let (read, count, serial, desk, taken) = c.loop-turn.invariant.progress in
@@ -226,8 +226,8 @@ returns-in_default-take_bytes-clause-whole g c =
     let entry = first_player stored output taken in
     let part =
     (order_stops stored output entry c.loop-turn.dispatcher read chunk taken mid new bytes
-    c.in-Ok-take_chunk.ensures.taken
-    (c.in_default-take_bytes.ensures.stopped taken.rest taken.keeps)).broken.answered in
+    c.in-Ok-process_chunk.ensures.taken
+    (c.in_default-process_bytes.ensures.stopped taken.rest taken.keeps)).broken.answered in
     λ room. (
       λ ok. absurd cc,
       λ all. absurd (not_all_well stored g.R.Sink g.D.Sink entry.driver new.driver new.driver.gateway.now _ _ refl
@@ -241,8 +241,8 @@ pub loop-turn-preserved : goal.loop-turn-preserved
 loop-turn-preserved g c =
     let serial_counts = g.P.Source.counts in
     let desk_counts = g.Q.Source.counts in
-    let mid = record c.loop-turn.dispatcher { driver = c.take_chunk.new.self } in
-    let new = c.take_bytes.new.self in
+    let mid = record c.loop-turn.dispatcher { driver = c.process_chunk.new.self } in
+    let new = c.process_bytes.new.self in
     let turn = c.loop-turn._turn in
     let chunk = take c.in-Ok.length c.read.new.buffer in
     let bytes = take c.in-Ok-read.length c.read-in-loop-turn.new.buffer in
@@ -256,7 +256,7 @@ loop-turn-preserved g c =
       gateway = search rules;
       serial = search rules;
       desk = search rules;
-      idle = c.in-Ok-take_bytes.ensures.idle;
+      idle = c.in-Ok-process_bytes.ensures.idle;
       progress = (
         read ++ both ∷ [],
         length-append read (both ∷ []) ∙ ap (λ n. n + 1) count,
@@ -268,8 +268,8 @@ loop-turn-preserved g c =
             (reads_more _ _ _ (desk_reads read) c.in-Ok-read.length c.read-in-loop-turn.new.buffer desk
             c.in-Ok-read.ensures.within (omega arith) c.in-Ok-read.ensures.bytes c.in-Ok-read.ensures.told),
         turn_taken stored output entry c.loop-turn.dispatcher read chunk taken mid new bytes
-            c.in-Ok-take_chunk.ensures.taken
-            (c.in-Ok-take_bytes.ensures.taken taken.rest taken.keeps),
+            c.in-Ok-process_chunk.ensures.taken
+            (c.in-Ok-process_bytes.ensures.taken taken.rest taken.keeps),
       );
       serial_made =
           made_more (serial_counts c.args.serial_in.now) (serial_counts c.loop-turn.serial_in)
@@ -349,11 +349,11 @@ returns-in_default-clause-as_specified g c =
     Read
     (returns-in_default-clause-err g c)
 
-pub returns-in_default-take_chunk-clause-as_specified : goal.returns-in_default-take_chunk-clause-as_specified
-returns-in_default-take_chunk-clause-as_specified g c =
+pub returns-in_default-process_chunk-clause-as_specified : goal.returns-in_default-process_chunk-clause-as_specified
+returns-in_default-process_chunk-clause-as_specified g c =
     served_until g.S.DeviceStore.store_state g.P.Source g.Q.Source g.R.Sink g.D.Sink c.args.explains _ _ c.args.turns
     Write
-    (returns-in_default-take_chunk-clause-err g c)
+    (returns-in_default-process_chunk-clause-err g c)
 
 pub returns-in_default-read-clause-as_specified : goal.returns-in_default-read-clause-as_specified
 returns-in_default-read-clause-as_specified g c =
@@ -361,11 +361,11 @@ returns-in_default-read-clause-as_specified g c =
     Read
     (returns-in_default-read-clause-err g c)
 
-pub returns-in_default-take_bytes-clause-as_specified : goal.returns-in_default-take_bytes-clause-as_specified
-returns-in_default-take_bytes-clause-as_specified g c =
+pub returns-in_default-process_bytes-clause-as_specified : goal.returns-in_default-process_bytes-clause-as_specified
+returns-in_default-process_bytes-clause-as_specified g c =
     served_until g.S.DeviceStore.store_state g.P.Source g.Q.Source g.R.Sink g.D.Sink c.args.explains _ _ c.args.turns
     Write
-    (returns-in_default-take_bytes-clause-err g c)
+    (returns-in_default-process_bytes-clause-err g c)
 
 pub returns-clause-as_specified : goal.returns-clause-as_specified
 returns-clause-as_specified g c =

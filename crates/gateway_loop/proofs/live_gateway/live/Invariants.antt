@@ -1,7 +1,7 @@
 use Rattle.std.proofs.Common.{◌≡◌, List, length}
 use Rattle.byte_io.specs.Counts.{CallsMade}
 use Rattle.gateway_loop.specs.Processing.{IsDrained}
-use Rattle.gateway_loop.specs.Reads.{ReadsSucceed}
+use Rattle.gateway_loop.specs.Reads.{AllReadsSucceed}
 use Rattle.gateway_loop.specs.Streams.{source_value}
 use Rattle.gateway_loop.specs.Turns.{Turn, desk_reads, serial_reads}
 use Rattle.gateway_loop.specs.LiveOutputs.{live_output_of}
@@ -15,8 +15,8 @@ invariant-loop-turn g l = record {
   desk : l.dispatcher.driver.reply_sink.desk.ghost_name ≡ l.initial.dispatcher.driver.reply_sink.desk.ghost_name;
   idle : IsDrained l.dispatcher.driver.gateway.now;
   progress : (read : List Turn) × (length read ≡ l._turn)
-      × ReadsSucceed (source_value g.P.Source l.fn.serial_in) (source_value g.P.Source l.serial_in) (serial_reads read)
-      × ReadsSucceed (source_value g.Q.Source l.fn.desk_in) (source_value g.Q.Source l.desk_in) (desk_reads read)
+      × AllReadsSucceed (source_value g.P.Source l.fn.serial_in) (source_value g.P.Source l.serial_in) (serial_reads read)
+      × AllReadsSucceed (source_value g.Q.Source l.fn.desk_in) (source_value g.Q.Source l.desk_in) (desk_reads read)
       × TakesTurns g.S.DeviceStore.store_state (live_output_of g.R.Sink g.D.Sink) l.initial.dispatcher l.dispatcher
       read;
   serial_made : CallsMade (g.P.Source.counts l.fn.serial_in) (g.P.Source.counts l.serial_in) l._turn;

@@ -5,7 +5,7 @@ use Rattle.std.proofs.KnownBytes.{Consumes-nil, Consumes-trans, Consumes-kept}
 use Rattle.byte_io.specs.declared.tally.Failed.{Failed}
 use Rattle.byte_io.proofs.ForCallers.{went_well}
 use Rattle.gateway_loop.specs.Processing.{IsDrained}
-use Rattle.gateway_loop.specs.CallCounts.{OneFailedOrEmpty, wrong_behind}
+use Rattle.gateway_loop.specs.CallCounts.{OneFailedOrEmpty, failed_in_second}
 use Rattle.gateway_loop.specs.declared.line_loop.Lines.TheVariants.{ScriptLines}
 use Rattle.gateway_loop.specs.Streams.{source_value}
 use Rattle.gateway_loop.specs.Written.{replay_output}
@@ -70,14 +70,14 @@ pub returns-then-length-eq0-clause-ok : goal.returns-then-length-eq0-clause-ok
 returns-then-length-eq0-clause-ok g c =
     let stored = g.S.DeviceStore.store_state in
     let left = g.R.Source.left in
-    let new = c.take_last.new.self.driver in
+    let new = c.process_last_line.new.self.driver in
     let (input, read, taken) = c.loop-turn.invariant.progress in
     let entry = first_player g.S.DeviceStore.store_state (replay_output g.W.Sink) ScriptLines taken in
     let none : Consumes (left c.loop-turn.reader) (left c.read.new.self) [] =
     rw c.if-length-eq0.true at c.in-Ok.ensures.bytes.0 in
     let done =
     script_taken stored g.W.Sink _ c.loop-turn.dispatcher input new taken
-    (c.in-Ok-take_last.ensures.taken taken.rest taken.keeps) in
+    (c.in-Ok-process_last_line.ensures.taken taken.rest taken.keeps) in
     record {
       input = input;
       read = rw append-nil at (Consumes-trans (left c.args.reader.now) (left c.loop-turn.reader)
@@ -91,8 +91,8 @@ pub returns-then-length-eq0-clause-ended : goal.returns-then-length-eq0-clause-e
 returns-then-length-eq0-clause-ended g c =
     let (input, read, taken) = c.loop-turn.invariant.progress in
     let done =
-    script_taken g.S.DeviceStore.store_state g.W.Sink _ c.loop-turn.dispatcher input c.take_last.new.self.driver taken
-    (c.in-Ok-take_last.ensures.taken taken.rest taken.keeps) in
+    script_taken g.S.DeviceStore.store_state g.W.Sink _ c.loop-turn.dispatcher input c.process_last_line.new.self.driver taken
+    (c.in-Ok-process_last_line.ensures.taken taken.rest taken.keeps) in
     let went = done.processed.answered.out.1.went in
     let reads = c.loop-turn.invariant.reads in search rules
 
@@ -112,7 +112,7 @@ returns-in_default-clause-err g c =
         reads = search rules;
         at_end = c.in-Ok.ensures.bytes.1 c.if-length-eq0.true (omega arith);
         broken =
-            part_at_end stored g.W.Sink entry.driver c.take_last.new.self.driver _ _ (search rules) (search rules)
+            part_at_end stored g.W.Sink entry.driver c.process_last_line.new.self.driver _ _ (search rules) (search rules)
             c.loop-turn.dispatcher.driver input _ _ (script_of_bytes stored g.W.Sink _ c.loop-turn.dispatcher input
             taken)
             taken.taken.processed (c.in_default.ensures.taken taken.rest taken.keeps);
@@ -126,14 +126,14 @@ returns-in_default-clause-write g c =
     let last = c.in_default.ensures.taken taken.rest taken.keeps in
     λ _. (
       search rules,
-      wrong_at counts c.args.writer.now c.take_last.new.self.driver.reply_sink.sink.now _ (search rules)
-          (wrong_behind (counts c.args.writer.now) (counts c.loop-turn.dispatcher.driver.reply_sink.sink.now)
-          (counts c.take_last.new.self.driver.reply_sink.sink.now) taken.taken.processed.answered.out.1.went
+      wrong_at counts c.args.writer.now c.process_last_line.new.self.driver.reply_sink.sink.now _ (search rules)
+          (failed_in_second (counts c.args.writer.now) (counts c.loop-turn.dispatcher.driver.reply_sink.sink.now)
+          (counts c.process_last_line.new.self.driver.reply_sink.sink.now) taken.taken.processed.answered.out.1.went
           last.broken.answered.out.1.went),
     )
 
-pub returns-in_default-take_bytes-clause-err : goal.returns-in_default-take_bytes-clause-err
-returns-in_default-take_bytes-clause-err g c =
+pub returns-in_default-process_bytes-clause-err : goal.returns-in_default-process_bytes-clause-err
+returns-in_default-process_bytes-clause-err g c =
     let stored = g.S.DeviceStore.store_state in
     let left = g.R.Source.left in
     let reads = g.R.Source.counts in
@@ -141,9 +141,9 @@ returns-in_default-take_bytes-clause-err g c =
     let entry = first_player g.S.DeviceStore.store_state (replay_output g.W.Sink) ScriptLines taken in
     let chunk = take c.in-Ok.length c.read.new.buffer in
     let crash =
-    stops_behind stored (replay_output g.W.Sink) ScriptLines _ c.loop-turn.dispatcher c.take_bytes.new.self input chunk
+    stops_behind stored (replay_output g.W.Sink) ScriptLines _ c.loop-turn.dispatcher c.process_bytes.new.self input chunk
     taken
-    (c.in_default-take_bytes.ensures.stopped taken.rest taken.keeps) in
+    (c.in_default-process_bytes.ensures.stopped taken.rest taken.keeps) in
     record {
       input = input ++ chunk;
       read =
@@ -154,33 +154,33 @@ returns-in_default-take_bytes-clause-err g c =
             went_well Failed (reads c.args.reader.now) (reads c.loop-turn.reader) (reads c.read.new.self)
             c.in-Ok.length c.loop-turn.invariant.reads c.in-Ok.ensures.told c.if-length-eq0.false;
         broken =
-            part_at_line stored g.W.Sink entry c.take_bytes.new.self (input ++ chunk) _ _ (search rules) (search rules)
+            part_at_line stored g.W.Sink entry c.process_bytes.new.self (input ++ chunk) _ _ (search rules) (search rules)
             crash;
       });
     }
 
-pub returns-in_default-take_bytes-clause-write : goal.returns-in_default-take_bytes-clause-write
-returns-in_default-take_bytes-clause-write g c =
+pub returns-in_default-process_bytes-clause-write : goal.returns-in_default-process_bytes-clause-write
+returns-in_default-process_bytes-clause-write g c =
     let (input, read, taken) = c.loop-turn.invariant.progress in
     let crash =
     stops_behind g.S.DeviceStore.store_state (replay_output g.W.Sink) ScriptLines _ c.loop-turn.dispatcher
-    c.take_bytes.new.self input
-    _ taken (c.in_default-take_bytes.ensures.stopped taken.rest taken.keeps) in
+    c.process_bytes.new.self input
+    _ taken (c.in_default-process_bytes.ensures.stopped taken.rest taken.keeps) in
     λ _. (
       search rules,
-      wrong_at g.W.Sink.counts c.args.writer.now c.take_bytes.new.self.driver.reply_sink.sink.now _ (search rules)
+      wrong_at g.W.Sink.counts c.args.writer.now c.process_bytes.new.self.driver.reply_sink.sink.now _ (search rules)
           crash.broken.answered.out.1.went,
     )
 
-pub returns-in_default-take_bytes-clause-too_many : goal.returns-in_default-take_bytes-clause-too_many
-returns-in_default-take_bytes-clause-too_many g c =
+pub returns-in_default-process_bytes-clause-too_many : goal.returns-in_default-process_bytes-clause-too_many
+returns-in_default-process_bytes-clause-too_many g c =
     let counts = g.W.Sink.counts in
     let (input, read, taken) = c.loop-turn.invariant.progress in
     let crash =
     stops_behind g.S.DeviceStore.store_state (replay_output g.W.Sink) ScriptLines _ c.loop-turn.dispatcher
-    c.take_bytes.new.self input
-    _ taken (c.in_default-take_bytes.ensures.stopped taken.rest taken.keeps) in
-    let wrong : OneFailedOrEmpty (counts c.args.writer.now) (counts c.take_bytes.new.self.driver.reply_sink.sink.now) =
+    c.process_bytes.new.self input
+    _ taken (c.in_default-process_bytes.ensures.stopped taken.rest taken.keeps) in
+    let wrong : OneFailedOrEmpty (counts c.args.writer.now) (counts c.process_bytes.new.self.driver.reply_sink.sink.now) =
     crash.broken.answered.out.1.went in search rules
 
 pub loop-turn-preserved : goal.loop-turn-preserved
@@ -190,10 +190,10 @@ loop-turn-preserved g c =
     let before = c.loop-turn.invariant in
     let (input, read, taken) = before.progress in
     let chunk = take c.in-Ok.length c.read.new.buffer in
-    let after = c.in-Ok-take_bytes.ensures in
+    let after = c.in-Ok-process_bytes.ensures in
     let now =
     bytes_behind g.S.DeviceStore.store_state (replay_output g.W.Sink) ScriptLines _ c.loop-turn.dispatcher
-    c.take_bytes.new.self input
+    c.process_bytes.new.self input
     chunk taken (after.taken taken.rest taken.keeps) in
     record {
       gateway = search rules;
@@ -241,8 +241,8 @@ returns-in_default-clause-reads g c =
     one_read_more _ _ _ parts c.in-Ok.length c.loop-turn._turn c.args.turns c.read.new.buffer well count
     c.loop-turn-test.true c.in-Ok.ensures.within (omega arith) c.in-Ok.ensures.bytes c.in-Ok.ensures.told
 
-pub returns-in_default-take_bytes-clause-reads : goal.returns-in_default-take_bytes-clause-reads
-returns-in_default-take_bytes-clause-reads g c =
+pub returns-in_default-process_bytes-clause-reads : goal.returns-in_default-process_bytes-clause-reads
+returns-in_default-process_bytes-clause-reads g c =
     let (parts, count, well) = c.loop-turn.invariant.gave in
     one_read_more _ _ _ parts c.in-Ok.length c.loop-turn._turn c.args.turns c.read.new.buffer well count
     c.loop-turn-test.true c.in-Ok.ensures.within (omega arith) c.in-Ok.ensures.bytes c.in-Ok.ensures.told
@@ -278,10 +278,10 @@ returns-in_default-clause-as_specified g c =
     replayed_until g.S.DeviceStore.store_state g.R.Source g.W.Sink c.args.explains _ _ Write
     (returns-in_default-clause-err g c)
 
-pub returns-in_default-take_bytes-clause-as_specified : goal.returns-in_default-take_bytes-clause-as_specified
-returns-in_default-take_bytes-clause-as_specified g c =
+pub returns-in_default-process_bytes-clause-as_specified : goal.returns-in_default-process_bytes-clause-as_specified
+returns-in_default-process_bytes-clause-as_specified g c =
     replayed_until g.S.DeviceStore.store_state g.R.Source g.W.Sink c.args.explains _ _ Write
-    (returns-in_default-take_bytes-clause-err g c)
+    (returns-in_default-process_bytes-clause-err g c)
 
 pub returns-then-length-eq0-clause-as_specified : goal.returns-then-length-eq0-clause-as_specified
 returns-then-length-eq0-clause-as_specified g c =

@@ -3,7 +3,7 @@ use Rattle.std.specs.Io.KnownBytes.{Consumes}
 use Rattle.byte_io.specs.Counts.{NoneFailedOrEmpty}
 use Rattle.gateway_loop.specs.Processing.{IsDrained}
 use Rattle.gateway_loop.specs.private.LineLoop.{TakesBytes}
-use Rattle.gateway_loop.specs.Reads.{ReadsSucceed}
+use Rattle.gateway_loop.specs.Reads.{AllReadsSucceed}
 use Rattle.gateway_loop.specs.declared.line_loop.Lines.TheVariants.{ScriptLines}
 use Rattle.gateway_loop.specs.Streams.{source_value}
 use Rattle.gateway_loop.specs.Written.{replay_output}
@@ -20,5 +20,5 @@ invariant-loop-turn g l = record {
   writes : NoneFailedOrEmpty (g.W.Sink.counts l.fn.writer) (g.W.Sink.counts l.dispatcher.driver.reply_sink.sink.now);
   reads : NoneFailedOrEmpty (g.R.Source.counts l.fn.reader) (g.R.Source.counts l.reader);
   gave : (parts : List (List ℕ)) × (length parts ≡ l._turn)
-      × ReadsSucceed (source_value g.R.Source l.fn.reader) (source_value g.R.Source l.reader) parts;
+      × AllReadsSucceed (source_value g.R.Source l.fn.reader) (source_value g.R.Source l.reader) parts;
 }

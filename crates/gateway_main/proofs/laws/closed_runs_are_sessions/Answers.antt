@@ -1,4 +1,4 @@
-use Rattle.gateway_main.proofs.LifeLemmas.{closed_plays_are_lives, broken_closed_plays_are_lives}
+use Rattle.gateway_main.proofs.SessionLemmas.{closed_plays_are_lives, broken_closed_plays_are_lives}
 use Rattle.gateway_main.proofs.laws.closed_runs_are_sessions.Goals as goal
 
 pub returns-clause-replay : goal.returns-clause-replay

@@ -1,4 +1,4 @@
-use Rattle.gateway_main.proofs.LifeLemmas.{closes_end_registry_sessions}
+use Rattle.gateway_main.proofs.SessionLemmas.{closes_end_registry_sessions}
 use Rattle.gateway_main.proofs.laws.closes_end_registry_sessions.Goals as goal
 
 pub returns : goal.returns

@@ -1,4 +1,4 @@
-use Rattle.gateway_main.proofs.LifeLemmas.{plays_are_lives, broken_plays_are_lives}
+use Rattle.gateway_main.proofs.SessionLemmas.{plays_are_lives, broken_plays_are_lives}
 use Rattle.gateway_main.proofs.laws.runs_are_sessions.Goals as goal
 
 pub returns-clause-replay : goal.returns-clause-replay

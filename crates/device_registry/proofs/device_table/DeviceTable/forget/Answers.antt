@@ -1,7 +1,7 @@
 use Rattle.std.proofs.Common.{◌∙◌, subst, option_map}
 use Rattle.learned_devices.specs.Devices.{device, forget_update}
 use Rattle.device_registry.specs.Table.Rows.{IsDeviceOrNone}
-use Rattle.device_registry.proofs.OpenRenews.{written_by}
+use Rattle.device_registry.proofs.OpenRewritesVersion.{written_by}
 use Rattle.device_registry.proofs.RegistryCalls.{keeps_well, updates_not, refused_well, update_refused, made_well}
 use Rattle.device_registry.proofs.RegistryCalls.{had, shown_before, ready_made, update_made}
 use Rattle.device_registry.proofs.device_table.DeviceTable.forget.Goals as goal

@@ -20,8 +20,8 @@ store_learned-requires g c =
     let old = g.C.SqlConnection.state c.args.self.now in
     let mid = g.C.SqlConnection.state c.known.new.self in
     keeps_label old mid c.args.device.id c.in_ok-known.known c.in_ok-known.ensures.looks_up mid
-    c.in_ok-known.ensures.ready c.keeping_label.result c.args.device.eep c.args.device.maker c.keeping_label.ensures.0
-    c.keeping_label.ensures.1
+    c.in_ok-known.ensures.ready c.with_kept_label.result c.args.device.eep c.args.device.maker c.with_kept_label.ensures.0
+    c.with_kept_label.ensures.1
 
 pub returns : goal.returns
 returns g c =
@@ -32,20 +32,20 @@ returns g c =
     let r = c.store_learned.result in
     let known = c.in_ok-known.known in
     let looks = c.in_ok-known.ensures.looks_up in
-    let at = c.keeping_label.ensures.0 in
-    let is = c.keeping_label.ensures.1 in
+    let at = c.with_kept_label.ensures.0 in
+    let is = c.with_kept_label.ensures.1 in
     let eep = ap (λ (l : DeviceData). l.eep) is in
     let maker = ap (λ (l : DeviceData). l.maker) is in
-    let same : learn_update c.keeping_label.result ≡ learn_update c.args.device =
+    let same : learn_update c.with_kept_label.result ≡ learn_update c.args.device =
     λ i. record { sender = at i; operation = Learn (eep i) (maker i) } in
     record {
-      learns = learns_alike old new c.args.device c.keeping_label.result r at eep maker
-          (learns_after old mid c.args.device.id known looks new c.keeping_label.result r
+      learns = learns_alike old new c.args.device c.with_kept_label.result r at eep maker
+          (learns_after old mid c.args.device.id known looks new c.with_kept_label.result r
           c.store_learned.ensures.learns);
       written = λ clean.
           subst (λ update. (devices : Devices) → HasDevices old devices → OnOk r (WritesRow
           g.C.SqlConnection.state last update devices)) same
           (written_after old mid c.args.device.id known looks new g.C.SqlConnection.state last
-          (learn_update c.keeping_label.result) r (λ _. c.store_learned.ensures.written clean)
+          (learn_update c.with_kept_label.result) r (λ _. c.store_learned.ensures.written clean)
           (c.store_learned.ensures.learns.clean clean));
     }

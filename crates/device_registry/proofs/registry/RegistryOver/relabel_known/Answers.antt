@@ -16,12 +16,12 @@ invariant_of-self g c =
     let known = rw (← c.self.view_is) at c.requires.known in (
       c.relabel.ensures.updates.registries,
       changed_recalled old new (relabel_update c.args.device.id c.args.device.label) (Some c.copied-labelled.result)
-          c.self.inside.cache.entries c.forget_entry.new.cache.entries c.remember.new.cache.entries
+          c.self.inside.cache.entries c.drop_entry.new.cache.entries c.cache_entry.new.cache.entries
           c.relabel.ensures.updates.clean c.in-Ok.ensures.ready
           c.in-Ok.ensures.updates.devices
           (λ clean devices has. ap (λ it. Some it) c.copied-labelled.ensures
           ∙ sym (ap (option_map (device c.args.device.id)) (known clean devices has)))
-          c.self.invariant.1 c.forget_entry.ensures.kept c.remember.ensures.kept,
+          c.self.invariant.1 c.drop_entry.ensures.kept c.cache_entry.ensures.kept,
     )
 
 pub returns-in-Ok-clause-updates : goal.returns-in-Ok-clause-updates

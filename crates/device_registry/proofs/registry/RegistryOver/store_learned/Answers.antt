@@ -20,11 +20,11 @@ invariant_of-self g c =
     c.learn.ensures.adds in (
       adds.registries,
       changed_recalled old new (learn_update c.args.device) (Some c.copied-copy.result) c.self.inside.cache.entries
-          c.forget_entry.new.cache.entries c.remember.new.cache.entries adds.clean c.in-Ok-true.ensures.ready
+          c.drop_entry.new.cache.entries c.cache_entry.new.cache.entries adds.clean c.in-Ok-true.ensures.ready
           (λ clean devices has. (adds.devices clean devices has).1)
           (λ clean devices has. ap (λ it. Some it) c.copied-copy.ensures
           ∙ sym (ap (option_map (device c.args.device.id)) ((rw (← c.self.view_is) at c.requires) clean devices has)))
-          c.self.invariant.1 c.forget_entry.ensures.kept c.remember.ensures.kept,
+          c.self.invariant.1 c.drop_entry.ensures.kept c.cache_entry.ensures.kept,
     )
 
 pub returns-in-Ok-true-clause-learns : goal.returns-in-Ok-true-clause-learns
@@ -53,9 +53,9 @@ invariant_of-self-in-Ok-false g c =
     (c.in-Ok-false.is ∙ ap Ok c.in-Ok-false.field-0-test)
     c.learn.ensures.adds in (
       adds.registries,
-      full_recalled old new c.self.inside.cache.entries c.forget_entry.new.cache.entries adds.clean
+      full_recalled old new c.self.inside.cache.entries c.drop_entry.new.cache.entries adds.clean
           c.in-Ok-false.ensures.ready (λ clean devices has. (adds.devices clean devices has).1)
-          c.self.invariant.1 (λ e has. (c.forget_entry.ensures.kept e has).0),
+          c.self.invariant.1 (λ e has. (c.drop_entry.ensures.kept e has).0),
     )
 
 pub returns-in-Ok-false-clause-learns : goal.returns-in-Ok-false-clause-learns

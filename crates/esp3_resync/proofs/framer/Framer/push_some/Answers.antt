@@ -9,29 +9,29 @@ pub push_announced-count-requires-clause-partial : goal.push_announced-count-req
 push_announced-count-requires-clause-partial c =
     (held c.self.inside.window c.args.self.now c.self.invariant.front c.self.view_is c.requires.none).0
 
-pub returns-then-is_refused-clause-taken : goal.returns-then-is_refused-clause-taken
-returns-then-is_refused-clause-taken c =
+pub returns-then-is_rejected-clause-taken : goal.returns-then-is_rejected-clause-taken
+returns-then-is_rejected-clause-taken c =
     let t = take c.push_announced-count.result c.args.bytes.now in
     let h = held c.self.inside.window c.args.self.now c.self.invariant.front c.self.view_is c.requires.none in
     c.resync_after_first-self-inside.ensures.frames
     ∙ ap frames_of (c.push_announced-count.ensures.taken ∙ ap (λ (y : List ℕ). y ++ t) h.1)
 
-pub returns-then-is_refused-clause-before : goal.returns-then-is_refused-clause-before
-returns-then-is_refused-clause-before c = λ k below.
+pub returns-then-is_rejected-clause-before : goal.returns-then-is_rejected-clause-before
+returns-then-is_rejected-clause-before c = λ k below.
     let w = c.self.inside.window in
     let t = take k c.args.bytes.now in
     let h = held c.self.inside.window c.args.self.now c.self.invariant.front c.self.view_is c.requires.none in
     ap (λ (y : List ℕ). length (frames_of (y ++ t)).ready) (sym h.1)
     ∙ unready_partial (w ++ t) (c.push_announced-count.ensures.before k below)
 
-pub returns-else-is_refused-clause-taken : goal.returns-else-is_refused-clause-taken
-returns-else-is_refused-clause-taken c =
+pub returns-else-is_rejected-clause-taken : goal.returns-else-is_rejected-clause-taken
+returns-else-is_rejected-clause-taken c =
     let t = take c.push_announced-count.result c.args.bytes.now in
     let h = held c.self.inside.window c.args.self.now c.self.invariant.front c.self.view_is c.requires.none in
     ap frames_of (c.push_announced-count.ensures.taken ∙ ap (λ (y : List ℕ). y ++ t) h.1)
 
-pub returns-else-is_refused-clause-before : goal.returns-else-is_refused-clause-before
-returns-else-is_refused-clause-before c = λ k below.
+pub returns-else-is_rejected-clause-before : goal.returns-else-is_rejected-clause-before
+returns-else-is_rejected-clause-before c = λ k below.
     let w = c.self.inside.window in
     let t = take k c.args.bytes.now in
     let h = held c.self.inside.window c.args.self.now c.self.invariant.front c.self.view_is c.requires.none in
@@ -43,10 +43,10 @@ returns-then-count-gt0-clause-taken c =
     let w = c.self.inside.window in
     let f = c.args.self.now in
     let b = c.args.bytes.now in
-    let n = c.noise_len-count.result in
+    let n = c.len_before_sync-count.result in
     let h = held w f c.self.invariant.front c.self.view_is c.requires.none in
     let nil : w ≡ [] = nil_from_length w (eqb-true _ _ (sym c.is_empty.ensures ∙ c.if-is_empty.true)) in
-    noise_taken w (take n b) f nil h.1 c.self.view_is (frames_of-noise b n c.noise_len-count.ensures.none)
+    noise_taken w (take n b) f nil h.1 c.self.view_is (frames_of-noise b n c.len_before_sync-count.ensures.none)
 
 pub returns-then-count-gt0-clause-before : goal.returns-then-count-gt0-clause-before
 returns-then-count-gt0-clause-before c = λ k below.
@@ -56,22 +56,22 @@ returns-then-count-gt0-clause-before c = λ k below.
     let nil : w ≡ [] = nil_from_length w (eqb-true _ _ (sym c.is_empty.ensures ∙ c.if-is_empty.true)) in
     ap (λ (y : List ℕ). length (frames_of (y ++ take k b)).ready) (sym h.1 ∙ nil)
     ∙ ap (λ (y : Frames). length y.ready)
-    (frames_of-noise b k (λ i less. c.noise_len-count.ensures.none i (omega (arith, less, below))))
+    (frames_of-noise b k (λ i less. c.len_before_sync-count.ensures.none i (omega (arith, less, below))))
 
 pub returns-clause-taken : goal.returns-clause-taken
 returns-clause-taken c =
-    let t = take c.push_first-count.result c.args.bytes.now in
+    let t = take c.push_header_bytes-count.result c.args.bytes.now in
     let h = held c.self.inside.window c.args.self.now c.self.invariant.front c.self.view_is c.requires.none in
     c.resync-self-inside.ensures.frames
-    ∙ ap frames_of (c.push_first-count.ensures.taken ∙ ap (λ (y : List ℕ). y ++ t) h.1)
+    ∙ ap frames_of (c.push_header_bytes-count.ensures.taken ∙ ap (λ (y : List ℕ). y ++ t) h.1)
 
 pub returns-clause-before : goal.returns-clause-before
 returns-clause-before c = λ k below.
     let w = c.self.inside.window in
     let b = c.args.bytes.now in
-    let n = c.push_first-count.result in
+    let n = c.push_header_bytes-count.result in
     let h = held c.self.inside.window c.args.self.now c.self.invariant.front c.self.view_is c.requires.none in
-    let first = c.push_first-count.ensures in
+    let first = c.push_header_bytes-count.ensures in
     ap (λ (y : List ℕ). length (frames_of (y ++ take k b)).ready) (sym h.1)
     ∙ few 6 (w ++ take k b)
     (omega (

@@ -2,7 +2,7 @@ use Rattle.std.proofs.Common.{◌≡◌, subst, ◌∙◌}
 use Rattle.std.specs.Bool.{MatchBool}
 use Rattle.std.proofs.lemmas.Result.{err_from_is_err_and}
 use Rattle.teach_in.specs.declared.outcome.Outcome.TheVariants.{Accepted, Deleted}
-use Rattle.gateway_core.proofs.TryLemmas.{alone, alone-unasked}
+use Rattle.gateway_core.proofs.AttemptLemmas.{alone, alone-unasked}
 use Rattle.gateway_core.proofs.handler.Handler.forget.Goals as goal
 
 pub returns-in_err-draft : goal.returns-in_err-draft

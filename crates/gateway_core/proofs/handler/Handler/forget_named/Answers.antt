@@ -2,7 +2,7 @@ use Rattle.std.proofs.Common.{refl, sym, ap, ◌∙◌, append-nil}
 use Rattle.std.proofs.lemmas.Result.{err_from_is_err_and}
 use Rattle.teach_in.specs.declared.outcome.Outcome.TheVariants.{Deleted}
 use Rattle.gateway_core.specs.Step.{text_answer, device_teach_line, forget_effect}
-use Rattle.gateway_core.proofs.TryLemmas.{tries-forgotten, tries-unforgotten}
+use Rattle.gateway_core.proofs.AttemptLemmas.{tries-forgotten, tries-unforgotten}
 use Rattle.gateway_core.proofs.handler.Handler.forget_named.Goals as goal
 
 pub returns-in_err-committed : goal.returns-in_err-committed

@@ -5,7 +5,7 @@ use Rattle.learned_devices.specs.declared.fault.LearnFault.{LearnFault}
 use Rattle.learned_devices.specs.declared.fault.LearnFault.TheVariants as fault
 use Rattle.learned_devices.specs.StoreCalls.{RefusesToLearn}
 use Rattle.teach_in.specs.declared.outcome.Outcome.TheVariants.{Accepted, Deleted}
-use Rattle.gateway_core.proofs.TryLemmas.{alone, alone-unasked}
+use Rattle.gateway_core.proofs.AttemptLemmas.{alone, alone-unasked}
 use Rattle.gateway_core.proofs.handler.Handler.learn.Goals as goal
 
 pub returns-in_err-draft : goal.returns-in_err-draft
@@ -30,8 +30,8 @@ returns-in-Err-Full g c =
           (c.in-Err-Full.ensures.learns.devices honest devices has) in full);
     })
 
-pub returns-in-Err-Refused : goal.returns-in-Err-Refused
-returns-in-Err-Refused g c =
+pub returns-in-Err-Failed : goal.returns-in-Err-Failed
+returns-in-Err-Failed g c =
     rw (← c.self.view_is) (record {
       reported = tt;
       alone =
@@ -39,8 +39,8 @@ returns-in-Err-Refused g c =
           (λ honest devices has.
           let Why = λ (why : LearnFault). RefusesToLearn (g.S.DeviceStore.store_state c.self.inside.registry)
           (g.S.DeviceStore.store_state c.learn.new.self) c.args.device devices why in
-          let pends : Why (fault.Refused c.in-Err-Refused.fault) = subst Why c.in-Err-Refused.field-0-is
-          (c.in-Err-Refused.ensures.learns.devices honest devices has) in pends);
+          let pends : Why (fault.Failed c.in-Err-Failed.fault) = subst Why c.in-Err-Failed.field-0-is
+          (c.in-Err-Failed.ensures.learns.devices honest devices has) in pends);
     })
 
 pub returns : goal.returns

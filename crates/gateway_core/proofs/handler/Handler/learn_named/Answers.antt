@@ -4,7 +4,7 @@ use Rattle.json_lines.specs.Lines.{Error}
 use Rattle.json_lines.specs.declared.error_lines.ErrorName.TheVariants as name
 use Rattle.gateway_core.specs.Step.{text_answer, learn_effect, lines_effect, NeedsStore}
 use Rattle.gateway_core.specs.private.Attempts.{Learns}
-use Rattle.gateway_core.proofs.TryLemmas.{by-desk, tries-learned, tries-full, tries-refused}
+use Rattle.gateway_core.proofs.AttemptLemmas.{by-desk, tries-learned, tries-full, tries-refused}
 use Rattle.gateway_core.proofs.handler.Handler.learn_named.Goals as goal
 
 pub returns-in_err-committed : goal.returns-in_err-committed

@@ -1,6 +1,6 @@
 use Rattle.std.proofs.Common.{ap, []}
 use Rattle.gateway_core.specs.Step.{Ordered, with_explanation}
-use Rattle.gateway_core.proofs.TryLemmas.{tries-handles}
+use Rattle.gateway_core.proofs.AttemptLemmas.{tries-handles}
 use Rattle.gateway_core.proofs.handler.Handler.line.Goals as goal
 
 pub returns : goal.returns

@@ -4,7 +4,7 @@ use Rattle.json_lines.specs.PacketLines.{packet_text}
 use Rattle.gateway_core.specs.Replies.{answer_of}
 use Rattle.gateway_core.specs.Step.{Received, with_explanation, with_packet_line, packet_line_for}
 use Rattle.gateway_core.specs.private.Attempts.{disposition_from}
-use Rattle.gateway_core.proofs.TryLemmas.{tries-handles, tries-same}
+use Rattle.gateway_core.proofs.AttemptLemmas.{tries-handles, tries-same}
 use Rattle.gateway_core.proofs.handler.Handler.packet.Goals as goal
 
 pub returns-in_default : goal.returns-in_default

@@ -1,12 +1,12 @@
 use Rattle.std.proofs.Common.{Ok, Some, sym, ap, subst, ◌∙◌}
 use Rattle.std.proofs.lemmas.Result.{err_from_is_err_and}
 use Rattle.teach_in.specs.declared.outcome.Outcome.TheVariants.{Accepted, Full}
-use Rattle.gateway_core.specs.declared.handler.learn_forget.Committed.{Committed}
+use Rattle.gateway_core.specs.declared.handler.learn_forget.CommittedTeachLine.{CommittedTeachLine}
 use Rattle.gateway_core.specs.Handling.{HandlerValue}
 use Rattle.gateway_core.specs.Step.{accept_effect, mode_after_learning, teach_effect, device_teach_line}
 use Rattle.gateway_core.specs.private.Attempts.{Learns, state_of}
-use Rattle.gateway_core.proofs.TryLemmas.{by-radio, taught-answer, tries-learned, tries-full, tries-refused}
-use Rattle.gateway_core.proofs.TryLemmas.{tries-unacknowledged}
+use Rattle.gateway_core.proofs.AttemptLemmas.{by-radio, taught-answer, tries-learned, tries-full, tries-refused}
+use Rattle.gateway_core.proofs.AttemptLemmas.{tries-unacknowledged}
 use Rattle.gateway_core.proofs.handler.Handler.try_accept.Goals as goal
 
 pub returns-in_err-verdict : goal.returns-in_err-verdict
@@ -57,8 +57,8 @@ returns g c =
     (λ devices. (
       taught-answer (state_of c.learn.new.self devices) c.args.teach.now (device_teach_line c.args.device Accepted) _ _
           _
-          (ap (λ (e : Committed). e.verdict.outcome) (sym c.in-Some.field-0-is) ∙ learned.reported.1)
-          (ap (λ (e : Committed). e.line) (sym c.in-Some.field-0-is) ∙ learned.reported.2)
+          (ap (λ (e : CommittedTeachLine). e.verdict.outcome) (sym c.in-Some.field-0-is) ∙ learned.reported.1)
+          (ap (λ (e : CommittedTeachLine). e.line) (sym c.in-Some.field-0-is) ∙ learned.reported.2)
           c.answer_sender.ensures,
       ap Some c.for_device-disposition.ensures,
       c.mode_after_learning.ensures ∙ ap (λ (v : HandlerValue _). mode_after_learning v.mode) c.self.view_is,

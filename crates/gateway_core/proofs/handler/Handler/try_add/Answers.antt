@@ -1,6 +1,6 @@
 use Rattle.std.proofs.Common.{◌≡◌, true, false, refl}
 use Rattle.teach_in.specs.Profiles.{supported}
-use Rattle.gateway_core.proofs.TryLemmas.{tries-alone, tries-same}
+use Rattle.gateway_core.proofs.AttemptLemmas.{tries-alone, tries-same}
 use Rattle.gateway_core.proofs.handler.Handler.try_add.Goals as goal
 
 pub returns-then-not-supported : goal.returns-then-not-supported

@@ -3,7 +3,7 @@ use Rattle.std.proofs.lemmas.Result.{err_from_is_err_and}
 use Rattle.learned_devices.specs.Devices.{device_of}
 use Rattle.gateway_core.specs.Profiles.{read_by}
 use Rattle.gateway_core.specs.Step.{case_effect, data_case}
-use Rattle.gateway_core.proofs.TryLemmas.{known_with, permitted, tries, tries-behind, data-need, reading-comes}
+use Rattle.gateway_core.proofs.AttemptLemmas.{known_with, permitted, tries, tries-behind, data-need, reading-comes}
 use Rattle.gateway_core.proofs.handler.Handler.try_data.Goals as goal
 
 pub returns-in_err-device : goal.returns-in_err-device

@@ -4,7 +4,7 @@ use Rattle.teach_in.specs.declared.outcome.Outcome.TheVariants.{Deleted}
 use Rattle.json_lines.specs.Lines.{Teach, TeachLine, text}
 use Rattle.gateway_core.specs.Step.{delete_effect, query_teach_line}
 use Rattle.gateway_core.specs.private.Attempts.{state_of}
-use Rattle.gateway_core.proofs.TryLemmas.{line_told, taught-answer, tries-forgotten, tries-unforgotten}
+use Rattle.gateway_core.proofs.AttemptLemmas.{line_told, taught-answer, tries-forgotten, tries-unforgotten}
 use Rattle.gateway_core.proofs.handler.Handler.try_forget.Goals as goal
 
 pub returns-in_err-verdict : goal.returns-in_err-verdict

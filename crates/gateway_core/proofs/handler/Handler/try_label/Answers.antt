@@ -1,6 +1,6 @@
 use Rattle.std.proofs.Common.{Ok, ap, subst, ◌∙◌}
 use Rattle.learned_devices.specs.StoreCalls.{Relabels}
-use Rattle.gateway_core.proofs.TryLemmas.{label-comes, label-refused, tries}
+use Rattle.gateway_core.proofs.AttemptLemmas.{label-comes, label-refused, tries}
 use Rattle.gateway_core.proofs.handler.Handler.try_label.Goals as goal
 use Rattle.gateway_core.proofs.handler.Handler.try_label.Goals.{in-Ok-true, in-Ok-false, in-Err}
 

@@ -2,7 +2,7 @@ use Rattle.std.proofs.Common.{sym, ◌∙◌, Ok, Err}
 use Rattle.std.proofs.lemmas.Bool.{lt-ltb}
 use Rattle.actuator_commands.specs.Limits.{max_line}
 use Rattle.actuator_commands.proofs.ForCallers.{parsed-in_range}
-use Rattle.gateway_core.proofs.TryLemmas.{tries-alone, tries-order}
+use Rattle.gateway_core.proofs.AttemptLemmas.{tries-alone, tries-order}
 use Rattle.gateway_core.proofs.handler.Handler.try_line.Goals as goal
 
 pub try_order-requires : goal.try_order-requires
@@ -24,4 +24,4 @@ returns-in-Err g c =
     tries-order g.S.DeviceStore.store_state _ _ c.args.line.now _ (Err c.in-Err.fault) c.if-line-gt-MAX_LINE.false
     (sym c.parse.ensures ∙ c.in-Err.is)
     (tries-alone g.S.DeviceStore.store_state _ _ _
-    (λ devices keeps. rw (← c.error_of.ensures) (c.error_effect-in-Err.ensures, keeps)))
+    (λ devices keeps. rw (← c.order_error_name.ensures) (c.error_effect-in-Err.ensures, keeps)))

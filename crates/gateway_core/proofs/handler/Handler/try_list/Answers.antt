@@ -2,7 +2,7 @@ use Rattle.std.proofs.Common.{ap, ◌∙◌}
 use Rattle.std.proofs.lemmas.Result.{err_from_is_err_and}
 use Rattle.json_lines.specs.Lines.{list_lines, texts}
 use Rattle.gateway_core.specs.Step.{text_answer}
-use Rattle.gateway_core.proofs.TryLemmas.{tries}
+use Rattle.gateway_core.proofs.AttemptLemmas.{tries}
 use Rattle.gateway_core.proofs.handler.Handler.try_list.Goals as goal
 
 pub returns-in_err-all : goal.returns-in_err-all

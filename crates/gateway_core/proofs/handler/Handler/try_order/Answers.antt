@@ -1,5 +1,5 @@
 use Rattle.std.proofs.Common.{false}
-use Rattle.gateway_core.proofs.TryLemmas.{opens-comes, tries-alone}
+use Rattle.gateway_core.proofs.AttemptLemmas.{opens-comes, tries-alone}
 use Rattle.gateway_core.proofs.handler.Handler.try_order.Goals as goal
 
 pub returns-in-LearnOn : goal.returns-in-LearnOn
@@ -41,4 +41,4 @@ returns-in-Status g c = rw c.in-Status.is c.try_status.ensures
 
 pub returns-in-Base : goal.returns-in-Base
 returns-in-Base g c =
-    rw c.in-Base.is (tries-alone g.S.DeviceStore.store_state _ _ _ (λ devices keeps. (c.ask_base.ensures false, keeps)))
+    rw c.in-Base.is (tries-alone g.S.DeviceStore.store_state _ _ _ (λ devices keeps. (c.request_base_id.ensures false, keeps)))

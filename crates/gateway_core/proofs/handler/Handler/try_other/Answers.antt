@@ -3,7 +3,7 @@ use Rattle.std.specs.Option.{option_map}
 use Rattle.std.proofs.lemmas.Result.{err_from_is_err_and}
 use Rattle.gateway_core.specs.Responses.{response_of}
 use Rattle.gateway_core.specs.Step.{text_answer}
-use Rattle.gateway_core.proofs.TryLemmas.{tries-alone}
+use Rattle.gateway_core.proofs.AttemptLemmas.{tries-alone}
 use Rattle.gateway_core.proofs.handler.Handler.try_other.Goals as goal
 
 pub returns-in_default : goal.returns-in_default

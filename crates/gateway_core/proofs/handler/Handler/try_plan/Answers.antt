@@ -4,7 +4,7 @@ use Rattle.teach_in.specs.declared.plans.Plan.TheVariants.{Add, Forget, Refuse}
 use Rattle.teach_in.specs.Plans.{plan_of}
 use Rattle.gateway_core.specs.private.Attempts.{MayReply, state_of}
 use Rattle.gateway_core.proofs.QueryLemmas.{can_reply}
-use Rattle.gateway_core.proofs.TryLemmas.{line_told, permits-memory, refused-gives, tries-alone, tries-same}
+use Rattle.gateway_core.proofs.AttemptLemmas.{line_told, permits-memory, refused-gives, tries-alone, tries-same}
 use Rattle.gateway_core.proofs.handler.Handler.try_plan.Goals as goal
 
 pub try_accept-requires-clause-accepted : goal.try_accept-requires-clause-accepted

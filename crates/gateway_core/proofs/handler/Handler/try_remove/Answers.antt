@@ -2,7 +2,7 @@ use Rattle.std.proofs.Common.{refl, sym, ap, ◌∙◌}
 use Rattle.std.proofs.lemmas.Result.{err_from_is_err_and}
 use Rattle.learned_devices.specs.Devices.{device_of}
 use Rattle.gateway_core.specs.Step.{forget_effect, if_known}
-use Rattle.gateway_core.proofs.TryLemmas.{permitted, tries, tries-behind, known-need}
+use Rattle.gateway_core.proofs.AttemptLemmas.{permitted, tries, tries-behind, known-need}
 use Rattle.gateway_core.proofs.handler.Handler.try_remove.Goals as goal
 
 pub returns-in_err-device : goal.returns-in_err-device

@@ -7,7 +7,7 @@ use Rattle.learned_devices.specs.Devices.{device_of}
 use Rattle.gateway_core.specs.Step.{Effect, NeedsStore, recipient_device, send_result_effect}
 use Rattle.gateway_core.specs.private.Attempts.{AppliesOrFails, MatchesEffect, state_of}
 use Rattle.gateway_core.proofs.EffectLemmas.{sends-effect}
-use Rattle.gateway_core.proofs.TryLemmas.{known_with, permitted, telegram-comes, telegram-need, tries-alone, tries}
+use Rattle.gateway_core.proofs.AttemptLemmas.{known_with, permitted, telegram-comes, telegram-need, tries-alone, tries}
 use Rattle.gateway_core.proofs.handler.Handler.try_send.Goals as goal
 
 pub returns-in_default : goal.returns-in_default

@@ -1,7 +1,7 @@
 use Rattle.std.proofs.Common.{sym, ap, ◌∙◌, append-nil}
 use Rattle.std.proofs.lemmas.Result.{err_from_is_err_and}
 use Rattle.gateway_core.specs.Step.{text_answer}
-use Rattle.gateway_core.proofs.TryLemmas.{tries-alone}
+use Rattle.gateway_core.proofs.AttemptLemmas.{tries-alone}
 use Rattle.gateway_core.proofs.handler.Handler.try_status.Goals as goal
 
 pub returns-in_err-line : goal.returns-in_err-line

@@ -8,7 +8,7 @@ use Rattle.gateway_core.specs.Step.{teach_case, plan_effect}
 use Rattle.gateway_core.specs.private.Attempts.{state_of}
 use Rattle.gateway_core.proofs.EffectLemmas.{not-data, teaches}
 use Rattle.teach_in.proofs.ForCallers.{plan-unasked}
-use Rattle.gateway_core.proofs.TryLemmas.{tries-alone, tries-same}
+use Rattle.gateway_core.proofs.AttemptLemmas.{tries-alone, tries-same}
 use Rattle.gateway_core.proofs.handler.Handler.try_telegram.Goals as goal
 
 -- the filter's result for a telegram

@@ -6,7 +6,7 @@ use Rattle.gateway_core.specs.Replies.{packet_answer}
 use Rattle.json_lines.specs.Counts.{saturated_sum}
 use Rattle.gateway_loop.specs.declared.driver.Driver.{Driver}
 use Rattle.gateway_loop.specs.private.DriverSteps.{Drains}
-use Rattle.gateway_loop.proofs.EngineStepLemmas.{drains_nothing, drains_one, drains_part}
+use Rattle.gateway_loop.proofs.DriverStepLemmas.{drains_nothing, drains_one, drains_part}
 use Rattle.gateway_loop.proofs.driver.Driver.drain.Given.{Over}
 use Rattle.gateway_loop.proofs.driver.Driver.drain.Goals as goal
 

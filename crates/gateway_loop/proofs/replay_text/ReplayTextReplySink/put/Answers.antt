@@ -10,7 +10,7 @@ use Rattle.gateway_loop.specs.Streams.{SinkValue, sink_value}
 use Rattle.gateway_loop.specs.TextOutput.{text_output}
 use Rattle.gateway_loop.specs.Written.{desk_text, radio_text, text_of}
 use Rattle.gateway_loop.proofs.CallCountLemmas.{went_behind}
-use Rattle.gateway_loop.proofs.TextWayLemmas.{puts_by, puts_one}
+use Rattle.gateway_loop.proofs.TextOutputLemmas.{puts_by, puts_one}
 use Rattle.gateway_loop.proofs.WriteLemmas.{part_of_front, writes_behind, writes_part}
 use Rattle.gateway_loop.proofs.replay_text.ReplayTextReplySink.put.Goals as goal
 use Rattle.gateway_loop.proofs.replay_text.ReplayTextReplySink.put.Goals.{in-Some+in_ok-write_chunk, in_default}

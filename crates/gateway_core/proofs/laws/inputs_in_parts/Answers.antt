@@ -1,8 +1,0 @@
-use Rattle.gateway_core.proofs.CutLemmas.{inputs_of-append, new_packets-rest}
-use Rattle.gateway_core.proofs.laws.inputs_in_parts.Goals as goal
-
-pub returns-clause-items : goal.returns-clause-items
-returns-clause-items c = inputs_of-append
-
-pub returns-clause-rest : goal.returns-clause-rest
-returns-clause-rest c = new_packets-rest

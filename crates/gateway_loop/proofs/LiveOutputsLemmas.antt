@@ -1,0 +1,86 @@
+-- What a `Driver` wrote to two sinks, also after the loans of the gateway and of the sinks have ended.
+use Rattle.std.proofs.Common.{◌≡◌, List, inl, inr}
+use Rattle.learned_devices.specs.DeviceStoreState.{DeviceStoreState}
+use Rattle.gateway_core.specs.Step.{Answer}
+use Rattle.gateway_core.specs.Calls.{GatewayValue}
+use Rattle.gateway_core.specs.Events.{Event}
+use Rattle.byte_io.specs.Counts.{HasCountRoom, NoneFailedOrEmpty}
+use Rattle.byte_io.specs.declared.sink.Sink as sinks
+use Rattle.gateway_loop.specs.declared.driver.Driver.{Driver}
+use Rattle.gateway_loop.specs.declared.live_outputs.LiveOutputs.{LiveOutputs}
+use Rattle.gateway_loop.specs.OutputSpecs.{OutputSpec}
+use Rattle.gateway_loop.specs.Processing.{Breaks, Processes}
+use Rattle.gateway_loop.specs.LiveGateway.{BreaksAtOrder}
+use Rattle.gateway_loop.specs.Streams.{SinkValue, sink_value}
+use Rattle.gateway_loop.specs.private.DriverSteps.{DriverBreaks, DriverProcesses}
+use Rattle.gateway_loop.specs.Turns.{Turn}
+use Rattle.gateway_loop.specs.LiveOutputs.{live_output_of, live_output}
+use Rattle.gateway_loop.proofs.CallCountLemmas.{not_well}
+
+module _ {R D S : Type 0} (stored : S → DeviceStoreState) (serial_sinks : sinks.Ghosts R) (desk_sinks : sinks.Ghosts D)
+    (entry now : Driver (LiveOutputs R D) S) (gateway : GatewayValue S) (serial : R) (desk : D)
+    (e : gateway ≡ now.gateway.now)
+    (f : serial ≡ now.reply_sink.serial.now) (h : desk ≡ now.reply_sink.desk.now) where
+  abbrev output : OutputSpec (LiveOutputs R D)
+  output = live_output_of serial_sinks desk_sinks
+
+  abbrev old_sinks : SinkValue × SinkValue
+  old_sinks = (sink_value serial_sinks entry.reply_sink.serial.now, sink_value desk_sinks entry.reply_sink.desk.now)
+
+  abbrev new_sinks : SinkValue × SinkValue
+  new_sinks = (sink_value serial_sinks serial, sink_value desk_sinks desk)
+
+  abbrev ways : OutputSpec (SinkValue × SinkValue)
+  ways = live_output entry.reply_sink.explains
+
+  pub plays_at : (events : List Event) → DriverProcesses stored output entry now events
+      → Processes stored entry.gateway.now gateway events (ways.puts old_sinks new_sinks)
+  plays_at events p = rw (e, f, h) (record {
+    answered = record { answers = p.answered.answers; handled = p.answered.handled; out = p.answered.out.1 };
+    rest = p.rest;
+    idle = p.idle;
+  })
+
+  pub breaks_at : (events : List Event) (event : Event) → DriverBreaks stored output entry now events event
+      → Breaks stored entry.gateway.now gateway events event (ways.breaks old_sinks new_sinks)
+  breaks_at events event p = rw (e, f, h) (record {
+    begun = p.begun;
+    begins = p.begins;
+    inputs = p.inputs;
+    own = p.own;
+    behind = p.behind;
+    some = p.some;
+    stand = p.stand;
+    rest = p.rest;
+    answered = record {
+      answers = p.answered.answers;
+      last = p.answered.last;
+      handled = p.answered.handled;
+      out = p.answered.out.1;
+    };
+  })
+
+  pub breaks_at_order : (turns : List Turn)
+      → BreaksAtOrder stored entry.gateway.now now.gateway.now turns (output.breaks entry.reply_sink now.reply_sink)
+      → BreaksAtOrder stored entry.gateway.now gateway turns (ways.breaks old_sinks new_sinks)
+  breaks_at_order turns p = record {
+    before = p.before;
+    last = p.last;
+    is_last = p.is_last;
+    done = p.done;
+    order = p.order;
+    later = p.later;
+    whole = p.whole;
+    broken = breaks_at _ _ p.broken;
+  }
+
+  -- if an answer broke off, not all writes succeeded
+  pub not_all_well : (answers : List Answer) (last : Answer)
+      → output.breaks entry.reply_sink now.reply_sink answers last
+      → HasCountRoom old_sinks.0.counts 0 → HasCountRoom old_sinks.1.counts 0
+      → NoneFailedOrEmpty old_sinks.0.counts new_sinks.0.counts
+      → NoneFailedOrEmpty old_sinks.1.counts new_sinks.1.counts → ⊥
+  not_all_well answers last (same, inl broken) room others well wells =
+      not_well old_sinks.0.counts (serial_sinks.counts now.reply_sink.serial.now) room broken.0.went (rw f at well)
+  not_all_well answers last (same, inr broken) room others well wells =
+      not_well old_sinks.1.counts (desk_sinks.counts now.reply_sink.desk.now) others broken.1.went (rw h at wells)
