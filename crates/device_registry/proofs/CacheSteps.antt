@@ -1,10 +1,13 @@
 -- The operations of the cache, and what they preserve.
-use Rattle.std.proofs.Common.{◌≡◌, ◌≢◌, ◌⊎◌, inl, inr, ℕ, Bool, true, false, List, [], ◌∷◌, Some, Result, Ok}
+use Rattle.std.proofs.Common.{◌≡◌, ◌≢◌, ◌⊎◌, inl, inr, ℕ, Bool, true, false, List, [], ◌∷◌, Option, Some, None, Result, Ok, refl}
 use Rattle.std.proofs.Common.{Err, OnOk, OnErr, Contains, sym, ap, subst, ◌∙◌, eqb}
 use Rattle.std.proofs.lemmas.Bool.{cases_Bool, eqb-true, eq-eqb}
 use Rattle.std.specs.List.{AllByRecursion, IsDistinct}
-use Rattle.std.specs.Map.{lookup, keys_of, remove_entry}
-use Rattle.lru.specs.LruCache.{LruCache, lru_cache, put_entries}
+use Rattle.std.specs.Option.{option_map, option_map_or}
+use Rattle.std.specs.Map.{lookup, lookup_entry, keys_of, remove_entry}
+use Rattle.std.proofs.lemmas.Option.{none-some}
+use Rattle.lru.specs.LruCache.{LruCache, lru_cache, promoted, put_entries}
+use Rattle.lru.proofs.Pairs.{lookup-lookup_entry}
 use Rattle.lru.proofs.CallerLemmas.{Contains-lookup, Contains-put_entries}
 use Rattle.lru.proofs.Splits.{Contains-cons, Contains-nil}
 
@@ -19,6 +22,18 @@ module _ {V : Type 0} where
   looked_up id entries v h =
       let it = Contains-lookup (eqb id) entries v h in
       subst (λ k. Contains entries (k, v)) (sym (eqb-true id it.0 it.2)) it.1
+
+  -- a look-up that finds no entry moves none
+  pub promoted-unknown : (test : ℕ → Bool) (entries : List (ℕ × V)) → lookup test entries ≡ None
+      → promoted test entries ≡ entries
+  promoted-unknown test entries is = by (lookup_entry test entries) refl
+    where
+      by : (found : Option (ℕ × V)) → lookup_entry test entries ≡ found
+          → option_map_or (λ e. e ∷ remove_entry test entries) found entries ≡ entries
+      by None h = refl
+      by (Some e) h =
+          absurd (none-some e.1
+          (sym (ap (option_map (λ (e : ℕ × V). e.1)) (sym h) ∙ lookup-lookup_entry test entries ∙ is)))
 
   pub kept_if : {A B : Type 0} (r : Result A B) (old new : LruCache ℕ V) (id : ℕ) (v : V)
       → OnOk r (new ≡ lru_cache (put_entries eqb old id v) old.cap) → OnErr r (new ≡ old)

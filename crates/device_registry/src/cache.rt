@@ -34,9 +34,8 @@ pub fn look_up_cached(cache: &mut Cache, id: u32) -> Option<Option<Device>>
     ensures unknown { IfNone result (lookup (nat_eq id) cache.old.entries ≡ None) }
     ensures unchanged { IfNone result (cache.new.entries ≡ cache.old.entries) }
 {
-    let known = copied(cache.peek(&id)?);
-    cache.promote(&id);
-    Some(known)
+    let known = cache.get(&id)?;
+    Some(copied(known))
 }
 
 /// Adds or replaces the entry of a sender; a full cache then evicts its least recently used entry. If there is no

@@ -1,5 +1,5 @@
 //! Telegrams, received or to be sent.
-ghost use Rattle.std.specs.Prelude.{◌≡◌, ◌≢◌, ◌↔◌, length, true, false, IsTrue, IfOk, Err};
+ghost use Rattle.std.specs.Prelude.{◌≡◌, ◌≢◌, ◌↔◌, length, true, false, IsTrue, IfOk, Err, if◌then◌else◌, Some, None};
 ghost use Rattle.erp1_telegrams.specs.Telegram.{payload_length_fits, is_known_rorg};
 
 use crate::rorg;
@@ -80,11 +80,10 @@ impl Telegram {
             ↔ ((is_known_rorg rorg ≡ true) × (payload_length_fits rorg (length payload.now) ≡ false)) }
         ensures no_other { result ≢ Err TelegramFault.NotRadio }
     {
-        if !is_known_rorg(rorg) {
-            return Err(TelegramFault::OtherKind);
-        }
-        if !payload_length_fits(rorg, payload.len()) {
-            return Err(TelegramFault::BadLength);
+        match payload_length_fits(rorg, payload.len()) {
+            None => return Err(TelegramFault::OtherKind),
+            Some(false) => return Err(TelegramFault::BadLength),
+            Some(true) => {}
         }
         let Ok(payload) = ArrayVec::try_from(payload) else {
             return Err(TelegramFault::BadLength);
@@ -148,21 +147,18 @@ impl Telegram {
 pub(crate) fn is_known_rorg(rorg: u8) -> bool
     ensures { result ≡ is_known_rorg rorg }
 {
-    matches!(
-        rorg,
-        rorg::RPS | rorg::ONE_BS | rorg::FOUR_BS | rorg::VLD | rorg::UTE
-    )
+    payload_length_fits(rorg, 0).is_some()
 }
 
-/// Whether a payload of this RORG may have this many bytes.
-fn payload_length_fits(rorg: u8, len: usize) -> bool
-    ensures { result ≡ payload_length_fits rorg len }
+// Whether a payload of this RORG may have this many bytes. `None` if telegrams with this RORG are not read.
+fn payload_length_fits(rorg: u8, len: usize) -> Option<bool>
+    ensures { result ≡ (if is_known_rorg rorg then Some (payload_length_fits rorg len) else None) }
 {
     match rorg {
-        rorg::RPS | rorg::ONE_BS => len == 1,
-        rorg::FOUR_BS => len == 4,
-        rorg::VLD => 1 <= len && len <= 14,
-        rorg::UTE => len == 7,
-        _ => false,
+        rorg::RPS | rorg::ONE_BS => Some(len == 1),
+        rorg::FOUR_BS => Some(len == 4),
+        rorg::VLD => Some(1 <= len && len <= 14),
+        rorg::UTE => Some(len == 7),
+        _ => None,
     }
 }

@@ -27,7 +27,7 @@ use Rattle.teach_in.specs.Telegrams.{teach_in_of}
 use Rattle.teach_in.specs.Plans.{plan_of}
 use Rattle.teach_in.proofs.ForCallers.{either, of_plan}
 use Rattle.json_lines.specs.declared.error_lines.ErrorName.TheVariants as error
-use Rattle.gateway_core.specs.declared.handler.learn_forget.CommittedTeachLine.{CommittedTeachLine}
+use Rattle.teach_in.specs.declared.verdict.Verdict.{Verdict}
 use Rattle.learned_devices.specs.declared.fault.StoreFault.{StoreFault}
 use Rattle.gateway_core.specs.declared.failure.Failure.{Failure}
 use Rattle.gateway_core.specs.declared.failure.Failure.TheVariants.{Before, AtCommit}
@@ -449,7 +449,7 @@ module _ {S : Type 0} (stored : S → DeviceStoreState) where
           keeps,
         ))
 
-    pub tries-learned : (committed : CommittedTeachLine) (made : HandlerEffect)
+    pub tries-learned : (committed : Verdict × List ℕ) (made : HandlerEffect)
         → Learns stored old known (Ok (Some committed)) new
         → ((devices : Devices) → MatchesEffect made (done (state_of new devices)))
         → Attempts stored old (λ state. effect_unless_full state.devices known (full state) (done state)) (Ok made) new
@@ -470,7 +470,7 @@ module _ {S : Type 0} (stored : S → DeviceStoreState) where
         refused-comes old.registry new.registry devices (effect (state_of old devices)) (forget_update line.id) failure
         all.needs all.forgets)
 
-    pub tries-forgotten : (committed : CommittedTeachLine) (made : HandlerEffect) → Forgets stored old line (Ok committed) new
+    pub tries-forgotten : (committed : Verdict × List ℕ) (made : HandlerEffect) → Forgets stored old line (Ok committed) new
         → ((devices : Devices) → MatchesEffect made (effect (state_of new devices)))
         → Attempts stored old effect (Ok made) new
     tries-forgotten committed made forgets gives =

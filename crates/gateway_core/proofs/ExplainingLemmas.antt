@@ -28,7 +28,7 @@ use Rattle.teach_in.specs.declared.telegrams.Teach.TheVariants as teach
 use Rattle.teach_in.specs.FourByte as four_byte
 use Rattle.teach_in.specs.Profiles.{supported}
 use Rattle.teach_in.specs.Telegrams.{teach_in_of}
-use Rattle.teach_in.specs.Plans.{add, add_supported, plan_in_mode, can_be_learned_by, ute_plan, plan_of, row_of}
+use Rattle.teach_in.specs.Plans.{add, add_supported, plan_in_mode, can_be_learned_by, ute_plan, plan_of, plan_row_of}
 use Rattle.teach_in.specs.Ute as ute
 use Rattle.teach_in.specs.Ute.{request_in, deletion, not_used}
 use Rattle.teach_in.proofs.ForCallers.{IsOpen, LearnsByTold, either, hears-open, of_plan}
@@ -141,14 +141,14 @@ module _ (t : Telegram) where
     where
       by : (b c : Bool) → (request_in query == not_used) ≡ c
           → (if b then Forget t.sender else if c then Refuse General
-          else add_supported t (ute.eep_in query) (ute.maker_in query)) ≡ Refuse outcome
+          else add_supported t query.eep query.maker) ≡ Refuse outcome
           → RefusalMeans (teach.Ute query) outcome
       by true c is e = absurd cc
       by false true is e =
           subst (RefusalMeans (teach.Ute query)) (ap outcome_in e)
           (query, refl, eqb-true (request_in query) not_used is)
       by false false is e =
-          query-refuses (teach.Ute query) (ute.eep_in query) (ute.maker_in query) outcome refl e
+          query-refuses (teach.Ute query) query.eep query.maker outcome refl e
 
   given-refuses : {X : Type 0} (b : Bool) (known : Device) (outcome : Outcome)
       → (if b then Add known else Silent) ≡ Refuse outcome → X
@@ -161,7 +161,7 @@ module _ (t : Telegram) where
   data-refuses false c known outcome e = absurd cc
 
   refuse-means : (known : Bool) (kind : Teach) (mode : Mode) (outcome : Outcome)
-      → plan_in_mode (row_of t known kind) mode ≡ Refuse outcome → RefusalMeans kind outcome
+      → plan_in_mode (plan_row_of t known kind) mode ≡ Refuse outcome → RefusalMeans kind outcome
   refuse-means known kind mode.Closed outcome e = absurd cc
   refuse-means known teach.Contact mode.Learn outcome e = absurd cc
   refuse-means known teach.Contact mode.LearnAnswer outcome e = absurd cc
@@ -170,9 +170,9 @@ module _ (t : Telegram) where
   refuse-means known teach.Bare mode.LearnAnswer outcome e = subst (RefusalMeans teach.Bare) (ap outcome_in e) refl
   refuse-means known teach.Bare (mode.LearnAs eep) outcome e = given-refuses (eep.rorg == 0xA5) _ outcome e
   refuse-means known (teach.FourByte query) mode.Learn outcome e =
-      query-refuses (teach.FourByte query) (four_byte.eep_in query) (four_byte.maker_in query) outcome refl e
+      query-refuses (teach.FourByte query) query.eep query.maker outcome refl e
   refuse-means known (teach.FourByte query) mode.LearnAnswer outcome e =
-      query-refuses (teach.FourByte query) (four_byte.eep_in query) (four_byte.maker_in query) outcome refl e
+      query-refuses (teach.FourByte query) query.eep query.maker outcome refl e
   refuse-means known (teach.FourByte query) (mode.LearnAs eep) outcome e =
       given-refuses (eep.rorg == 0xA5) _ outcome e
   refuse-means known (teach.Ute query) mode.Learn outcome e = asked-refuses query outcome e
@@ -190,7 +190,7 @@ module _ (t : Telegram) where
   query-speaks : (eep : Eep) (maker : ℕ) → add_supported t eep maker ≢ Silent
   query-speaks eep maker = either (λ p. p ≢ Silent) (supported eep) _ _ (λ e. absurd cc) (λ e. absurd cc)
 
-  speaks : (known : Bool) (kind : Teach) → IsTeachIn kind → (row_of t known kind).reported ≢ Silent
+  speaks : (known : Bool) (kind : Teach) → IsTeachIn kind → (plan_row_of t known kind).reported ≢ Silent
   speaks known teach.Contact is e = absurd cc
   speaks known teach.Bare is e = absurd cc
   speaks known (teach.FourByte query) is e = query-speaks _ _ e
@@ -208,7 +208,7 @@ module _ (t : Telegram) where
       by true is e = absurd cc
       by false is e = eqb-false a b is
 
-  does-not-fit : (known : Bool) (kind : Teach) (eep : Eep) → IsTeachIn kind → (row_of t known kind).given eep ≡ Silent
+  does-not-fit : (known : Bool) (kind : Teach) (eep : Eep) → IsTeachIn kind → (plan_row_of t known kind).given eep ≡ Silent
       → DoesNotFitRole eep kind
   does-not-fit known teach.Contact eep is e = given-silent eep.rorg 0xD5 _ e
   does-not-fit known teach.Bare eep is e = given-silent eep.rorg 0xA5 _ e
@@ -318,7 +318,7 @@ module _ (state : State) (packet : Packet) (t : Telegram) (carried : telegram_of
         → Truth state packet (plan_effect state t false (plan_of t state.mode known))
     of-taught known same teaches = of-planned false known same (by state.mode refl)
       where
-        by : (mode : Mode) → state.mode ≡ mode → plan_in_mode (row_of t known (teach_in_of t)) mode ≡ Silent
+        by : (mode : Mode) → state.mode ≡ mode → plan_in_mode (plan_row_of t known (teach_in_of t)) mode ≡ Silent
             → Truth state packet (silent_effect false (without_device (why_silent false mode)))
         by mode.Closed is silent update = (without_device why.WindowClosed, refl, (t, heard, teaches, is, (refl, refl)))
         by (mode.LearnAs eep) is silent update = (

@@ -2,6 +2,7 @@ pub mod BeginningLemmas
 pub mod ByteLemmas
 pub mod CallLemmas
 pub mod CountLemmas
+pub mod DataLemmas
 pub mod DeviceLemmas
 pub mod EffectLemmas
 pub mod ChunkLemmas

@@ -18,7 +18,6 @@ use Rattle.learned_devices.specs.Devices.{data_after, apply_update}
 use Rattle.learned_devices.specs.Devices.{device, learn_update}
 use Rattle.learned_devices.specs.Ranges.{IsProfileInRange, IsMakerInRange, IsDeviceInRange, AreInRange}
 use Rattle.learned_devices.proofs.ForCallers.{entered-in}
-use Rattle.teach_in.specs.declared.four_byte.FourByteQuery.{FourByteQuery}
 use Rattle.teach_in.specs.declared.mode.Mode.{Mode}
 use Rattle.teach_in.specs.declared.mode.Mode.TheVariants.{Closed, LearnAnswer, LearnAs}
 use Rattle.teach_in.specs.declared.mode.Mode.TheVariants as mode
@@ -26,13 +25,11 @@ use Rattle.teach_in.specs.declared.plans.Plan.{Plan}
 use Rattle.teach_in.specs.declared.plans.Plan.TheVariants.{Add}
 use Rattle.teach_in.specs.declared.telegrams.Teach.{Teach as Kind}
 use Rattle.teach_in.specs.declared.telegrams.Teach.TheVariants.{Plain, Contact, Bare, FourByte, Ute, Answer}
-use Rattle.teach_in.specs.declared.ute.UteQuery.{UteQuery}
-use Rattle.teach_in.specs.FourByte as four_byte
 use Rattle.teach_in.specs.Profiles.{supported}
 use Rattle.teach_in.specs.Telegrams.{teach_in_of}
-use Rattle.teach_in.specs.Ute.{eep_in, maker_in, request_in, deletion, not_used}
-use Rattle.teach_in.specs.Plans.{row_of, can_be_learned_by, plan_of}
-use Rattle.teach_in.proofs.ForCallers.{either}
+use Rattle.teach_in.specs.Ute.{request_in, deletion, not_used}
+use Rattle.teach_in.specs.Plans.{plan_row_of, can_be_learned_by, plan_of}
+use Rattle.teach_in.proofs.ForCallers.{either, of-role}
 use Rattle.teach_in.specs.declared.outcome.Outcome.{Outcome}
 use Rattle.teach_in.specs.declared.outcome.Outcome.TheVariants.{Accepted, Deleted}
 use Rattle.actuator_commands.specs.declared.orders.Order.{Order}
@@ -75,53 +72,50 @@ abbrev IsPlanInRange : Plan → Type 0
 IsPlanInRange (Add known) = IsProfileInRange known.eep × IsMakerInRange known.maker
 IsPlanInRange plan = Unit {0}
 
--- the profile and maker of a query
-asked-in : (query : UteQuery) → IsProfileInRange (eep_in query) × IsMakerInRange (Some (maker_in query))
-asked-in query = (
-  (
-    omega (arith, field-below query.payload 48 8),
-    omega (arith, field-below query.payload 40 8),
-    omega (arith, field-below query.payload 32 8),
-  ),
-  omega (arith, field-below query.payload 29 3, field-below query.payload 16 8),
-)
+-- the profile and maker of a query, if the telegram is one
+abbrev IsRoleInRange : Kind → Type 0
+IsRoleInRange (FourByte query) = IsProfileInRange query.eep × IsMakerInRange (Some query.maker)
+IsRoleInRange (Ute query) = IsProfileInRange query.eep × IsMakerInRange (Some query.maker)
+IsRoleInRange kind = Unit {0}
 
-maker-below : (query : FourByteQuery) → four_byte.maker_in query < 2 ^ 16
-maker-below query = omega (arith, field-below query.payload 13 11)
+role-in : (t : Telegram) → IsRoleInRange (teach_in_of t)
+role-in t =
+    let p = t.payload in
+    of-role IsRoleInRange t tt tt tt tt
+    ((omega arith, omega (arith, field-below p 0 6), omega (arith, field-below p 6 7)), omega (arith, field-below p 13 11))
+    (
+      (omega (arith, field-below p 48 8), omega (arith, field-below p 40 8), omega (arith, field-below p 32 8)),
+      omega (arith, field-below p 29 3, field-below p 16 8),
+    )
 
 module _ (t : Telegram) where
-  by-query-in : (known : Bool) (kind : Kind) → IsPlanInRange (row_of t known kind).reported
-  by-query-in known Contact = ((omega arith, omega arith, omega arith), tt)
-  by-query-in known Bare = tt
-  by-query-in known (FourByte query) =
-      either IsPlanInRange (supported (four_byte.eep_in query)) _ _ (
-        (omega arith, omega (arith, field-below query.payload 0 6), omega (arith, field-below query.payload 6 7)),
-        maker-below query,
-      )
-      tt
-  by-query-in known Plain = tt
-  by-query-in known (Ute query) =
+  by-query-in : (known : Bool) (kind : Kind) → IsRoleInRange kind → IsPlanInRange (plan_row_of t known kind).reported
+  by-query-in known Contact role = ((omega arith, omega arith, omega arith), tt)
+  by-query-in known Bare role = tt
+  by-query-in known (FourByte query) role = either IsPlanInRange (supported query.eep) _ _ role tt
+  by-query-in known Plain role = tt
+  by-query-in known (Ute query) role =
       either IsPlanInRange (request_in query == deletion) _ _ tt
       (either IsPlanInRange (request_in query == not_used) _ _ tt
-      (either IsPlanInRange (supported (eep_in query)) _ _ (asked-in query) tt))
-  by-query-in known Answer = tt
+      (either IsPlanInRange (supported query.eep) _ _ role tt))
+  by-query-in known Answer role = tt
 
-  given-in : (known : Bool) (kind : Kind) (eep : Eep) → IsProfileInRange eep
-      → IsPlanInRange ((row_of t known kind).given eep)
-  given-in known Contact eep is = either IsPlanInRange (eep.rorg == 0xD5) _ _ (is, tt) tt
-  given-in known Bare eep is = either IsPlanInRange (eep.rorg == 0xA5) _ _ (is, tt) tt
-  given-in known (FourByte query) eep is = either IsPlanInRange (eep.rorg == 0xA5) _ _ (is, maker-below query) tt
-  given-in known Plain eep is =
+  given-in : (known : Bool) (kind : Kind) (eep : Eep) → IsRoleInRange kind → IsProfileInRange eep
+      → IsPlanInRange ((plan_row_of t known kind).given eep)
+  given-in known Contact eep role is = either IsPlanInRange (eep.rorg == 0xD5) _ _ (is, tt) tt
+  given-in known Bare eep role is = either IsPlanInRange (eep.rorg == 0xA5) _ _ (is, tt) tt
+  given-in known (FourByte query) eep role is = either IsPlanInRange (eep.rorg == 0xA5) _ _ (is, role.1) tt
+  given-in known Plain eep role is =
       either IsPlanInRange (not known && can_be_learned_by t) _ _
       (either IsPlanInRange (eep.rorg == t.rorg) _ _ (is, tt) tt) tt
-  given-in known (Ute query) eep is = tt
-  given-in known Answer eep is = tt
+  given-in known (Ute query) eep role is = tt
+  given-in known Answer eep role is = tt
 
   planned-in : (mode : Mode) (known : Bool) → IsModeInRange mode → IsPlanInRange (plan_of t mode known)
   planned-in Closed known is = tt
-  planned-in mode.Learn known is = by-query-in known (teach_in_of t)
-  planned-in LearnAnswer known is = by-query-in known (teach_in_of t)
-  planned-in (LearnAs eep) known is = given-in known (teach_in_of t) eep is
+  planned-in mode.Learn known is = by-query-in known (teach_in_of t) (role-in t)
+  planned-in LearnAnswer known is = by-query-in known (teach_in_of t) (role-in t)
+  planned-in (LearnAs eep) known is = given-in known (teach_in_of t) eep (role-in t) is
 
 -- ---- an order
 
@@ -340,7 +334,7 @@ pub deleted-in : (state : State) (input : Input) (known : Device) → IsStateInR
 deleted-in state (Ordered line) known in_range bytes is =
     subst (λ (o : Option Device). IfSome o IsDeviceInRange) is (in_range.0 known.id)
 deleted-in state (Received packet) known in_range bytes (t, carried, id, query, asked, wants, eep, maker) =
-    let carried_in = asked-in query in (
+    let carried_in = subst IsRoleInRange asked (role-in t) in (
       subst IsProfileInRange (sym eep) carried_in.0,
       subst (λ n. n < 2 ^ 32) (sym id) (sender-below packet t carried bytes),
       subst IsMakerInRange (sym maker) carried_in.1,

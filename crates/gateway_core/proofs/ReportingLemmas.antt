@@ -14,7 +14,6 @@ use Rattle.teach_in.specs.declared.telegrams.Teach.{Teach as Kind}
 use Rattle.teach_in.specs.declared.telegrams.Teach.TheVariants.{Ute}
 use Rattle.teach_in.specs.declared.ute.UteQuery.{UteQuery}
 use Rattle.teach_in.specs.Telegrams.{teach_in_of}
-use Rattle.teach_in.specs.Ute.{eep_in, maker_in}
 use Rattle.teach_in.proofs.ForCallers.{AsksDeletion}
 use Rattle.actuator_commands.specs.Limits.{max_line}
 use Rattle.actuator_commands.specs.declared.orders.Order.{Order}
@@ -96,7 +95,7 @@ told Gone line e known outcome is asks =
 
 -- the device in the query of a telegram
 abbrev asked_of : ℕ → UteQuery → Device
-asked_of id query = record { id = id; eep = eep_in query; maker = Some (maker_in query); label = [] }
+asked_of id query = record { id = id; eep = query.eep; maker = Some query.maker; label = [] }
 
 -- its line is the one with the outcome of the query
 line-asked : (id : ℕ) (kind : Kind) (query : UteQuery) (outcome : Outcome) → kind ≡ Ute query

@@ -15,7 +15,6 @@ use Rattle.teach_in.specs.declared.mode.Mode.{Mode}
 use Rattle.teach_in.specs.declared.mode.Mode.TheVariants.{Closed}
 use Rattle.teach_in.specs.declared.telegrams.Teach.{Teach}
 use Rattle.teach_in.specs.declared.telegrams.Teach.TheVariants.{FourByte, Ute}
-use Rattle.teach_in.specs.FourByte.{eep_in, maker_in}
 use Rattle.teach_in.specs.Telegrams.{teach_in_of}
 use Rattle.teach_in.specs.Ute as ute
 use Rattle.json_lines.specs.declared.counts.Counter.{Counter}
@@ -90,13 +89,13 @@ for_device known why = record { why = why; eep = Some known.eep; maker = known.m
 
 -- the profile and maker in a teach-in telegram, if it has them
 abbrev pub query_eep : Teach → Option Eep
-query_eep (FourByte query) = Some (eep_in query)
-query_eep (Ute query) = Some (ute.eep_in query)
+query_eep (FourByte query) = Some query.eep
+query_eep (Ute query) = Some query.eep
 query_eep kind = None
 
 abbrev pub query_maker : Teach → Option ℕ
-query_maker (FourByte query) = Some (maker_in query)
-query_maker (Ute query) = Some (ute.maker_in query)
+query_maker (FourByte query) = Some query.maker
+query_maker (Ute query) = Some query.maker
 query_maker kind = None
 
 -- what is shown of a telegram with this role in teach-in: about its sender the data of its query, otherwise what is

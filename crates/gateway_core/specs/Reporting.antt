@@ -12,7 +12,7 @@ use Rattle.teach_in.specs.declared.telegrams.Teach.TheVariants.{FourByte, Ute}
 use Rattle.teach_in.specs.declared.ute.UteQuery.{UteQuery}
 use Rattle.teach_in.specs.FourByte.{four_byte_reply}
 use Rattle.teach_in.specs.Telegrams.{teach_in_of}
-use Rattle.teach_in.specs.Ute.{eep_in, maker_in, wants_reply, request_in, deletion, ute_reply}
+use Rattle.teach_in.specs.Ute.{wants_reply, request_in, deletion, ute_reply}
 use Rattle.actuator_commands.specs.Limits.{max_line}
 use Rattle.actuator_commands.specs.declared.orders.Order.{Order}
 use Rattle.actuator_commands.specs.declared.orders.Order.TheVariants.{Base, Label}
@@ -32,7 +32,7 @@ IsDeleted state (Ordered line) known = device_of state.devices known.id ≡ Some
 IsDeleted state (Received packet) known =
     (t : Telegram) × (telegram_of packet ≡ Ok t) × (known.id ≡ t.sender)
     × (query : UteQuery) × (teach_in_of t ≡ Ute query) × (request_in query ≡ deletion)
-    × (known.eep ≡ eep_in query) × (known.maker ≡ Some (maker_in query))
+    × (known.eep ≡ query.eep) × (known.maker ≡ Some query.maker)
 
 -- What a line with this outcome reports of an effect: it learns a device, forgets one for which this holds, or changes
 -- neither the devices nor the mode.

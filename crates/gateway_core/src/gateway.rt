@@ -1,5 +1,5 @@
 //! The gateway.
-ghost use Rattle.std.specs.Prelude.{◌≡◌, ◌≢◌, ◌↔◌, ◌<◌, ◌≤◌, ℕ, [], ◌∷◌, ◌++◌, List, length, take, false};
+ghost use Rattle.std.specs.Prelude.{◌≡◌, ◌≢◌, ◌↔◌, ◌<◌, ◌≤◌, ℕ, [], ◌∷◌, ◌++◌, List, length, take, true, false};
 ghost use Rattle.std.specs.Prelude.{IfOk, IfSome, IfNone, MatchBool, Some};
 ghost use Rattle.std.specs.Option.{option_map};
 ghost use Rattle.esp3_frames.specs.Frames.{front_of, packets_in};
@@ -78,6 +78,14 @@ impl<S: DeviceStore + Drop> GatewayOver<S> {
         if !is_base_id(base) {
             return Err(StartFault::BadBase);
         }
+        Ok(GatewayOver::with_base_id(alloc, registry, base)?)
+    }
+
+    /// The same for an ID that is known to be a base ID. Fails if there is no memory for the framer.
+    pub fn with_base_id(alloc: Global, registry: S, base: u32) -> Result<GatewayOver<S>, AllocError>
+        requires { Address.is_base_id base ≡ true }
+        ensures { IfOk result (λ gateway. gateway ≡ new_gateway_value base registry) }
+    {
         Ok(GatewayOver {
             handler: Handler::new(alloc, registry, base),
             framer: Framer::new(alloc)?,

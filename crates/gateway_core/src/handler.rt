@@ -19,7 +19,7 @@ mod teach;
 use crate::disposition::Disposition;
 use crate::failure::Failure;
 use crate::handled::{HandledPacket, line_of_other, line_of_telegram};
-use crate::handler::effect::{OrderEffect, PacketEffect, error_reply};
+use crate::handler::effect::{ReplyEffect, PacketEffect, error_reply};
 use crate::reply::Reply;
 use erp1_telegrams::read;
 use esp3_frames::PacketRef;
@@ -95,8 +95,7 @@ impl<S: DeviceStore> Handler<S> {
             Ok(
                 PacketEffect {
                     disposition,
-                    mode,
-                    reply,
+                    effect: ReplyEffect { mode, reply },
                 },
             ) => (disposition, mode, reply),
             Err(failure) => (
@@ -111,7 +110,7 @@ impl<S: DeviceStore> Handler<S> {
     }
 
     // Counts an order that failed, sets the mode, and returns the reply.
-    fn order_reply(&mut self, tried: Result<OrderEffect, Failure>) -> Reply
+    fn order_reply(&mut self, tried: Result<ReplyEffect, Failure>) -> Reply
         ensures answer { answer_of result ≡ answer_from tried }
         ensures base { self.new.base ≡ self.old.base }
         ensures mode { self.new.mode ≡ mode_from self.old.mode tried }
@@ -119,7 +118,7 @@ impl<S: DeviceStore> Handler<S> {
         ensures registry { self.new.registry ≡ self.old.registry }
     {
         match tried {
-            Ok(OrderEffect { mode, reply }) => {
+            Ok(ReplyEffect { mode, reply }) => {
                 self.set_mode_if_any(mode);
                 reply
             }

@@ -12,8 +12,8 @@ ghost use Rattle.gateway_main.specs.Started.{RefusesToStart, Starts};
 
 use crate::fault::Fault;
 use device_registry::{RegistryOver, SqlConnection};
-use gateway_core::{GatewayOver, StartFault};
-use std::alloc::{AllocError, Global};
+use gateway_core::GatewayOver;
+use std::alloc::Global;
 
 /// Returns a new gateway for a radio module with this base ID, over the registry in the database: all counters are 0,
 /// no packet is ready, and no byte has arrived. Creates the registry's tables if the database has none of them. The
@@ -41,21 +41,5 @@ pub fn start<C: SqlConnection + Drop>(
     ensures refused { IfErr result (RefusesToStart C.state conn) }
 {
     let registry = RegistryOver::open_with(alloc, conn, remembered)?;
-    Ok(gateway_over(alloc, registry, base)?)
-}
-
-/// A new gateway over this registry, or an error if out of memory.
-fn gateway_over<C: SqlConnection + Drop>(
-    alloc: Global,
-    registry: RegistryOver<C>,
-    base: u32,
-) -> Result<GatewayOver<RegistryOver<C>>, AllocError>
-    requires { Address.is_base_id base ≡ true }
-    ensures { IfOk result (λ gateway. gateway ≡ new_gateway_value base registry) }
-{
-    match GatewayOver::new(alloc, registry, base) {
-        Ok(gateway) => Ok(gateway),
-        Err(StartFault::Memory) => Err(AllocError),
-        Err(StartFault::BadBase) => unreachable!(),
-    }
+    Ok(GatewayOver::with_base_id(alloc, registry, base)?)
 }

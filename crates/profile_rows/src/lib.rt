@@ -9,6 +9,6 @@ mod reading;
 pub mod rows;
 mod unreadable;
 
-pub use crate::payload::payload_of;
+pub use crate::payload::{data_payload_of, payload_of};
 pub use crate::reading::{Reading, Readings, What};
 pub use crate::unreadable::Unreadable;

@@ -1,11 +1,28 @@
 //! The data of a telegram, which the rows of a profile decode.
 
-ghost use Rattle.std.specs.Prelude.{◌≡◌, Ok, Err, MatchResult};
-ghost use Rattle.profile_rows.specs.Payload.{payload_of};
+ghost use Rattle.std.specs.Prelude.{◌≡◌, Ok, Err, MatchResult, length, true, IsTrue};
+ghost use Rattle.erp1_telegrams.specs.Telegram.{payload_length_fits};
+ghost use Rattle.profile_rows.specs.Payload.{is_data, payload_of};
 
 use crate::Unreadable;
 use bit_fields::get;
 use erp1_telegrams::{Telegram, lrn_bit, rorg};
+
+// The payload, of `N` bytes, of a telegram with this RORG.
+fn sized_payload<const N: usize>(rorg: u8, telegram: &Telegram) -> Result<&[u8; N], Unreadable>
+    ensures { MatchResult result
+        (λ bytes. (telegram.now.rorg ≡ rorg) × (length telegram.now.payload ≡ N) × IsTrue (payload_length_fits rorg N)
+        × (bytes.now ≡ telegram.now.payload))
+        (λ refusal. payload_of rorg N telegram.now ≡ Err refusal) }
+{
+    if telegram.rorg() != rorg {
+        return Err(Unreadable::WrongKind);
+    }
+    match <&[u8; N]>::try_from(telegram.payload()) {
+        Ok(bytes) => Ok(bytes),
+        Err(_) => Err(Unreadable::WrongLength),
+    }
+}
 
 /// The payload, of `N` bytes, of a data telegram with this RORG, or the first error: `WrongKind` if the telegram has
 /// another RORG, `WrongLength` if the payload does not have `N` bytes, and `OtherMessage` if it is a 1BS or 4BS
@@ -15,12 +32,7 @@ pub fn payload_of<const N: usize>(rorg: u8, telegram: &Telegram) -> Result<&[u8;
         (λ bytes. payload_of rorg N telegram.now ≡ Ok bytes.now)
         (λ refusal. payload_of rorg N telegram.now ≡ Err refusal) }
 {
-    if telegram.rorg() != rorg {
-        return Err(Unreadable::WrongKind);
-    }
-    let Ok(bytes) = <&[u8; N]>::try_from(telegram.payload()) else {
-        return Err(Unreadable::WrongLength);
-    };
+    let bytes = sized_payload(rorg, telegram)?;
     let lrn = match rorg {
         rorg::ONE_BS => get::<N, { lrn_bit::ONE_BS }, 1>(bytes),
         rorg::FOUR_BS => get::<N, { lrn_bit::FOUR_BS }, 1>(bytes),
@@ -30,4 +42,14 @@ pub fn payload_of<const N: usize>(rorg: u8, telegram: &Telegram) -> Result<&[u8;
         return Err(Unreadable::OtherMessage);
     }
     Ok(bytes)
+}
+
+/// The same for a telegram that is known to be data: its LRN bit is not read again.
+pub fn data_payload_of<const N: usize>(rorg: u8, telegram: &Telegram) -> Result<&[u8; N], Unreadable>
+    requires { is_data telegram.now.rorg telegram.now.payload ≡ true }
+    ensures { MatchResult result
+        (λ bytes. payload_of rorg N telegram.now ≡ Ok bytes.now)
+        (λ refusal. payload_of rorg N telegram.now ≡ Err refusal) }
+{
+    sized_payload(rorg, telegram)
 }

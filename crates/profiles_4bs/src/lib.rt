@@ -12,4 +12,4 @@ mod profiles;
 mod room_operating_panel;
 mod temperature;
 
-pub use crate::profiles::{read, supports};
+pub use crate::profiles::{read, read_data, supports};

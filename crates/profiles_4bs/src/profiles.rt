@@ -1,8 +1,9 @@
 //! The 4BS profiles, and decoding telegrams by them.
 
-ghost use Rattle.std.specs.Prelude.{◌≡◌, option_map, OnErr};
+ghost use Rattle.std.specs.Prelude.{◌≡◌, ℕ, List, true, option_map, Result, Ok, Err, OnErr, MatchResult};
 ghost use Rattle.std.specs.Bool.{OnFalse};
 ghost use Rattle.profile_rows.specs.Answer.{read_result, entries_if};
+ghost use Rattle.profile_rows.specs.Payload.{is_data, readings_by};
 ghost use Rattle.profile_rows.specs.Rows.{entries_of};
 ghost use Rattle.profiles_4bs.specs.Profiles.{rows_of, supported, readings_of};
 
@@ -11,7 +12,7 @@ use crate::{
     temperature,
 };
 use erp1_telegrams::{Eep, Telegram};
-use profile_rows::{Readings, Unreadable, payload_of};
+use profile_rows::{Readings, Unreadable, data_payload_of, payload_of};
 
 /// Sets `readings` to what the rows of a profile read in a payload, and returns whether the profile has rows. Each
 /// function has the profiles of one FUNC.
@@ -42,6 +43,20 @@ pub fn supports(eep: Eep) -> bool
     read_into(eep, &[0; 4], &mut Readings::new())
 }
 
+// Decodes a payload, or the reason why there is none, by a profile.
+fn read_payload(eep: Eep, payload: Result<&[u8; 4], Unreadable>, readings: &mut Readings) -> Result<(), Unreadable>
+    ensures exact { (said : Result (List ℕ) Unreadable) →
+        MatchResult payload.entry (λ bytes. said ≡ Ok bytes.now) (λ refusal. said ≡ Err refusal) →
+        read_result result readings.new.items ≡ readings_by entries_of (rows_of eep) said }
+    ensures err { OnErr result (readings.new ≡ readings.old) }
+{
+    match payload {
+        Ok(bytes) if read_into(eep, bytes, readings) => Ok(()),
+        Err(refusal) if supports(eep) => Err(refusal),
+        _ => Err(Unreadable::NotSupported),
+    }
+}
+
 /// Decodes a telegram by a profile: sets `readings` to its readings, in the order of the profile's rows (EnOcean
 /// Equipment Profiles 2.6). On an error `readings` does not change. The first error that applies is returned, in this
 /// order: `NotSupported` if the profile is not supported, `WrongKind` if the telegram does not have the RORG of the
@@ -51,9 +66,14 @@ pub fn read(eep: Eep, telegram: &Telegram, readings: &mut Readings) -> Result<()
     ensures exact { read_result result readings.new.items ≡ readings_of eep telegram.now }
     ensures err { OnErr result (readings.new ≡ readings.old) }
 {
-    match payload_of(eep.rorg, telegram) {
-        Ok(bytes) if read_into(eep, bytes, readings) => Ok(()),
-        Err(refusal) if supports(eep) => Err(refusal),
-        _ => Err(Unreadable::NotSupported),
-    }
+    read_payload(eep, payload_of(eep.rorg, telegram), readings)
+}
+
+/// The same for a telegram that is known to be data, whose LRN bit is not read again.
+pub fn read_data(eep: Eep, telegram: &Telegram, readings: &mut Readings) -> Result<(), Unreadable>
+    requires { is_data telegram.now.rorg telegram.now.payload ≡ true }
+    ensures exact { read_result result readings.new.items ≡ readings_of eep telegram.now }
+    ensures err { OnErr result (readings.new ≡ readings.old) }
+{
+    read_payload(eep, data_payload_of(eep.rorg, telegram), readings)
 }

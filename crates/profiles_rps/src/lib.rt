@@ -3,5 +3,5 @@
 
 mod profiles;
 
-pub use crate::profiles::{read, supports};
+pub use crate::profiles::{read, read_data, supports};
 pub use profile_rows::{Reading, Readings, Unreadable, What};

@@ -1,14 +1,15 @@
 //! The RPS and 1BS profiles, and decoding telegrams by them.
 
-ghost use Rattle.std.specs.Prelude.{◌≡◌, option_map, OnErr};
+ghost use Rattle.std.specs.Prelude.{◌≡◌, ℕ, List, true, option_map, Result, Ok, Err, OnErr, MatchResult};
 ghost use Rattle.std.specs.Bool.{OnFalse};
 ghost use Rattle.profile_rows.specs.Answer.{read_result, entries_if};
+ghost use Rattle.profile_rows.specs.Payload.{is_data, readings_by};
 ghost use Rattle.profile_rows.specs.Rows.{rows_entries};
 ghost use Rattle.profiles_rps.specs.Profiles.{rows_of, supported, readings_of};
 
 use bit_fields::get;
 use erp1_telegrams::{Eep, Telegram};
-use profile_rows::{Readings, Unreadable, payload_of, read_profiles};
+use profile_rows::{Readings, Unreadable, data_payload_of, payload_of, read_profiles};
 
 const RELEASED_OR_PRESSED: [(u32, &str); 2] = [(0, "released"), (1, "pressed")];
 
@@ -63,6 +64,25 @@ pub fn supports(eep: Eep) -> bool
     read_into(eep, 0, &[0], &mut Readings::new())
 }
 
+// Decodes a payload, or the reason why there is none, by a profile.
+fn read_payload(
+    eep: Eep,
+    status: u8,
+    payload: Result<&[u8; 1], Unreadable>,
+    readings: &mut Readings,
+) -> Result<(), Unreadable>
+    ensures exact { (said : Result (List ℕ) Unreadable) →
+        MatchResult payload.entry (λ bytes. said ≡ Ok bytes.now) (λ refusal. said ≡ Err refusal) →
+        read_result result readings.new.items ≡ readings_by (rows_entries status) (rows_of eep) said }
+    ensures err { OnErr result (readings.new ≡ readings.old) }
+{
+    match payload {
+        Ok(bytes) if read_into(eep, status, bytes, readings) => Ok(()),
+        Err(refusal) if supports(eep) => Err(refusal),
+        _ => Err(Unreadable::NotSupported),
+    }
+}
+
 /// Decodes a telegram by a profile: sets `readings` to its readings, in the order of the profile's rows (EnOcean
 /// Equipment Profiles 2.6). On an error `readings` does not change. The first error that applies is returned, in this
 /// order: `NotSupported` if the profile is not supported, `WrongKind` if the telegram does not have the RORG of the
@@ -71,9 +91,14 @@ pub fn read(eep: Eep, telegram: &Telegram, readings: &mut Readings) -> Result<()
     ensures exact { read_result result readings.new.items ≡ readings_of eep telegram.now }
     ensures err { OnErr result (readings.new ≡ readings.old) }
 {
-    match payload_of(eep.rorg, telegram) {
-        Ok(bytes) if read_into(eep, telegram.status(), bytes, readings) => Ok(()),
-        Err(refusal) if supports(eep) => Err(refusal),
-        _ => Err(Unreadable::NotSupported),
-    }
+    read_payload(eep, telegram.status(), payload_of(eep.rorg, telegram), readings)
+}
+
+/// The same for a telegram that is known to be data, whose LRN bit is not read again.
+pub fn read_data(eep: Eep, telegram: &Telegram, readings: &mut Readings) -> Result<(), Unreadable>
+    requires { is_data telegram.now.rorg telegram.now.payload ≡ true }
+    ensures exact { read_result result readings.new.items ≡ readings_of eep telegram.now }
+    ensures err { OnErr result (readings.new ≡ readings.old) }
+{
+    read_payload(eep, telegram.status(), data_payload_of(eep.rorg, telegram), readings)
 }

@@ -14,9 +14,9 @@ use Rattle.teach_in.specs.declared.plans.Plan.TheVariants.{Silent, Forget, Refus
 use Rattle.teach_in.specs.declared.telegrams.Teach.{Teach}
 use Rattle.teach_in.specs.declared.telegrams.Teach.TheVariants.{Plain, Contact, Bare, FourByte, Ute, Answer}
 use Rattle.teach_in.specs.declared.ute.UteQuery.{UteQuery}
-use Rattle.teach_in.specs.FourByte.{eep_in}
 use Rattle.teach_in.specs.Profiles.{supported}
 use Rattle.teach_in.specs.Telegrams.{teach_in_of, one_byte_kind, four_byte_kind, ute_kind}
+use Rattle.teach_in.specs.FourByte as four_byte
 use Rattle.teach_in.specs.Ute as ute
 use Rattle.teach_in.specs.Ute.{request_in, deletion, not_used}
 use Rattle.teach_in.specs.Plans.{add, ute_plan, can_be_learned_by, plan_row_of, plan_in_mode, plan_of}
@@ -78,7 +78,7 @@ module _ (P : Plan → Type 0) (t : Telegram) where
       by_request P (request_in query == deletion) _ _
       (λ is. each.forgets told (query, refl, eqb-true (request_in query) deletion is))
       (either P (request_in query == not_used) _ _ (each.refuses told General tt)
-      (either P (supported (ute.eep_in query)) _ _ (each.adds told _ _) (each.refuses told Unsupported tt)))
+      (either P (supported query.eep) _ _ (each.adds told _ _) (each.refuses told Unsupported tt)))
     where
       by_request : (P : Plan → Type 0) (b : Bool) (one other : Plan) → (b ≡ true → P one) → P other
           → P (if b then one else other)
@@ -94,9 +94,9 @@ module _ (P : Plan → Type 0) (t : Telegram) where
   of-row known Bare LearnAnswer each = each.refuses tt NoProfile tt
   of-row known Bare (LearnAs eep) each = either P (eep.rorg == 0xA5) _ _ (each.adds tt _ _) each.silent
   of-row known (FourByte query) Learn each =
-      either P (supported (eep_in query)) _ _ (each.adds tt _ _) (each.refuses tt Unsupported tt)
+      either P (supported query.eep) _ _ (each.adds tt _ _) (each.refuses tt Unsupported tt)
   of-row known (FourByte query) LearnAnswer each =
-      either P (supported (eep_in query)) _ _ (each.adds tt _ _) (each.refuses tt Unsupported tt)
+      either P (supported query.eep) _ _ (each.adds tt _ _) (each.refuses tt Unsupported tt)
   of-row known (FourByte query) (LearnAs eep) each =
       either P (eep.rorg == 0xA5) _ _ (each.adds tt _ _) each.silent
   of-row known Plain Learn each = each.silent
@@ -138,18 +138,22 @@ sender_in sender (FourByte query) = query.id
 sender_in sender (Ute query) = query.id
 sender_in sender kind = sender
 
-sender-in : (t : Telegram) → sender_in t.sender (teach_in_of t) ≡ t.sender
-sender-in t =
-    let P = λ (kind : Teach). sender_in t.sender kind ≡ t.sender in
+-- a property of the role of a telegram: it holds for each possible role
+pub of-role : (P : Teach → Type 0) (t : Telegram) → P Plain → P Contact → P Bare → P Answer
+    → P (FourByte (four_byte.query_of t.sender t.payload)) → P (Ute (ute.query_of t.sender t.payload))
+    → P (teach_in_of t)
+of-role P t plain one_byte bare answer query ute_query =
     either P (t.rorg == 0xD5) (one_byte_kind t.payload) _
-    (either P (field t.payload 4 1 == 0) Contact Plain refl refl)
+    (either P (field t.payload 4 1 == 0) Contact Plain one_byte plain)
     (either P (t.rorg == 0xA5) (four_byte_kind t.sender t.payload) _
-    (either P (field t.payload 28 1 == 1) Plain _ refl
-    (either P (field t.payload 24 1 == 0) Bare _ refl
-    (either P (field t.payload 27 1 == 0) (FourByte (record { id = t.sender; payload = t.payload })) Answer refl
-    refl)))
+    (either P (field t.payload 28 1 == 1) Plain _ plain
+    (either P (field t.payload 24 1 == 0) Bare _ bare
+    (either P (field t.payload 27 1 == 0) (FourByte (four_byte.query_of t.sender t.payload)) Answer query answer)))
     (either P (t.rorg == 0xD4) (ute_kind t.sender t.payload) Plain
-    (either P (field t.payload 4 4 == 0) (Ute (record { id = t.sender; payload = t.payload })) Answer refl refl) refl))
+    (either P (field t.payload 4 4 == 0) (Ute (ute.query_of t.sender t.payload)) Answer ute_query answer) plain))
+
+sender-in : (t : Telegram) → sender_in t.sender (teach_in_of t) ≡ t.sender
+sender-in t = of-role (λ (kind : Teach). sender_in t.sender kind ≡ t.sender) t refl refl refl refl refl refl
 
 -- a query is from the telegram's sender
 pub query-sender : (t : Telegram) (query : FourByteQuery) → teach_in_of t ≡ FourByte query → query.id ≡ t.sender

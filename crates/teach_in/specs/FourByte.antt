@@ -1,5 +1,5 @@
 -- 4BS teach-in with a profile, and the replies to it (EnOcean Equipment Profiles 2.6, "4BS Telegram", variation 3).
-use Rattle.std.specs.Prelude.{ℕ, [], ◌∷◌, ◌++◌, take, Option, Some, None, option_map}
+use Rattle.std.specs.Prelude.{ℕ, List, [], ◌∷◌, ◌++◌, take, Option, Some, None, option_map}
 use Rattle.bit_fields.specs.Bits.{field}
 use Rattle.erp1_telegrams.specs.declared.eep.Eep.{Eep}
 use Rattle.erp1_telegrams.specs.Telegram.{Telegram}
@@ -8,13 +8,18 @@ use Rattle.teach_in.specs.declared.outcome.Outcome.{Outcome}
 use Rattle.teach_in.specs.declared.outcome.Outcome.TheVariants.{Accepted, Unsupported, Full}
 use Rattle.teach_in.specs.Replies.{addressed_reply}
 
--- the profile of a query: FUNC has 6 bits, and TYPE has 7
-abbrev pub eep_in : FourByteQuery → Eep
-eep_in query = record { rorg = 0xA5; func = field query.payload 0 6; typ = field query.payload 6 7 }
+-- the profile in the payload of a query: FUNC has 6 bits, and TYPE has 7
+abbrev pub eep_in : List ℕ → Eep
+eep_in payload = record { rorg = 0xA5; func = field payload 0 6; typ = field payload 6 7 }
 
--- its manufacturer ID, which has 11 bits
-abbrev pub maker_in : FourByteQuery → ℕ
-maker_in query = field query.payload 13 11
+-- the manufacturer ID, which has 11 bits
+abbrev pub maker_in : List ℕ → ℕ
+maker_in payload = field payload 13 11
+
+-- the query of a sender with this payload
+abbrev pub query_of : ℕ → List ℕ → FourByteQuery
+query_of sender payload =
+    record { id = sender; eep = eep_in payload; maker = maker_in payload; payload = payload }
 
 -- DB0 of a reply with this outcome, if there is one: the learn bit DB0.3 is 0; DB0.4 is 1, for a reply; DB0.7 is 1, for
 -- a profile; DB0.6 is 1 if the profile is supported, and DB0.5 if the sender is learned. Own choice: the other bits are

@@ -11,10 +11,8 @@ use Rattle.teach_in.specs.declared.plans.Plan.TheVariants.{Silent, Add, Forget, 
 use Rattle.teach_in.specs.declared.telegrams.Teach.{Teach}
 use Rattle.teach_in.specs.declared.telegrams.Teach.TheVariants.{Plain, Contact, Bare, FourByte, Ute, Answer}
 use Rattle.teach_in.specs.declared.ute.UteQuery.{UteQuery}
-use Rattle.teach_in.specs.FourByte.{eep_in, maker_in}
 use Rattle.teach_in.specs.Profiles.{supported}
 use Rattle.teach_in.specs.Telegrams.{teach_in_of}
-use Rattle.teach_in.specs.Ute as ute
 use Rattle.teach_in.specs.Ute.{request_in, deletion, not_used}
 
 -- the sender is learned with this profile and this maker
@@ -38,7 +36,7 @@ abbrev pub ute_plan : Telegram → UteQuery → Plan
 ute_plan t query =
     if request_in query == deletion then Forget t.sender
     else if request_in query == not_used then Refuse General
-    else add_supported t (ute.eep_in query) (ute.maker_in query)
+    else add_supported t query.eep query.maker
 
 -- whether a sender can be learned by this data telegram: of RPS if a button is pressed (the bit at offset 3), and any
 -- of VLD
@@ -56,8 +54,8 @@ abbrev pub plan_row_of : Telegram → Bool → Teach → Row
 plan_row_of t known Contact = record { reported = add t contact_eep None; given = λ eep. add_if_rorg 0xD5 t eep None }
 plan_row_of t known Bare = record { reported = Refuse NoProfile; given = λ eep. add_if_rorg 0xA5 t eep None }
 plan_row_of t known (FourByte query) = record {
-  reported = add_supported t (eep_in query) (maker_in query);
-  given = λ eep. add_if_rorg 0xA5 t eep (Some (maker_in query));
+  reported = add_supported t query.eep query.maker;
+  given = λ eep. add_if_rorg 0xA5 t eep (Some query.maker);
 }
 plan_row_of t known Plain = record {
   reported = Silent;

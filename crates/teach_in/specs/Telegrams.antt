@@ -2,6 +2,8 @@
 use Rattle.std.specs.Prelude.{ℕ, ◌==◌, List, if◌then◌else◌}
 use Rattle.bit_fields.specs.Bits.{field}
 use Rattle.erp1_telegrams.specs.Telegram.{Telegram}
+use Rattle.teach_in.specs.FourByte as four_byte
+use Rattle.teach_in.specs.Ute as ute
 use Rattle.teach_in.specs.declared.telegrams.Teach.{Teach}
 use Rattle.teach_in.specs.declared.telegrams.Teach.TheVariants.{Plain, Contact, Bare, FourByte, Ute, Answer}
 
@@ -15,13 +17,13 @@ abbrev pub four_byte_kind : ℕ → List ℕ → Teach
 four_byte_kind sender payload =
     if field payload 28 1 == 1 then Plain
     else if field payload 24 1 == 0 then Bare
-    else if field payload 27 1 == 0 then FourByte (record { id = sender; payload = payload })
+    else if field payload 27 1 == 0 then FourByte (four_byte.query_of sender payload)
     else Answer
 
 -- UTE: a query has the command 0 in DB6.3 to DB6.0, and any other is a reply ("Universal Uni- and Bidirectional
 -- Teach-in")
 abbrev pub ute_kind : ℕ → List ℕ → Teach
-ute_kind sender payload = if field payload 4 4 == 0 then Ute (record { id = sender; payload = payload }) else Answer
+ute_kind sender payload = if field payload 4 4 == 0 then Ute (ute.query_of sender payload) else Answer
 
 -- telegrams of the other kinds, RPS and VLD, are data
 abbrev pub teach_in_of : Telegram → Teach

@@ -1,7 +1,7 @@
 -- UTE (universal teach-in): queries that teach devices in and out, and the replies to them (EnOcean Equipment Profiles
 -- 2.6, "Universal Uni- and Bidirectional Teach-in"). A telegram has seven bytes, DB6 to DB0. DB5 is the number of
 -- channels, which has no effect.
-use Rattle.std.specs.Prelude.{ℕ, Bool, ◌+◌, ◌*◌, ◌==◌, ◌∷◌, drop, Option, Some, None, option_map}
+use Rattle.std.specs.Prelude.{ℕ, List, Bool, ◌+◌, ◌*◌, ◌==◌, ◌∷◌, drop, Option, Some, None, option_map}
 use Rattle.bit_fields.specs.Bits.{field}
 use Rattle.erp1_telegrams.specs.declared.eep.Eep.{Eep}
 use Rattle.erp1_telegrams.specs.Telegram.{Telegram}
@@ -10,14 +10,18 @@ use Rattle.teach_in.specs.declared.outcome.Outcome.TheVariants.{Accepted, Delete
 use Rattle.teach_in.specs.declared.ute.UteQuery.{UteQuery}
 use Rattle.teach_in.specs.Replies.{addressed_reply}
 
--- the profile of a query: its RORG in DB0, its FUNC in DB1, and its TYPE in DB2
-abbrev pub eep_in : UteQuery → Eep
-eep_in query =
-    record { rorg = field query.payload 48 8; func = field query.payload 40 8; typ = field query.payload 32 8 }
+-- the profile in the payload of a query: RORG in DB0, FUNC in DB1, and TYPE in DB2
+abbrev pub eep_in : List ℕ → Eep
+eep_in payload = record { rorg = field payload 48 8; func = field payload 40 8; typ = field payload 32 8 }
 
--- its manufacturer ID, which has 11 bits: the high 3 bits in DB3.2 to DB3.0, and the low 8 in DB4
-abbrev pub maker_in : UteQuery → ℕ
-maker_in query = 256 * field query.payload 29 3 + field query.payload 16 8
+-- the manufacturer ID, which has 11 bits: the high 3 bits in DB3.2 to DB3.0, and the low 8 in DB4
+abbrev pub maker_in : List ℕ → ℕ
+maker_in payload = 256 * field payload 29 3 + field payload 16 8
+
+-- the query of a sender with this payload
+abbrev pub query_of : ℕ → List ℕ → UteQuery
+query_of sender payload =
+    record { id = sender; eep = eep_in payload; maker = maker_in payload; payload = payload }
 
 -- whether it waits for a reply: DB6.6 is then 0
 abbrev pub wants_reply : UteQuery → Bool

@@ -1,7 +1,7 @@
 //! 4BS teach-in with a profile, and the replies to it.
 ghost use Rattle.std.specs.Prelude.{◌≡◌, true, Some, IsSome};
 ghost use Rattle.erp1_telegrams.specs.Address.{is_base_id};
-ghost use Rattle.teach_in.specs.FourByte.{eep_in, four_byte_code, four_byte_reply, maker_in};
+ghost use Rattle.teach_in.specs.FourByte.{four_byte_code, four_byte_reply, query_of};
 
 use crate::outcome::Outcome;
 use crate::reply::addressed_reply;
@@ -15,10 +15,26 @@ use erp1_telegrams::{Eep, Telegram, is_base_id, rorg};
 #[derive(Clone, Copy, Debug, PartialEq, Eq)]
 pub struct FourByteQuery {
     pub(crate) id: u32,
+    pub(crate) eep: Eep,
+    pub(crate) maker: u16,
     pub(crate) payload: [u8; 4],
 }
 
 impl FourByteQuery {
+    // The query of this sender with these bytes.
+    pub(crate) fn new(id: u32, bytes: &[u8; 4]) -> FourByteQuery
+        ensures { result ≡ query_of id bytes.now }
+    {
+        let func = get::<4, 0, 6>(bytes) as u8;
+        let typ = get::<4, 6, 7>(bytes) as u8;
+        FourByteQuery {
+            id,
+            eep: Eep::new(rorg::FOUR_BS, func, typ),
+            maker: get::<4, 13, 11>(bytes) as u16,
+            payload: *bytes,
+        }
+    }
+
     /// The sender.
     pub fn id(&self) -> u32
         ensures { result ≡ self.now.id }
@@ -28,18 +44,16 @@ impl FourByteQuery {
 
     /// Its profile, of the RORG A5.
     pub fn eep(&self) -> Eep
-        ensures { result ≡ eep_in self.now }
+        ensures { result ≡ self.now.eep }
     {
-        let func = get::<4, 0, 6>(&self.payload) as u8;
-        let typ = get::<4, 6, 7>(&self.payload) as u8;
-        Eep::new(rorg::FOUR_BS, func, typ)
+        self.eep
     }
 
     /// Its manufacturer ID, 0 to 2047.
     pub fn maker(&self) -> u16
-        ensures { result ≡ maker_in self.now }
+        ensures { result ≡ self.now.maker }
     {
-        get::<4, 13, 11>(&self.payload) as u16
+        self.maker
     }
 }
 

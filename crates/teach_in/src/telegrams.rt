@@ -58,10 +58,7 @@ fn four_byte_kind(id: u32, bytes: &[u8; 4]) -> Teach
     ) {
         (1, _, _) => Teach::Plain,
         (_, 0, _) => Teach::Bare,
-        (_, _, 0) => Teach::FourByte(FourByteQuery {
-            id,
-            payload: *bytes,
-        }),
+        (_, _, 0) => Teach::FourByte(FourByteQuery::new(id, bytes)),
         _ => Teach::Answer,
     }
 }
@@ -71,10 +68,7 @@ fn ute_kind(id: u32, bytes: &[u8; 7]) -> Teach
     ensures { result ≡ ute_kind id bytes.now }
 {
     match get::<7, 4, 4>(bytes) {
-        0 => Teach::Ute(UteQuery {
-            id,
-            payload: *bytes,
-        }),
+        0 => Teach::Ute(UteQuery::new(id, bytes)),
         _ => Teach::Answer,
     }
 }

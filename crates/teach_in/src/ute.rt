@@ -1,7 +1,7 @@
 //! UTE (universal teach-in): queries that teach devices in and out, and the replies to them.
 ghost use Rattle.std.specs.Prelude.{◌≡◌, true, ◌==◌, ◌<◌, Some, IsSome};
 ghost use Rattle.erp1_telegrams.specs.Address.{is_base_id};
-ghost use Rattle.teach_in.specs.Ute.{eep_in, reply_first_byte, maker_in, request_in, ute_code, ute_reply, wants_reply};
+ghost use Rattle.teach_in.specs.Ute.{query_of, reply_first_byte, request_in, ute_code, ute_reply, wants_reply};
 
 use crate::outcome::Outcome;
 use crate::reply::addressed_reply;
@@ -15,6 +15,8 @@ use erp1_telegrams::{Eep, Telegram, is_base_id, rorg};
 #[derive(Clone, Copy, Debug, PartialEq, Eq)]
 pub struct UteQuery {
     pub(crate) id: u32,
+    pub(crate) eep: Eep,
+    pub(crate) maker: u16,
     pub(crate) payload: [u8; 7],
 }
 
@@ -25,6 +27,23 @@ pub(crate) const DELETION: u32 = 1;
 pub(crate) const NOT_USED: u32 = 3;
 
 impl UteQuery {
+    // The query of this sender with these bytes.
+    pub(crate) fn new(id: u32, bytes: &[u8; 7]) -> UteQuery
+        ensures { result ≡ query_of id bytes.now }
+    {
+        let rorg = get::<7, 48, 8>(bytes) as u8;
+        let func = get::<7, 40, 8>(bytes) as u8;
+        let typ = get::<7, 32, 8>(bytes) as u8;
+        let high = get::<7, 29, 3>(bytes);
+        let low = get::<7, 16, 8>(bytes);
+        UteQuery {
+            id,
+            eep: Eep::new(rorg, func, typ),
+            maker: (256 * high + low) as u16,
+            payload: *bytes,
+        }
+    }
+
     /// The sender.
     pub fn id(&self) -> u32
         ensures { result ≡ self.now.id }
@@ -34,21 +53,16 @@ impl UteQuery {
 
     /// Its profile.
     pub fn eep(&self) -> Eep
-        ensures { result ≡ eep_in self.now }
+        ensures { result ≡ self.now.eep }
     {
-        let rorg = get::<7, 48, 8>(&self.payload) as u8;
-        let func = get::<7, 40, 8>(&self.payload) as u8;
-        let typ = get::<7, 32, 8>(&self.payload) as u8;
-        Eep::new(rorg, func, typ)
+        self.eep
     }
 
     /// Its manufacturer ID, 0 to 2047.
     pub fn maker(&self) -> u16
-        ensures { result ≡ maker_in self.now }
+        ensures { result ≡ self.now.maker }
     {
-        let high = get::<7, 29, 3>(&self.payload);
-        let low = get::<7, 16, 8>(&self.payload);
-        (256 * high + low) as u16
+        self.maker
     }
 
     /// Whether it waits for a reply.

@@ -5,7 +5,7 @@ ghost use Rattle.sqlite.specs.declared.types.Value.TheVariants.{Int};
 ghost use Rattle.sqlite.specs.Order.{Row as SqlRow, column};
 ghost use Rattle.learned_devices.specs.declared.Device.{Device};
 ghost use Rattle.device_registry.specs.Faults.{IsOutOfMemoryIf};
-ghost use Rattle.device_registry.specs.Table.{eep_number};
+ghost use Rattle.device_registry.specs.Table.{version_number};
 ghost use Rattle.device_registry.specs.Table.Rows.{IsDeviceOrNone, ShowsVersion, device_in_row, is_number, is_maker};
 ghost use Rattle.device_registry.specs.Table.Rows.{is_label_text};
 ghost use Rattle.device_registry.specs.Table.Rows.{is_device_row, are_ascending_devices, eep_number, eep_of};

@@ -6,13 +6,13 @@ pub const CREATE_META: &str =
 
 /// Creates the device table.
 pub const CREATE_DEVICE: &str =
-    "CREATE TABLE enogate_device_v2 (id INTEGER PRIMARY VERSION_ROW_KEY CHECK (id >= 0 AND id <= 4294967294), \
+    "CREATE TABLE enogate_device_v2 (id INTEGER PRIMARY KEY CHECK (id >= 0 AND id <= 4294967294), \
      eep INTEGER NOT NULL CHECK (eep >= 0 AND eep <= 16777215), \
      maker INTEGER NOT NULL CHECK (maker >= -1 AND maker <= 2047), label TEXT NOT NULL) STRICT";
 
 /// Created the device table in version 1.
 pub const CREATE_FIRST_DEVICE: &str =
-    "CREATE TABLE enogate_device (id INTEGER PRIMARY VERSION_ROW_KEY CHECK (id >= 0 AND id <= 4294967294), \
+    "CREATE TABLE enogate_device (id INTEGER PRIMARY KEY CHECK (id >= 0 AND id <= 4294967294), \
      eep INTEGER NOT NULL CHECK (eep >= 0 AND eep <= 16777215), \
      maker INTEGER NOT NULL CHECK (maker >= -1 AND maker <= 2047)) STRICT";
 

@@ -21,16 +21,16 @@ pub const SENSOR: Eep = Eep {
     typ: 0x05,
 };
 
-pub const META_TABLE: &str = "CREATE TABLE enogate_meta (k INTEGER PRIMARY VERSION_ROW_KEY CHECK (k = 1), \
+pub const META_TABLE: &str = "CREATE TABLE enogate_meta (k INTEGER PRIMARY KEY CHECK (k = 1), \
     version INTEGER NOT NULL) STRICT;";
 
 pub const FIRST_DEVICE_TABLE: &str = "CREATE TABLE enogate_device (\
-    id INTEGER PRIMARY VERSION_ROW_KEY CHECK (id >= 0 AND id <= 4294967294), \
+    id INTEGER PRIMARY KEY CHECK (id >= 0 AND id <= 4294967294), \
     eep INTEGER NOT NULL CHECK (eep >= 0 AND eep <= 16777215), \
     maker INTEGER NOT NULL CHECK (maker >= -1 AND maker <= 2047)) STRICT;";
 
 pub const DEVICE_TABLE: &str = "CREATE TABLE enogate_device_v2 (\
-    id INTEGER PRIMARY VERSION_ROW_KEY CHECK (id >= 0 AND id <= 4294967294), \
+    id INTEGER PRIMARY KEY CHECK (id >= 0 AND id <= 4294967294), \
     eep INTEGER NOT NULL CHECK (eep >= 0 AND eep <= 16777215), \
     maker INTEGER NOT NULL CHECK (maker >= -1 AND maker <= 2047), \
     label TEXT NOT NULL) STRICT;";

@@ -133,9 +133,9 @@ fn is_prepared_beside_others<S: Fresh>(alloc: Global, rt: &impl Abort) -> Result
     let mut conn = S::fresh(alloc)?;
     run(
         &mut conn,
-        "CREATE TABLE room (id INTEGER PRIMARY VERSION_ROW_KEY, name TEXT NOT NULL UNIQUE) STRICT;
+        "CREATE TABLE room (id INTEGER PRIMARY KEY, name TEXT NOT NULL UNIQUE) STRICT;
         INSERT INTO room VALUES (1, 'hall');
-        CREATE TABLE bed (id INTEGER PRIMARY VERSION_ROW_KEY AUTOINCREMENT, room INTEGER REFERENCES room (id)) STRICT;
+        CREATE TABLE bed (id INTEGER PRIMARY KEY AUTOINCREMENT, room INTEGER REFERENCES room (id)) STRICT;
         CREATE INDEX by_room ON bed (room); CREATE VIEW enogate AS SELECT name FROM room",
     )?;
     prepares(rt, &mut conn)?;

@@ -1,5 +1,5 @@
 -- The result of an input that is tried.
-use Rattle.std.specs.Prelude.{◌≡◌, ℕ, true, false, MatchBool, IsSome, Option, Some, None, Result, Ok, Err}
+use Rattle.std.specs.Prelude.{◌≡◌, ℕ, List, true, false, MatchBool, IsSome, Option, Some, None, Result, Ok, Err}
 use Rattle.learned_devices.specs.DeviceStoreState.{DeviceStoreState, Keeps, Commits, LeavesPending}
 use Rattle.learned_devices.specs.declared.Device.{Device}
 use Rattle.learned_devices.specs.Devices.{Devices, DeviceUpdate, is_full, learn_update, forget_update}
@@ -13,7 +13,7 @@ use Rattle.teach_in.specs.Ute.{ute_code}
 use Rattle.json_lines.specs.declared.counts.Counter.TheVariants as count
 use Rattle.json_lines.specs.declared.counts.Counts.{Counts}
 use Rattle.teach_in.specs.declared.why.Why.TheVariants as why
-use Rattle.gateway_core.specs.declared.handler.learn_forget.CommittedTeachLine.{CommittedTeachLine}
+use Rattle.teach_in.specs.declared.verdict.Verdict.{Verdict}
 use Rattle.gateway_core.specs.declared.failure.Failure.{Failure}
 use Rattle.gateway_core.specs.declared.failure.Failure.TheVariants.{Before, AtCommit}
 use Rattle.json_lines.specs.Counts.{increment, increment_if_any}
@@ -81,10 +81,10 @@ MayReply (Ute query) id outcome = (id ≡ query.id) × IsSome (ute_code outcome)
 MayReply kind id outcome = Unit {0}
 
 -- what is committed is reported with this line
-abbrev pub IsCommittedAs : TeachLine → CommittedTeachLine → Type 0
+abbrev pub IsCommittedAs : TeachLine → Verdict × List ℕ → Type 0
 IsCommittedAs line committed =
-    (committed.verdict.id ≡ line.id) × (committed.verdict.outcome ≡ line.outcome)
-    × (committed.line ≡ text (TeachOf line))
+    (committed.0.id ≡ line.id) × (committed.0.outcome ≡ line.outcome)
+    × (committed.1 ≡ text (TeachOf line))
 
 -- only the registry has changed, and this holds for the devices that it had
 pub record ChangesOnlyRegistry {S : Type 0} (stored : S → DeviceStoreState) (old : HandlerValue S) (IsSo : Devices → Type 0)
@@ -96,11 +96,11 @@ pub record ChangesOnlyRegistry {S : Type 0} (stored : S → DeviceStoreState) (o
   pub is_so : (stored new.registry).honest → (devices : Devices) → (stored old.registry).holds devices
       → IsSo devices
 
-abbrev pub ReportsLearned : Device → Result (Option CommittedTeachLine) Failure → Type 0
+abbrev pub ReportsLearned : Device → Result (Option (Verdict × List ℕ)) Failure → Type 0
 ReportsLearned known (Ok (Some committed)) = IsCommittedAs (device_teach_line known Accepted) committed
 ReportsLearned known result = Unit {0}
 
-abbrev pub ReportsForgotten : TeachLine → Result CommittedTeachLine Failure → Type 0
+abbrev pub ReportsForgotten : TeachLine → Result (Verdict × List ℕ) Failure → Type 0
 ReportsForgotten line (Ok committed) = IsCommittedAs line committed
 ReportsForgotten line result = Unit {0}
 
@@ -111,7 +111,7 @@ module _ (old new : DeviceStoreState) (devices : Devices) where
   FailsToUpdate update (AtCommit fault) = LeavesPending old new update devices
 
   -- a device is committed, or the registry is full, or the input fails
-  abbrev pub LearnsOrFails : Device → Result (Option CommittedTeachLine) Failure → Type 0
+  abbrev pub LearnsOrFails : Device → Result (Option (Verdict × List ℕ)) Failure → Type 0
   LearnsOrFails known (Ok (Some committed)) =
       (is_full devices known.id ≡ false) × Commits new (learn_update known) devices
   LearnsOrFails known (Ok None) = (is_full devices known.id ≡ true) × Keeps old new devices
@@ -120,20 +120,20 @@ module _ (old new : DeviceStoreState) (devices : Devices) where
       MatchBool (is_full devices known.id) (Keeps old new devices) (LeavesPending old new (learn_update known) devices)
 
   -- the forgetting of a sender is committed, or the input fails
-  abbrev pub ForgetsOrFails : ℕ → Result CommittedTeachLine Failure → Type 0
+  abbrev pub ForgetsOrFails : ℕ → Result (Verdict × List ℕ) Failure → Type 0
   ForgetsOrFails id (Ok committed) = Commits new (forget_update id) devices
   ForgetsOrFails id (Err failure) = FailsToUpdate (forget_update id) failure
 
 -- a device is learned
 pub record Learns {S : Type 0} (stored : S → DeviceStoreState) (old : HandlerValue S) (known : Device)
-    (result : Result (Option CommittedTeachLine) Failure) (new : HandlerValue S) : Type 0 where
+    (result : Result (Option (Verdict × List ℕ)) Failure) (new : HandlerValue S) : Type 0 where
   pub reported : ReportsLearned known result
   pub alone : ChangesOnlyRegistry stored old
       (λ devices. LearnsOrFails (stored old.registry) (stored new.registry) devices known result) new
 
 -- a sender is forgotten, and this line reports it
 pub record Forgets {S : Type 0} (stored : S → DeviceStoreState) (old : HandlerValue S) (line : TeachLine)
-    (result : Result CommittedTeachLine Failure) (new : HandlerValue S) : Type 0 where
+    (result : Result (Verdict × List ℕ) Failure) (new : HandlerValue S) : Type 0 where
   pub reported : ReportsForgotten line result
   pub alone : ChangesOnlyRegistry stored old
       (λ devices. ForgetsOrFails (stored old.registry) (stored new.registry) devices line.id result) new

@@ -17,36 +17,34 @@ use json_lines::{ErrorName, done_line};
 use std::marker::Model;
 use teach_in::{Mode, Why};
 
-// The result of a packet: its disposition, the mode that it sets, if any, and the reply.
+// The result of a packet: its disposition, and the rest.
 #[derive(Drop)]
 pub(crate) struct PacketEffect {
     pub(crate) disposition: Disposition,
-    pub(crate) mode: Option<Mode>,
-    pub(crate) reply: Reply,
+    pub(crate) effect: ReplyEffect,
 }
 
 impl Model for PacketEffect {
     ghost use Rattle.std.specs.Prelude.{Some};
-    ghost use Rattle.gateway_core.specs.Replies.{answer_of};
     ghost use Rattle.gateway_core.specs.private.Attempts.{HandlerEffect};
 
     ghost Value = { HandlerEffect };
 
     ghost view = { λ done. record {
-      answer = answer_of done.reply;
+      answer = done.effect.answer;
       disposition = Some done.disposition;
-      mode = done.mode;
+      mode = done.effect.mode;
     } };
 }
 
-// The result of an order: the mode that it sets, if any, and the reply.
+// The result of an input: the mode that it sets, if any, and the reply.
 #[derive(Drop)]
-pub(crate) struct OrderEffect {
+pub(crate) struct ReplyEffect {
     pub(crate) mode: Option<Mode>,
     pub(crate) reply: Reply,
 }
 
-impl Model for OrderEffect {
+impl Model for ReplyEffect {
     ghost use Rattle.std.specs.Prelude.{None};
     ghost use Rattle.gateway_core.specs.Replies.{answer_of};
     ghost use Rattle.gateway_core.specs.private.Attempts.{HandlerEffect};
@@ -63,12 +61,12 @@ fn reply_with(desk: Desk) -> Reply
     Reply { radio: None, desk }
 }
 
-pub(crate) fn desk_effect(desk: Desk) -> OrderEffect
+pub(crate) fn desk_effect(desk: Desk) -> ReplyEffect
     ensures disposition { result.disposition ≡ None }
     ensures mode { result.mode ≡ None }
     ensures answer { result.answer ≡ text_answer (desk_bytes desk) }
 {
-    OrderEffect {
+    ReplyEffect {
         mode: None,
         reply: reply_with(desk),
     }
@@ -82,8 +80,7 @@ pub(crate) fn packet_desk_effect(disposition: Disposition, desk: Desk) -> Packet
 {
     PacketEffect {
         disposition,
-        mode: None,
-        reply: reply_with(desk),
+        effect: desk_effect(desk),
     }
 }
 
@@ -94,32 +91,32 @@ pub(crate) fn ignored_effect(why: Why) -> PacketEffect
     packet_desk_effect(Disposition::without_device(why), Desk::Nothing)
 }
 
-pub(crate) fn error_effect(name: ErrorName) -> OrderEffect
+pub(crate) fn error_effect(name: ErrorName) -> ReplyEffect
     ensures { MatchesEffect result (Step.error_effect name) }
 {
     desk_effect(Desk::Fixed(name.line()))
 }
 
-pub(crate) fn mode_effect(mode: Mode) -> OrderEffect
+pub(crate) fn mode_effect(mode: Mode) -> ReplyEffect
     ensures { MatchesEffect result (Step.mode_effect mode) }
 {
-    OrderEffect {
+    ReplyEffect {
         mode: Some(mode),
         reply: reply_with(Desk::Fixed(done_line())),
     }
 }
 
 // The device has its new label.
-pub(crate) fn relabel_effect() -> OrderEffect
+pub(crate) fn relabel_effect() -> ReplyEffect
     ensures { (id : ℕ) (label : List ℕ) → MatchesEffect result (Step.relabel_effect id label) }
 {
     desk_effect(Desk::Fixed(done_line()))
 }
 
-pub(crate) fn send_effect(packet: ArrayVec<u8, 64>) -> OrderEffect
+pub(crate) fn send_effect(packet: ArrayVec<u8, 64>) -> ReplyEffect
     ensures { (asked : Bool) → MatchesEffect result (Step.send_effect asked packet.items) }
 {
-    OrderEffect {
+    ReplyEffect {
         mode: None,
         reply: Reply {
             radio: Some(packet),

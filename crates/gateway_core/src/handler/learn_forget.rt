@@ -7,24 +7,17 @@ ghost use Rattle.gateway_core.specs.private.Attempts.{Learns, Forgets, Attempts}
 
 use crate::failure::Failure;
 use crate::handler::Handler;
-use crate::handler::effect::{OrderEffect, desk_effect, error_effect};
+use crate::handler::effect::{ReplyEffect, desk_effect, error_effect};
 use crate::reply::Desk;
 use erp1_telegrams::Eep;
 use json_lines::{ErrorName, Line, teach_line};
 use learned_devices::{Device, DeviceStore, LearnFault};
 use teach_in::{Outcome, Verdict};
 
-// The outcome for a device that was learned or forgotten, and the line that reports it.
-#[derive(Drop)]
-pub(crate) struct CommittedTeachLine {
-    pub(crate) verdict: Verdict,
-    pub(crate) line: Line,
-}
-
 impl<S: DeviceStore> Handler<S> {
-    // Learns a device without a label; a known sender keeps its own. Returns `None`, before any write, if the registry
-    // is full.
-    pub(crate) fn learn(&mut self, device: Device) -> Result<Option<CommittedTeachLine>, Failure>
+    // Learns a device without a label; a known sender keeps its own. Returns the outcome and the line that reports it,
+    // or `None`, before any write, if the registry is full.
+    pub(crate) fn learn(&mut self, device: Device) -> Result<Option<(Verdict, Line)>, Failure>
         requires { device.label ≡ [] }
         ensures { Learns S.store_state self.old device result self.new }
     {
@@ -42,16 +35,17 @@ impl<S: DeviceStore> Handler<S> {
         };
         let verdict = Verdict::committed(receipt);
         let line = draft.tell(&verdict);
-        Ok(Some(CommittedTeachLine { verdict, line }))
+        Ok(Some((verdict, line)))
     }
 
-    // Forgets the device with this ID, learned or not. The line reports this profile and this maker.
+    // Forgets the device with this ID, learned or not. Returns the outcome and the line that reports it, with this
+    // profile and this maker.
     pub(crate) fn forget(
         &mut self,
         id: u32,
         eep: Option<Eep>,
         maker: Option<u16>,
-    ) -> Result<CommittedTeachLine, Failure>
+    ) -> Result<(Verdict, Line), Failure>
         ensures { Forgets S.store_state self.old
             (record { eep = eep; id = id; maker = maker; outcome = Outcome.Deleted }) result self.new }
     {
@@ -62,26 +56,26 @@ impl<S: DeviceStore> Handler<S> {
         };
         let verdict = Verdict::committed(receipt);
         let line = draft.tell(&verdict);
-        Ok(CommittedTeachLine { verdict, line })
+        Ok((verdict, line))
     }
 
     // Learns a device that the desk names.
-    pub(crate) fn learn_named(&mut self, device: Device) -> Result<OrderEffect, Failure>
+    pub(crate) fn learn_named(&mut self, device: Device) -> Result<ReplyEffect, Failure>
         requires { device.label ≡ [] }
         ensures { Attempts S.store_state self.old (λ state. effect_unless_full state.devices device
             (lines_effect NeedsStore (Error ErrorName.Full ∷ [])) (learn_effect device)) result self.new }
     {
         match self.learn(device)? {
-            Some(committed) => Ok(desk_effect(Desk::Owned(committed.line))),
+            Some((_, line)) => Ok(desk_effect(Desk::Owned(line))),
             None => Ok(error_effect(ErrorName::Full)),
         }
     }
 
     // Forgets a device that the desk names.
-    pub(crate) fn forget_named(&mut self, device: Device) -> Result<OrderEffect, Failure>
+    pub(crate) fn forget_named(&mut self, device: Device) -> Result<ReplyEffect, Failure>
         ensures { Attempts S.store_state self.old (λ state. forget_effect device) result self.new }
     {
-        let committed = self.forget(device.id, Some(device.eep), device.maker)?;
-        Ok(desk_effect(Desk::Owned(committed.line)))
+        let (_, line) = self.forget(device.id, Some(device.eep), device.maker)?;
+        Ok(desk_effect(Desk::Owned(line)))
     }
 }

@@ -7,7 +7,7 @@ ghost use Rattle.gateway_core.specs.private.Attempts.{MatchesEffect, Attempts};
 
 use crate::failure::Failure;
 use crate::handler::Handler;
-use crate::handler::effect::{OrderEffect, desk_effect, error_effect, mode_effect, relabel_effect};
+use crate::handler::effect::{ReplyEffect, desk_effect, error_effect, mode_effect, relabel_effect};
 use crate::handler::send::{request_base_id, order_error_name};
 use crate::reply::Desk;
 use actuator_commands::{MAX_LINE, Order, parse};
@@ -17,7 +17,7 @@ use learned_devices::{Device, DeviceStore, Label};
 use teach_in::{Mode, supported};
 
 // Opens the mode that learns with this profile.
-fn open_as(eep: Eep) -> OrderEffect
+fn open_as(eep: Eep) -> ReplyEffect
     ensures { MatchesEffect result (if_supported eep (mode_effect (LearnAs eep))) }
 {
     if supported(eep) {
@@ -28,7 +28,7 @@ fn open_as(eep: Eep) -> OrderEffect
 }
 
 impl<S: DeviceStore> Handler<S> {
-    fn try_add(&mut self, id: u32, eep: Eep) -> Result<OrderEffect, Failure>
+    fn try_add(&mut self, id: u32, eep: Eep) -> Result<ReplyEffect, Failure>
         ensures { Attempts S.store_state self.old (λ state. order_effect state (Ok (Order.Add id eep))) result
             self.new }
     {
@@ -43,7 +43,7 @@ impl<S: DeviceStore> Handler<S> {
         })
     }
 
-    fn try_remove(&mut self, id: u32) -> Result<OrderEffect, Failure>
+    fn try_remove(&mut self, id: u32) -> Result<ReplyEffect, Failure>
         ensures { Attempts S.store_state self.old (λ state. order_effect state (Ok (Order.Remove id))) result self.new }
     {
         match self.registry.find(id)? {
@@ -54,7 +54,7 @@ impl<S: DeviceStore> Handler<S> {
 
     // Labels a device that the desk names, if it is learned. The answer never changes, so nothing can fail after the
     // write.
-    fn try_label(&mut self, id: u32, label: Label) -> Result<OrderEffect, Failure>
+    fn try_label(&mut self, id: u32, label: Label) -> Result<ReplyEffect, Failure>
         ensures { Attempts S.store_state self.old (λ state. order_effect state (Ok (Order.Label id label))) result
             self.new }
     {
@@ -65,7 +65,7 @@ impl<S: DeviceStore> Handler<S> {
         }
     }
 
-    fn try_list(&mut self) -> Result<OrderEffect, Failure>
+    fn try_list(&mut self) -> Result<ReplyEffect, Failure>
         ensures { Attempts S.store_state self.old (λ state. order_effect state (Ok Order.List)) result self.new }
     {
         let all = self.registry.all()?;
@@ -74,14 +74,14 @@ impl<S: DeviceStore> Handler<S> {
     }
 
     // Reports the counters and the mode.
-    fn try_status(&self) -> Result<OrderEffect, Failure>
+    fn try_status(&self) -> Result<ReplyEffect, Failure>
         ensures { Attempts S.store_state self.now (λ state. order_effect state (Ok Order.Status)) result self.now }
     {
         let line = status_line(self.alloc, &self.counts, self.mode)?;
         Ok(desk_effect(Desk::Owned(line)))
     }
 
-    fn try_order(&mut self, order: Order) -> Result<OrderEffect, Failure>
+    fn try_order(&mut self, order: Order) -> Result<ReplyEffect, Failure>
         requires { IsInRange order }
         ensures { Attempts S.store_state self.old (λ state. order_effect state (Ok order)) result self.new }
     {
@@ -101,7 +101,7 @@ impl<S: DeviceStore> Handler<S> {
         }
     }
 
-    pub(crate) fn try_line(&mut self, line: &[u8]) -> Result<OrderEffect, Failure>
+    pub(crate) fn try_line(&mut self, line: &[u8]) -> Result<ReplyEffect, Failure>
         ensures { Attempts S.store_state self.old (λ state. line_effect state line.now) result self.new }
     {
         if line.len() > MAX_LINE {

@@ -1,7 +1,9 @@
 //! Handling a packet of the serial line.
-ghost use Rattle.std.specs.Prelude.{◌≡◌, IfOk, Some};
+ghost use Rattle.std.specs.Prelude.{◌≡◌, true, IfOk, Some};
 ghost use Rattle.esp3_frames.specs.Outcome.{packet_of};
 ghost use Rattle.learned_devices.specs.Devices.{device_of};
+ghost use Rattle.profile_rows.specs.Payload.{is_data};
+ghost use Rattle.teach_in.specs.declared.telegrams.Teach.TheVariants.{Plain};
 ghost use Rattle.teach_in.specs.Telegrams.{teach_in_of};
 ghost use Rattle.gateway_core.specs.Profiles.{read_by};
 ghost use Rattle.gateway_core.specs.Responses;
@@ -25,11 +27,12 @@ use teach_in::{Teach, Why};
 
 // The reading line for a telegram of this device, if its profile can read the telegram.
 fn reading(alloc: Global, telegram: &Telegram, device: &Device) -> Result<PacketEffect, AllocError>
+    requires { is_data telegram.now.rorg telegram.now.payload ≡ true }
     ensures { IfOk result (λ done. MatchesEffect done (reading_effect telegram.now device.now
         (read_by device.now.eep telegram.now))) }
 {
     let mut readings = Readings::new();
-    match profiles::read(device.eep, telegram, &mut readings) {
+    match profiles::read_data(device.eep, telegram, &mut readings) {
         Ok(()) => {
             let line = reading_line(alloc, telegram, device.eep, &readings)?;
             let disposition = Disposition::for_device(device, Why::Read);
@@ -45,7 +48,8 @@ fn reading(alloc: Global, telegram: &Telegram, device: &Device) -> Result<Packet
 impl<S: DeviceStore> Handler<S> {
     // Reports the readings of data from a learned sender, and learns another sender if that is planned.
     fn try_data(&mut self, telegram: &Telegram, teach: &Teach) -> Result<PacketEffect, Failure>
-        requires { teach.now ≡ teach_in_of telegram.now }
+        requires role { teach.now ≡ teach_in_of telegram.now }
+        requires data { teach.now ≡ Plain }
         ensures { Attempts S.store_state self.old (λ state. case_effect state telegram.now
             (data_case (device_of state.devices telegram.now.sender))) result self.new }
     {

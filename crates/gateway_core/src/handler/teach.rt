@@ -13,8 +13,7 @@ ghost use Rattle.gateway_core.specs.private.Attempts.{MatchesEffect, MayReply, A
 use crate::disposition::{Disposition, query_device, why_silent};
 use crate::failure::Failure;
 use crate::handler::Handler;
-use crate::handler::effect::{PacketEffect, ignored_effect};
-use crate::handler::learn_forget::CommittedTeachLine;
+use crate::handler::effect::{PacketEffect, ReplyEffect, ignored_effect};
 use crate::handler::send::packet_with;
 use crate::reply::{Desk, Reply};
 use arrayvec::ArrayVec;
@@ -88,8 +87,10 @@ impl<S: DeviceStore> Handler<S> {
         let line = draft.tell(&verdict);
         Ok(PacketEffect {
             disposition: Disposition::without_device(Why::TeachIn(outcome)),
-            mode: None,
-            reply: self.answer_sender(teach, &verdict, line),
+            effect: ReplyEffect {
+                mode: None,
+                reply: self.answer_sender(teach, &verdict, line),
+            },
         })
     }
 
@@ -105,14 +106,16 @@ impl<S: DeviceStore> Handler<S> {
     {
         let (id, eep, maker) = (device.id, device.eep, device.maker);
         let disposition = Disposition::for_device(&device, Why::TeachIn(Outcome::Accepted));
-        let Some(CommittedTeachLine { verdict, line }) = self.learn(device)? else {
+        let Some((verdict, line)) = self.learn(device)? else {
             let full = self.refuse(teach, id, Some(eep), maker, Outcome::Full)?;
             return Ok(full);
         };
         Ok(PacketEffect {
             disposition,
-            mode: mode_after_learning(self.mode),
-            reply: self.answer_sender(teach, &verdict, line),
+            effect: ReplyEffect {
+                mode: mode_after_learning(self.mode),
+                reply: self.answer_sender(teach, &verdict, line),
+            },
         })
     }
 
@@ -122,11 +125,13 @@ impl<S: DeviceStore> Handler<S> {
         ensures { Attempts S.store_state self.old (λ state. delete_effect state teach.now id) result self.new }
     {
         let (eep, maker) = query_device(teach);
-        let CommittedTeachLine { verdict, line } = self.forget(id, eep, maker)?;
+        let (verdict, line) = self.forget(id, eep, maker)?;
         Ok(PacketEffect {
             disposition: Disposition::without_device(Why::TeachIn(Outcome::Deleted)),
-            mode: None,
-            reply: self.answer_sender(teach, &verdict, line),
+            effect: ReplyEffect {
+                mode: None,
+                reply: self.answer_sender(teach, &verdict, line),
+            },
         })
     }
 

@@ -12,14 +12,14 @@ returns-in_err-registry-clause-refused g c =
 
 pub returns-clause-idle : goal.returns-clause-idle
 returns-clause-idle g c =
-    idle_at_first c.args.base c.in_ok-registry.registry c.in_ok-gateway_over.field-0 c.in_ok-gateway_over.ensures
+    idle_at_first c.args.base c.in_ok-registry.registry c.in_ok-with_base_id.field-0 c.in_ok-with_base_id.ensures
 
 pub returns-clause-starts : goal.returns-clause-starts
 returns-clause-starts g c =
-    starts g.C.SqlConnection.state c.args.conn c.in_ok-registry.registry c.args.base c.in_ok-gateway_over.field-0
-    c.in_ok-gateway_over.ensures c.in_ok-registry.ensures.opened
+    starts g.C.SqlConnection.state c.args.conn c.in_ok-registry.registry c.args.base c.in_ok-with_base_id.field-0
+    c.in_ok-with_base_id.ensures c.in_ok-registry.ensures.opened
 
 pub returns-clause-begins : goal.returns-clause-begins
 returns-clause-begins g c =
     new_gateway g.C.SqlConnection.state c.args.conn c.in_ok-registry.registry c.args.base
-    c.in_ok-gateway_over.field-0 c.in_ok-gateway_over.ensures c.in_ok-registry.ensures.opened
+    c.in_ok-with_base_id.field-0 c.in_ok-with_base_id.ensures c.in_ok-registry.ensures.opened

@@ -7,11 +7,5 @@ invariant_of-result c = search rules
 pub returns-clause-bad_length : goal.returns-clause-bad_length
 returns-clause-bad_length c = search rules
 
-pub returns-then-not-payload_length_fits-clause-other_kind : goal.returns-then-not-payload_length_fits-clause-other_kind
-returns-then-not-payload_length_fits-clause-other_kind c = search rules
-
-pub returns-then-not-payload_length_fits-clause-bad_length : goal.returns-then-not-payload_length_fits-clause-bad_length
-returns-then-not-payload_length_fits-clause-bad_length c = search rules
-
 pub returns-clause-ok : goal.returns-clause-ok
 returns-clause-ok c = search rules

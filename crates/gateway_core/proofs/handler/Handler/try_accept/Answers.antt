@@ -1,7 +1,6 @@
 use Rattle.std.proofs.Common.{Ok, Some, sym, ap, subst, ◌∙◌}
 use Rattle.std.proofs.lemmas.Result.{err_from_is_err_and}
 use Rattle.teach_in.specs.declared.outcome.Outcome.TheVariants.{Accepted, Full}
-use Rattle.gateway_core.specs.declared.handler.learn_forget.CommittedTeachLine.{CommittedTeachLine}
 use Rattle.gateway_core.specs.Handling.{HandlerValue}
 use Rattle.gateway_core.specs.Step.{accept_effect, mode_after_learning, teach_effect, device_teach_line}
 use Rattle.gateway_core.specs.private.Attempts.{Learns, state_of}
@@ -53,12 +52,12 @@ returns g c =
     (λ state. teach_effect state c.args.teach.now (device_teach_line c.args.device Full))
     (λ state. accept_effect state c.args.teach.now c.args.device)
     (λ devices. by-radio (state_of c.args.self.now devices) c.args.teach.now c.args.device)
-    c.in-Some.field-0 _ learned
+    _ _ learned
     (λ devices. (
       taught-answer (state_of c.learn.new.self devices) c.args.teach.now (device_teach_line c.args.device Accepted) _ _
           _
-          (ap (λ (e : CommittedTeachLine). e.verdict.outcome) (sym c.in-Some.field-0-is) ∙ learned.reported.1)
-          (ap (λ (e : CommittedTeachLine). e.line) (sym c.in-Some.field-0-is) ∙ learned.reported.2)
+          learned.reported.1
+          learned.reported.2
           c.answer_sender.ensures,
       ap Some c.for_device-disposition.ensures,
       c.mode_after_learning.ensures ∙ ap (λ (v : HandlerValue _). mode_after_learning v.mode) c.self.view_is,

@@ -4,7 +4,11 @@ use Rattle.learned_devices.specs.Devices.{device_of}
 use Rattle.gateway_core.specs.Profiles.{read_by}
 use Rattle.gateway_core.specs.Step.{case_effect, data_case}
 use Rattle.gateway_core.proofs.AttemptLemmas.{known_with, permitted, tries, tries-behind, data-need, reading-comes}
+use Rattle.gateway_core.proofs.DataLemmas.{plain-is-data}
 use Rattle.gateway_core.proofs.handler.Handler.try_data.Goals as goal
+
+pub reading-requires : goal.reading-requires
+reading-requires g c = plain-is-data c.args.telegram.now (sym c.requires.role ∙ c.requires.data)
 
 pub returns-in_err-device : goal.returns-in_err-device
 returns-in_err-device g c =

@@ -1,5 +1,5 @@
 use Rattle.std.proofs.Common.{rules}
-use Rattle.profiles_rps.proofs.profiles.read.Goals as goal
+use Rattle.profiles_4bs.proofs.profiles.read_payload.Goals as goal
 
 pub returns-in-Ok-clause-exact : goal.returns-in-Ok-clause-exact
 returns-in-Ok-clause-exact c = search rules
