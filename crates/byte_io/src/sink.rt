@@ -20,7 +20,7 @@ pub trait Sink {
         requires { 0 < length text.now }
         ensures within { IfOk result (λ n. n ≤ length text.now) }
         ensures bytes { WriteAppends (held self.old) (held self.new) result text.now }
-        ensures told { counts self.new ≡ count_call (counts self.old) result };
+        ensures counted { counts self.new ≡ count_call (counts self.old) result };
 }
 
 /// A sink over a writer of `std`. It counts its writes, those that failed, and those that accepted 0 bytes; each
@@ -35,7 +35,7 @@ impl<W: Write> OverWrite<W> {
     /// A sink that has made no write to this writer yet.
     pub fn new(writer: W) -> OverWrite<W>
         ensures bytes { ⟦<OverWrite<W> as Sink>⟧.held result ≡ W.contents writer }
-        ensures told { ⟦<OverWrite<W> as Sink>⟧.counts result ≡ no_calls }
+        ensures counted { ⟦<OverWrite<W> as Sink>⟧.counts result ≡ no_calls }
     {
         OverWrite {
             writer,

@@ -22,7 +22,7 @@ pub trait Source {
         requires { (0 < length buffer.old) × (length buffer.old ≤ max_read) }
         ensures within { IfOk result (λ n. n ≤ length buffer.new) }
         ensures bytes { ReadConsumes (left self.old) (left self.new) result buffer.new }
-        ensures told { counts self.new ≡ count_call (counts self.old) result };
+        ensures counted { counts self.new ≡ count_call (counts self.old) result };
 }
 
 /// A source over a reader of `std`. It counts its reads, those that failed, and those that returned 0 bytes; each
@@ -37,7 +37,7 @@ impl<R: Read> OverRead<R> {
     /// A source that has made no read of this reader yet.
     pub fn new(reader: R) -> OverRead<R>
         ensures bytes { ⟦<OverRead<R> as Source>⟧.left result ≡ R.remaining reader }
-        ensures told { ⟦<OverRead<R> as Source>⟧.counts result ≡ no_calls }
+        ensures counted { ⟦<OverRead<R> as Source>⟧.counts result ≡ no_calls }
     {
         OverRead {
             reader,

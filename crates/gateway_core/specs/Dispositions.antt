@@ -21,7 +21,7 @@ use Rattle.json_lines.specs.declared.counts.Counter.{Counter}
 use Rattle.json_lines.specs.declared.counts.Counter.TheVariants as count
 use Rattle.json_lines.specs.declared.packet.PacketLine.{PacketLine}
 use Rattle.json_lines.specs.declared.packet.ShownPacket.{ShownPacket}
-use Rattle.json_lines.specs.declared.packet.ShownPacket.TheVariants as told
+use Rattle.json_lines.specs.declared.packet.ShownPacket.TheVariants as shown
 use Rattle.teach_in.specs.declared.why.Why.{Why}
 use Rattle.teach_in.specs.declared.why.Why.TheVariants.{Refused, Response, EmptyResponse, OtherType, NoTelegram}
 use Rattle.teach_in.specs.declared.why.Why.TheVariants.{FromBroadcast, ForOthers, TeachInReply, TeachIn, Read}
@@ -106,8 +106,8 @@ shown_telegram t kind disposition =
 
 -- what a packet was: its telegram, if it carries one
 abbrev pub shown_packet : Packet → Result Telegram TelegramFault → Disposition → ShownPacket
-shown_packet packet (Ok t) disposition = told.Telegram (shown_telegram t (teach_in_of t) disposition)
-shown_packet packet (Err fault) disposition = told.Other packet.kind (length packet.body)
+shown_packet packet (Ok t) disposition = shown.Telegram (shown_telegram t (teach_in_of t) disposition)
+shown_packet packet (Err fault) disposition = shown.Other packet.kind (length packet.body)
 
 abbrev pub packet_line_of : Packet → Disposition → PacketLine
 packet_line_of packet disposition =

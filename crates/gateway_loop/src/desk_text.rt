@@ -20,7 +20,7 @@ pub fn write_desk_text<W: Sink>(
 ) -> Result<(), Failed>
     ensures written { Writes (W.held writer.old) (W.held writer.new) result
         (desk_text explains (with_packet_line (option_copied line.entry) (answer_of reply.now))) }
-    ensures told { CallsMatchResult result (W.counts writer.old) (W.counts writer.new) }
+    ensures counted { CallsMatchResult result (W.counts writer.old) (W.counts writer.new) }
 {
     if explains {
         if let Some(line) = line {

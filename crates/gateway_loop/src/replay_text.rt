@@ -36,7 +36,7 @@ impl<W: Sink> ReplySink for ReplayText<'_, W> {
 fn write_chunk<W: Sink>(writer: &mut W, bytes: &[u8]) -> Result<(), Failed>
     requires { length bytes.now ≤ 64 }
     ensures written { Writes (W.held writer.old) (W.held writer.new) result (radio_text (Some bytes.now)) }
-    ensures told { CallsMatchResult result (W.counts writer.old) (W.counts writer.new) }
+    ensures counted { CallsMatchResult result (W.counts writer.old) (W.counts writer.new) }
 {
     let mut buffer = [0u8; 128];
     let digits = &mut buffer[..2 * bytes.len()];

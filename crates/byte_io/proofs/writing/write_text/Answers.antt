@@ -10,5 +10,5 @@ loop-rest-preserved g c =
       left_after (held c.args.writer.now) (held c.loop-rest.writer) (held c.write.new.self) c.args.text.now
           c.loop-rest.rest.now c.in_ok-count.count c.loop-rest.invariant.0 c.in_ok-count.ensures.bytes,
       went_well Failed (counts c.args.writer.now) (counts c.loop-rest.writer) (counts c.write.new.self)
-          c.in_ok-count.count c.loop-rest.invariant.1 c.in_ok-count.ensures.told c.if-count-eq0.false,
+          c.in_ok-count.count c.loop-rest.invariant.1 c.in_ok-count.ensures.counted c.if-count-eq0.false,
     )

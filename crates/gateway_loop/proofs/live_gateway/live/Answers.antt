@@ -50,7 +50,7 @@ returns-in_default-clause-err g c =
       chunk = None;
       fails = (
         reads_fail _ _ _ (serial_reads read) c.in_default.field-0 serial c.in_default.ensures.bytes
-            c.in_default.ensures.told,
+            c.in_default.ensures.counted,
         desk,
       );
       processed =
@@ -65,7 +65,7 @@ returns-in_default-clause-reads g c =
     let before = c.loop-turn.invariant in
     made_first (serial c.args.serial_in.now) (serial c.loop-turn.serial_in) (serial c.read.new.self)
     (desk c.args.desk_in.now) (desk c.loop-turn.desk_in) c.loop-turn._turn c.args.turns c.loop-turn-test.true
-    before.serial_made (ap (λ t. t.calls) c.in_default.ensures.told) before.desk_made
+    before.serial_made (ap (λ t. t.calls) c.in_default.ensures.counted) before.desk_made
 
 pub returns-in_default-clause-whole : goal.returns-in_default-clause-whole
 returns-in_default-clause-whole g c =
@@ -74,7 +74,7 @@ returns-in_default-clause-whole g c =
     λ room. (
       λ ok. absurd cc,
       λ all. absurd (not_failed (counts c.args.serial_in.now) (counts c.read.new.self) c.args.turns room.serial_in
-          (ap (λ t. t.failed) c.in_default.ensures.told ∙ ap saturated_increment serial.well) all.serial_well),
+          (ap (λ t. t.failed) c.in_default.ensures.counted ∙ ap saturated_increment serial.well) all.serial_well),
     )
 
 -- ---- an answer to a packet is not written completely
@@ -92,7 +92,7 @@ returns-in_default-process_chunk-clause-err g c =
       serial =
           reads_more _ _ _ (serial_reads read) c.in-Ok.length c.read.new.buffer serial c.in-Ok.ensures.within
           (omega arith)
-          c.in-Ok.ensures.bytes c.in-Ok.ensures.told;
+          c.in-Ok.ensures.bytes c.in-Ok.ensures.counted;
       desk = desk;
       broken =
           breaks_at stored g.R.Sink g.D.Sink entry.driver c.process_chunk.new.self _ _ _ (search rules)
@@ -108,7 +108,7 @@ returns-in_default-process_chunk-clause-reads g c =
     let before = c.loop-turn.invariant in
     made_first (serial c.args.serial_in.now) (serial c.loop-turn.serial_in) (serial c.read.new.self)
     (desk c.args.desk_in.now) (desk c.loop-turn.desk_in) c.loop-turn._turn c.args.turns c.loop-turn-test.true
-    before.serial_made (ap (λ t. t.calls) c.in-Ok.ensures.told) before.desk_made
+    before.serial_made (ap (λ t. t.calls) c.in-Ok.ensures.counted) before.desk_made
 
 pub returns-in_default-process_chunk-clause-whole : goal.returns-in_default-process_chunk-clause-whole
 returns-in_default-process_chunk-clause-whole g c =
@@ -144,9 +144,9 @@ returns-in_default-read-clause-err g c =
       fails = (
         reads_more _ _ _ (serial_reads read) c.in-Ok.length c.read.new.buffer serial c.in-Ok.ensures.within
             (omega arith)
-            c.in-Ok.ensures.bytes c.in-Ok.ensures.told,
+            c.in-Ok.ensures.bytes c.in-Ok.ensures.counted,
         reads_fail _ _ _ (desk_reads read) c.in_default-read.field-0 desk c.in_default-read.ensures.bytes
-            c.in_default-read.ensures.told,
+            c.in_default-read.ensures.counted,
       );
       processed =
           plays_at stored g.R.Sink g.D.Sink entry.driver new _ _ _ (search rules) (search rules) (search rules) _
@@ -161,8 +161,8 @@ returns-in_default-read-clause-reads g c =
     let before = c.loop-turn.invariant in
     made_both (serial c.args.serial_in.now) (serial c.loop-turn.serial_in) (serial c.read.new.self)
     (desk c.args.desk_in.now) (desk c.loop-turn.desk_in) (desk c.read-in-loop-turn.new.self) c.loop-turn._turn
-    c.args.turns c.loop-turn-test.true before.serial_made (ap (λ t. t.calls) c.in-Ok.ensures.told) before.desk_made
-    (ap (λ t. t.calls) c.in_default-read.ensures.told)
+    c.args.turns c.loop-turn-test.true before.serial_made (ap (λ t. t.calls) c.in-Ok.ensures.counted) before.desk_made
+    (ap (λ t. t.calls) c.in_default-read.ensures.counted)
 
 pub returns-in_default-read-clause-whole : goal.returns-in_default-read-clause-whole
 returns-in_default-read-clause-whole g c =
@@ -171,7 +171,7 @@ returns-in_default-read-clause-whole g c =
     λ room. (
       λ ok. absurd cc,
       λ all. absurd (not_failed (counts c.args.desk_in.now) (counts c.read-in-loop-turn.new.self) c.args.turns
-          room.desk_in (ap (λ t. t.failed) c.in_default-read.ensures.told ∙ ap saturated_increment desk.well) all.desk_well),
+          room.desk_in (ap (λ t. t.failed) c.in_default-read.ensures.counted ∙ ap saturated_increment desk.well) all.desk_well),
     )
 
 -- ---- an answer to an order is not written completely
@@ -193,10 +193,10 @@ returns-in_default-process_bytes-clause-err g c =
       serial = rw (serial_reads-more read turn)
           (reads_more _ _ _ (serial_reads read) c.in-Ok.length c.read.new.buffer serial c.in-Ok.ensures.within
           (omega arith)
-          c.in-Ok.ensures.bytes c.in-Ok.ensures.told);
+          c.in-Ok.ensures.bytes c.in-Ok.ensures.counted);
       desk = rw (desk_reads-more read turn)
           (reads_more _ _ _ (desk_reads read) c.in-Ok-read.length c.read-in-loop-turn.new.buffer desk
-          c.in-Ok-read.ensures.within (omega arith) c.in-Ok-read.ensures.bytes c.in-Ok-read.ensures.told);
+          c.in-Ok-read.ensures.within (omega arith) c.in-Ok-read.ensures.bytes c.in-Ok-read.ensures.counted);
       broken =
           breaks_at_order stored g.R.Sink g.D.Sink entry.driver new.driver _ _ _ (search rules) (search rules)
           (search rules) _
@@ -211,8 +211,8 @@ returns-in_default-process_bytes-clause-reads g c =
     let before = c.loop-turn.invariant in
     made_both (serial c.args.serial_in.now) (serial c.loop-turn.serial_in) (serial c.read.new.self)
     (desk c.args.desk_in.now) (desk c.loop-turn.desk_in) (desk c.read-in-loop-turn.new.self) c.loop-turn._turn
-    c.args.turns c.loop-turn-test.true before.serial_made (ap (λ t. t.calls) c.in-Ok.ensures.told) before.desk_made
-    (ap (λ t. t.calls) c.in-Ok-read.ensures.told)
+    c.args.turns c.loop-turn-test.true before.serial_made (ap (λ t. t.calls) c.in-Ok.ensures.counted) before.desk_made
+    (ap (λ t. t.calls) c.in-Ok-read.ensures.counted)
 
 pub returns-in_default-process_bytes-clause-whole : goal.returns-in_default-process_bytes-clause-whole
 returns-in_default-process_bytes-clause-whole g c =
@@ -263,21 +263,21 @@ loop-turn-preserved g c =
         rw (serial_reads-more read both)
             (reads_more _ _ _ (serial_reads read) c.in-Ok.length c.read.new.buffer serial c.in-Ok.ensures.within
             (omega arith)
-            c.in-Ok.ensures.bytes c.in-Ok.ensures.told),
+            c.in-Ok.ensures.bytes c.in-Ok.ensures.counted),
         rw (desk_reads-more read both)
             (reads_more _ _ _ (desk_reads read) c.in-Ok-read.length c.read-in-loop-turn.new.buffer desk
-            c.in-Ok-read.ensures.within (omega arith) c.in-Ok-read.ensures.bytes c.in-Ok-read.ensures.told),
+            c.in-Ok-read.ensures.within (omega arith) c.in-Ok-read.ensures.bytes c.in-Ok-read.ensures.counted),
         turn_taken stored output entry c.loop-turn.dispatcher read chunk taken mid new bytes
             c.in-Ok-process_chunk.ensures.taken
             (c.in-Ok-process_bytes.ensures.taken taken.rest taken.keeps),
       );
       serial_made =
           made_more (serial_counts c.args.serial_in.now) (serial_counts c.loop-turn.serial_in)
-          (serial_counts c.read.new.self) turn before.serial_made (ap (λ t. t.calls) c.in-Ok.ensures.told);
+          (serial_counts c.read.new.self) turn before.serial_made (ap (λ t. t.calls) c.in-Ok.ensures.counted);
       desk_made =
           made_more (desk_counts c.args.desk_in.now) (desk_counts c.loop-turn.desk_in)
           (desk_counts c.read-in-loop-turn.new.self) turn before.desk_made
-          (ap (λ t. t.calls) c.in-Ok-read.ensures.told);
+          (ap (λ t. t.calls) c.in-Ok-read.ensures.counted);
     }
 
 -- ---- all turns

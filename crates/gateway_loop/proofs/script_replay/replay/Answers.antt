@@ -152,7 +152,7 @@ returns-in_default-process_bytes-clause-err g c =
       broken = inl (record {
         reads =
             went_well Failed (reads c.args.reader.now) (reads c.loop-turn.reader) (reads c.read.new.self)
-            c.in-Ok.length c.loop-turn.invariant.reads c.in-Ok.ensures.told c.if-length-eq0.false;
+            c.in-Ok.length c.loop-turn.invariant.reads c.in-Ok.ensures.counted c.if-length-eq0.false;
         broken =
             part_at_line stored g.W.Sink entry c.process_bytes.new.self (input ++ chunk) _ _ (search rules) (search rules)
             crash;
@@ -208,13 +208,13 @@ loop-turn-preserved g c =
       writes = now.taken.processed.answered.out.1.went;
       reads =
           went_well Failed (reads c.args.reader.now) (reads c.loop-turn.reader) (reads c.read.new.self) c.in-Ok.length
-          before.reads c.in-Ok.ensures.told c.if-length-eq0.false;
+          before.reads c.in-Ok.ensures.counted c.if-length-eq0.false;
       gave =
           let (parts, count, well) = before.gave in (
             parts ++ chunk ∷ [],
             length-append parts (chunk ∷ []) ∙ ap (λ n. n + 1) count,
             reads_more _ _ _ parts c.in-Ok.length c.read.new.buffer well c.in-Ok.ensures.within (omega arith)
-                c.in-Ok.ensures.bytes c.in-Ok.ensures.told,
+                c.in-Ok.ensures.bytes c.in-Ok.ensures.counted,
           );
     }
 
@@ -224,7 +224,7 @@ returns-in-Err-clause-reads g c =
     let below = c.loop-turn-test.true in (
       parts,
       inr (
-        reads_fail _ _ _ parts c.in-Err.field-0 well c.in-Err.ensures.bytes c.in-Err.ensures.told,
+        reads_fail _ _ _ parts c.in-Err.field-0 well c.in-Err.ensures.bytes c.in-Err.ensures.counted,
         omega (arith, count, below),
       ),
     )
@@ -233,19 +233,19 @@ pub returns-then-length-eq0-clause-reads : goal.returns-then-length-eq0-clause-r
 returns-then-length-eq0-clause-reads g c =
     let (parts, count, well) = c.loop-turn.invariant.gave in
     one_read_more _ _ _ parts c.in-Ok.length c.loop-turn._turn c.args.turns c.read.new.buffer well count
-    c.loop-turn-test.true c.in-Ok.ensures.within (omega arith) c.in-Ok.ensures.bytes c.in-Ok.ensures.told
+    c.loop-turn-test.true c.in-Ok.ensures.within (omega arith) c.in-Ok.ensures.bytes c.in-Ok.ensures.counted
 
 pub returns-in_default-clause-reads : goal.returns-in_default-clause-reads
 returns-in_default-clause-reads g c =
     let (parts, count, well) = c.loop-turn.invariant.gave in
     one_read_more _ _ _ parts c.in-Ok.length c.loop-turn._turn c.args.turns c.read.new.buffer well count
-    c.loop-turn-test.true c.in-Ok.ensures.within (omega arith) c.in-Ok.ensures.bytes c.in-Ok.ensures.told
+    c.loop-turn-test.true c.in-Ok.ensures.within (omega arith) c.in-Ok.ensures.bytes c.in-Ok.ensures.counted
 
 pub returns-in_default-process_bytes-clause-reads : goal.returns-in_default-process_bytes-clause-reads
 returns-in_default-process_bytes-clause-reads g c =
     let (parts, count, well) = c.loop-turn.invariant.gave in
     one_read_more _ _ _ parts c.in-Ok.length c.loop-turn._turn c.args.turns c.read.new.buffer well count
-    c.loop-turn-test.true c.in-Ok.ensures.within (omega arith) c.in-Ok.ensures.bytes c.in-Ok.ensures.told
+    c.loop-turn-test.true c.in-Ok.ensures.within (omega arith) c.in-Ok.ensures.bytes c.in-Ok.ensures.counted
 
 pub returns-clause-reads : goal.returns-clause-reads
 returns-clause-reads g c =

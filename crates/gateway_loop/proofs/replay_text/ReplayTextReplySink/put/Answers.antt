@@ -30,7 +30,7 @@ returns-in_err-write_chunk-clause-put g c =
     (puts_one c.from_residual.result (text_of explains) old new answer
     (writes_part _ _ _ _ _ c.from_residual.ensures.1
     (part_of_front old.held new.held (radio_text answer.radio) (desk_text explains answer) part))
-    (rw exit.1 c.in_err-write_chunk.ensures.told))
+    (rw exit.1 c.in_err-write_chunk.ensures.counted))
 
 pub returns-clause-put : goal.returns-clause-put
 returns-clause-put g c =
@@ -53,8 +53,8 @@ returns-clause-put g c =
           puts_by (λ flag. text_output (text_of flag)) r (explains, old) (now, new) answer same
           (puts_one r (text_of explains) old new answer
           (writes_behind old.held mid.held new.held r (radio_text answer.radio) (desk_text explains answer) first desk)
-          (went_behind r old.counts mid.counts new.counts (rw w.self-is w.in_ok-write_chunk.ensures.told)
-          c.write_desk_text.ensures.told))
+          (went_behind r old.counts mid.counts new.counts (rw w.self-is w.in_ok-write_chunk.ensures.counted)
+          c.write_desk_text.ensures.counted))
       | in_default w ↦
           let same : now ≡ explains = ap (λ script. script.explains) w.self-is in
           let desk = subst (λ flag. Writes mid.held new.held r (desk_text flag answer)) same told in
@@ -64,5 +64,5 @@ returns-clause-put g c =
           (puts_one r (text_of explains) old new answer
           (subst (λ o. Writes old.held new.held r (radio_text o ++ desk_text explains answer)) (sym radio)
           (subst (λ (sink : SinkValue). Writes sink.held new.held r (desk_text explains answer)) kept desk))
-          (subst (λ (sink : SinkValue). CallsMatchResult r sink.counts new.counts) kept c.write_desk_text.ensures.told))
+          (subst (λ (sink : SinkValue). CallsMatchResult r sink.counts new.counts) kept c.write_desk_text.ensures.counted))
     ]
