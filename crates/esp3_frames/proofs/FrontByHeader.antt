@@ -1,7 +1,7 @@
 -- The front of a text, by its header.
 use Rattle.std.proofs.Common.{◌≡◌, ◌≢◌, ℕ, ◌+◌, ◌*◌, ◌<◌, ◌≤◌, Bool, true, false, cond, ◌&&◌, ◌==◌}
 use Rattle.std.proofs.Common.{eqb, leb, List, [], ◌∷◌, ◌++◌, length, take, drop, get_or, refl, sym, ap, ◌∙◌}
-use Rattle.std.proofs.Common.{arith}
+use Rattle.std.proofs.Common.{arith, subst, ◌⊎◌, inl, inr}
 use Rattle.std.specs.Prelude.{Result, Ok, Err}
 use Rattle.std.proofs.lemmas.Bool.{and_parts, and_from, le-leb, lt-leb, eq-eqb, ne_eqb}
 use Rattle.esp3_frames.specs.Check.{check}
@@ -109,3 +109,28 @@ front-good b x long good =
 pub front-bad : (b : List ℕ) (e : HeaderFault) → 6 ≤ length b → header_of (take 6 b) ≡ Err e → front_of b ≡ Never
 front-bad b e long bad =
     let s = six_first b (take 6 b) (drop 6 b) long refl refl in front-no_header b (take 6 b) (drop 6 b) e s.0 s.1 bad
+
+-- the header in six bytes, or its fault
+header_cases : (r : Result Header HeaderFault) → ((y : Header) × (r ≡ Ok y)) ⊎ ((e : HeaderFault) × (r ≡ Err e))
+header_cases (Ok y) = inl (y, refl)
+header_cases (Err e) = inr (e, refl)
+
+-- a valid header has the lengths and the type that its six bytes announce
+pub header-decoded : (f : List ℕ) (y : Header) → length f ≡ 6 → header_of f ≡ Ok y → y ≡ decoded_header f
+header-decoded f y six_bytes good =
+    let t = six f six_bytes in
+    sym (ap decoded_header t.6 ∙ (heads t.0 t.1 t.2 t.3 t.4 t.5 y (sym (ap header_of t.6) ∙ good)).is)
+
+-- a text that is shorter than its first six bytes announce is not a whole packet
+pub announced-no_whole : (b : List ℕ) (x : Header) → 6 ≤ length b → x ≡ decoded_header (take 6 b)
+    → length (drop 6 b) ≤ x.data_len + x.opt_len → (p : Packet) → front_of b ≢ Whole p
+announced-no_whole b x long is short p whole = elim (header_cases (header_of (take 6 b))) [
+  | inl good ↦
+      let y : Header = good.0 in
+      let same : y ≡ x =
+      header-decoded (take 6 b) y (six_first b (take 6 b) (drop 6 b) long refl refl).0 good.1 ∙ sym is in
+      let partial = front-good b y long good.1 ∙ front_after_header-partial y.data_len y.opt_len y.kind (drop 6 b)
+      (subst (λ (z : Header). length (drop 6 b) ≤ z.data_len + z.opt_len) (sym same) short) in
+      let e = sym partial ∙ whole in cc
+  | inr bad ↦ let e = sym (front-bad b bad.0 long bad.1) ∙ whole in cc
+]

@@ -103,7 +103,11 @@ fn crc_after_zeros(check: u8, count: usize) -> u8
     if place >= 2 * ORDER_OF_X {
         return check;
     }
-    let end = if place < ORDER_OF_X { ORDER_OF_X } else { 2 * ORDER_OF_X };
+    let end = if place < ORDER_OF_X {
+        ORDER_OF_X
+    } else {
+        2 * ORDER_OF_X
+    };
     let gone_on = place + count % ORDER_OF_X;
     let then = if gone_on < end {
         gone_on

@@ -1,10 +1,10 @@
 //! Reading and writing headers and whole packets.
-ghost use Rattle.std.specs.Prelude.{◌≡◌, ◌≢◌, ℕ, ◌+◌, ◌*◌, ◌-◌, ◌++◌, length, IfSome, IfNone, OnOk, OnErr};
+ghost use Rattle.std.specs.Prelude.{◌≡◌, ◌≢◌, ℕ, ◌+◌, ◌*◌, ◌-◌, ◌++◌, length, IfSome, IfNone, IfOk, IfErr, OnOk, OnErr, Ok, Err};
 ghost use Rattle.esp3_frames.specs.Frames.{front_of};
 ghost use Rattle.esp3_frames.specs.Frames.Front.{Whole};
 ghost use Rattle.esp3_frames.specs.Packet;
 ghost use Rattle.esp3_frames.specs.Packet.{Packet, IsPacket, spelling};
-ghost use Rattle.esp3_frames.specs.Outcome.{packet_of, header_of, write_result};
+ghost use Rattle.esp3_frames.specs.Outcome.{packet_of, decoded_header, header_of, write_result};
 ghost use Rattle.arrayvec.specs.ArrayVec.{array_vec_len};
 
 use crate::check8;
@@ -48,12 +48,10 @@ pub fn lengths_fit(high: u8, low: u8, opt_len: u8) -> bool
     high > 0 || low > 0 || opt_len > 0
 }
 
-/// Reads the sync byte, the header and its CRC: the first six bytes of a packet. Of several faults it returns the
-/// first.
-///
-/// EnOcean Serial Protocol 3, "Packet structure".
-pub fn read_header(b: &[u8; 6]) -> Result<Header, HeaderFault>
-    ensures { result ≡ header_of b.now }
+// The first fault of the first six bytes of a packet.
+fn check_header(b: &[u8; 6]) -> Result<(), HeaderFault>
+    ensures ok { IfOk result (λ _. header_of b.now ≡ Ok (decoded_header b.now)) }
+    ensures err { IfErr result (λ fault. header_of b.now ≡ Err fault) }
 {
     if b[0] != SYNC_BYTE {
         return Err(HeaderFault::NotSync);
@@ -64,11 +62,31 @@ pub fn read_header(b: &[u8; 6]) -> Result<Header, HeaderFault>
     if !lengths_fit(b[1], b[2], b[3]) {
         return Err(HeaderFault::EmptyPacket);
     }
-    Ok(Header {
+    Ok(())
+}
+
+// The lengths and the type in the first six bytes of a packet, which may have faults.
+fn decode_header(b: &[u8; 6]) -> Header
+    ensures { result ≡ decoded_header b.now }
+{
+    Header {
         data_len: u16::from_be_bytes([b[1], b[2]]),
         opt_len: b[3],
         kind: b[4],
-    })
+    }
+}
+
+/// Reads the sync byte, the header and its CRC: the first six bytes of a packet. Of several faults it returns the
+/// first.
+///
+/// EnOcean Serial Protocol 3, "Packet structure".
+pub fn read_header(b: &[u8; 6]) -> Result<Header, HeaderFault>
+    ensures { result ≡ header_of b.now }
+{
+    match check_header(b) {
+        Ok(()) => Ok(decode_header(b)),
+        Err(fault) => Err(fault),
+    }
 }
 
 /// A packet whose data and optional data are borrowed.
@@ -91,11 +109,16 @@ pub fn first_packet(b: &[u8]) -> Option<(PacketRef<'_>, usize)>
     ensures none { IfNone result ((p : Packet) → front_of b.now ≢ Whole p) }
 {
     let (front, rest) = b.split_first_chunk::<6>()?;
-    let Ok(header) = read_header(front) else {
+    let header = decode_header(front);
+    let len = header.data_len as usize + header.opt_len as usize;
+    // The header of a packet that is not whole is not checked: it is checked once, when the packet is held.
+    if rest.len() <= len {
+        return None;
+    }
+    let Ok(()) = check_header(front) else {
         return None;
     };
-    let len = header.data_len as usize + header.opt_len as usize;
-    if rest.len() <= len || rest[len] != check8(&rest[..len]) {
+    if rest[len] != check8(&rest[..len]) {
         return None;
     }
     let (body, opt) = rest[..len].split_at(header.data_len as usize);

@@ -1,29 +1,46 @@
 -- A header at the front of some bytes, and what it implies about them.
-use Rattle.std.proofs.Common.{◌≡◌, ◌≢◌, ℕ, ◌+◌, ◌<◌, ◌≤◌, Bool, true, false, cond, List, ◌++◌, length, take}
+use Rattle.std.proofs.Common.{◌≡◌, ◌≢◌, ℕ, ◌+◌, ◌<◌, ◌≤◌, List, ◌++◌, length, take, refl, subst}
 use Rattle.std.proofs.Common.{drop, get_or, sym, ap, ◌∙◌, arith, length-append, length-take, length-drop, inl, inr}
-use Rattle.std.specs.Prelude.{Some}
 use Rattle.std.proofs.lemmas.List.{get_or-drop, take-append-le, take-take}
 use Rattle.std.proofs.lemmas.Bool.{cases_eq, cases_lt}
 use Rattle.esp3_frames.specs.Check.{check}
 use Rattle.esp3_frames.specs.Packet.{max_packet}
-use Rattle.esp3_frames.specs.Frames.{Front, front_of, front_after_header, may_begin}
+use Rattle.esp3_frames.specs.Frames.{front_of, front_after_header}
 use Rattle.esp3_frames.specs.Frames.Front.{Never, Partial, Whole}
 use Rattle.esp3_frames.specs.Outcome.{header_of}
 use Rattle.esp3_frames.specs.declared.packet.Header.{Header}
-use Rattle.esp3_frames.proofs.ForCallers.{front-short, front-good, front_after_header-partial, front_after_header-whole}
+use Rattle.esp3_frames.proofs.ForCallers.{front-good, front_after_header-partial, front_after_header-whole}
 use Rattle.esp3_frames.proofs.ForCallers.{front_after_header-never, whole_length}
-use Rattle.esp3_resync.specs.private.Settled.{HasHeader, packet_at}
+use Rattle.esp3_resync.specs.private.Settled.{HasHeader, IsWindowFront, packet_at}
+use Rattle.esp3_resync.specs.declared.front.WindowFront.{WindowFront}
+use Rattle.esp3_resync.specs.declared.front.WindowFront.TheVariants as found
 
--- less than six bytes that are not skipped
-chosen : (b : Bool) (f : Front) → f ≡ cond b Partial Never → f ≢ Never → f ≡ Partial
-chosen true f e n = e
-chosen false f e n = absurd (n e)
+-- a window's bytes do not begin with a byte to skip
+pub not_never : (x : WindowFront) (w : List ℕ) → IsWindowFront x w → front_of w ≢ Never
+not_never found.PartialHeader w is n = let z = sym is.0 ∙ n in cc
+not_never (found.PartialPacket h) w is n = let z = sym is.0 ∙ n in cc
+not_never (found.WholePacket h) w is n = let z = sym is ∙ n in cc
 
-pub short_partial : (w : List ℕ) → length w < 6 → front_of w ≢ Never → front_of w ≡ Partial
-short_partial w short n = chosen (may_begin w) (front_of w) (front-short w short) n
+pub is_whole : (x : WindowFront) (w : List ℕ) (h : Header) → x ≡ found.WholePacket h → IsWindowFront x w
+    → front_of w ≡ Whole (packet_at h w)
+is_whole x w h e is = subst (λ y. IsWindowFront y w) e is
+
+-- no whole packet is at the front
+pub not_whole : (x : WindowFront) (w : List ℕ) → IsWindowFront x w → ((h : Header) → x ≡ found.WholePacket h → ⊥)
+    → front_of w ≡ Partial
+not_whole found.PartialHeader w is n = is.0
+not_whole (found.PartialPacket h) w is n = is.0
+not_whole (found.WholePacket h) w is n = absurd (n h refl)
+
+-- a part of a packet whose header is not complete has less than six bytes
+pub no_header : (x : WindowFront) (w : List ℕ) → IsWindowFront x w → front_of w ≡ Partial
+    → ((h : Header) → x ≡ found.PartialPacket h → ⊥) → length w < 6
+no_header found.PartialHeader w is partial n = is.1
+no_header (found.PartialPacket h) w is partial n = absurd (n h refl)
+no_header (found.WholePacket h) w is partial n = let z = sym partial ∙ is in absurd cc
 
 -- a header stays the same when more bytes come
-pub header_stays : (w t : List ℕ) (h : Header) → HasHeader w (Some h) → HasHeader (w ++ t) (Some h)
+pub header_stays : (w t : List ℕ) (h : Header) → HasHeader w h → HasHeader (w ++ t) h
 header_stays w t h has = (
   omega (arith, has.0, length-append w t),
   ap header_of (take-append-le 6 w t has.0) ∙ has.1,
@@ -36,7 +53,7 @@ announced_len h = h.data_len + h.opt_len
 abbrev IsRight : Header → List ℕ → Type 0
 IsRight h w = get_or w (announced_len h + 6) 0 ≡ check (take (announced_len h) (drop 6 w))
 
-module _ (w : List ℕ) (h : Header) (has : HasHeader w (Some h)) where
+module _ (w : List ℕ) (h : Header) (has : HasHeader w h) where
   behind : front_of w ≡ front_after_header h.data_len h.opt_len h.kind (drop 6 w)
   behind = front-good w h has.0 has.1
 
@@ -95,10 +112,10 @@ module _ (w : List ℕ) (h : Header) (is : front_of w ≡ Whole (packet_at h w))
       let n = whole_length w (packet_at h w) is in (omega (arith, n.0, whole_sum), omega (arith, n.1, whole_sum))
 
 -- the first bytes of a packet, by its header
-pub begun : (b : List ℕ) (h : Header) (n : ℕ) → HasHeader b (Some h) → 6 ≤ n → n ≤ length b → n ≤ announced_len h + 6
-    → HasHeader (take n b) (Some h) × (front_of (take n b) ≡ Partial)
+pub begun : (b : List ℕ) (h : Header) (n : ℕ) → HasHeader b h → 6 ≤ n → n ≤ length b → n ≤ announced_len h + 6
+    → HasHeader (take n b) h × (front_of (take n b) ≡ Partial)
 begun b h n has some within short =
     let long : 6 ≤ length (take n b) = omega (arith, length-take n b) in
     let first : take 6 (take n b) ≡ take 6 b = take-take 6 n b some in
-    let there : HasHeader (take n b) (Some h) = (long, ap header_of first ∙ has.1) in
+    let there : HasHeader (take n b) h = (long, ap header_of first ∙ has.1) in
     (there, waits (take n b) h there (omega (arith, length-take n b)))

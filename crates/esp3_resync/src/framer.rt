@@ -1,21 +1,35 @@
 //! The framer: extracts packets from the bytes of a serial line.
 ghost use Rattle.std.specs.Prelude.{◌≡◌, ◌≢◌, ◌+◌, ℕ, ◌<◌, ◌≤◌, ◌↔◌};
 ghost use Rattle.std.specs.Prelude.{[], ◌∷◌, ◌++◌, length, take};
-ghost use Rattle.std.specs.Prelude.{Some, None, IsTrue, IfOk, IfSome, IfNone};
+ghost use Rattle.std.specs.Prelude.{vec_capacity, Some, None, IsTrue, IsSome, IfOk, IfSome, IfNone};
 ghost use Rattle.std.specs.Bool.{OnTrue, OnFalse};
 ghost use Rattle.std.specs.Option.{option_map};
 ghost use Rattle.esp3_frames.specs.Framing.{MayBecomePacket};
 ghost use Rattle.esp3_frames.specs.Frames.{front_of, frames_of};
 ghost use Rattle.esp3_frames.specs.Frames.Front.{Whole};
 ghost use Rattle.esp3_frames.specs.Outcome.{packet_of};
-ghost use Rattle.esp3_frames.specs.Packet.{Packet, max_data};
+ghost use Rattle.esp3_frames.specs.Packet.{Packet, max_data, max_packet};
+ghost use Rattle.esp3_resync.specs.BufferedPacket.{packet_with};
 
-use crate::front::{announced_len, is_complete, is_rejected, resync, resync_after_first};
+use crate::front::{WindowFront, announced_len, resync, resync_with_header};
 use crate::runs::{len_before_sync, push_announced, push_header_bytes};
 use crate::window::Window;
 use esp3_frames::{Header, MAX_PACKET, PacketRef, first_packet};
 use std::alloc::{AllocError, Global};
 use std::marker::Model;
+
+// The packet with this header whose data, followed by its optional data, is `bytes`.
+fn split_packet(bytes: &[u8], header: Header) -> PacketRef<'_>
+    requires { header.data_len + header.opt_len ≡ length bytes.now }
+    ensures { packet_of result ≡ packet_with header bytes.now }
+{
+    let (body, opt) = bytes.split_at(header.data_len as usize);
+    PacketRef {
+        kind: header.kind,
+        body,
+        opt,
+    }
+}
 
 /// A buffer for one packet: the one that a framer returned last, or none yet.
 #[derive(Drop)]
@@ -55,12 +69,7 @@ impl PacketBuf {
         ensures short { IfSome result (λ packet. length packet.body.now ≤ max_data) }
     {
         let header = self.header?;
-        let (body, opt) = self.bytes.split_at(header.data_len as usize);
-        Some(PacketRef {
-            kind: header.kind,
-            body,
-            opt,
-        })
+        Some(split_packet(&self.bytes, header))
     }
 }
 
@@ -72,19 +81,19 @@ impl PacketBuf {
 #[derive(Drop)]
 pub struct Framer {
     window: Window,
-    // The contents of the window's first six bytes, once they are there.
-    header: Option<Header>,
+    // What is at the front of the window.
+    front: WindowFront,
 }
 
 impl Model for Framer {
     ghost use Rattle.esp3_frames.specs.Frames.{Frames, frames_of};
-    ghost use Rattle.esp3_resync.specs.private.Settled.{IsSettled};
+    ghost use Rattle.esp3_resync.specs.private.Settled.{IsWindowFront};
 
     ghost Value = { Frames };
 
     ghost view = { λ f. frames_of f.window };
 
-    ghost invariant = { λ f. IsSettled f.window f.header };
+    ghost invariant = { λ f. IsWindowFront f.front f.window };
 }
 
 impl Framer {
@@ -94,7 +103,7 @@ impl Framer {
     {
         Ok(Framer {
             window: Window::new(alloc)?,
-            header: None,
+            front: WindowFront::PartialHeader,
         })
     }
 
@@ -103,10 +112,7 @@ impl Framer {
         ensures ready { IsTrue result ↔ (0 < length self.now.ready) }
         ensures rest { MayBecomePacket self.now.rest }
     {
-        match self.header {
-            Some(header) => is_complete(&self.window, header),
-            None => false,
-        }
+        matches!(self.front, WindowFront::WholePacket(_))
     }
 
     /// Processes the next byte of the stream. One byte can make several packets ready. Does not allocate.
@@ -149,11 +155,9 @@ impl Framer {
         ensures taken { self.new ≡ frames_of (self.old.rest ++ take result bytes.now) }
         ensures before { (k : ℕ) → k < result → length (frames_of (self.old.rest ++ take k bytes.now)).ready ≡ 0 }
     {
-        if let Some(header) = self.header {
+        if let WindowFront::PartialPacket(header) = self.front {
             let count = push_announced(&mut self.window, header, bytes);
-            if is_rejected(&self.window, header) {
-                self.header = resync_after_first(&mut self.window);
-            }
+            self.front = resync_with_header(&mut self.window, header);
             return count;
         }
         if self.window.is_empty() {
@@ -163,7 +167,7 @@ impl Framer {
             }
         }
         let count = push_header_bytes(&mut self.window, bytes);
-        self.header = resync(&mut self.window);
+        self.front = resync(&mut self.window);
         count
     }
 
@@ -186,6 +190,26 @@ impl Framer {
         first_packet(bytes)
     }
 
+    // Moves the data and the optional data of the first packet that is ready into `to`, and returns its header. If there
+    // is none, nothing changes.
+    fn move_ready(&mut self, to: &mut Vec<u8>) -> Option<Header>
+        requires { max_packet ≤ vec_capacity to.old }
+        ensures ready { IsSome result ↔ (0 < length self.old.ready) }
+        ensures room { max_packet ≤ vec_capacity to.new }
+        ensures taken { IfSome result (λ header. (header.data_len + header.opt_len ≡ length to.new.items)
+            × (self.old.ready ≡ packet_with header to.new.items ∷ self.new.ready) × (self.new.rest ≡ self.old.rest)) }
+        ensures none { IfNone result ((self.new ≡ self.old) × (to.new ≡ to.old)) }
+    {
+        let WindowFront::WholePacket(header) = self.front else {
+            return None;
+        };
+        self.window.skip(6);
+        self.window.move_into(announced_len(header), to);
+        self.window.skip(1);
+        self.front = resync(&mut self.window);
+        Some(header)
+    }
+
     /// Moves the first packet that is ready into `out`, and returns whether there was one. If there is none, nothing
     /// changes. Does not allocate.
     pub fn take(&mut self, out: &mut PacketBuf) -> bool
@@ -194,17 +218,25 @@ impl Framer {
             × (self.new.rest ≡ self.old.rest)) }
         ensures none { OnFalse result ((self.new ≡ self.old) × (out.new ≡ out.old)) }
     {
-        let Some(header) = self.header else {
-            return false;
-        };
-        if !is_complete(&self.window, header) {
-            return false;
+        match self.move_ready(&mut out.bytes) {
+            Some(header) => {
+                out.header = Some(header);
+                true
+            }
+            None => false,
         }
-        self.window.skip(6);
-        self.window.move_into(announced_len(header), &mut out.bytes);
-        self.window.skip(1);
+    }
+
+    /// Does the same as `take`, and returns the packet.
+    pub fn take_packet<'p>(&mut self, out: &'p mut PacketBuf) -> Option<PacketRef<'p>>
+        ensures ready { IsSome result ↔ (0 < length self.old.ready) }
+        ensures taken { IfSome result (λ packet. (self.old.ready ≡ packet_of packet ∷ self.new.ready)
+            × (self.new.rest ≡ self.old.rest)) }
+        ensures short { IfSome result (λ packet. length packet.body.now ≤ max_data) }
+        ensures none { IfNone result (self.new ≡ self.old) }
+    {
+        let header = self.move_ready(&mut out.bytes)?;
         out.header = Some(header);
-        self.header = resync(&mut self.window);
-        true
+        Some(split_packet(&out.bytes, header))
     }
 }

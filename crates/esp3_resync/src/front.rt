@@ -1,23 +1,22 @@
 //! The front of a window: a part of a packet, a whole one, or bytes to skip.
-ghost use Rattle.std.specs.Prelude.{◌≡◌, ◌+◌, ◌↔◌, IsTrue, Some};
-ghost use Rattle.std.specs.Bool.{OnTrue, OnFalse};
+ghost use Rattle.std.specs.Prelude.{◌≡◌, ◌+◌, MatchOption};
 ghost use Rattle.esp3_frames.specs.Frames.{front_of, frames_of};
 ghost use Rattle.esp3_frames.specs.Frames;
-ghost use Rattle.esp3_frames.specs.Frames.Front.{Never, Partial, Whole};
-ghost use Rattle.esp3_resync.specs.private.Settled.{HasHeader, IsWindowFront, IsSettled, packet_at};
+ghost use Rattle.esp3_frames.specs.Frames.Front.{Never};
+ghost use Rattle.esp3_resync.specs.private.Settled.{HasHeader, IsWindowFront};
 
 use crate::window::Window;
 use esp3_frames::{Header, SYNC_BYTE, lengths_fit, read_header};
 
-/// The front of a window.
+/// The front of a window at which a packet may begin.
 #[derive(Clone, Copy)]
 pub enum WindowFront {
-    /// No packet begins here, whatever follows.
-    NoPacket,
-    /// A packet may begin here; less than six of its bytes have come.
+    /// Less than six bytes of a packet. They are all that is held.
     PartialHeader,
-    /// A packet with this header is here, or may be.
-    WholeHeader(Header),
+    /// A part of the packet with this header. It is all that is held.
+    PartialPacket(Header),
+    /// The whole packet with this header.
+    WholePacket(Header),
 }
 
 /// The length of the data and optional data that a header announces.
@@ -27,22 +26,19 @@ pub fn announced_len(header: Header) -> usize
     header.data_len as usize + header.opt_len as usize
 }
 
-/// Whether the packet with the header at the front is complete, if it is not rejected.
-pub fn is_complete(window: &Window, header: Header) -> bool
-    requires { IsSettled window.now (Some header) }
-    ensures whole { OnTrue result (front_of window.now ≡ Whole (packet_at header window.now)) }
-    ensures partial { OnFalse result (front_of window.now ≡ Partial) }
-{
-    announced_len(header) + 6 < window.len()
-}
-
-/// Whether the packet with the header at the front is complete, with a wrong CRC.
-pub fn is_rejected(window: &Window, header: Header) -> bool
-    requires { HasHeader window.now (Some header) }
-    ensures { IsTrue result ↔ (front_of window.now ≡ Never) }
+// The front of a window that begins with this header. `None` if the packet's CRC is wrong.
+fn front_with_header(window: &Window, header: Header) -> Option<WindowFront>
+    requires { HasHeader window.now header }
+    ensures { MatchOption result (front_of window.now ≡ Never) (λ front. IsWindowFront front window.now) }
 {
     let len = announced_len(header);
-    len + 6 < window.len() && window.byte_or(len + 6, 0) != window.crc_of(6, len)
+    if window.len() < len + 7 {
+        Some(WindowFront::PartialPacket(header))
+    } else if window.byte_or(len + 6, 0) == window.crc_of(6, len) {
+        Some(WindowFront::WholePacket(header))
+    } else {
+        None
+    }
 }
 
 // Whether a packet may begin with these at most five bytes. Missing bytes are assumed to be valid.
@@ -57,47 +53,54 @@ fn may_begin(window: &Window) -> bool
         )
 }
 
-fn front(window: &Window) -> WindowFront
-    ensures { IsWindowFront result window.now }
+// The front of a window. `None` if no packet begins there, whatever follows.
+fn front(window: &Window) -> Option<WindowFront>
+    ensures { MatchOption result (front_of window.now ≡ Never) (λ front. IsWindowFront front window.now) }
 {
     let Some(first_six) = window.as_slice().first_chunk::<6>() else {
         return if may_begin(window) {
-            WindowFront::PartialHeader
+            Some(WindowFront::PartialHeader)
         } else {
-            WindowFront::NoPacket
+            None
         };
     };
     let Ok(header) = read_header(first_six) else {
-        return WindowFront::NoPacket;
+        return None;
     };
-    if is_rejected(window, header) {
-        WindowFront::NoPacket
-    } else {
-        WindowFront::WholeHeader(header)
-    }
+    front_with_header(window, header)
 }
 
-/// Skips bytes until a packet may begin at the front, and returns its header once that is complete.
-pub fn resync(window: &mut Window) -> Option<Header>
+/// Skips bytes until a packet may begin at the front, and returns the front.
+pub fn resync(window: &mut Window) -> WindowFront
     ensures frames { frames_of window.new ≡ frames_of window.old }
-    ensures settled { IsSettled window.new result }
+    ensures front { IsWindowFront result window.new }
 {
     loop {
         match front(window) {
-            WindowFront::NoPacket => window.skip_to_sync(),
-            WindowFront::PartialHeader => return None,
-            WindowFront::WholeHeader(header) => return Some(header),
+            Some(front) => return front,
+            None => window.skip_to_sync(),
         }
     }
 }
 
-/// Skips the first byte, at which no packet begins, and then proceeds as `resync`, so it does not check that byte
-/// again.
-pub fn resync_after_first(window: &mut Window) -> Option<Header>
+// Skips the first byte, at which no packet begins, and then proceeds as `resync`, so it does not check that byte again.
+fn resync_after_first(window: &mut Window) -> WindowFront
     requires { front_of window.old ≡ Never }
     ensures frames { frames_of window.new ≡ frames_of window.old }
-    ensures settled { IsSettled window.new result }
+    ensures front { IsWindowFront result window.new }
 {
     window.skip_to_sync();
     resync(window)
+}
+
+/// The same for a window that begins with this header, which is not read again.
+pub fn resync_with_header(window: &mut Window, header: Header) -> WindowFront
+    requires { HasHeader window.old header }
+    ensures frames { frames_of window.new ≡ frames_of window.old }
+    ensures front { IsWindowFront result window.new }
+{
+    match front_with_header(window, header) {
+        Some(front) => front,
+        None => resync_after_first(window),
+    }
 }

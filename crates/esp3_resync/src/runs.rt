@@ -1,5 +1,5 @@
 //! The number of bytes that can be processed at once: no byte but the last of them may make a packet ready.
-ghost use Rattle.std.specs.Prelude.{◌≡◌, ◌≢◌, ℕ, ◌<◌, ◌≤◌, ◌++◌, length, take, slice_index, Some};
+ghost use Rattle.std.specs.Prelude.{◌≡◌, ◌≢◌, ℕ, ◌<◌, ◌≤◌, ◌++◌, length, take, slice_index};
 ghost use Rattle.esp3_frames.specs.Frames.{front_of};
 ghost use Rattle.esp3_frames.specs.Frames.Front.{Partial};
 ghost use Rattle.esp3_resync.specs.private.Settled.{HasHeader};
@@ -11,12 +11,12 @@ use memchr::memchr;
 
 /// Appends bytes of the packet whose header begins the window, up to its last one, and returns their number.
 pub fn push_announced(window: &mut Window, header: Header, bytes: &[u8]) -> usize
-    requires has { HasHeader window.old (Some header) }
+    requires has { HasHeader window.old header }
     requires partial { front_of window.old ≡ Partial }
     ensures within { result ≤ length bytes.now }
     ensures some { 0 < length bytes.now → 0 < result }
     ensures taken { window.new ≡ window.old ++ take result bytes.now }
-    ensures has { HasHeader window.new (Some header) }
+    ensures has { HasHeader window.new header }
     ensures before { (k : ℕ) → k < result → front_of (window.old ++ take k bytes.now) ≡ Partial }
 {
     let missing = announced_len(header) + 7 - window.len();

@@ -147,10 +147,7 @@ impl<S: DeviceStore> GatewayOver<S> {
     pub fn handle_next(&mut self) -> Option<HandledPacket>
         ensures { Transition S.store_state self.old (NextCall (option_map packet_answer result)) self.new }
     {
-        if !self.framer.take(&mut self.packet) {
-            return None;
-        }
-        let packet = self.packet.packet()?;
+        let packet = self.framer.take_packet(&mut self.packet)?;
         Some(self.handler.packet(&packet))
     }
 

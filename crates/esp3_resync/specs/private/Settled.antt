@@ -1,34 +1,27 @@
 -- A framer's knowledge about the front of its bytes.
-use Rattle.std.specs.Prelude.{◌≡◌, ◌≢◌, ℕ, ◌+◌, ◌<◌, ◌≤◌, List, [], ◌⊎◌, length, take, drop, slice_index}
-use Rattle.std.specs.Prelude.{Option, Some, None, Ok}
+use Rattle.std.specs.Prelude.{◌≡◌, ◌≢◌, ℕ, ◌+◌, ◌<◌, ◌≤◌, List, [], ◌⊎◌, length, take, drop, slice_index, Ok}
 use Rattle.esp3_frames.specs.Packet.{Packet}
 use Rattle.esp3_frames.specs.Frames.{front_of}
-use Rattle.esp3_frames.specs.Frames.Front.{Never}
+use Rattle.esp3_frames.specs.Frames.Front.{Partial, Whole}
 use Rattle.esp3_frames.specs.Outcome.{header_of}
 use Rattle.esp3_frames.specs.declared.packet.Header.{Header}
 use Rattle.esp3_resync.specs.BufferedPacket.{packet_with}
 use Rattle.esp3_resync.specs.declared.front.WindowFront.{WindowFront}
 use Rattle.esp3_resync.specs.declared.front.WindowFront.TheVariants as found
 
--- the header of the bytes w is not complete yet, or it is h
-abbrev pub HasHeader : List ℕ → Option Header → Type 0
-HasHeader w None = length w < 6
-HasHeader w (Some h) = (6 ≤ length w) × (header_of (take 6 w) ≡ Ok h)
-
--- a framer's bytes do not begin with a byte to skip, and it keeps their header once that is complete
-pub record IsSettled (w : List ℕ) (h : Option Header) : Type 0 where
-  pub front : front_of w ≢ Never
-  pub header : HasHeader w h
-
--- the code's result agrees with the beginning of the bytes w
-abbrev pub IsWindowFront : WindowFront → List ℕ → Type 0
-IsWindowFront found.NoPacket w = front_of w ≡ Never
-IsWindowFront found.PartialHeader w = IsSettled w None
-IsWindowFront (found.WholeHeader h) w = IsSettled w (Some h)
+-- the bytes w begin with the header h
+abbrev pub HasHeader : List ℕ → Header → Type 0
+HasHeader w h = (6 ≤ length w) × (header_of (take 6 w) ≡ Ok h)
 
 -- the packet at the front of w, with the header h
 abbrev pub packet_at : Header → List ℕ → Packet
 packet_at h w = packet_with h (take (h.data_len + h.opt_len) (drop 6 w))
+
+-- the code's result agrees with the beginning of the bytes w
+abbrev pub IsWindowFront : WindowFront → List ℕ → Type 0
+IsWindowFront found.PartialHeader w = (front_of w ≡ Partial) × (length w < 6)
+IsWindowFront (found.PartialPacket h) w = (front_of w ≡ Partial) × HasHeader w h
+IsWindowFront (found.WholePacket h) w = front_of w ≡ Whole (packet_at h w)
 
 -- v is w from its first sync byte on, or nothing if it has none
 pub record ReachesSync (w v : List ℕ) : Type 0 where

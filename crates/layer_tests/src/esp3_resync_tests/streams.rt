@@ -211,8 +211,7 @@ fn feed_runs(
             let count = framer.push_run(rest);
             rest = &rest[count..];
         }
-        if framer.take(buffer) {
-            let packet = buffer.packet().ok_or("no packet")?;
+        if let Some(packet) = framer.take_packet(buffer) {
             found.push(packet.kind)?;
             found.extend_from_slice(packet.body)?;
             found.extend_from_slice(packet.opt)?;

@@ -1,14 +1,12 @@
 use Rattle.std.proofs.Common.{ℕ, ◌+◌, ◌<◌, List, length, take, drop, arith, sym, ap, ◌∙◌, length-take}
-use Rattle.std.specs.Prelude.{Option, Some, None, IfNone}
+use Rattle.std.specs.Prelude.{Option, Some, None, IfNone, Ok}
 use Rattle.esp3_frames.specs.Packet.{Packet}
 use Rattle.esp3_frames.specs.Frames.{front_after_header}
 use Rattle.esp3_frames.specs.Frames.Front.{Whole}
-use Rattle.esp3_frames.specs.Outcome.{header_of}
-use Rattle.esp3_frames.proofs.FrontByHeader.{short-no_whole, front-bad, front-good, front_after_header-partial}
+use Rattle.esp3_frames.specs.Outcome.{decoded_header, header_of}
+use Rattle.esp3_frames.proofs.FrontByHeader.{short-no_whole, announced-no_whole, front-bad, front-good}
 use Rattle.esp3_frames.proofs.FrontByHeader.{front_after_header-whole, front_after_header-never}
 use Rattle.esp3_frames.proofs.packet.first_packet.Goals as goal
-use Rattle.esp3_frames.proofs.packet.first_packet.Goals.{then-rest-len-via-then-rest-len}
-use Rattle.esp3_frames.proofs.packet.first_packet.Goals.{then-rest-len-via-else-rest-len+then-rest-len-2}
 
 if_none : {A P : Type 0} (r : Option A) → P → IfNone r P
 if_none None p = p
@@ -18,45 +16,45 @@ pub returns-in_err-front-clause-none : goal.returns-in_err-front-clause-none
 returns-in_err-front-clause-none c =
     if_none c.from_residual.result (short-no_whole c.args.b.now (omega (arith, c.in_err-front.ensures.cases)))
 
+pub returns-then-rest-len-clause-none : goal.returns-then-rest-len-clause-none
+returns-then-rest-len-clause-none c =
+    let cases = c.in_ok-front.ensures.cases in
+    announced-no_whole c.args.b.now c.decode_header-header.result (omega (arith, cases.2))
+    (c.decode_header-header.ensures ∙ ap decoded_header cases.0)
+    (omega (arith, c.if-rest-len.true, ap length cases.1))
+
 pub returns-in_default-clause-none : goal.returns-in_default-clause-none
 returns-in_default-clause-none c = λ p whole.
     let cases = c.in_ok-front.ensures.cases in
     let never =
     front-bad c.args.b.now c.in_default.field-0 (omega (arith, cases.2))
-    (ap header_of (sym cases.0) ∙ sym c.read_header.ensures ∙ c.in_default.is) in
+    (ap header_of (sym cases.0) ∙ c.in_default.ensures.err) in
     let e = sym never ∙ whole in cc
 
-pub returns-then-rest-len-clause-none : goal.returns-then-rest-len-clause-none
-returns-then-rest-len-clause-none c = λ p whole.
+pub returns-then-rest-len-2-clause-none : goal.returns-then-rest-len-2-clause-none
+returns-then-rest-len-2-clause-none c = λ p whole.
     let cases = c.in_ok-front.ensures.cases in
-    let h = c.in-Ok.header in
+    let h = c.decode_header-header.result in
     let rest = c.in_ok-front.rest.now in
-    let front = front-good c.args.b.now h (omega (arith, cases.2))
-    (ap header_of (sym cases.0) ∙ sym c.read_header.ensures ∙ c.in-Ok.is)
-    ∙ ap (front_after_header h.data_len h.opt_len h.kind) (sym cases.1) in
-    elim c.then-rest-len.branch [
-      | then-rest-len-via-then-rest-len w ↦
-          let partial = front_after_header-partial h.data_len h.opt_len h.kind rest w.if-rest-len.true in
-          let e = sym (front ∙ partial) ∙ whole in cc
-      | then-rest-len-via-else-rest-len+then-rest-len-2 w ↦
-          let long : h.data_len + h.opt_len < length rest = omega (arith, w.if-rest-len.false) in
-          let never =
-          front_after_header-never h.data_len h.opt_len h.kind rest long
-          (λ right. w.if-rest-len-2.true (right ∙ sym w.check8.ensures)) in
-          let e = sym (front ∙ never) ∙ whole in cc
-    ]
+    let never =
+    front-good c.args.b.now h (omega (arith, cases.2))
+    (ap header_of (sym cases.0) ∙ (c.in-Ok.ensures {u = tt}).ok ∙ ap Ok (sym c.decode_header-header.ensures))
+    ∙ ap (front_after_header h.data_len h.opt_len h.kind) (sym cases.1)
+    ∙ front_after_header-never h.data_len h.opt_len h.kind rest (omega (arith, c.if-rest-len.false))
+    (λ right. c.if-rest-len-2.true (right ∙ sym c.check8.ensures)) in
+    let e = sym never ∙ whole in cc
 
 pub returns-clause-some : goal.returns-clause-some
 returns-clause-some c =
     let cases = c.in_ok-front.ensures.cases in
-    let h = c.in-Ok.header in
+    let h = c.decode_header-header.result in
     let rest = c.in_ok-front.rest.now in
     let d = h.data_len in
     let packet : List ℕ → List ℕ → Packet = λ body opt. record { kind = h.kind; body = body; opt = opt } in
     let long : d + h.opt_len < length rest = omega (arith, c.if-rest-len.false) in
     let sizes = c.split_at.ensures in (
       front-good c.args.b.now h (omega (arith, cases.2))
-          (ap header_of (sym cases.0) ∙ sym c.read_header.ensures ∙ c.in-Ok.is)
+          (ap header_of (sym cases.0) ∙ (c.in-Ok.ensures {u = tt}).ok ∙ ap Ok (sym c.decode_header-header.ensures))
           ∙ ap (front_after_header d h.opt_len h.kind) (sym cases.1)
           ∙ front_after_header-whole d h.opt_len h.kind rest long (c.if-rest-len-2.false ∙ c.check8.ensures)
           ∙ ap (λ (body : List ℕ). Whole (packet body (drop d (take (d + h.opt_len) rest)))) (sym sizes.front)

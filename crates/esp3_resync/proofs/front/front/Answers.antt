@@ -1,5 +1,4 @@
-use Rattle.std.proofs.Common.{◌≡◌, ◌<◌, ◌∙◌, length, take, sym, ap, cond, arith}
-use Rattle.esp3_frames.specs.Frames.{front_of}
+use Rattle.std.proofs.Common.{◌<◌, ◌∙◌, length, take, sym, ap, cond, arith}
 use Rattle.esp3_frames.specs.Frames.Front.{Never, Partial}
 use Rattle.esp3_frames.specs.Outcome.{header_of}
 use Rattle.esp3_frames.proofs.ForCallers.{front-short, front-bad}
@@ -8,11 +7,11 @@ use Rattle.esp3_resync.proofs.front.front.Goals as goal
 pub returns-then-may_begin : goal.returns-then-may_begin
 returns-then-may_begin c =
     let short : length c.args.window.now < 6 =
-    omega (arith, c.in_default.ensures.cases, ap length c.as_slice.ensures) in
-    let e : front_of c.args.window.now ≡ Partial =
-    front-short c.args.window.now short
-    ∙ ap (λ b. cond b Partial Never) (sym c.may_begin.ensures ∙ c.if-may_begin.true) in
-    record { front = λ n. let z = sym e ∙ n in cc; header = short }
+    omega (arith, c.in_default.ensures.cases, ap length c.as_slice.ensures) in (
+      front-short c.args.window.now short
+          ∙ ap (λ b. cond b Partial Never) (sym c.may_begin.ensures ∙ c.if-may_begin.true),
+      short,
+    )
 
 pub returns-else-may_begin : goal.returns-else-may_begin
 returns-else-may_begin c =

@@ -4,13 +4,13 @@ use Rattle.esp3_resync.proofs.FramesLemmas.{frames_at_sync}
 use Rattle.esp3_resync.proofs.front.resync.Goals as goal
 
 pub skip_to_sync-requires : goal.skip_to_sync-requires
-skip_to_sync-requires c = (frames-never c.loop-window.window c.in-NoPacket.ensures).0
+skip_to_sync-requires c = (frames-never c.loop-front.window c.in-None.ensures).0
 
-pub loop-window-smaller : goal.loop-window-smaller
-loop-window-smaller c =
-    (frames_at_sync c.loop-window.window c.skip_to_sync.new.self c.in-NoPacket.ensures c.skip_to_sync.ensures).1
+pub loop-front-smaller : goal.loop-front-smaller
+loop-front-smaller c =
+    (frames_at_sync c.loop-front.window c.skip_to_sync.new.self c.in-None.ensures c.skip_to_sync.ensures).1
 
-pub loop-window-preserved : goal.loop-window-preserved
-loop-window-preserved c =
-    (frames_at_sync c.loop-window.window c.skip_to_sync.new.self c.in-NoPacket.ensures c.skip_to_sync.ensures).0
-    ∙ c.loop-window.invariant
+pub loop-front-preserved : goal.loop-front-preserved
+loop-front-preserved c =
+    (frames_at_sync c.loop-front.window c.skip_to_sync.new.self c.in-None.ensures c.skip_to_sync.ensures).0
+    ∙ c.loop-front.invariant

@@ -7,6 +7,7 @@ use Rattle.esp3_frames.specs.Outcome.{packet_of}
 use Rattle.esp3_frames.specs.Packet.{IsPacket}
 use Rattle.esp3_frames.proofs.ForCallers.{whole_length}
 use Rattle.esp3_resync.proofs.FramesLemmas.{held, lent, quiet_part_of_packet}
+use Rattle.esp3_resync.proofs.HeaderLemmas.{not_never}
 use Rattle.esp3_resync.proofs.framer.Framer.borrow_packet.Goals as goal
 
 carry : {A : Type 0} (P Q : A → Type 0) → ((x : A) → P x → Q x) → (r : Option A) → IfSome r P → IfSome r Q
@@ -30,7 +31,7 @@ returns-clause-taken c =
     let w = c.self.inside.window in
     let f = c.args.self.now in
     let b = c.args.bytes.now in
-    let h = held w f c.self.invariant.front c.self.view_is c.requires in
+    let h = held w f (not_never c.self.inside.front c.self.inside.window c.self.invariant) c.self.view_is c.requires in
     let nil : w ≡ [] = nil_from_length w (eqb-true _ _ (sym c.if-not-is_empty.ensures)) in
     carry _ _ (λ r is. lent (packet_of r.0) w f (take r.1 b) nil h.1
     (subst (λ n. IsPacket (packet_of r.0) (take n b)) (sym is.1) (whole_length b (packet_of r.0) is.0).2))
@@ -41,7 +42,7 @@ returns-clause-before c =
     let w = c.self.inside.window in
     let f = c.args.self.now in
     let b = c.args.bytes.now in
-    let h = held w f c.self.invariant.front c.self.view_is c.requires in
+    let h = held w f (not_never c.self.inside.front c.self.inside.window c.self.invariant) c.self.view_is c.requires in
     let nil : w ≡ [] = nil_from_length w (eqb-true _ _ (sym c.if-not-is_empty.ensures)) in
     carry _ _ (λ r is k below.
     let packet = packet_of r.0 in
@@ -55,5 +56,5 @@ returns-clause-before c =
 pub returns-then-not-is_empty-clause-none : goal.returns-then-not-is_empty-clause-none
 returns-then-not-is_empty-clause-none c = λ nil p.
     let w = c.self.inside.window in
-    let h = held w c.args.self.now c.self.invariant.front c.self.view_is c.requires in
+    let h = held w c.args.self.now (not_never c.self.inside.front c.self.inside.window c.self.invariant) c.self.view_is c.requires in
     let none = ap length (h.1 ∙ nil) in absurd (eqb-false _ _ (sym c.if-not-is_empty.ensures) none)

@@ -1,34 +1,30 @@
-use Rattle.std.proofs.Common.{◌<◌, ◌↔◌, length, arith, ap, subst}
-use Rattle.std.specs.Prelude.{IsTrue}
+use Rattle.std.proofs.Common.{◌≡◌, ℕ, List, length, refl, arith, ap, subst}
 use Rattle.esp3_frames.specs.Framing.{MayBecomePacket}
-use Rattle.esp3_frames.specs.Frames.{Frames}
+use Rattle.esp3_frames.specs.Frames.{Frames, frames_of}
 use Rattle.esp3_frames.proofs.ForCallers.{framing_of, rest_may_become}
-use Rattle.esp3_resync.specs.private.Settled.{HasHeader, packet_at}
-use Rattle.esp3_resync.proofs.FramesLemmas.{ready_by_front, unready_partial}
-use Rattle.esp3_resync.proofs.HeaderLemmas.{short_partial}
+use Rattle.esp3_resync.proofs.FramesLemmas.{ready_whole, unready_partial}
+use Rattle.esp3_resync.proofs.HeaderLemmas.{is_whole, not_whole}
 use Rattle.esp3_resync.proofs.framer.Framer.is_ready.Goals as goal
 
-pub returns-in-Some-clause-ready : goal.returns-in-Some-clause-ready
-returns-in-Some-clause-ready c =
-    let s = c.self.inside.window in
-    let h = c.in-Some.header in
-    let r = c.is_complete.result in
-    let P : Frames → Type 0 = λ x. IsTrue r ↔ (0 < length x.ready) in
-    subst P c.self.view_is (ready_by_front r s (packet_at h s) c.is_complete.ensures.whole
-    c.is_complete.ensures.partial)
+rest_of_framer : (w : List ℕ) (f : Frames) → frames_of w ≡ f → MayBecomePacket f.rest
+rest_of_framer w f is = subst (λ (x : Frames). MayBecomePacket x.rest) is (rest_may_become (framing_of w))
 
-pub returns-in-None-clause-ready : goal.returns-in-None-clause-ready
-returns-in-None-clause-ready c =
+pub returns-in-WholePacket-clause-ready : goal.returns-in-WholePacket-clause-ready
+returns-in-WholePacket-clause-ready c =
     let s = c.self.inside.window in
-    let short : length s < 6 = subst (HasHeader s) c.in-None.is c.self.invariant.header in
-    let r = unready_partial s (short_partial s short c.self.invariant.front) in
+    let r = ready_whole s _ (is_whole c.self.inside.front s c.in-WholePacket.field-0 c.in-WholePacket.is c.self.invariant) in
     let e = ap (λ (x : Frames). length x.ready) c.self.view_is in
-    (λ t. absurd cc, λ h. absurd (omega (arith, r, e, h)))
+    (λ _. omega (arith, r, e), λ _. refl)
 
-pub returns-in-Some-clause-rest : goal.returns-in-Some-clause-rest
-returns-in-Some-clause-rest c = let P : Frames → Type 0 =
-    λ x. MayBecomePacket x.rest in subst P c.self.view_is (rest_may_become (framing_of c.self.inside.window))
+pub returns-in-WholePacket-clause-rest : goal.returns-in-WholePacket-clause-rest
+returns-in-WholePacket-clause-rest c = rest_of_framer c.self.inside.window c.args.self.now c.self.view_is
 
-pub returns-in-None-clause-rest : goal.returns-in-None-clause-rest
-returns-in-None-clause-rest c = let P : Frames → Type 0 =
-    λ x. MayBecomePacket x.rest in subst P c.self.view_is (rest_may_become (framing_of c.self.inside.window))
+pub returns-in_default : goal.returns-in_default
+returns-in_default c =
+    let s = c.self.inside.window in
+    let r = unready_partial s (not_whole c.self.inside.front s c.self.invariant c.in_default.not-WholePacket) in
+    let e = ap (λ (x : Frames). length x.ready) c.self.view_is in
+    record {
+      ready = (λ t. absurd cc, λ h. absurd (omega (arith, r, e, h)));
+      rest = rest_of_framer s c.args.self.now c.self.view_is;
+    }

@@ -1,4 +1,4 @@
-use Rattle.std.proofs.Common.{length, sym, ap, ◌∙◌, arith}
+use Rattle.std.proofs.Common.{length, ap, ◌∙◌, arith}
 use Rattle.esp3_frames.specs.Frames.{front_of, frames_of}
 use Rattle.esp3_frames.proofs.ForCallers.{front-empty}
 use Rattle.esp3_resync.proofs.FramesLemmas.{frames_of-empty}
@@ -6,8 +6,7 @@ use Rattle.esp3_resync.proofs.framer.Framer.new.Goals as goal
 
 pub invariant_of-result : goal.invariant_of-result
 invariant_of-result c =
-    let e = ap front_of c.in_ok-new.ensures ∙ front-empty in
-    record { front = λ never. let z = sym e ∙ never in cc; header = omega (arith, ap length c.in_ok-new.ensures) }
+    (ap front_of c.in_ok-new.ensures ∙ front-empty, omega (arith, ap length c.in_ok-new.ensures))
 
 pub returns : goal.returns
 returns c = ap frames_of c.in_ok-new.ensures ∙ frames_of-empty

@@ -1,12 +1,13 @@
 use Rattle.std.proofs.Common.{◌-◌, length, drop, sym, ap, ◌∙◌, arith, length-take, length-drop}
 use Rattle.esp3_frames.specs.Frames.{Frames}
 use Rattle.esp3_resync.proofs.FramesLemmas.{idle, run_more, quiet_more, quiet_before, none_ready}
+use Rattle.esp3_resync.proofs.HeaderLemmas.{not_never}
 use Rattle.esp3_resync.proofs.framer.Framer.push_run.Goals as goal
 
 pub loop-count-init : goal.loop-count-init
 loop-count-init c = record {
   within = omega arith;
-  taken = idle c.self.inside.window c.args.self.now c.self.invariant.front c.self.view_is c.requires;
+  taken = idle c.self.inside.window c.args.self.now (not_never c.self.inside.front c.self.inside.window c.self.invariant) c.self.view_is c.requires;
   none = c.requires;
 }
 

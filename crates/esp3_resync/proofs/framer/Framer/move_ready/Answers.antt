@@ -1,85 +1,74 @@
-use Rattle.std.proofs.Common.{rules}
 use Rattle.std.proofs.Common.{◌≡◌, ℕ, ◌+◌, List, ◌∷◌, length, take, drop, refl, sym, ap, ◌∙◌, arith, length-take}
 use Rattle.std.proofs.Common.{length-drop}
-use Rattle.std.specs.Prelude.{Option, Some, None}
 use Rattle.std.proofs.lemmas.List.{drop-drop}
 use Rattle.esp3_frames.specs.Packet.{Packet}
-use Rattle.esp3_frames.specs.Frames.{front_of, frames_of, Frames}
-use Rattle.esp3_frames.specs.Frames.Front.{Partial}
+use Rattle.esp3_frames.specs.Frames.{frames_of, Frames}
 use Rattle.esp3_frames.specs.declared.packet.Header.{Header}
 use Rattle.esp3_frames.proofs.ForCallers.{frames-whole}
 use Rattle.esp3_resync.specs.BufferedPacket.{packet_with}
-use Rattle.esp3_resync.specs.private.Settled.{IsSettled, packet_at}
+use Rattle.esp3_resync.specs.private.Settled.{packet_at}
 use Rattle.esp3_resync.proofs.FramesLemmas.{ready_whole, unready_partial}
-use Rattle.esp3_resync.proofs.HeaderLemmas.{short_partial, whole_sum, whole_parts}
-use Rattle.esp3_resync.proofs.framer.Framer.take.Goals as goal
+use Rattle.esp3_resync.proofs.HeaderLemmas.{is_whole, not_whole, whole_sum, whole_parts}
+use Rattle.esp3_resync.proofs.framer.Framer.move_ready.Goals as goal
 
-unannounced : (w : List ℕ) (h : Option Header) → IsSettled w h → ((x : Header) → h ≡ Some x → ⊥) → front_of w ≡ Partial
-unannounced w None s n = short_partial w s.header s.front
-unannounced w (Some x) s n = absurd (n x refl)
-
-pub returns-in_default-clause-ready : goal.returns-in_default-clause-ready
-returns-in_default-clause-ready c =
+pub returns-in_default : goal.returns-in_default
+returns-in_default c =
     let s = c.self.inside.window in
-    let r = unready_partial s (unannounced s c.self.inside.header c.self.invariant c.in_default.not-Some) in
+    let r = unready_partial s (not_whole c.self.inside.front s c.self.invariant c.in_default.not-WholePacket) in
     let e = ap (λ (x : Frames). length x.ready) c.self.view_is in
-    (λ t. absurd cc, λ h. absurd (omega (arith, r, e, h)))
-
-pub returns-then-not-is_complete-clause-ready : goal.returns-then-not-is_complete-clause-ready
-returns-then-not-is_complete-clause-ready c =
-    let s = c.self.inside.window in
-    let r = unready_partial s c.if-not-is_complete.ensures.partial in
-    let e = ap (λ (x : Frames). length x.ready) c.self.view_is in
-    (λ t. absurd cc, λ h. absurd (omega (arith, r, e, h)))
+    record {
+      ready = (λ t. absurd cc, λ h. absurd (omega (arith, r, e, h)));
+      room = c.requires;
+      taken = tt;
+      none = (refl, refl);
+    }
 
 -- what is moved out after a header
 moved : (s : List ℕ) (h : Header) (behind to : List ℕ) (k : ℕ) → behind ≡ drop 6 s → to ≡ take k behind
     → k ≡ h.data_len + h.opt_len → to ≡ take (h.data_len + h.opt_len) (drop 6 s)
 moved s h behind to k is items count = items ∙ ap (λ i. take i behind) count ∙ ap (take (h.data_len + h.opt_len)) is
 
+pub skip-requires : goal.skip-requires
+skip-requires c =
+    let s = c.self.inside.window in
+    let h = c.in-WholePacket.header in
+    let n = whole_parts s h (is_whole c.self.inside.front s h c.in-WholePacket.is c.self.invariant) in
+    omega (arith, n.0)
+
 pub move_into-requires : goal.move_into-requires
 move_into-requires c =
     let s = c.self.inside.window in
-    let n = whole_parts s c.in-Some.header c.if-not-is_complete.ensures.whole in (
+    let h = c.in-WholePacket.header in
+    let n = whole_parts s h (is_whole c.self.inside.front s h c.in-WholePacket.is c.self.invariant) in (
       omega (arith, n.0, c.announced_len.ensures, ap length c.skip.ensures, length-drop 6 s),
-      omega (arith, n.1, c.announced_len.ensures, c.out.invariant.room),
+      omega (arith, n.1, c.announced_len.ensures, c.requires),
     )
 
 pub skip-requires-2 : goal.skip-requires-2
 skip-requires-2 c =
     let s = c.self.inside.window in
-    let n = whole_parts s c.in-Some.header c.if-not-is_complete.ensures.whole in
+    let h = c.in-WholePacket.header in
+    let n = whole_parts s h (is_whole c.self.inside.front s h c.in-WholePacket.is c.self.invariant) in
     let left = ap length c.move_into.ensures.rest in
     let behind = ap length c.skip.ensures in
     let dropped = length-drop c.announced_len.result c.skip.new.self in
     omega (arith, n.0, c.announced_len.ensures, left, dropped, behind, length-drop 6 s)
 
-pub invariant_of-out : goal.invariant_of-out
-invariant_of-out c =
-    let s = c.self.inside.window in
-    let h = c.in-Some.header in
-    let n = whole_parts s h c.if-not-is_complete.ensures.whole in
-    let items =
-    moved s h c.skip.new.self c.move_into.new.to.items c.announced_len.result c.skip.ensures c.move_into.ensures.items
-    c.announced_len.ensures in
-    record {
-      room = omega (arith, c.out.invariant.room, c.move_into.ensures.capacity);
-      lengths = omega (arith, n.0, ap length items, length-take (h.data_len + h.opt_len) (drop 6 s), length-drop 6 s);
-    }
-
 pub returns-clause-ready : goal.returns-clause-ready
 returns-clause-ready c =
     let s = c.self.inside.window in
-    let r = ready_whole s _ c.if-not-is_complete.ensures.whole in
+    let h = c.in-WholePacket.header in
+    let r = ready_whole s _ (is_whole c.self.inside.front s h c.in-WholePacket.is c.self.invariant) in
     let e = ap (λ (x : Frames). length x.ready) c.self.view_is in
     (λ _. omega (arith, r, e), λ _. refl)
 
 pub returns-clause-taken : goal.returns-clause-taken
 returns-clause-taken c =
     let s = c.self.inside.window in
-    let h = c.in-Some.header in
+    let h = c.in-WholePacket.header in
     let p : Packet = packet_at h s in
-    let whole = c.if-not-is_complete.ensures.whole in
+    let whole = is_whole c.self.inside.front s h c.in-WholePacket.is c.self.invariant in
+    let parts = whole_parts s h whole in
     let items =
     moved s h c.skip.new.self c.move_into.new.to.items c.announced_len.result c.skip.ensures c.move_into.ensures.items
     c.announced_len.ensures in
@@ -95,11 +84,9 @@ returns-clause-taken c =
     let here = frames-whole s p whole in
     let ready = λ (x : Frames). x.ready in
     let rest = λ (x : Frames). x.rest in (
-      p,
-      ap (λ (v : List ℕ). Some (packet_with h v)) items,
-      sym (ap ready c.self.view_is) ∙ ap ready here ∙ ap (λ (ps : List Packet). p ∷ ps) (sym (ap ready behind)),
+      omega (arith, parts.0, ap length items, length-take (h.data_len + h.opt_len) (drop 6 s), length-drop 6 s),
+      sym (ap ready c.self.view_is) ∙ ap ready here ∙ ap (λ (q : Packet). q ∷ (frames_of (drop n s)).ready)
+          (ap (packet_with h) (sym items))
+          ∙ ap (λ (ps : List Packet). packet_with h c.move_into.new.to.items ∷ ps) (sym (ap ready behind)),
       ap rest behind ∙ sym (ap rest here) ∙ ap rest c.self.view_is,
     )
-
-pub invariant_of-self : goal.invariant_of-self
-invariant_of-self c = search rules
