@@ -60,9 +60,15 @@ class Check:
             try:
                 yield from check()
             except PermissionError as error:
-                yield UNCHECKED, f"permission denied for {error.filename}: run enogate-check as root"
+                yield self.unchecked(f"permission denied for {error.filename}")
             except OSError as error:
                 yield FAULT, f"{error.filename} cannot be read: {error.strerror}"
+
+    def unchecked(self, what: str):
+        """The finding that this could not be checked, and why."""
+        if self.system.is_root:
+            return UNCHECKED, f"{what}: not even root may see this here, for example because this is a container"
+        return UNCHECKED, f"{what}: run enogate-check as root"
 
     def of_settings(self):
         """The settings of the gateway, which override those of all."""
@@ -99,7 +105,7 @@ class Check:
         for user in others:
             yield FAULT, f"{user} uses {path} too: end it, because each program receives only part of the data"
         if not sees_all:
-            yield UNCHECKED, f"programs of other users that use {path} without a lock: run enogate-check as root"
+            yield self.unchecked(f"programs of other users that use {path} without a lock")
         if self.gateway:
             yield from self.of_line(path)
         elif self.start:
@@ -125,7 +131,7 @@ class Check:
             port = ports.open_port(path)
         except ports.PortError as error:
             if isinstance(error.__cause__, PermissionError):
-                yield UNCHECKED, f"the radio module at {path}: run enogate-check as root"
+                yield self.unchecked(f"the radio module at {path}")
             else:
                 yield FAULT, str(error)
             return
@@ -156,7 +162,7 @@ class Check:
             return
         files = self.system.open_files(self.gateway)
         if files is None:
-            yield UNCHECKED, "whether the desk was truncated or replaced: run enogate-check as root"
+            yield self.unchecked("whether the desk was truncated or replaced")
             return
         desk = os.stat(self.desk) if exists(self.desk) else None
         held = [file for file in files if file.number > 2 and file.is_read_only and desk and is_same(file.status, desk)]
@@ -217,7 +223,7 @@ class Check:
         for user in others:
             yield FAULT, f"{user} uses the database {self.database}: end it"
         if not sees_all and not others:
-            yield UNCHECKED, f"programs of other users that use {self.database}: run enogate-check as root"
+            yield self.unchecked(f"programs of other users that use {self.database}")
         if self.gateway:
             yield OK, f"database: {self.database}, used by {self.gateway}"
         elif not others:
