@@ -13,6 +13,7 @@ from enogate_tools import port as ports
 
 from . import sheet, words
 from .answers import SHARED, Answer
+from .base import ORDER as BASE, ask_base
 from .command_line import AskBase, Command, Export, Give, Import, ShowPaths, parsed
 from .desk import Desk, NoAnswer
 from .places import Unreadable, paths
@@ -63,7 +64,7 @@ def run(command: Command, stops: Stops) -> int:
     """Carries out a command, and returns the exit status."""
     match command:
         case AskBase(port):
-            return ask_base(port)
+            return ask_module(port)
         case ShowPaths():
             print(json.dumps(paths(), separators=(",", ":"), sort_keys=True))
             return OK
@@ -88,7 +89,7 @@ def run(command: Command, stops: Stops) -> int:
 
 def give_order(desk: Desk, command: Give) -> int:
     """Gives an order, and prints its answer."""
-    answer = desk.ask(command.order)
+    answer = ask_base(desk) if command.order == BASE else desk.ask(command.order)
     if command.is_json:
         for line in answer.lines:
             print(line.raw.decode("ascii"))
@@ -131,7 +132,7 @@ def import_devices(desk: Desk) -> int:
     return OK if sheet.Import(known, give, report).run(text) else REFUSED
 
 
-def ask_base(path: str) -> int:
+def ask_module(path: str) -> int:
     """Asks the radio module at this port for its base ID, and prints it."""
     port = ports.open_port(path)
     try:
