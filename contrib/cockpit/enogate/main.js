@@ -15,9 +15,7 @@ import { TeachSection } from "./teach.js";
 import { UnknownSection } from "./unknown.js";
 import * as words from "./words.js";
 
-// In ms: the pause between two repaints, how long after a teach line the devices are asked for, and how often the state
-// of the service is.
-const PAUSE = 250;
+// In ms: how long after a teach line the devices are asked for, and how often the state of the service is.
 const REFRESH_AFTER = 1000;
 const LOOK_EVERY = 2000;
 const NO_RIGHTS = "You see this page without administrative access, so you cannot change anything. Turn it on at the " +
@@ -32,7 +30,7 @@ class Page {
         this.mayAct = false;
         this.unanswered = "";
         this.forget();
-        this.painter = new Painter(() => this.paint(), PAUSE);
+        this.painter = new Painter(() => this.paint());
         this.sections = {
             gateway: new GatewaySection(this), devices: new DevicesSection(this), unknown: new UnknownSection(this),
             teach: new TeachSection(this), actuators: new ActuatorsSection(this), packets: new PacketsSection(this),
@@ -116,7 +114,7 @@ class Page {
             tab.setAttribute("aria-selected", String(isOpen));
             byId(tab.dataset.section).hidden = !isOpen;
         }
-        this.painter.now();
+        this.painter.ask();
     }
 
     take(line, now) {
@@ -156,7 +154,7 @@ class Page {
         pressed.disabled = true;
         this.complain(await this.errorOf(order));
         pressed.disabled = !this.mayAct;
-        this.painter.now();
+        this.painter.ask();
     }
 
     /** Asks for the devices. The answer comes with the lines, and with it the counters and the learn window. */
