@@ -11,13 +11,13 @@ from typing import Sequence
 from enogate_mqtt.lines import Listed
 from enogate_tools import port as ports
 
-from . import sheet, words
+from . import recorded, sheet, words
 from .answers import SHARED, Answer
 from .base import ORDER as BASE, ask_base
-from .command_line import AskBase, Command, Export, Give, Import, ShowPaths, parsed
+from .command_line import AskBase, Command, Export, Give, Import, ShowPaths, ShowRecorded, parsed
 from .desk import Desk, NoAnswer
-from .places import Unreadable, paths
-from .shown import shown
+from .places import Places, Unreadable, paths
+from .shown import devices, shown
 from .stops import Stopped, Stops
 from .window import LearnWindow
 
@@ -68,6 +68,8 @@ def run(command: Command, stops: Stops) -> int:
         case ShowPaths():
             print(json.dumps(paths(), separators=(",", ":"), sort_keys=True))
             return OK
+        case ShowRecorded(places, is_json):
+            return show_recorded(places, is_json)
         case Export(places, timeout):
             print(sheet.exported(listed(Desk(places, timeout))), end="")
             return OK
@@ -95,7 +97,7 @@ def give_order(desk: Desk, command: Give) -> int:
             print(line.raw.decode("ascii"))
     checked(answer)
     if not command.is_json:
-        print(shown(answer, command.places, lambda: datetime.now(timezone.utc)))
+        print(shown(answer, command.places, now))
     return OK
 
 
@@ -104,6 +106,21 @@ def checked(answer: Answer) -> Answer:
     if answer.error:
         raise Refused(answer.error)
     return answer
+
+
+def show_recorded(places: Places, is_json: bool) -> int:
+    """Prints the devices as the lines record them."""
+    found = recorded.devices(places)
+    if not is_json:
+        print(devices(found, places, now()))
+        return OK
+    for line in recorded.as_json(found, places):
+        print(line)
+    return OK
+
+
+def now() -> datetime:
+    return datetime.now(timezone.utc)
 
 
 def listed(desk: Desk) -> list[Listed]:

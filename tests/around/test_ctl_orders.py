@@ -49,7 +49,7 @@ class Orders(CtlTest):
         for words in ((), ("frob",), ("add", "1800ABC", "D5-00-01"), ("label", "01800ABC", "a\nremove 01800ABC"),
                       ("label", "01800ABC", "ö"), ("label", "01800ABC", "x" * 33), ("--no", "list"), ("list", " "),
                       ("list", "--for", "5"), ("learn", "off", "--for", "5"), ("learn", "on", "--for", "0"),
-                      ("learn", "on", "--for", "x"), ("devices",), ("devices", "--export", "--import"),
+                      ("learn", "on", "--for", "x"), ("devices", "--export", "--import"),
                       ("list", "--export"), ("--timeout", "-1", "list"), ("devices", "--json", "--export"),
                       ("devices", "--export", "--for", "1")):
             with self.subTest(words):

@@ -10,12 +10,16 @@ import subprocess
 import tempfile
 import time
 import unittest
+from datetime import datetime, timedelta, timezone
 
 from selenium.common.exceptions import WebDriverException
 from selenium.webdriver.common.action_chains import ActionChains
 from selenium.webdriver.support.ui import Select
 
 from cockpit import Browser, Cockpit, Machine
+from enogate_mqtt.devices import Device
+from enogate_mqtt.follow import end_of
+from enogate_mqtt.store import Store
 from oracle.esp3 import telegram
 from programs import wait_for
 from services import Gateway, Stick
@@ -464,41 +468,73 @@ class Holds(PageTest):
         return max(browser.run("return window.clicks"), default=0.0)
 
 
-class Rights(unittest.TestCase):
-    """The page of a user without administrative rights."""
+class Rights(PageTest):
+    """The page of a user without administrative rights. What the page needs is readable for all users here."""
 
-    def test_the_page_is_read_only_and_says_why(self):
-        for path in (work, work / "run", work / "log", work / "run/enogate", work / "log/enogate"):
+    @classmethod
+    def setUpClass(cls) -> None:
+        for path in (work, work / "run", work / "log", work / "run/enogate", work / "log/enogate", work / "lib"):
             path.chmod(0o755)
         gateway.lines_path.chmod(0o644)
-        user = ["setpriv", "--reuid=nobody", "--regid=nogroup", "--clear-groups"]
         folder = work / "nobody"
         folder.mkdir()
         folder.chmod(0o777)
         (folder / "bin").symlink_to(work / "bin")
-        with Cockpit(folder, user) as limited:
-            limited.start()
-            browser.open(limited.address)
-            read_only = wait_for(lambda: browser.text("#read-only"), bool)
-            self.assertIn("without administrative access", read_only)
-            wait_for(lambda: browser.text("#feed"), lambda text: text == "live")
-            stick.bring("01800D01", PRESS)
-            browser.click("#tab-unknown")
-            row = "#unknown-rows [data-id='01800D01']"
-            self.assertTrue(wait_for(lambda: browser.text(row), bool))
-            browser.click(f"{row} button")
-            self.assertFalse(browser.find("#learn-go").is_enabled())
-            browser.click("#learn-close")
-            browser.click("#tab-teach")
-            for name in ("open", "answer", "as", "close"):
-                self.assertFalse(browser.find(f"#teach-{name}").is_enabled(), name)
-            if SCREENSHOTS:
-                browser.shoot(pathlib.Path(SCREENSHOTS) / "read-only.png")
-            gateway.lines_path.parent.chmod(0o700)
-            browser.open(limited.address)
-            seen = wait_for(lambda: browser.text("#trouble"), lambda text: "you may not read it" in text)
-            self.assertIn("you may not read it", seen)
-            gateway.lines_path.parent.chmod(0o755)
+        user = ["setpriv", "--reuid=nobody", "--regid=nogroup", "--clear-groups"]
+        cls.limited = cls.enterClassContext(Cockpit(folder, user))
+        cls.limited.start()
+
+    def open(self) -> None:
+        browser.open(self.limited.address)
+
+    def test_the_page_is_read_only_and_says_why(self):
+        self.wait_for_text("#read-only", "without administrative access")
+        self.wait_for_text("#feed", "live")
+        stick.bring("01800D01", PRESS)
+        self.tab("unknown")
+        self.wait_for_text(self.row("01800D01", "unknown"), "switch")
+        browser.click(self.row("01800D01", "unknown") + " button")
+        self.assertFalse(browser.find("#learn-go").is_enabled())
+        browser.click("#learn-close")
+        self.tab("teach")
+        for name in ("open", "answer", "as", "close"):
+            self.assertFalse(browser.find(f"#teach-{name}").is_enabled(), name)
+        self.tab("gateway")
+        self.assertFalse(browser.find("#gateway-refresh").is_enabled())
+        self.assertFalse(browser.find("#problem").is_displayed(), browser.text("#problem"))
+        self.shoot("read-only")
+
+    def test_devices_have_the_labels_of_the_last_list_and_the_times_of_the_bridge(self):
+        """The list is not among the lines that the page reads."""
+        for words in (("add", "01800D02", "D5-00-01"), ("label", "01800D02", "Cellar door"), ("list",),
+                      ("add", "01800D03", "F6-02-01")):
+            ctl(*words)
+        gateway.append('{"type":"ok"}\n' * 2500)
+        self.record("01800D02", datetime.now(timezone.utc) - timedelta(hours=50))
+        before = gateway.desk.read_bytes()
+        self.open()
+        self.wait_for_text(self.row("01800D02"), "Cellar door", "D5-00-01 single contact", "2 d ago")
+        self.wait_for_text(self.row("01800D03"), "–", "F6-02-01", "not known")
+        self.wait_for_text("#devices-note", "Devices and labels are those of the last list.")
+        quiet = browser.run("return document.querySelector(arguments[0]).className", self.row("01800D02"))
+        self.assertEqual(quiet, "quiet")
+        self.assertEqual(gateway.desk.read_bytes(), before)
+
+    def record(self, device: str, time: datetime) -> None:
+        """A bridge runs, and has heard a device at this time."""
+        store = Store(str(gateway.state), "")
+        self.addCleanup(store.connection.close)
+        told = {"last_seen": time.isoformat(timespec="seconds")}
+        store.save(end_of(str(gateway.lines_path)), [device], {device: Device(device, "D5-00-01", "", None, told)}, set())
+        gateway.state.parent.chmod(0o755)
+        for file in gateway.state.parent.iterdir():
+            file.chmod(0o644)
+
+    def test_lines_that_may_not_be_read(self):
+        gateway.lines_path.parent.chmod(0o700)
+        self.addCleanup(gateway.lines_path.parent.chmod, 0o755)
+        self.open()
+        self.wait_for_text("#trouble", "you may not read it")
 
 
 if __name__ == "__main__":

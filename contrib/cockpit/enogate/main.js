@@ -19,7 +19,7 @@ import * as words from "./words.js";
 const REFRESH_AFTER = 1000;
 const LOOK_EVERY = 2000;
 const NO_RIGHTS = "You see this page without administrative access, so you cannot change anything. Turn it on at the " +
-    "top of Cockpit. Labels are known only after an administrator has asked for the list.";
+    "top of Cockpit.";
 const NO_GATEWAY = "No gateway is set up on this machine, or you may not see it. Start one with: " +
     "systemctl enable --now enogate@NAME";
 
@@ -104,7 +104,16 @@ class Page {
             this.feedState = { state, why };
             this.painter.ask();
         });
-        await this.look();
+        await Promise.all([this.look(), this.recall(name)]);
+    }
+
+    /** Reads what the lines record of the devices. Someone who may give no order has no other list of them. */
+    async recall(name) {
+        const devices = await commands.recorded(name);
+        if (name !== this.gateway)
+            return;
+        this.model.takeRecorded(devices);
+        this.painter.ask();
     }
 
     openSection(name) {
