@@ -30,8 +30,8 @@ def devices(places: Places) -> list[Listed]:
 
 
 def as_json(found: list[Listed], places: Places) -> Iterator[str]:
-    """The devices as lines, like those of the order `list`. The member `seen` is when a device was heard last, in
-    seconds since 1970, or null if this is not known."""
+    """The devices as lines, like those of the order `list`. The member `seen` is the time of the last telegram
+    in seconds since 1970, or null if it is not known."""
     times = last_times(places.bridge, places.lines)
     for device in found:
         seen = int(times[device.device].timestamp()) if device.device in times else None
