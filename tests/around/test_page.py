@@ -525,7 +525,8 @@ class Rights(PageTest):
         store = Store(str(gateway.state), "")
         self.addCleanup(store.connection.close)
         told = {"last_seen": time.isoformat(timespec="seconds")}
-        store.save(end_of(str(gateway.lines_path)), [device], {device: Device(device, "D5-00-01", "", None, told)}, set())
+        known = {device: Device(device, "D5-00-01", "", None, told)}
+        store.save(end_of(str(gateway.lines_path)), [device], known, set())
         gateway.state.parent.chmod(0o755)
         for file in gateway.state.parent.iterdir():
             file.chmod(0o644)

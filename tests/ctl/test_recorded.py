@@ -36,7 +36,8 @@ class Recorded(Site):
         self.assertEqual(list(self.found()), ["01800AB1", "01800AB4", "01800ABC"])
 
     def test_a_device_that_was_deleted_and_learned_again_has_no_label(self):
-        self.write(device("01800ABC", "Door"), end_of_list(1), teach("01800ABC", result="deleted"), teach("01800ABC"))
+        self.write(device("01800ABC", "Door"), end_of_list(1))
+        self.write(teach("01800ABC", result="deleted"), teach("01800ABC"))
         self.assertEqual(self.found(), {"01800ABC": ("", "D5-00-01")})
 
     def test_an_incomplete_list_does_not_count(self):
@@ -60,8 +61,8 @@ class Recorded(Site):
 
     def test_lines_that_cannot_be_read(self):
         with mock.patch("os.open", side_effect=PermissionError(13, "Permission denied")):
-            with self.assertRaisesRegex(Unreadable, "cannot be read: Permission denied; become root, or a member of the "
-                                        "group enogate"):
+            with self.assertRaisesRegex(Unreadable, "cannot be read: Permission denied; become root, or a member of "
+                                        "the group enogate"):
                 recorded.devices(self.places)
 
     def test_a_list_that_was_rotated(self):

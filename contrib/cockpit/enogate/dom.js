@@ -39,8 +39,8 @@ export function setOptions(select, options, selected) {
 const PAUSE = 250;
 
 /**
- * Calls `paint` in the next frame, however often it is asked, and not again within a pause. A hidden page has no frames,
- * so it uses a timer.
+ * Calls `paint` in the next frame, however often it is asked, and not again within a pause. A hidden page has no
+ * frames, so it uses a timer.
  */
 export class Painter {
     constructor(paint) {

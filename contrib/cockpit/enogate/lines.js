@@ -65,8 +65,8 @@ export function parse(raw) {
 }
 
 /**
- * The devices in the output of `enogatectl --json GATEWAY devices`, each with the time in ms at which it was heard last,
- * or null.
+ * The devices in the output of `enogatectl --json GATEWAY devices`, each with the time of its last telegram in ms, or
+ * null.
  * @param {string} output
  * @returns {Object[]}
  */

@@ -54,7 +54,7 @@ function limit(list, most) {
         list.splice(0, list.length - most);
 }
 
-/** When a device was heard last, in ms; null if it is not known. */
+/** The time of the last telegram of a device in ms; null if it is not known. */
 export const lastHeard = ({ received, recorded }) => received ?? recorded;
 
 export class Model {

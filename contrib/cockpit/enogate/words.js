@@ -28,6 +28,9 @@ export const PROFILES = new Map([
     ["D2-05-00", "blinds"],
 ]);
 
+/** The profile of most switches. They do not send it, so it is offered first. */
+export const USUAL_SWITCH = "F6-02-01";
+
 /** The reasons in packet lines (docs/guide/devices.md). */
 export const REASONS = new Map([
     ["refused", "failed: out of memory, or a database error"],
