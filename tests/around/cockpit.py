@@ -110,6 +110,8 @@ class Browser:
             options.add_argument(word)
         options.binary_location = "/usr/bin/chromium"
         options.set_capability("goog:loggingPrefs", {"browser": "ALL"})
+        # Cockpit makes a certificate of its own.
+        options.set_capability("acceptInsecureCerts", True)
         self.driver = webdriver.Chrome(service=Service("/usr/bin/chromedriver"), options=options)
         return self
 

@@ -66,8 +66,10 @@ class Page {
             const before = this.mayAct;
             this.mayAct = permission.allowed === true;
             show(byId("read-only"), permission.allowed === false ? NO_RIGHTS : "");
-            if (this.mayAct && !before)
+            if (this.mayAct && !before) {
                 this.askAll();
+                this.recall(this.gateway);
+            }
             this.painter.now();
         };
         permission.addEventListener("changed", changed);
@@ -109,6 +111,8 @@ class Page {
 
     /** Reads what the lines record of the devices. Someone who may give no order has no other list of them. */
     async recall(name) {
+        if (name === null)
+            return;
         const devices = await commands.recorded(name);
         if (name !== this.gateway)
             return;
