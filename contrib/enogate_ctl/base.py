@@ -29,8 +29,9 @@ def ask_base(desk: Desk) -> Answer:
     time."""
     limit = desk.clock() + desk.timeout
     with contextlib.closing(desk.follow()) as lines:
+        # This order has no errors.
         answer = desk.ask(ORDER)
-        return answer if answer.error else Answer([*answer.lines, wait(desk, lines, limit)])
+        return Answer([*answer.lines, wait(desk, lines, limit)])
 
 
 def wait(desk: Desk, lines: Lines, limit: float) -> Line:
