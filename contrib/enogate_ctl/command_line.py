@@ -14,7 +14,7 @@ from .places import NoName, Places, places_of
 TIMEOUT = 10.0
 USAGE = """enogatectl [--timeout SECONDS] [--json] [--desk PATH] [--lines PATH] GATEWAY ORDER..
        enogatectl [..] GATEWAY learn on|on answer|as EEP --for SECONDS
-       enogatectl [..] GATEWAY devices --export|--import
+       enogatectl [..] GATEWAY devices [--export|--import]
        enogatectl base PORT
        enogatectl paths"""
 EPILOG = ("GATEWAY is the name of a gateway, for example `hall` for enogate@hall.service. ORDER is one of: "
@@ -58,7 +58,14 @@ class Import:
     timeout: float
 
 
-Command = AskBase | ShowPaths | Give | Export | Import
+@dataclass(frozen=True)
+class ShowRecorded:
+    """Prints the devices of a gateway as its lines record them."""
+    places: Places
+    is_json: bool
+
+
+Command = AskBase | ShowPaths | Give | Export | Import | ShowRecorded
 
 
 def seconds_of(text: str) -> float:
@@ -149,9 +156,12 @@ class CommandLine:
 
     def devices(self) -> Command:
         """The command `devices`."""
-        self.forbid("devices", "json", "seconds")
-        if self.words.exports == self.words.imports:
-            self.fail("devices needs either --export or --import")
+        self.forbid("devices", "seconds")
+        if not self.words.exports and not self.words.imports:
+            return ShowRecorded(self.places(), self.words.json)
+        if self.words.exports and self.words.imports:
+            self.fail("--export and --import cannot be used together")
+        self.forbid("devices --export and devices --import", "json")
         kind = Export if self.words.exports else Import
         return kind(self.places(), self.words.timeout)
 

@@ -63,6 +63,13 @@ class Desk:
                  sleep: Callable[[float], None] = time.sleep, fork: Callable[[], int] = os.fork):
         self.places, self.timeout, self.clock, self.sleep, self.fork = places, timeout, clock, sleep, fork
 
+    def follow(self) -> Lines:
+        """The lines from now on, or NoAnswer if they cannot be read."""
+        try:
+            return Lines(self.places.lines)
+        except Unusable as error:
+            raise NoAnswer(str(error)) from error
+
     def ask(self, order: str) -> Answer:
         """The answer to this order, or NoAnswer."""
         return self.ask_all([order])[0]

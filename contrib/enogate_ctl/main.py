@@ -11,12 +11,13 @@ from typing import Sequence
 from enogate_mqtt.lines import Listed
 from enogate_tools import port as ports
 
-from . import sheet, words
+from . import recorded, sheet, words
 from .answers import SHARED, Answer
-from .command_line import AskBase, Command, Export, Give, Import, ShowPaths, parsed
+from .base import ORDER as BASE, ask_base
+from .command_line import AskBase, Command, Export, Give, Import, ShowPaths, ShowRecorded, parsed
 from .desk import Desk, NoAnswer
-from .places import Unreadable, paths
-from .shown import shown
+from .places import Places, Unreadable, paths
+from .shown import devices, shown
 from .stops import Stopped, Stops
 from .window import LearnWindow
 
@@ -63,10 +64,12 @@ def run(command: Command, stops: Stops) -> int:
     """Carries out a command, and returns the exit status."""
     match command:
         case AskBase(port):
-            return ask_base(port)
+            return ask_module(port)
         case ShowPaths():
             print(json.dumps(paths(), separators=(",", ":"), sort_keys=True))
             return OK
+        case ShowRecorded(places, is_json):
+            return show_recorded(places, is_json)
         case Export(places, timeout):
             print(sheet.exported(listed(Desk(places, timeout))), end="")
             return OK
@@ -88,13 +91,13 @@ def run(command: Command, stops: Stops) -> int:
 
 def give_order(desk: Desk, command: Give) -> int:
     """Gives an order, and prints its answer."""
-    answer = desk.ask(command.order)
+    answer = ask_base(desk) if command.order == BASE else desk.ask(command.order)
     if command.is_json:
         for line in answer.lines:
             print(line.raw.decode("ascii"))
     checked(answer)
     if not command.is_json:
-        print(shown(answer, command.places, lambda: datetime.now(timezone.utc)))
+        print(shown(answer, command.places, now))
     return OK
 
 
@@ -103,6 +106,21 @@ def checked(answer: Answer) -> Answer:
     if answer.error:
         raise Refused(answer.error)
     return answer
+
+
+def show_recorded(places: Places, is_json: bool) -> int:
+    """Prints the devices as the lines record them."""
+    found = recorded.devices(places)
+    if not is_json:
+        print(devices(found, places, now()))
+        return OK
+    for line in recorded.as_json(found, places):
+        print(line)
+    return OK
+
+
+def now() -> datetime:
+    return datetime.now(timezone.utc)
 
 
 def listed(desk: Desk) -> list[Listed]:
@@ -131,7 +149,7 @@ def import_devices(desk: Desk) -> int:
     return OK if sheet.Import(known, give, report).run(text) else REFUSED
 
 
-def ask_base(path: str) -> int:
+def ask_module(path: str) -> int:
     """Asks the radio module at this port for its base ID, and prints it."""
     port = ports.open_port(path)
     try:

@@ -8,14 +8,15 @@ import os
 import sqlite3
 import urllib.parse
 from datetime import datetime
-from typing import Iterator
+from typing import BinaryIO, Iterator
 
 from enogate_mqtt.devices import LAST_SEEN
 from enogate_mqtt.follow import Follower, Place, files_of
 from enogate_mqtt.lines import BadLine, Telegram, content_of
 
-# How much of the lines is read for the last readings, and the end of a line with readings.
+# How much of the lines is read for the last readings, how much at once, and the end of a line with readings.
 MOST_READ = 1 << 20
+BLOCK = 1 << 20
 READING = b'"type":"reading"}'
 # How long to wait for the state of the bridge while the bridge writes it, in seconds.
 WAIT = 1.0
@@ -45,16 +46,32 @@ def last_lines(path: str, most: int) -> Iterator[bytes]:
     incomplete, and is then not valid."""
     for name in reversed(files_of(path)):
         try:
-            with open(name, "rb") as file:
-                file.seek(max(0, file.seek(0, os.SEEK_END) - most))
-                text = file.read(most)
+            file = open(name, "rb")
         except OSError:
             continue
-        most -= len(text)
-        *lines, _ = text.split(b"\n")
-        yield from reversed(lines)
+        with file:
+            size = file.seek(0, os.SEEK_END)
+            yield from lines_before(file, size, max(0, size - most))
+        most -= size
         if most <= 0:
             return
+
+
+def lines_before(file: BinaryIO, end: int, start: int) -> Iterator[bytes]:
+    """The lines of a file between two places, the last line first. What follows the last line end is left out."""
+    # the end of a line whose beginning is in the block before
+    rest, has_end = b"", False
+    while end > start:
+        size = min(BLOCK, end - start)
+        end -= size
+        file.seek(end)
+        rest, *lines = (file.read(size) + rest).split(b"\n")
+        if lines and not has_end:
+            lines.pop()
+            has_end = True
+        yield from reversed(lines)
+    if has_end:
+        yield rest
 
 
 def last_times(path: str, lines: str, most: int = MOST_READ) -> dict[str, datetime]:

@@ -5,7 +5,7 @@ from datetime import datetime
 from typing import Callable
 
 from enogate_mqtt.entities import Table
-from enogate_mqtt.lines import Listed, Status
+from enogate_mqtt.lines import Listed, Response, Status
 
 from . import recent, words
 from .answers import Answer
@@ -21,6 +21,8 @@ def shown(answer: Answer, places: Places, now: Callable[[], datetime]) -> str:
     match last.content:
         case Status(mode, counters):
             return table([("learn window", mode), *((name, str(count)) for name, count in counters.items())])
+        case Response(data=base):
+            return base
     if last.kind == "list":
         return devices([line.content for line in answer.lines[:-1] if isinstance(line.content, Listed)], places, now())
     return last.members.get("result", last.kind)

@@ -29,7 +29,7 @@ class LearnWindow:
         """Opens the window with this order, and closes it after the time, or if a signal stops the command. A window
         for one device (`learn as`) ends earlier: the gateway closes it. The desk is not locked meanwhile. A window that
         the gateway refused to open is not closed: another program may have opened it."""
-        with contextlib.closing(Lines(self.desk.places.lines)) as lines:
+        with contextlib.closing(self.desk.follow()) as lines:
             try:
                 self.give(order)
                 self.report("" if self.is_json else f"the learn window is open for {seconds:g} s; Ctrl-C closes it")

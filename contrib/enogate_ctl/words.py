@@ -39,6 +39,8 @@ PROFILES = {
     "A5-10": "room panel", "A5-12-01": "electricity meter", "A5-12-02": "gas meter", "A5-12-03": "water meter",
     "D2-01": "electronic switch or dimmer", "D2-05-00": "blinds",
 }
+# The kinds of entities whose name is not that of a reading: those of events, and those of the channels of actuators.
+NAMELESS = ("event", "switch", "light")
 MINUTE, HOUR, DAY = 60, 3600, 86400
 
 
@@ -54,8 +56,8 @@ def profile(eep: str) -> str:
 
 def readings(telegram: Telegram, table: Table) -> str:
     """The readings of a telegram without those that are only for diagnosis."""
-    shown = [reading(item, telegram.eep, table) for item in telegram.readings if is_shown(item, telegram.eep, table)]
-    return ", ".join(shown or [reading(item, telegram.eep, table) for item in telegram.readings])
+    shown = [item for item in telegram.readings if is_shown(item, telegram.eep, table)] or telegram.readings
+    return ", ".join(channel(item, telegram, table) + reading(item, telegram.eep, table) for item in shown)
 
 
 def is_shown(item: Reading, eep: str, table: Table) -> bool:
@@ -64,11 +66,18 @@ def is_shown(item: Reading, eep: str, table: Table) -> bool:
     return row is not None and row.entity != "" and not {"diagnostic", "hidden"} & row.more.keys()
 
 
+def channel(item: Reading, telegram: Telegram, table: Table) -> str:
+    """Before a reading: the channel of an actuator with several ones. Otherwise empty."""
+    row = table.of_reading(telegram.eep, item)
+    numbers = {other.name: other.number for other in telegram.readings}
+    return f"channel {numbers[row.by]}: " if row and row.count > 1 and numbers.get(row.by) is not None else ""
+
+
 def reading(item: Reading, eep: str, table: Table) -> str:
     """A reading with its name, two decimals, and its unit."""
     row = table.of_reading(eep, item)
     unit = row.more.get("unit", item.unit) if row and item.unit else item.unit
-    name = row.name if row and row.name and row.entity != "event" else item.name
+    name = row.name if row and row.name and row.entity not in NAMELESS else item.name
     return " ".join(filter(None, (name, rounded(item.text) if item.unit else item.text, unit)))
 
 

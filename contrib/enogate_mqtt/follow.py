@@ -154,12 +154,12 @@ def files_of(path: str) -> list[str]:
 
 
 def end_of(path: str) -> Place | None:
-    """The place at the end of the file at this path; None if it cannot be read."""
+    """The place at the end of the file at this path; None if it cannot be read. The file may grow meanwhile."""
     try:
         with open(path, "rb") as file:
             size = file.seek(0, os.SEEK_END)
-            file.seek(max(0, size - MAX_LAST))
-            return Place(os.fstat(file.fileno()).st_ino, size, file.read(size))
+            start = file.seek(max(0, size - MAX_LAST))
+            return Place(os.fstat(file.fileno()).st_ino, size, file.read(size - start))
     except OSError:
         return None
 

@@ -79,7 +79,9 @@ class Status:
 
 @dataclass(frozen=True)
 class Response:
-    """A response of the radio module."""
+    """A response of the radio module: its return code, and the data after it as hexadecimal digits."""
+    code: int
+    data: str
 
 
 @dataclass(frozen=True)
@@ -138,7 +140,7 @@ def content_by_type(kind: str, members: dict[str, Any]) -> Content:
         case "status", _:
             return Status(text(members["mode"], ".+"), {name: number(members[name]) for name in COUNTERS})
         case "response", _:
-            return Response()
+            return Response(number(members["code"]), text(members["data"], "(?:[0-9A-F]{2})*"))
     return Other()
 
 

@@ -13,7 +13,7 @@ import tempfile
 import time
 
 from . import VERSION, port as ports
-from .system import System, is_same
+from .system import OpenFile, System, is_same
 
 OK, FAULT, UNCHECKED = "ok", "fault", "not checked"
 MEGABYTE = 1024 * 1024
@@ -60,9 +60,15 @@ class Check:
             try:
                 yield from check()
             except PermissionError as error:
-                yield UNCHECKED, f"permission denied for {error.filename}: run enogate-check as root"
+                yield self.unchecked(f"permission denied for {error.filename}")
             except OSError as error:
                 yield FAULT, f"{error.filename} cannot be read: {error.strerror}"
+
+    def unchecked(self, what: str):
+        """The finding that this could not be checked, and why."""
+        if self.system.is_root:
+            return UNCHECKED, f"{what}: not even root may see this here, for example because this is a container"
+        return UNCHECKED, f"{what}: run enogate-check as root"
 
     def of_settings(self):
         """The settings of the gateway, which override those of all."""
@@ -99,7 +105,7 @@ class Check:
         for user in others:
             yield FAULT, f"{user} uses {path} too: end it, because each program receives only part of the data"
         if not sees_all:
-            yield UNCHECKED, f"programs of other users that use {path} without a lock: run enogate-check as root"
+            yield self.unchecked(f"programs of other users that use {path} without a lock")
         if self.gateway:
             yield from self.of_line(path)
         elif self.start:
@@ -125,7 +131,7 @@ class Check:
             port = ports.open_port(path)
         except ports.PortError as error:
             if isinstance(error.__cause__, PermissionError):
-                yield UNCHECKED, f"the radio module at {path}: run enogate-check as root"
+                yield self.unchecked(f"the radio module at {path}")
             else:
                 yield FAULT, str(error)
             return
@@ -156,23 +162,34 @@ class Check:
             return
         files = self.system.open_files(self.gateway)
         if files is None:
-            yield UNCHECKED, "whether the desk was truncated or replaced: run enogate-check as root"
+            yield self.unchecked("whether the desk was truncated or replaced")
             return
-        desk = os.stat(self.desk) if exists(self.desk) else None
-        held = [file for file in files if file.number > 2 and file.is_read_only and desk and is_same(file.status, desk)]
-        if not desk or not held or not stat.S_ISREG(desk.st_mode):
+        held = self.held_desk(files)
+        if not held:
+            # A gateway that has just started opens the database first.
+            self.sleep(2)
+            held = self.held_desk(self.system.open_files(self.gateway) or [])
+        if not held:
             yield FAULT, (f"the desk {self.desk} was replaced or deleted, for example by an editor: no order reaches "
                           f"the gateway, which reads the old file; {self.restart}, and give the orders again, with >>")
             return
-        place, size = held[0].place, desk.st_size
+        place, size = held.place, held.status.st_size
         if place > size:
             yield FAULT, (f"the desk {self.desk} was truncated (> in place of >>): the next {place - size} bytes of "
                           f"orders are lost; {self.restart}, and give the orders again, with >>")
-        elif place < size and self.is_stuck(held[0].number, place):
+        elif place < size and self.is_stuck(held.number, place):
             yield FAULT, (f"the gateway does not read the desk: {size - place} bytes of orders are waiting, perhaps "
                           f"because the radio module accepts no data; {self.restart}")
         else:
             yield OK, f"desk: {self.desk}, read up to byte {place} of {size}"
+
+    def held_desk(self, files: list[OpenFile]) -> OpenFile | None:
+        """The desk among the files that the gateway has open."""
+        desk = os.stat(self.desk) if exists(self.desk) else None
+        if not desk or not stat.S_ISREG(desk.st_mode):
+            return None
+        return next((file for file in files if file.number > 2 and file.is_read_only and is_same(file.status, desk)),
+                    None)
 
     def is_stuck(self, number: int, place: int) -> bool:
         """Whether the gateway has read nothing from the desk for two seconds."""
@@ -217,7 +234,7 @@ class Check:
         for user in others:
             yield FAULT, f"{user} uses the database {self.database}: end it"
         if not sees_all and not others:
-            yield UNCHECKED, f"programs of other users that use {self.database}: run enogate-check as root"
+            yield self.unchecked(f"programs of other users that use {self.database}")
         if self.gateway:
             yield OK, f"database: {self.database}, used by {self.gateway}"
         elif not others:

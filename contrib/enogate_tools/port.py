@@ -49,7 +49,7 @@ def crc8(data: bytes) -> int:
 
 
 def base_in(stream: bytes) -> str | None:
-    """The base ID in the first response of the module, if there is one. Other packets are skipped."""
+    """The base ID in the first response of the module that has one. Other packets are skipped."""
     for start, byte in enumerate(stream):
         header, rest = stream[start + 1:start + 5], stream[start + 6:]
         if byte != 0x55 or len(header) < 4 or crc8(header + stream[start + 5:start + 6]):
@@ -58,8 +58,9 @@ def base_in(stream: bytes) -> str | None:
         body = rest[:size + header[2] + 1]
         if header[3] != RESPONSE or size != 5 or len(body) < size + header[2] + 1 or crc8(body):
             continue
-        if body[0] == 0:
-            return body[1:5].hex().upper()
+        base = body[1:5].hex().upper()
+        if body[0] == 0 and is_base(base):
+            return base
     return None
 
 

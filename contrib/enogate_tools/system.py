@@ -53,6 +53,7 @@ class System:
 
     def __init__(self, root: str = "", proc: str = "/proc", run=output_of, user=identity):
         self.root, self.proc, self.run, self.user = root, proc, run, user()
+        self.is_root = os.geteuid() == 0
 
     def path(self, path: str) -> str:
         """A path on this machine."""
@@ -93,18 +94,31 @@ class System:
 
     def open_files(self, process: Process) -> list[OpenFile] | None:
         """What a process has open, or None if this user may not see it."""
-        found = []
         folder = os.path.join(self.proc, str(process.number))
         try:
-            for name in os.listdir(os.path.join(folder, "fd")):
-                info = dict(re.findall(r"(pos|flags):\s*(\d+)", self.read(folder, "fdinfo", name)))
-                found.append(OpenFile(int(name), os.stat(os.path.join(folder, "fd", name)), int(info.get("pos", "0")),
-                                      int(info.get("flags", "2"), 8) & os.O_ACCMODE == os.O_RDONLY))
+            names = os.listdir(os.path.join(folder, "fd"))
+            return [file for name in names if (file := self.open_file(folder, name))]
         except PermissionError:
+            # The kernel may deny access to the files of a process that has ended meanwhile. It has none.
+            return None if os.path.exists(folder) else []
+        except OSError:
+            return []
+
+    def open_file(self, folder: str, name: str) -> OpenFile | None:
+        """One of the files that the process with this folder has open. None if it was closed, or if it is in a file
+        system that only another user may see, where no file of a gateway is."""
+        path = os.path.join(folder, "fd", name)
+        try:
+            status = os.stat(path)
+        except PermissionError:
+            # Fails, too, if the process itself may not be seen.
+            os.readlink(path)
             return None
-        except OSError:  # it has ended, or has closed this file
-            pass
-        return found
+        except OSError:
+            return None
+        info = dict(re.findall(r"(pos|flags):\s*(\d+)", self.read(folder, "fdinfo", name)))
+        return OpenFile(int(name), status, int(info.get("pos", "0")),
+                        int(info.get("flags", "2"), 8) & os.O_ACCMODE == os.O_RDONLY)
 
     def users_of(self, path: str) -> tuple[list[Process], bool]:
         """The processes that have a file or a device open, and whether this user can see those of all users."""

@@ -42,6 +42,12 @@ class Machine:
             mount("-t", "tmpfs", "test", place)
             os.mkdir(f"{place}/enogate")
             mount("--bind", work / part, f"{place}/enogate")
+        # The state of the bridge is beside files that other programs need.
+        for name in ("upper", "work"):
+            os.mkdir(f"/run/{name}")
+        mount("-t", "overlay", "test", "/var/lib", "-o", "lowerdir=/var/lib,upperdir=/run/upper,workdir=/run/work")
+        os.makedirs("/var/lib/enogate-mqtt", exist_ok=True)
+        mount("--bind", work / "lib/enogate-mqtt", "/var/lib/enogate-mqtt")
         mount("-t", "tmpfs", "test", "/etc/default")
         shutil.copy(CONTRIB / "enogate.default", "/etc/default/enogate")
         (work / "bin/enogatectl").symlink_to(CONTRIB / "enogatectl")
@@ -104,6 +110,8 @@ class Browser:
             options.add_argument(word)
         options.binary_location = "/usr/bin/chromium"
         options.set_capability("goog:loggingPrefs", {"browser": "ALL"})
+        # Cockpit makes a certificate of its own.
+        options.set_capability("acceptInsecureCerts", True)
         self.driver = webdriver.Chrome(service=Service("/usr/bin/chromedriver"), options=options)
         return self
 

@@ -68,6 +68,19 @@ class Hangs(CtlTest):
         self.go_on()
         self.assert_run(self.end(process), OK, "accepted\n")
 
+    def test_a_module_that_does_not_report_its_base_id(self):
+        """The desk is not locked after that, and the late report is no answer to another order."""
+        self.stick.send(signal.SIGSTOP)
+        self.addCleanup(self.stick.send, signal.SIGCONT)
+        self.assert_run(self.ctl("--timeout", "1", "base"), SILENT, "",
+                        "the gateway has asked the radio module, which did not report its base ID within 1 s: check "
+                        "with enogate-check that the stick is at SERIAL")
+        self.assert_run(self.ctl("--timeout", "1", "learn", "off"), OK, "ok\n")
+        process = self.begin("base")
+        self.stick.send(signal.SIGCONT)
+        self.assert_run(self.end(process), OK, "FF800000\n")
+        self.assert_ends(self.ctl("label", "01900112", "x"), REFUSED, "unknown_device: ")
+
     def test_an_incomplete_line_on_the_desk_and_one_in_the_lines(self):
         self.gateway.append('{"type":"o')
         with self.gateway.desk.open("a") as desk:

@@ -27,7 +27,7 @@ class Orders(CtlTest):
              "the table of profiles in the guide, and try a similar one"),
             ("label 01800ABE Front door", OK, "ok"), ("label 01800ABE", OK, "ok"),
             ("label 01800ABF Lamp", REFUSED, UNKNOWN), ("remove 01800ABE", OK, "deleted"),
-            ("remove 01800ABE", REFUSED, UNKNOWN), ("base", OK, "ok"), ("learn on answer", OK, "ok"),
+            ("remove 01800ABE", REFUSED, UNKNOWN), ("base", OK, "FF800000"), ("learn on answer", OK, "ok"),
             ("learn as f6-02-01", OK, "ok"), ("learn on", OK, "ok"), ("learn off", OK, "ok"),
             ("switch 01800ABC 0 on", OK, "ok"), ("switch 01800ABC 31 on", REFUSED, RANGE),
             ("switch 01800ABD 0 off", REFUSED, WRONG), ("dim 01800ABC 0 50", OK, "ok"), ("query 01800ABC 0", OK, "ok"),
@@ -49,7 +49,7 @@ class Orders(CtlTest):
         for words in ((), ("frob",), ("add", "1800ABC", "D5-00-01"), ("label", "01800ABC", "a\nremove 01800ABC"),
                       ("label", "01800ABC", "ö"), ("label", "01800ABC", "x" * 33), ("--no", "list"), ("list", " "),
                       ("list", "--for", "5"), ("learn", "off", "--for", "5"), ("learn", "on", "--for", "0"),
-                      ("learn", "on", "--for", "x"), ("devices",), ("devices", "--export", "--import"),
+                      ("learn", "on", "--for", "x"), ("devices", "--export", "--import"),
                       ("list", "--export"), ("--timeout", "-1", "list"), ("devices", "--json", "--export"),
                       ("devices", "--export", "--for", "1")):
             with self.subTest(words):
@@ -68,6 +68,8 @@ class Orders(CtlTest):
     def test_json_is_the_lines_themselves(self):
         accepted = '{"eep":"D5-00-01","id":"01900001","maker":null,"result":"accepted","type":"teach"}\n'
         self.assert_run(self.ctl("--json", "add", "01900001", "D5-00-01"), OK, accepted)
+        self.assert_run(self.ctl("--json", "base"), OK, '{"type":"ok"}\n'
+                        '{"code":0,"data":"FF800000","name":"OK","type":"response"}\n')
         run = self.ctl("label", "--json", "01900002", "x")
         self.assertEqual((run.status, run.out), (REFUSED, '{"error":"unknown_device","type":"error"}\n'))
         self.assert_run(self.ctl("label", "01900001", "--", "-x", "--json  \"b\""), OK, "ok\n")

@@ -251,6 +251,21 @@ class Following(Case):
         self.path.unlink()
         self.assertIsNone(end_of(str(self.path)))
 
+    def test_the_end_of_a_file_that_grows_meanwhile(self):
+        """What was written after the end was noted is new, and what was there before it is not read again."""
+        status = os.fstat
+
+        def grows(file):
+            self.write("new\n")
+            return status(file)
+        for old in ("", "a\n", "x" * 100 + "\n"):
+            self.path.write_text(old)
+            with mock.patch("enogate_mqtt.follow.os.fstat", grows):
+                place = end_of(str(self.path))
+            self.assertEqual((place.offset, place.last), (len(old), old[-64:].encode()))
+            self.assertEqual(self.read(self.follower(place)), ["new"])
+        self.assertEqual(self.logged, [])
+
     def test_the_names_of_rotated_files(self):
         for end in (".2", ".10", "-20261127", "-20261126", ".1.gz", ".bak"):
             self.write("x\n", self.path.with_name(self.path.name + end))

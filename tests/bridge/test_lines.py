@@ -54,7 +54,8 @@ class Contents(unittest.TestCase):
             (b'{"count":2,"type":"list"}', EndOfList(2)),
             (b'{"ignored":1,"mode":"as F6-02-01","readings":2,"refused":3,"responses":4,"teach":5,"type":"status"}',
              Status("as F6-02-01", {"ignored": 1, "readings": 2, "refused": 3, "responses": 4, "teach": 5})),
-            (b'{"code":0,"data":"","name":"OK","type":"response"}', Response()),
+            (b'{"code":0,"data":"","name":"OK","type":"response"}', Response(0, "")),
+            (b'{"code":213,"data":"09FF","name":null,"type":"response"}', Response(213, "09FF")),
             (b'{"type":"ok"}', Other()), (b'{"error":"syntax","type":"error"}', Other()), (b'{"type":"new"}', Other()),
         ):
             with self.subTest(line):
@@ -76,7 +77,9 @@ class Contents(unittest.TestCase):
                          ('[{"name":"CO","word":"closed"}]', "3"), (',"readings":[{"name":"CO","word":"closed"}]', "")):
             with self.subTest(new):
                 self.assertIsInstance(content_of(CONTACT.replace(old, new).encode()), Strange)
-        for line in (b'{"count":"2","type":"list"}', b'{"mode":"on","type":"status"}', b'{"type":["list"]}'):
+        for line in (b'{"count":"2","type":"list"}', b'{"mode":"on","type":"status"}', b'{"type":["list"]}',
+                     b'{"type":"response"}', b'{"code":"0","data":"","type":"response"}',
+                     b'{"code":0,"data":"F","type":"response"}', b'{"code":0,"data":"ff","type":"response"}'):
             with self.subTest(line):
                 self.assertIsInstance(content_of(line), (Strange, Other))
 

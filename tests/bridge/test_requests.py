@@ -63,7 +63,7 @@ class Asking(Case):
     def test_a_start_asks_for_all(self):
         self.turn()
         self.requests.take(STATUS)
-        self.requests.take(Response())
+        self.requests.take(Response(0, ""))
         self.requests.list.answer()
         self.turn(20)
         self.site.desk.write_text("")
@@ -143,7 +143,7 @@ class Asking(Case):
         self.assertEqual(self.turn(5), ["list"])
         self.requests.take(STATUS)
         self.assertEqual(self.turn(1), ["base"])
-        self.requests.take(Response())
+        self.requests.take(Response(0, ""))
         self.assertIs(self.requests.module.is_online, True)
         times = []
         for second in range(int(MODULE_EVERY) + 10):
@@ -158,7 +158,7 @@ class Asking(Case):
         self.turn(1)
         self.turn(ANSWER_WITHIN)
         self.assertIs(self.requests.module.is_online, False)
-        self.requests.take(Response())
+        self.requests.take(Response(0, ""))
         self.assertIs(self.requests.module.is_online, True)
 
     def test_a_learn_window_closes(self):

@@ -8,14 +8,14 @@ from unittest import mock
 
 from enogate_ctl import command_line, grammar, main as program
 from enogate_ctl.answers import Answer, line_of
-from enogate_ctl.command_line import AskBase, Export, Give, Import, ShowPaths, parsed
+from enogate_ctl.command_line import AskBase, Export, Give, Import, ShowPaths, ShowRecorded, parsed
 from enogate_ctl.desk import NoAnswer
 from enogate_ctl.places import Places, Unreadable, places_of
 from enogate_ctl.stops import Stopped
 from enogate_tools import VERSION, port as ports
 
 ROOT = pathlib.Path(__file__).parents[2]
-HALL = places_of("hall")
+HALL, DEVICES = places_of("hall"), places_of("devices")
 
 
 def run(*arguments, text="", is_terminal=False):
@@ -49,6 +49,7 @@ class CommandLines(unittest.TestCase):
             ("paths list --json", Give(places_of("paths"), 10.0, True, "list", None)),
             ("paths devices --export", Export(places_of("paths"), 10.0)),
             ("hall devices --export", Export(HALL, 10.0)), ("--timeout 3 hall devices --export", Export(HALL, 3.0)),
+            ("hall devices", ShowRecorded(HALL, False)), ("--json devices devices", ShowRecorded(DEVICES, True)),
             ("hall devices --import", Import(HALL, 10.0)), ("hall --timeout 3 devices --import", Import(HALL, 3.0)),
         ):
             with self.subTest(words):
@@ -64,10 +65,12 @@ class CommandLines(unittest.TestCase):
             ("hall learn off --for 5", "--for needs an order"), ("hall learn on --for 0", "invalid number of seconds"),
             ("hall learn on --for inf", "invalid number of seconds value: 'inf'"),
             ("hall list --timeout nan", "argument --timeout: invalid"),
-            ("hall devices", "devices needs either --export or --import"),
-            ("hall devices --export --import", "devices needs either"), ("mqtt devices --export", "is not the name"),
+            ("hall devices --export --import", "--export and --import cannot be used together"),
+            ("mqtt devices --export", "is not the name"),
             ("hall devices --export --json", "--json cannot be used with devices"),
             ("hall devices --import --for 5", "--for cannot be used with devices"),
+            ("hall devices --for 5", "--for cannot be used with devices"),
+            ("hall devices --import --json", "--json cannot be used with devices --export and devices --import"),
             ("hall list --export", "--export cannot be used with an order"),
             ("hall list --import", "--import cannot be used with an order"),
             ("base /dev/x --json", "--json cannot be used with base"), ("base /dev/x --for 5", "--for cannot be used"),

@@ -2,7 +2,7 @@ import assert from "node:assert/strict";
 import { readFileSync } from "node:fs";
 import { test } from "node:test";
 
-import { parse } from "../../contrib/cockpit/enogate/lines.js";
+import { parse, recordedIn } from "../../contrib/cockpit/enogate/lines.js";
 import { ALL, DEVICE, HOSTILE, LIST, PACKET, READING, RESPONSE, STATUS, TAUGHT } from "./samples.mjs";
 
 const parsed = line => parse(JSON.stringify(line));
@@ -86,6 +86,15 @@ test("numbers that are not finite or whole are dropped", () => {
     for (const number of ["1e999", "-1", "1.5"])
         assert.equal(parse(`{"count":${number},"type":"list"}`), null, number);
     assert.ok(parse(JSON.stringify(STATUS).replace('"ignored":1', '"ignored":18446744073709551615')));
+});
+
+test("recorded devices have a time in ms, or none", () => {
+    const lines = [{ ...DEVICE, seen: 1795867200 }, { ...DEVICE, id: "01800ABD", seen: null }, LIST];
+    assert.deepEqual(recordedIn(lines.map(line => `${JSON.stringify(line)}\n`).join("")),
+                     [{ ...DEVICE, seen: 1795867200000 }, { ...DEVICE, id: "01800ABD", seen: null }]);
+    const bad = [DEVICE, { ...DEVICE, seen: "1" }, { ...DEVICE, seen: -1 }, { ...DEVICE, id: "<b>", seen: 1 }, 5, null];
+    assert.deepEqual(recordedIn(bad.map(line => JSON.stringify(line)).join("\n")), []);
+    assert.deepEqual(recordedIn(""), []);
 });
 
 test("a member __proto__ changes nothing", () => {

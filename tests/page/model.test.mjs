@@ -4,7 +4,7 @@ import { test } from "node:test";
 import * as limits from "../../contrib/cockpit/enogate/model.js";
 import { DEVICE, ERROR, LIST, OK, OTHER_PACKET, PACKET, READING, RESPONSE, STATUS, TAUGHT } from "./samples.mjs";
 
-const { Model, MOST_DEVICES, MOST_PACKETS, MOST_TAUGHT, MOST_UNKNOWN, MOST_VALUES } = limits;
+const { lastHeard, Model, MOST_DEVICES, MOST_PACKETS, MOST_TAUGHT, MOST_UNKNOWN, MOST_VALUES } = limits;
 const hexId = number => number.toString(16).toUpperCase().padStart(8, "0");
 
 /** A model that has taken these lines, one each second. */
@@ -80,6 +80,50 @@ test("a list whose beginning is missing changes nothing", () => {
     assert.deepEqual([model.isListed, model.devices.get("01800ABC").label], [false, ""]);
     model.take({ ...LIST, count: 1 }, 9000);
     assert.equal(model.isListed, false);
+});
+
+const RECORDED = { ...DEVICE, seen: 500 };
+
+test("recorded devices are shown with their labels and times until there is a list", () => {
+    const model = new Model(0);
+    model.take({ ...READING, id: "01800ABC", eep: "D5-00-01", readings: [] }, null);
+    model.takeRecorded([RECORDED, { ...RECORDED, id: "01800ABD", label: "", seen: null }]);
+    const shown = [...model.devices].map(([id, device]) => [id, device.eep, device.label, lastHeard(device)]);
+    assert.deepEqual(shown, [["01800ABC", "D5-00-01", "Front door", 500], ["01800ABD", "D5-00-01", "", null]]);
+    assert.deepEqual([model.isRecorded, model.isListed], [true, false]);
+    model.take({ ...DEVICE, label: "New" }, 1000);
+    model.take(LIST, 1000);
+    assert.deepEqual([...model.devices].map(([id, device]) => [id, device.label, lastHeard(device)]),
+                     [["01800ABC", "New", 500]]);
+});
+
+test("a list that was read before the recorded devices is newer; only their times are used", () => {
+    const model = modelOf({ ...DEVICE, label: "New" }, LIST);
+    model.takeRecorded([RECORDED, { ...RECORDED, id: "01800ABD" }]);
+    assert.deepEqual([...model.devices].map(([id, device]) => [id, device.label, lastHeard(device)]),
+                     [["01800ABC", "New", 500]]);
+});
+
+test("a device that was learned again with another profile is not the recorded one", () => {
+    const model = modelOf({ ...TAUGHT, eep: "A5-02-05" });
+    model.takeRecorded([RECORDED]);
+    const device = model.devices.get("01800ABC");
+    assert.deepEqual([device.eep, device.label, device.recorded], ["A5-02-05", "", null]);
+});
+
+test("a telegram is later than a recorded one", () => {
+    const model = new Model(0);
+    model.takeRecorded([{ ...RECORDED, eep: READING.eep }]);
+    model.take(READING, null);
+    assert.equal(lastHeard(model.devices.get("01800ABC")), 500);
+    model.take(READING, 9000);
+    assert.equal(lastHeard(model.devices.get("01800ABC")), 9000);
+});
+
+test("nothing is recorded", () => {
+    const model = new Model(0);
+    model.takeRecorded([]);
+    assert.equal(model.isRecorded, false);
 });
 
 test("an ID that is the name of a member is a device like all others", () => {

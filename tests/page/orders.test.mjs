@@ -49,6 +49,14 @@ test("enogatectl takes each command of the page for the order that is meant", ()
                      windows.map(order => [order.join(" "), 120, false]));
 });
 
+test("enogatectl takes the command for the recorded devices for one that gives no order", () => {
+    const program = "import sys; from enogate_ctl.command_line import parsed; print(parsed(sys.argv[1:]))";
+    const contrib = new URL("../../contrib", import.meta.url).pathname;
+    const words = ["-B", "-c", program, ...orders.recordedCommand("hall").slice(1)];
+    const shown = String(execFileSync("python3", words, { env: { ...process.env, PYTHONPATH: contrib } }));
+    assert.match(shown, /^ShowRecorded\(.*hall\.lines.*is_json=True\)\n$/);
+});
+
 test("a hostile label is one argument, which is a label of enogatectl or refused by it", () => {
     for (const text of HOSTILE.filter(Boolean))
         assert.equal(orders.command("hall", orders.label(ID, text)).filter(word => word === text).length, 1, text);

@@ -31,6 +31,15 @@ test("devices are sorted by each column, in both directions", () => {
     }
 });
 
+test("a device that was heard before the page was opened is sorted by the recorded time", () => {
+    const found = devices();
+    found.get("01800ABC").received = null;
+    for (const [recorded, order] of [[3000, ["01800ABC", "01800AC0"]], [1000, ["01800AC0", "01800ABC"]]]) {
+        found.get("01800ABC").recorded = recorded;
+        assert.deepEqual(selected(found, "", "received", false).map(([id]) => id), order);
+    }
+});
+
 test("devices are filtered by label, ID, and profile with its name", () => {
     assert.deepEqual(ids("FRONT", "id"), ["BC"]);
     assert.deepEqual(ids("0ac0", "id"), ["C0"]);
@@ -41,8 +50,10 @@ test("devices are filtered by label, ID, and profile with its name", () => {
 test("a device that was not received since the page was opened is quiet after the same time", () => {
     assert.ok(!isQuiet({ received: 60000 }, 0, 120000, 1));
     assert.ok(isQuiet({ received: 60000 }, 0, 120001, 1));
-    assert.ok(isQuiet({ received: null }, 0, 60001, 1));
-    assert.ok(!isQuiet({ received: null }, 0, 1e12, Infinity));
+    assert.ok(isQuiet({ received: null, recorded: null }, 0, 60001, 1));
+    assert.ok(!isQuiet({ received: null, recorded: null }, 0, 1e12, Infinity));
+    assert.ok(isQuiet({ received: null, recorded: 500000 }, 600000, 600001, 1));
+    assert.ok(!isQuiet({ received: null, recorded: 570000 }, 600000, 600001, 1));
 });
 
 test("the profiles of the kind of a sender are offered", () => {

@@ -80,8 +80,8 @@ test("details are left out if there is more", () => {
 });
 
 test("ages and times", () => {
-    assert.deepEqual([0, 59, 60, 3599, 3600, 90000].map(seconds => words.age(0, seconds * 1000)),
-                     ["0 s ago", "59 s ago", "1 min ago", "59 min ago", "1 h ago", "25 h ago"]);
+    assert.deepEqual([0, 59, 60, 3599, 3600, 86399, 86400, 900000].map(seconds => words.age(0, seconds * 1000)),
+                     ["0 s ago", "59 s ago", "1 min ago", "59 min ago", "1 h ago", "23 h ago", "1 d ago", "10 d ago"]);
     assert.equal(words.age(2000, 1000), "0 s ago");
     assert.equal(words.age(null, 1000), "earlier");
     assert.equal(words.clock(null), "earlier");

@@ -1,6 +1,7 @@
 // Runs the commands of the page through Cockpit.
 
 import { cockpit } from "./cockpit.js";
+import { recordedIn } from "./lines.js";
 import * as orders from "./orders.js";
 import * as places from "./places.js";
 
@@ -34,6 +35,9 @@ export function hasStick(serial) {
     const isMissing = error => error.exit_status === 1;
     return cockpit.spawn(["test", "-c", serial], READS).then(() => true, error => isMissing(error) ? false : null);
 }
+
+/** The devices as the lines record them; none if this user may not read the lines. */
+export const recorded = async gateway => recordedIn(await outputOf(orders.recordedCommand(gateway)));
 
 /** Gives an order. The promise is rejected if the gateway refuses it or does not answer. */
 export const give = (gateway, order) =>

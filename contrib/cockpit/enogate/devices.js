@@ -2,7 +2,7 @@
 
 import { byId, button, cells, element, Rows, setText, show } from "./dom.js";
 import { EditDialog } from "./edit.js";
-import { MOST_DEVICES } from "./model.js";
+import { lastHeard, MOST_DEVICES } from "./model.js";
 import { Plot } from "./plot.js";
 import * as words from "./words.js";
 
@@ -18,7 +18,7 @@ const ORDERS = new Map([
     ["id", ([a], [b]) => compareTexts(a, b)],
     ["profile", ([, a], [, b]) => compareTexts(a.eep, b.eep)],
     ["signal", ([, a], [, b]) => (b.dbm ?? -Infinity) - (a.dbm ?? -Infinity) || 0],
-    ["received", ([, a], [, b]) => (b.received ?? 0) - (a.received ?? 0)],
+    ["received", ([, a], [, b]) => (lastHeard(b) ?? 0) - (lastHeard(a) ?? 0)],
 ]);
 
 /** The devices that match a filter, sorted by a column. */
@@ -32,7 +32,7 @@ export function selected(devices, filter, column, isReverse) {
 }
 
 /** Whether a device has sent nothing for this time, as far as the page can know. */
-export const isQuiet = (device, opened, now, minutes) => now - (device.received ?? opened) > minutes * 60000;
+export const isQuiet = (device, opened, now, minutes) => now - (lastHeard(device) ?? opened) > minutes * 60000;
 
 export class DevicesSection {
     constructor(page) {
@@ -87,8 +87,10 @@ export class DevicesSection {
         const notes = [];
         if (model.devicesLeftOut)
             notes.push(`Only ${MOST_DEVICES} devices are shown.`);
-        if (!model.isListed)
+        if (!model.isListed && !model.isRecorded)
             notes.push("Only the devices in the last lines are shown: no list of all devices has been read.");
+        else if (!model.isListed)
+            notes.push("Devices and labels are those of the last list.");
         else if (!model.devices.size)
             notes.push("No device is learned. See the tabs “Unknown senders” and “Teach-in”.");
         return notes.join(" ");
@@ -121,8 +123,9 @@ class DeviceRow {
         this.element.classList.toggle("quiet", this.section.isQuiet(device));
     }
 
-    ageText({ received, readings }) {
-        return readings.size ? words.age(received, Date.now()) : "not known";
+    ageText(device) {
+        const time = lastHeard(device);
+        return time !== null || device.readings.size ? words.age(time, Date.now()) : "not known";
     }
 
     fillReadings({ readings }) {

@@ -35,13 +35,16 @@ export function setOptions(select, options, selected) {
         element("option", { value, selected: value === selected }, text)));
 }
 
+// The pause between two repaints in ms.
+const PAUSE = 250;
+
 /**
- * Calls `paint` in the next frame, however often it is asked, and not again within `pause` ms. A hidden page has no
+ * Calls `paint` in the next frame, however often it is asked, and not again within a pause. A hidden page has no
  * frames, so it uses a timer.
  */
 export class Painter {
-    constructor(paint, pause) {
-        Object.assign(this, { paint, pause, isWaiting: false, last: -Infinity });
+    constructor(paint) {
+        Object.assign(this, { paint, isWaiting: false, last: -Infinity, timer: null, frame: null });
     }
 
     /** The page has to be painted soon. */
@@ -49,18 +52,20 @@ export class Painter {
         if (this.isWaiting)
             return;
         this.isWaiting = true;
-        setTimeout(() => this.inNextFrame(), Math.max(0, this.last + this.pause - performance.now()));
+        this.timer = setTimeout(() => this.inNextFrame(), Math.max(0, this.last + PAUSE - performance.now()));
     }
 
     inNextFrame() {
         if (document.hidden)
-            setTimeout(() => this.now(), this.pause);
+            this.timer = setTimeout(() => this.now(), PAUSE);
         else
-            requestAnimationFrame(() => this.now());
+            this.frame = requestAnimationFrame(() => this.now());
     }
 
-    /** Paints at once: somebody has clicked. */
+    /** Paints at once: somebody has clicked. A repaint that was asked for before is done with it. */
     now() {
+        clearTimeout(this.timer);
+        cancelAnimationFrame(this.frame);
         this.isWaiting = false;
         this.last = performance.now();
         this.paint();

@@ -26,7 +26,7 @@ export class LearnDialog {
         this.isLearned = false;
         setText(byId("learn-id"), id);
         const profiles = profilesFor(sender).map(eep => [eep, words.profileWithName(eep)]);
-        setOptions(byId("learn-profile"), profiles, sender.eep);
+        setOptions(byId("learn-profile"), profiles, sender.eep ?? words.USUAL_SWITCH);
         this.field.reset("");
         setText(byId("learn-result"), "");
         byId("learn-go").disabled = !this.page.mayAct;

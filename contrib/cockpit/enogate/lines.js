@@ -64,4 +64,15 @@ export function parse(raw) {
     return isOfType && isOfType(line) ? line : null;
 }
 
+/**
+ * The devices in the output of `enogatectl --json GATEWAY devices`, each with the time of its last telegram in ms, or
+ * null.
+ * @param {string} output
+ * @returns {Object[]}
+ */
+export function recordedIn(output) {
+    return output.split("\n").map(parse).filter(line => line?.type === "device" && orNull(count, line.seen))
+            .map(({ seen, ...device }) => ({ ...device, seen: seen === null ? null : 1000 * seen }));
+}
+
 export { COUNTERS };

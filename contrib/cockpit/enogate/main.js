@@ -15,13 +15,11 @@ import { TeachSection } from "./teach.js";
 import { UnknownSection } from "./unknown.js";
 import * as words from "./words.js";
 
-// In ms: the pause between two repaints, how long after a teach line the devices are asked for, and how often the state
-// of the service is.
-const PAUSE = 250;
+// In ms: how long after a teach line the devices are asked for, and how often the state of the service is.
 const REFRESH_AFTER = 1000;
 const LOOK_EVERY = 2000;
 const NO_RIGHTS = "You see this page without administrative access, so you cannot change anything. Turn it on at the " +
-    "top of Cockpit. Labels are known only after an administrator has asked for the list.";
+    "top of Cockpit.";
 const NO_GATEWAY = "No gateway is set up on this machine, or you may not see it. Start one with: " +
     "systemctl enable --now enogate@NAME";
 
@@ -32,7 +30,7 @@ class Page {
         this.mayAct = false;
         this.unanswered = "";
         this.forget();
-        this.painter = new Painter(() => this.paint(), PAUSE);
+        this.painter = new Painter(() => this.paint());
         this.sections = {
             gateway: new GatewaySection(this), devices: new DevicesSection(this), unknown: new UnknownSection(this),
             teach: new TeachSection(this), actuators: new ActuatorsSection(this), packets: new PacketsSection(this),
@@ -68,8 +66,10 @@ class Page {
             const before = this.mayAct;
             this.mayAct = permission.allowed === true;
             show(byId("read-only"), permission.allowed === false ? NO_RIGHTS : "");
-            if (this.mayAct && !before)
+            if (this.mayAct && !before) {
                 this.askAll();
+                this.recall(this.gateway);
+            }
             this.painter.now();
         };
         permission.addEventListener("changed", changed);
@@ -106,7 +106,18 @@ class Page {
             this.feedState = { state, why };
             this.painter.ask();
         });
-        await this.look();
+        await Promise.all([this.look(), this.recall(name)]);
+    }
+
+    /** Reads what the lines record of the devices. Someone who may give no order has no other list of them. */
+    async recall(name) {
+        if (name === null)
+            return;
+        const devices = await commands.recorded(name);
+        if (name !== this.gateway)
+            return;
+        this.model.takeRecorded(devices);
+        this.painter.ask();
     }
 
     openSection(name) {
@@ -116,7 +127,7 @@ class Page {
             tab.setAttribute("aria-selected", String(isOpen));
             byId(tab.dataset.section).hidden = !isOpen;
         }
-        this.painter.now();
+        this.painter.ask();
     }
 
     take(line, now) {
@@ -156,7 +167,7 @@ class Page {
         pressed.disabled = true;
         this.complain(await this.errorOf(order));
         pressed.disabled = !this.mayAct;
-        this.painter.now();
+        this.painter.ask();
     }
 
     /** Asks for the devices. The answer comes with the lines, and with it the counters and the learn window. */

@@ -24,7 +24,8 @@ const BY_UNIT = new Set(["MR", "MV"]);
  * @property {string} label
  * @property {Map<string, Value>} readings
  * @property {?number} dbm
- * @property {?number} received        the time in ms; null if it was before the page was opened
+ * @property {?number} received     the time in ms; null if it was before the page was opened
+ * @property {?number} recorded     the time of the last telegram before the page was opened, if it is recorded
  *
  * @typedef {Object} Sender         a sender that is not learned
  * @property {string} rorg
@@ -53,6 +54,9 @@ function limit(list, most) {
         list.splice(0, list.length - most);
 }
 
+/** The time of the last telegram of a device in ms; null if it is not known. */
+export const lastHeard = ({ received, recorded }) => received ?? recorded;
+
 export class Model {
     /** @param {number} opened - when the page was opened, in ms */
     constructor(opened) {
@@ -70,6 +74,7 @@ export class Model {
         this.base = null;
         this.listing = null;
         this.isListed = false;
+        this.isRecorded = false;
         this.hasPackets = false;
         this.taken = 0;
     }
@@ -115,7 +120,7 @@ export class Model {
             return undefined;
         }
         if (!device || device.eep !== eep) {
-            device = { label: "", dbm: null, received: null, ...device, eep, readings: new Map() };
+            device = { label: "", dbm: null, received: null, recorded: null, ...device, eep, readings: new Map() };
             this.devices.set(id, device);
         }
         this.unknown.delete(id);
@@ -196,6 +201,19 @@ export class Model {
         }
         for (const { id, eep, label } of listed)
             this.device(id, eep).label = label;
+    }
+
+    /** Takes the devices that the lines record. A list that was read meanwhile is newer. */
+    takeRecorded(devices) {
+        this.isRecorded ||= devices.length > 0;
+        for (const { id, eep, label, seen } of devices) {
+            const device = this.devices.get(id) ?? (this.isListed ? undefined : this.device(id, eep));
+            if (device?.eep !== eep)
+                continue;
+            device.recorded = seen;
+            if (!this.isListed)
+                device.label = label;
+        }
     }
 
     /** Only the answer to the order `base` has four bytes of data. */

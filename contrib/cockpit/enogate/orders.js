@@ -10,6 +10,9 @@ const TWO_CHANNELS = new Set(["10", "11", "12"]);
 /** The command that gives an order. @param {string[]} order */
 export const command = (gateway, order) => ["enogatectl", "--json", gateway, "--", ...order];
 
+/** The command that prints the devices as the lines record them. It gives no order. */
+export const recordedCommand = gateway => ["enogatectl", "--json", gateway, "devices"];
+
 /** The command that opens the learn window, and closes it after this time or when it is ended. */
 export const windowCommand = (gateway, order, seconds) =>
     ["enogatectl", "--for", String(seconds), gateway, "--", ...order];

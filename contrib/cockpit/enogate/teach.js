@@ -14,7 +14,8 @@ export class TeachSection {
         this.rows = new Rows(byId("teach-rows"), (_, item) => new TaughtRow(item));
         this.process = null;
         this.until = null;
-        setOptions(byId("teach-profile"), [...words.PROFILES.keys()].map(eep => [eep, words.profileWithName(eep)]));
+        const profiles = [...words.PROFILES.keys()].map(eep => [eep, words.profileWithName(eep)]);
+        setOptions(byId("teach-profile"), profiles, words.USUAL_SWITCH);
         byId("teach-open").addEventListener("click", () => this.open(["learn", "on"]));
         byId("teach-answer").addEventListener("click", () => this.open(["learn", "on", "answer"]));
         byId("teach-as").addEventListener("click", () => this.open(["learn", "as", byId("teach-profile").value]));

@@ -28,6 +28,9 @@ export const PROFILES = new Map([
     ["D2-05-00", "blinds"],
 ]);
 
+/** The profile of most switches. They do not send it, so it is offered first. */
+export const USUAL_SWITCH = "F6-02-01";
+
 /** The reasons in packet lines (docs/guide/devices.md). */
 export const REASONS = new Map([
     ["refused", "failed: out of memory, or a database error"],
@@ -124,8 +127,10 @@ export function age(time, now) {
     const seconds = Math.max(0, Math.floor((now - time) / 1000));
     if (seconds < 60)
         return `${seconds} s ago`;
-    const minutes = Math.floor(seconds / 60);
-    return minutes < 60 ? `${minutes} min ago` : `${Math.floor(minutes / 60)} h ago`;
+    const [minutes, hours, days] = [60, 3600, 86400].map(length => Math.floor(seconds / length));
+    if (days)
+        return `${days} d ago`;
+    return hours ? `${hours} h ago` : `${minutes} min ago`;
 }
 
 /** The time of day; null is before the page was opened. */

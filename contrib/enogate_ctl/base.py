@@ -1,0 +1,46 @@
+"""The order `base`: its answer, and the base ID that the radio module reports afterwards.
+
+The gateway answers the order with `ok` when it has sent the question to the module. The base ID comes later, in a
+response. No line names the order to which a response belongs, but only `base` makes the module report a base ID, and it
+is the same one for all programs that ask. So the first response with a base ID is taken, whoever asked for it."""
+from __future__ import annotations
+
+import contextlib
+
+from enogate_mqtt.lines import Response
+from enogate_tools.port import is_base
+
+from .answers import Answer, Line, line_of
+from .desk import PAUSE, Desk, Lines, NoAnswer
+
+ORDER = "base"
+
+
+def reported(line: Line | None) -> str | None:
+    """The base ID that a line reports; None if it is another line."""
+    match line.content if line else None:
+        case Response(0, data) if is_base(data):
+            return data
+    return None
+
+
+def ask_base(desk: Desk) -> Answer:
+    """The answer to the order `base` and the response with the base ID, or NoAnswer if one of them does not come in
+    time."""
+    limit = desk.clock() + desk.timeout
+    with contextlib.closing(desk.follow()) as lines:
+        # This order has no errors.
+        answer = desk.ask(ORDER)
+        return Answer([*answer.lines, wait(desk, lines, limit)])
+
+
+def wait(desk: Desk, lines: Lines, limit: float) -> Line:
+    """The line that reports the base ID, or NoAnswer if it does not come in time. The desk is not locked meanwhile."""
+    while True:
+        for line in map(line_of, lines.read()):
+            if line and reported(line):
+                return line
+        if desk.clock() >= limit:
+            raise NoAnswer(f"the gateway has asked the radio module, which did not report its base ID within "
+                           f"{desk.timeout:g} s: check with enogate-check that the stick is at SERIAL")
+        desk.sleep(PAUSE)

@@ -1,0 +1,82 @@
+"""The learned devices as the lines of a gateway record them, for users who may read the lines but give no orders, and
+while the gateway does not run: those of the last list, with what was learned and deleted after it."""
+from __future__ import annotations
+
+import json
+from typing import Iterable, Iterator
+
+from enogate_mqtt.lines import BadLine, Content, Deleted, EndOfList, Learned, Listed, content_of
+
+from .desk import Lines
+from .desk_file import Unusable
+from .places import Places, Unreadable
+from .recent import last_lines, last_times
+
+# How much of the lines is searched for a list. A gateway with 100 devices that send each minute writes less in a day.
+MOST_SEARCHED = 1 << 26
+ENDS = (b'"type":"list"}', b'"type":"device"}', b'"type":"teach"}')
+
+
+def devices(places: Places) -> list[Listed]:
+    """The devices, by ascending ID, or Unreadable."""
+    try:
+        Lines(places.lines).close()
+    except Unusable as error:
+        raise Unreadable(str(error)) from error
+    found = devices_in(last_lines(places.lines, MOST_SEARCHED))
+    if found is None:
+        raise Unreadable(f"no list of the devices is in the lines {places.lines}: give the order `list` once")
+    return found
+
+
+def as_json(found: list[Listed], places: Places) -> Iterator[str]:
+    """The devices as lines, like those of the order `list`. The member `seen` is the time of the last telegram
+    in seconds since 1970, or null if it is not known."""
+    times = last_times(places.bridge, places.lines)
+    for device in found:
+        seen = int(times[device.device].timestamp()) if device.device in times else None
+        yield line_of({"eep": device.eep, "id": device.device, "label": device.label, "maker": device.maker,
+                       "seen": seen, "type": "device"})
+    yield line_of({"count": len(found), "type": "list"})
+
+
+def line_of(members: dict[str, object]) -> str:
+    """A line with these members."""
+    return json.dumps(members, separators=(",", ":"))
+
+
+def devices_in(lines: Iterable[bytes]) -> list[Listed] | None:
+    """The devices that these lines record, the last line first; None if they have no complete list."""
+    listed: list[Listed] = []
+    changes: list[Learned | Deleted] = []
+    count = None
+    for content in filter(None, map(content_in, lines)):
+        match content:
+            case EndOfList():
+                listed, count = [], content.count
+            case Listed():
+                listed.append(content)
+            case Learned() | Deleted():
+                changes.append(content)
+        if count == len(listed):
+            return changed(listed, reversed(changes))
+    return None
+
+
+def content_in(line: bytes) -> Content | None:
+    """The content of a line of a list, or of a teach line; None if it is another line."""
+    try:
+        return content_of(line) if line.endswith(ENDS) else None
+    except BadLine:
+        return None
+
+
+def changed(listed: list[Listed], changes: Iterable[Learned | Deleted]) -> list[Listed]:
+    """The devices of a list after these changes, by ascending ID. A device that is learned again keeps its label."""
+    known = {device.device: device for device in listed}
+    for change in changes:
+        old = known.pop(change.device, None)
+        if isinstance(change, Learned):
+            label = old.label if old else ""
+            known[change.device] = Listed(change.device, change.eep, label, change.maker)
+    return [known[name] for name in sorted(known)]

@@ -1,0 +1,199 @@
+"""Logins at Cockpit through PAM, and what each user sees and may do on the page. tests/around/login has booted a system
+with a gateway, which is at ROOT, and runs these tests in its network."""
+from __future__ import annotations
+
+import base64
+import contextlib
+import http.client
+import os
+import pathlib
+import ssl
+import unittest
+from dataclasses import dataclass
+from typing import Callable
+
+from selenium.common.exceptions import WebDriverException
+
+from cockpit import Browser
+from programs import wait_for
+from services import CONTRIB
+
+ROOT = pathlib.Path(os.environ.get("ROOT", "/nonexistent"))
+SCREENSHOTS = os.environ.get("SCREENSHOTS")
+HOST, PORT = "127.0.0.1", 9090
+FILES = "/cockpit/@localhost/enogate/"
+LINES = ROOT / "var/log/enogate/hall.lines"
+CHIEF, TECH, GUEST = (("chief", "chief-password"), ("tech", "tech-password"), ("guest", "guest-password"))
+FRAME = "iframe[name='cockpit1:localhost/enogate']"
+# The problem of an order with administrative rights, or nothing.
+GIVE = """
+const [done] = arguments;
+window.cockpit.spawn(["enogatectl", "hall", "learn", "on"], { superuser: "require" })
+    .then(() => done(""), error => done(error.problem));
+"""
+UNAUTHORIZED = 401
+# The certificate is one that nobody knows.
+UNKNOWN = ssl._create_unverified_context()  # pylint: disable=protected-access
+
+
+@dataclass(frozen=True)
+class Response:
+    """The response to a request."""
+    status: int
+    cookie: str
+    text: bytes
+
+
+def get(path: str, **headers: str) -> Response:
+    """Asks Cockpit for a file."""
+    with contextlib.closing(http.client.HTTPSConnection(HOST, PORT, context=UNKNOWN, timeout=60)) as connection:
+        connection.request("GET", path, headers=headers)
+        response = connection.getresponse()
+        return Response(response.status, (response.getheader("Set-Cookie") or "").split(";")[0], response.read())
+
+
+def login(user: str, password: str) -> Response:
+    """The response to a login."""
+    words = base64.b64encode(f"{user}:{password}".encode()).decode()
+    return get("/cockpit/login", Authorization=f"Basic {words}")
+
+
+class Files(unittest.TestCase):
+    """The files of the page, and the login without a browser."""
+
+    def test_they_are_served_only_after_a_login(self):
+        names = [path.name for path in (CONTRIB / "cockpit/enogate").iterdir()]
+        for name in names:
+            self.assert_refused(name)
+        response = login(*TECH)
+        self.assertEqual(response.status, 200)
+        for name in names:
+            found = get(FILES + name, Cookie=response.cookie)
+            self.assertEqual((found.status, found.text), (200, (CONTRIB / "cockpit/enogate" / name).read_bytes()), name)
+
+    def test_a_wrong_password_an_unknown_user_and_a_wrong_cookie_are_refused(self):
+        for user, password in (("tech", "chief-password"), ("nobody", "x")):
+            response = login(user, password)
+            self.assertEqual((response.status, response.cookie), (UNAUTHORIZED, ""), user)
+        self.assert_refused("index.html", Cookie="cockpit=dj0yO2s9MTIz")
+
+    def assert_refused(self, name: str, **headers: str) -> None:
+        """Instead of a page there is the form for the login, and instead of another file nothing."""
+        response = get(FILES + name, **headers)
+        self.assertEqual(response.status, 200 if name.endswith(".html") else UNAUTHORIZED, name)
+        self.assertEqual(b"login-password-input" in response.text, name.endswith(".html"), name)
+
+
+class Shell(unittest.TestCase):
+    """The page in Cockpit's own shell, after its form for the login."""
+
+    def setUp(self) -> None:
+        self.browser = self.enterContext(Browser())
+
+    def shortDescription(self) -> None:
+        """Only the names of tests are printed, without their docstrings."""
+
+    def wait(self, see: Callable[[], bool]) -> None:
+        """Waits until this is so. An element may not be there yet."""
+        def look() -> bool:
+            with contextlib.suppress(WebDriverException):
+                return see()
+            return False
+        self.assertTrue(wait_for(look, bool))
+
+    def wait_for_text(self, selector: str, text: str) -> None:
+        seen = wait_for(lambda: self.browser.text(selector), lambda seen: text in seen)
+        self.assertIn(text, seen)
+
+    def log_in(self, user: str, password: str, state: str = "live") -> None:
+        """Logs in with the form, and goes to the page in its frame."""
+        self.browser.open(f"https://{HOST}:{PORT}/enogate")
+        self.wait(lambda: self.browser.find("#login-user-input").is_displayed())
+        self.browser.type("#login-user-input", user)
+        self.browser.type("#login-password-input", password)
+        self.browser.click("#login-button")
+        self.enter_frame()
+        self.wait_for_text("#feed", state)
+
+    def enter_frame(self) -> None:
+        """From now on, elements are those of the page."""
+        self.browser.driver.switch_to.default_content()
+        self.wait(lambda: self.browser.find(FRAME).is_displayed())
+        self.browser.driver.switch_to.frame(self.browser.find(FRAME))
+
+    def turn_on_administrative_access(self, password: str) -> None:
+        """Asks for it at the top of Cockpit, with the password of the user."""
+        self.browser.driver.switch_to.default_content()
+        self.browser.click("#super-user-indicator button")
+        field = "#switch-to-admin-access-password"
+        self.wait(lambda: self.browser.find(field).is_displayed())
+        self.browser.type(field, password)
+        self.browser.click(".pf-c-modal-box__footer .pf-m-primary")
+
+    def shoot(self, name: str) -> None:
+        self.browser.driver.switch_to.default_content()
+        if SCREENSHOTS:
+            self.browser.shoot(pathlib.Path(SCREENSHOTS) / f"{name}.png")
+        self.enter_frame()
+
+    def assert_is_read_only(self) -> None:
+        """No button works, the page says why, and an order with administrative rights is refused."""
+        self.wait_for_text("#read-only", "without administrative access, so you cannot change anything")
+        self.browser.click("#tab-teach")
+        for name in ("teach-open", "teach-answer", "teach-as", "teach-close", "gateway-refresh"):
+            self.assertFalse(self.browser.find(f"#{name}").is_enabled(), name)
+        self.browser.click("#tab-devices")
+        self.assertEqual(self.browser.driver.execute_async_script(GIVE), "access-denied")
+
+    def rename(self, label: str) -> None:
+        """Changes the label of the device."""
+        self.browser.click("#devices-rows button")
+        self.browser.type("#edit-label", label)
+        self.browser.click("#edit-save")
+        self.wait_for_text("#devices-rows", label)
+
+    def test_an_administrator_may_act_after_administrative_access_was_turned_on(self):
+        """This user is not in the group of the gateway, so only the administrative access shows the lines."""
+        self.log_in(*CHIEF, state="lost")
+        self.assert_is_read_only()
+        self.turn_on_administrative_access(CHIEF[1])
+        self.enter_frame()
+        self.wait_for_text("#feed", "live")
+        self.wait(lambda: not self.browser.find("#read-only").is_displayed())
+        self.wait_for_text("#devices-rows", "Front door")
+        self.rename("Back door")
+        self.assertIn('"label":"Back door"', LINES.read_text())
+        self.browser.click("#tab-teach")
+        self.browser.click("#teach-open")
+        self.wait_for_text("#window", "learn window: on")
+        self.shoot("administrator")
+        self.browser.click("#teach-close")
+        self.wait_for_text("#window", "learn window: closed")
+        self.rename_back()
+
+    def rename_back(self) -> None:
+        """The other tests look for this label."""
+        self.browser.click("#tab-devices")
+        self.rename("Front door")
+
+    def test_a_member_of_the_group_sees_all_and_may_change_nothing(self):
+        self.log_in(*TECH)
+        self.wait_for_text("#devices-rows", "Front door")
+        self.assert_is_read_only()
+        self.turn_on_administrative_access(TECH[1])
+        self.wait_for_text(".pf-c-modal-box", "Problem becoming administrator")
+        self.browser.click(".pf-c-modal-box__footer button")
+        self.enter_frame()
+        self.assert_is_read_only()
+        self.shoot("member")
+
+    def test_another_user_is_told_that_the_lines_cannot_be_read(self):
+        self.log_in(*GUEST, state="lost")
+        self.wait_for_text("#trouble", "/var/log/enogate/hall.lines is missing, or you may not read it")
+        self.assertEqual(self.browser.text("#devices-rows"), "")
+        self.assert_is_read_only()
+        self.shoot("guest")
+
+
+if __name__ == "__main__":
+    unittest.main()

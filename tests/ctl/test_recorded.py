@@ -1,0 +1,134 @@
+"""The learned devices as the lines record them."""
+import io
+import json
+import random
+import unittest
+from datetime import datetime, timezone
+from unittest import mock
+
+from enogate_ctl import main as program, recent, recorded
+from enogate_ctl.places import Unreadable
+from enogate_mqtt.devices import Device
+from enogate_mqtt.follow import end_of
+from enogate_mqtt.store import Store
+from fakes import OK, Site, device, end_of_list, packet, reading, status, teach
+
+SEEN = datetime(2026, 11, 28, 12, 0, 0, tzinfo=timezone.utc)
+
+
+class Recorded(Site):
+    def found(self):
+        """The label and the profile of each device."""
+        return {one.device: (one.label, one.eep) for one in recorded.devices(self.places)}
+
+    def test_the_last_list(self):
+        self.write(device("01800AB1", "Old"), end_of_list(1), reading("01800AB9"), device("01800ABC", "Door"),
+                   device("01800ABD"), end_of_list(2), status(), OK, packet("read"), "{", "half")
+        self.assertEqual(self.found(), {"01800ABC": ("Door", "D5-00-01"), "01800ABD": ("", "D5-00-01")})
+
+    def test_what_was_taught_after_it(self):
+        self.write(teach("01800AB0"), device("01800ABC", "Door"), device("01800ABD", "Lamp"), end_of_list(2),
+                   teach("01800ABC", "F6-02-01"), teach("01800ABD", result="deleted"), teach("01800AB1"),
+                   teach("01800AB2"), teach("01800AB2", result="deleted"), teach("01800AB3", result="full"),
+                   teach("01800AB4", result="deleted"), teach("01800AB4"))
+        self.assertEqual(self.found(), {"01800AB1": ("", "D5-00-01"), "01800AB4": ("", "D5-00-01"),
+                                        "01800ABC": ("Door", "F6-02-01")})
+        self.assertEqual(list(self.found()), ["01800AB1", "01800AB4", "01800ABC"])
+
+    def test_a_device_that_was_deleted_and_learned_again_has_no_label(self):
+        self.write(device("01800ABC", "Door"), end_of_list(1))
+        self.write(teach("01800ABC", result="deleted"), teach("01800ABC"))
+        self.assertEqual(self.found(), {"01800ABC": ("", "D5-00-01")})
+
+    def test_an_incomplete_list_does_not_count(self):
+        """A full disk has lost a line. What was taught since the list before it counts."""
+        self.write(device("01800ABC", "Door"), end_of_list(1), teach("01800ABD"), device("01800ABC", "New"),
+                   end_of_list(2))
+        self.assertEqual(self.found(), {"01800ABC": ("Door", "D5-00-01"), "01800ABD": ("", "D5-00-01")})
+
+    def test_no_device(self):
+        self.write(device("01800ABC"), end_of_list(1), end_of_list(0))
+        self.assertEqual(self.found(), {})
+
+    def test_no_list(self):
+        self.write(teach("01800ABC"), device("01800ABC"), status())
+        for act in (lambda: None, self.lines.unlink):
+            act()
+            with self.assertRaises(Unreadable) as why:
+                recorded.devices(self.places)
+            self.assertEqual(str(why.exception),
+                             f"no list of the devices is in the lines {self.lines}: give the order `list` once")
+
+    def test_lines_that_cannot_be_read(self):
+        with mock.patch("os.open", side_effect=PermissionError(13, "Permission denied")):
+            with self.assertRaisesRegex(Unreadable, "cannot be read: Permission denied; become root, or a member of "
+                                        "the group enogate"):
+                recorded.devices(self.places)
+
+    def test_a_list_that_was_rotated(self):
+        self.write(device("01800ABC", "Door"))
+        self.lines.rename(self.folder / "hall.lines.1")
+        self.write(end_of_list(1), teach("01800ABD"))
+        self.assertEqual(set(self.found()), {"01800ABC", "01800ABD"})
+
+    def test_a_list_far_back(self):
+        """It is found behind many lines, but not further back than a limit."""
+        self.write(device("01800ABC", "Door"), end_of_list(1), *[reading("01800ABC")] * 20000)
+        self.assertGreater(self.lines.stat().st_size, 2 * recent.BLOCK)
+        self.assertEqual(set(self.found()), {"01800ABC"})
+        with mock.patch.object(recorded, "MOST_SEARCHED", 1000):
+            self.assertRaises(Unreadable, recorded.devices, self.places)
+
+    def run_command(self, *options):
+        """The exit status and what is printed."""
+        out = io.StringIO()
+        with mock.patch("sys.stdout", out), mock.patch.object(program, "Stops"), \
+                mock.patch("enogate_ctl.command_line.places_of", return_value=self.places):
+            return program.main([*options, "hall", "devices"]), out.getvalue()
+
+    def bridge(self, *names):
+        """A bridge that runs, and has heard these devices."""
+        store = Store(str(self.state), "")
+        self.addCleanup(store.connection.close)
+        told = {"last_seen": SEEN.isoformat(timespec="seconds")}
+        store.save(end_of(str(self.lines)), names, {name: Device(name, "D5-00-01", "", None, told) for name in names},
+                   set())
+
+    def test_json(self):
+        self.write(device("01800ABC", 'A "b"'), device("01800ABD"), end_of_list(2))
+        self.bridge("01800ABD")
+        status, out = self.run_command("--json")
+        members = {"eep": "D5-00-01", "maker": None, "type": "device"}
+        self.assertEqual((status, [json.loads(line) for line in out.splitlines()]), (0, [
+            {**members, "id": "01800ABC", "label": 'A "b"', "seen": None},
+            {**members, "id": "01800ABD", "label": "", "seen": 1795867200}, end_of_list(2)]))
+
+    def test_for_people(self):
+        self.write(device("01800ABC", "Door"), end_of_list(1))
+        self.assertEqual(self.run_command(), (0, "LABEL  ID        PROFILE   NAME\n"
+                                              "Door   01800ABC  D5-00-01  single contact\n"))
+
+    def test_nothing_is_written(self):
+        self.write(device("01800ABC", "Door"), end_of_list(1))
+        before = self.lines.read_bytes()
+        self.run_command()
+        self.assertEqual((self.desk.read_bytes(), self.lines.read_bytes()), (b"", before))
+
+
+class Backwards(unittest.TestCase):
+    """The lines of a file from its end."""
+
+    def test_they_are_those_of_the_text(self):
+        chance = random.Random(1)
+        for _ in range(3000):
+            text = bytes(chance.choice(b"ab\n\n") for _ in range(chance.randrange(30)))
+            start = chance.randrange(len(text) + 1)
+            wanted = text[start:].split(b"\n")[-2::-1]
+            for size in (1, 2, 7, 100):
+                with mock.patch.object(recent, "BLOCK", size):
+                    found = list(recent.lines_before(io.BytesIO(text), len(text), start))
+                self.assertEqual(found, wanted, (text, start, size))
+
+
+if __name__ == "__main__":
+    unittest.main()
