@@ -84,29 +84,26 @@ fits_two_words : (name second : List ℕ) → Fits (name ∷ second ∷ []) (two
 unfolding Fits
 fits_two_words name second =
     let ws : List (List ℕ) = name ∷ second ∷ [] in
-    fits_if ws (bytes_eq name (codes "learn") && bytes_eq second (codes "on")) _ _
-    (λ e. let both = two_named name second (codes "learn") (codes "on") e in (both.0, (both.1, tt)))
-    (fits_if ws (bytes_eq name (codes "learn") && bytes_eq second (codes "off")) _ _
-    (λ e. let both = two_named name second (codes "learn") (codes "off") e in (both.0, (both.1, tt)))
+    fits_named ws name (codes "learn") _ _
+    (λ is. fits_named ws second (codes "on") _ _ (λ on. (is, (on, tt)))
+    (fits_named ws second (codes "off") _ None (λ off. (is, (off, tt))) tt))
     (fits_named ws name (codes "remove") _ _
     (λ is. fits_map ws (λ id. Remove id) _ (λ id i. (is, (id_spelled second id i, tt))))
     (fits_named ws name (codes "stop") _ _
     (λ is. fits_map ws (λ id. Stop id) _ (λ id i. (is, (id_spelled second id i, tt))))
     (fits_named ws name (codes "teach") _ None
     (λ is. fits_map ws (λ offset. Teach offset) _ (λ n k. (is, (number_spelled second n k, tt))))
-    tt))))
+    tt)))
 
 fits_three_words : (name second third : List ℕ) → Fits (name ∷ second ∷ third ∷ []) (three_word_order name second third)
 unfolding Fits
 fits_three_words name second third =
     let ws : List (List ℕ) = name ∷ second ∷ third ∷ [] in
-    fits_if ws (bytes_eq name (codes "learn") && bytes_eq second (codes "on") && bytes_eq third (codes "answer")) _ _
-    (λ e. let all = and_parts _ (bytes_eq third (codes "answer")) e in
-    let both = two_named name second (codes "learn") (codes "on") all.0 in
-    (both.0, (both.1, (named third (codes "answer") all.1, tt))))
-    (fits_if ws (bytes_eq name (codes "learn") && bytes_eq second (codes "as")) _ _
-    (λ e. let both = two_named name second (codes "learn") (codes "as") e in
-    fits_map ws (λ eep. LearnAs eep) _ (λ eep p. (both.0, (both.1, (eep_spelled third eep p, tt)))))
+    fits_named ws name (codes "learn") _ _
+    (λ is. fits_if ws (bytes_eq second (codes "on") && bytes_eq third (codes "answer")) _ _
+    (λ e. let both = two_named second third (codes "on") (codes "answer") e in (is, (both.0, (both.1, tt))))
+    (fits_named ws second (codes "as") _ None
+    (λ with. fits_map ws (λ eep. LearnAs eep) _ (λ eep p. (is, (with, (eep_spelled third eep p, tt))))) tt))
     (fits_named ws name (codes "add") _ _
     (λ is. fits_of_two ws (λ id eep. Add id eep) _ _
     (λ id eep i p. (is, (id_spelled second id i, (eep_spelled third eep p, tt)))))
@@ -119,7 +116,7 @@ fits_three_words name second third =
     (fits_named ws name (codes "central") _ None
     (λ is. fits_of_two ws (λ offset on. Central offset on) _ _
     (λ n on k o. (is, (number_spelled second n k, (state_spelled third on o, tt)))))
-    tt)))))
+    tt))))
 
 fits_four_words : (name second third fourth : List ℕ)
     → Fits (name ∷ second ∷ third ∷ fourth ∷ []) (four_word_order name second third fourth)

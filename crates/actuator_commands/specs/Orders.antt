@@ -73,10 +73,21 @@ one_word_order name =
     else if bytes_eq name (codes "base") then Some Base
     else None
 
+abbrev pub short_learn_order : List ℕ → Option Order
+short_learn_order second =
+    if bytes_eq second (codes "on") then Some LearnOn
+    else if bytes_eq second (codes "off") then Some LearnOff
+    else None
+
+abbrev pub long_learn_order : List ℕ → List ℕ → Option Order
+long_learn_order second third =
+    if bytes_eq second (codes "on") && bytes_eq third (codes "answer") then Some LearnOnAnswer
+    else if bytes_eq second (codes "as") then option_map (λ eep. LearnAs eep) (eep_in third)
+    else None
+
 abbrev pub two_word_order : List ℕ → List ℕ → Option Order
 two_word_order name second =
-    if bytes_eq name (codes "learn") && bytes_eq second (codes "on") then Some LearnOn
-    else if bytes_eq name (codes "learn") && bytes_eq second (codes "off") then Some LearnOff
+    if bytes_eq name (codes "learn") then short_learn_order second
     else if bytes_eq name (codes "remove") then option_map (λ id. Remove id) (id_in second)
     else if bytes_eq name (codes "stop") then option_map (λ id. Stop id) (id_in second)
     else if bytes_eq name (codes "teach") then option_map (λ offset. Teach offset) (number_in second)
@@ -84,10 +95,7 @@ two_word_order name second =
 
 abbrev pub three_word_order : List ℕ → List ℕ → List ℕ → Option Order
 three_word_order name second third =
-    if bytes_eq name (codes "learn") && bytes_eq second (codes "on") && bytes_eq third (codes "answer")
-    then Some LearnOnAnswer
-    else if bytes_eq name (codes "learn") && bytes_eq second (codes "as")
-    then option_map (λ eep. LearnAs eep) (eep_in third)
+    if bytes_eq name (codes "learn") then long_learn_order second third
     else if bytes_eq name (codes "add") then map_two (λ id eep. Add id eep) (id_in second) (eep_in third)
     else if bytes_eq name (codes "query") then map_two (λ id channel. Query id channel) (id_in second) (number_in third)
     else if bytes_eq name (codes "blind") then map_two (λ id value. Blind id value) (id_in second) (number_in third)

@@ -1,7 +1,7 @@
 //! The parser of orders.
 ghost use Rattle.std.specs.Prelude.{◌≡◌, ◌∷◌, Some};
 ghost use Rattle.actuator_commands.specs.Orders.{one_word_order, two_word_order, three_word_order, four_word_order, order_without_label};
-ghost use Rattle.actuator_commands.specs.Orders.{label_order, order_of, order_or_fault};
+ghost use Rattle.actuator_commands.specs.Orders.{label_order, long_learn_order, order_of, order_or_fault, short_learn_order};
 ghost use Rattle.actuator_commands.specs.Words.{remaining_words};
 
 use crate::orders::{Order, OrderFault, is_in_range};
@@ -22,13 +22,37 @@ fn one_word_order(name: &[u8]) -> Option<Order>
     }
 }
 
+// `learn` with one more word.
+fn short_learn_order(second: &[u8]) -> Option<Order>
+    ensures { result ≡ short_learn_order second.now }
+{
+    if second == b"on".as_slice() {
+        Some(Order::LearnOn)
+    } else if second == b"off".as_slice() {
+        Some(Order::LearnOff)
+    } else {
+        None
+    }
+}
+
+// `learn` with two more words.
+fn long_learn_order(second: &[u8], third: &[u8]) -> Option<Order>
+    ensures { result ≡ long_learn_order second.now third.now }
+{
+    if second == b"on".as_slice() && third == b"answer".as_slice() {
+        Some(Order::LearnOnAnswer)
+    } else if second == b"as".as_slice() {
+        Some(Order::LearnAs(eep_of(third)?))
+    } else {
+        None
+    }
+}
+
 fn two_word_order(name: &[u8], second: &[u8]) -> Option<Order>
     ensures { result ≡ two_word_order name.now second.now }
 {
-    if name == b"learn".as_slice() && second == b"on".as_slice() {
-        Some(Order::LearnOn)
-    } else if name == b"learn".as_slice() && second == b"off".as_slice() {
-        Some(Order::LearnOff)
+    if name == b"learn".as_slice() {
+        short_learn_order(second)
     } else if name == b"remove".as_slice() {
         Some(Order::Remove(id_of(second)?))
     } else if name == b"stop".as_slice() {
@@ -45,10 +69,8 @@ fn two_word_order(name: &[u8], second: &[u8]) -> Option<Order>
 fn three_word_order(name: &[u8], second: &[u8], third: &[u8]) -> Option<Order>
     ensures { result ≡ three_word_order name.now second.now third.now }
 {
-    if name == b"learn".as_slice() && second == b"on".as_slice() && third == b"answer".as_slice() {
-        Some(Order::LearnOnAnswer)
-    } else if name == b"learn".as_slice() && second == b"as".as_slice() {
-        Some(Order::LearnAs(eep_of(third)?))
+    if name == b"learn".as_slice() {
+        long_learn_order(second, third)
     } else if name == b"add".as_slice() {
         Some(Order::Add(id_of(second)?, eep_of(third)?))
     } else if name == b"query".as_slice() {

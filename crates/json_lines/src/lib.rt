@@ -20,6 +20,7 @@ mod response;
 mod status;
 mod teach;
 mod text_parts;
+mod why_words;
 
 pub use counts::{Counter, Counts};
 pub use devices::device_lines;

@@ -3,16 +3,16 @@
 ghost use Rattle.std.specs.Prelude.{◌≡◌, ◌+◌, ◌≤◌, ◌++◌, length};
 ghost use Rattle.arrayvec.specs.ArrayVec.{array_vec_len};
 ghost use Rattle.json_lines.specs.PacketLines.{content_members, why_members, members_text, other_members};
-ghost use Rattle.json_lines.specs.PacketLines.{packet_members, packet_text, sender_members, why_word};
+ghost use Rattle.json_lines.specs.PacketLines.{packet_members, packet_text, sender_members};
 ghost use Rattle.json_lines.specs.PacketLines.{max_content_members, max_end_members, max_packet_line};
 ghost use Rattle.json_lines.specs.PacketLines.{max_sender_members};
 
 use crate::limits::MAX_PACKET_LINE;
-use crate::teach::outcome_word;
 use crate::text_parts::{
     Text, put, put_byte, put_dbm, put_dest, put_id, put_known_profile, put_maker, put_number,
     put_payload, put_string,
 };
+use crate::why_words::why_word;
 use arrayvec::ArrayVec;
 use erp1_telegrams::{Eep, Telegram};
 use std::marker::Model;
@@ -59,30 +59,6 @@ pub struct PacketLine {
     pub packet: ShownPacket,
     /// Why it was handled the way it was.
     pub why: Why,
-}
-
-fn why_word(why: Why) -> &'static str
-    ensures text { result.now ≡ why_word why }
-    ensures short { length result.now ≤ 14 }
-{
-    match why {
-        Why::Refused => "refused",
-        Why::Response => "response",
-        Why::EmptyResponse => "empty_response",
-        Why::OtherType => "other_type",
-        Why::NoTelegram => "no_telegram",
-        Why::FromBroadcast => "from_broadcast",
-        Why::ForOthers => "for_others",
-        Why::TeachInReply => "teach_in_reply",
-        Why::TeachIn(outcome) => outcome_word(outcome),
-        Why::WindowClosed => "window_closed",
-        Why::OtherMode => "other_mode",
-        Why::Read => "read",
-        Why::UnknownSender => "unknown_sender",
-        Why::WrongKind => "wrong_kind",
-        Why::WrongLength => "wrong_length",
-        Why::OtherMessage => "other_message",
-    }
 }
 
 // How a telegram was received, and its sender.
