@@ -1,10 +1,10 @@
 //! A number for each kind of row, with its meaning; which profiles an arm reads; and the data of telegrams.
 use crate::readings::Wanted::{OutOfRange, Raw, Value, Word};
 use crate::readings::{is_said, telegram};
-use erp1_telegrams::Eep;
+use erp1_telegrams::{BROADCAST, Eep, Telegram};
 use profile_rows::profile::is_one_of;
 use profile_rows::rows::{number, over, over_power, percent_or, range, reserved, threshold, words};
-use profile_rows::{Reading, Readings, Unreadable, What, payload_of, read_rows};
+use profile_rows::{Reading, Readings, Unreadable, What, data_payload_of, payload_of, read_rows};
 use std::test::Fail;
 
 #[test]
@@ -99,5 +99,14 @@ fn payloads(rt: HostRuntime) -> Result<(), Fail> {
         let telegram = telegram(rorg, payload, 0x00)?;
         assert_eq!(rt; payload_of(0xA5, &telegram), wanted, "{rorg}");
     }
+    Ok(())
+}
+
+#[test]
+fn data_payloads(rt: HostRuntime) -> Result<(), Fail> {
+    let telegram = Telegram::new(0xA5, &[0x00, 0x00, 0x80, 0x0F], 0x0180_0ABC, 0, BROADCAST, None)?;
+    assert_eq!(rt; data_payload_of(0xA5, &telegram), Ok(&[0x00, 0x00, 0x80, 0x0F]));
+    let other: Result<&[u8; 4], Unreadable> = data_payload_of(0xD2, &telegram);
+    assert_eq!(rt; other, Err(Unreadable::WrongKind));
     Ok(())
 }
