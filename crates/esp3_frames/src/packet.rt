@@ -111,7 +111,7 @@ pub fn first_packet(b: &[u8]) -> Option<(PacketRef<'_>, usize)>
     let (front, rest) = b.split_first_chunk::<6>()?;
     let header = decode_header(front);
     let len = header.data_len as usize + header.opt_len as usize;
-    // The header of a packet that is not whole is not checked: it is checked once, when the packet is held.
+    // If the packet is not whole, its header is not checked, so a caller that keeps the bytes checks it only once.
     if rest.len() <= len {
         return None;
     }

@@ -4,7 +4,6 @@ use Rattle.std.proofs.Common.{Bool, true, false, List, [], ◌∷◌, ◌++◌}
 use Rattle.std.proofs.Common.{length, take, drop, get_or, refl, sym, subst, ap, ◌∙◌, arith, append_assoc, inl, inr}
 use Rattle.std.proofs.Common.{length-append, length-drop, length-take}
 use Rattle.std.specs.Prelude.{IsTrue}
-use Rattle.std.specs.Bool.{OnTrue, OnFalse}
 use Rattle.std.proofs.Math.Seq.{take-add, drop-length}
 use Rattle.std.proofs.lemmas.Bool.{cases_lt}
 use Rattle.std.proofs.lemmas.List.{append-nil, nil_from_length, take_all, get_or-take, take-append-drop}
@@ -15,7 +14,7 @@ use Rattle.esp3_frames.specs.Frames.Front.{Never, Partial, Whole}
 use Rattle.esp3_frames.proofs.ForCallers.{whole_length, only_framing, empty_may_become, framing_in_parts, cases_front}
 use Rattle.esp3_frames.proofs.ForCallers.{frames_of-may_become, frames-never, frames-skipped, frames-partial}
 use Rattle.esp3_frames.proofs.ForCallers.{frames-whole}
-use Rattle.esp3_resync.specs.private.Settled.{ReachesSync}
+use Rattle.esp3_resync.specs.private.WindowFronts.{ReachesSync}
 
 -- if no packet is ready, a text whose front may become one is its own rest
 pub unready : (s : List ℕ) → front_of s ≢ Never → length (frames_of s).ready ≡ 0
@@ -37,13 +36,6 @@ unready_partial s h = ap (λ (c : Frames). length c.ready) (frames-partial s h)
 pub frames_of-empty : frames_of [] ≡ record { ready = []; rest = [] }
 unfolding frames_after
 frames_of-empty = refl
-
--- whether a packet is ready, by the front
-pub ready_by_front : (b : Bool) (s : List ℕ) (p : Packet) → OnTrue b (front_of s ≡ Whole p)
-    → OnFalse b (front_of s ≡ Partial)
-    → (IsTrue b → 0 < length (frames_of s).ready) × (0 < length (frames_of s).ready → IsTrue b)
-ready_by_front true s p whole partial = (λ t. ready_whole s p whole, λ h. refl)
-ready_by_front false s p whole partial = (λ t. absurd cc, λ h. absurd (omega (arith, h, unready_partial s partial)))
 
 -- a text that begins with no packet, from its next sync byte on
 pub frames_at_sync : (w v : List ℕ) → front_of w ≡ Never → ReachesSync (drop 1 w) v

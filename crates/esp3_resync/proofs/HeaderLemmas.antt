@@ -1,7 +1,7 @@
 -- A header at the front of some bytes, and what it implies about them.
 use Rattle.std.proofs.Common.{◌≡◌, ◌≢◌, ℕ, ◌+◌, ◌<◌, ◌≤◌, List, ◌++◌, length, take, refl, subst}
 use Rattle.std.proofs.Common.{drop, get_or, sym, ap, ◌∙◌, arith, length-append, length-take, length-drop, inl, inr}
-use Rattle.std.proofs.lemmas.List.{get_or-drop, take-append-le, take-take}
+use Rattle.std.proofs.lemmas.List.{get_or-drop, take-append-le}
 use Rattle.std.proofs.lemmas.Bool.{cases_eq, cases_lt}
 use Rattle.esp3_frames.specs.Check.{check}
 use Rattle.esp3_frames.specs.Packet.{max_packet}
@@ -11,7 +11,7 @@ use Rattle.esp3_frames.specs.Outcome.{header_of}
 use Rattle.esp3_frames.specs.declared.packet.Header.{Header}
 use Rattle.esp3_frames.proofs.ForCallers.{front-good, front_after_header-partial, front_after_header-whole}
 use Rattle.esp3_frames.proofs.ForCallers.{front_after_header-never, whole_length}
-use Rattle.esp3_resync.specs.private.Settled.{HasHeader, IsWindowFront, packet_at}
+use Rattle.esp3_resync.specs.private.WindowFronts.{HasHeader, IsWindowFront, packet_at}
 use Rattle.esp3_resync.specs.declared.front.WindowFront.{WindowFront}
 use Rattle.esp3_resync.specs.declared.front.WindowFront.TheVariants as found
 
@@ -110,12 +110,3 @@ module _ (w : List ℕ) (h : Header) (is : front_of w ≡ Whole (packet_at h w))
   pub whole_parts : (announced_len h + 7 ≤ length w) × (announced_len h + 7 ≤ max_packet)
   whole_parts =
       let n = whole_length w (packet_at h w) is in (omega (arith, n.0, whole_sum), omega (arith, n.1, whole_sum))
-
--- the first bytes of a packet, by its header
-pub begun : (b : List ℕ) (h : Header) (n : ℕ) → HasHeader b h → 6 ≤ n → n ≤ length b → n ≤ announced_len h + 6
-    → HasHeader (take n b) h × (front_of (take n b) ≡ Partial)
-begun b h n has some within short =
-    let long : 6 ≤ length (take n b) = omega (arith, length-take n b) in
-    let first : take 6 (take n b) ≡ take 6 b = take-take 6 n b some in
-    let there : HasHeader (take n b) h = (long, ap header_of first ∙ has.1) in
-    (there, waits (take n b) h there (omega (arith, length-take n b)))

@@ -87,7 +87,7 @@ pub struct Framer {
 
 impl Model for Framer {
     ghost use Rattle.esp3_frames.specs.Frames.{Frames, frames_of};
-    ghost use Rattle.esp3_resync.specs.private.Settled.{IsWindowFront};
+    ghost use Rattle.esp3_resync.specs.private.WindowFronts.{IsWindowFront};
 
     ghost Value = { Frames };
 

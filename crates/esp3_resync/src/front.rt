@@ -3,7 +3,7 @@ ghost use Rattle.std.specs.Prelude.{◌≡◌, ◌+◌, MatchOption};
 ghost use Rattle.esp3_frames.specs.Frames.{front_of, frames_of};
 ghost use Rattle.esp3_frames.specs.Frames;
 ghost use Rattle.esp3_frames.specs.Frames.Front.{Never};
-ghost use Rattle.esp3_resync.specs.private.Settled.{HasHeader, IsWindowFront};
+ghost use Rattle.esp3_resync.specs.private.WindowFronts.{HasHeader, IsWindowFront};
 
 use crate::window::Window;
 use esp3_frames::{Header, SYNC_BYTE, lengths_fit, read_header};

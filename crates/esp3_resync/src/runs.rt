@@ -2,7 +2,7 @@
 ghost use Rattle.std.specs.Prelude.{◌≡◌, ◌≢◌, ℕ, ◌<◌, ◌≤◌, ◌++◌, length, take, slice_index};
 ghost use Rattle.esp3_frames.specs.Frames.{front_of};
 ghost use Rattle.esp3_frames.specs.Frames.Front.{Partial};
-ghost use Rattle.esp3_resync.specs.private.Settled.{HasHeader};
+ghost use Rattle.esp3_resync.specs.private.WindowFronts.{HasHeader};
 
 use crate::front::announced_len;
 use crate::window::Window;

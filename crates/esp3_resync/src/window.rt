@@ -4,7 +4,7 @@ ghost use Rattle.std.specs.Prelude.{slice_index, slice_index_or, vec_capacity, â
 ghost use Rattle.esp3_frames.specs.Check.{check};
 ghost use Rattle.esp3_frames.specs.Packet.{max_packet};
 ghost use Rattle.esp3_resync.specs.private.RunningChecks.{HasChecks, HasRunningChecks, room};
-ghost use Rattle.esp3_resync.specs.private.Settled.{ReachesSync};
+ghost use Rattle.esp3_resync.specs.private.WindowFronts.{ReachesSync};
 
 use esp3_frames::{MAX_PACKET, SYNC_BYTE, check8_between, check8_next};
 use memchr::memchr;

@@ -6,7 +6,7 @@ use Rattle.esp3_frames.specs.Frames.{frames_of, Frames}
 use Rattle.esp3_frames.specs.declared.packet.Header.{Header}
 use Rattle.esp3_frames.proofs.ForCallers.{frames-whole}
 use Rattle.esp3_resync.specs.BufferedPacket.{packet_with}
-use Rattle.esp3_resync.specs.private.Settled.{packet_at}
+use Rattle.esp3_resync.specs.private.WindowFronts.{packet_at}
 use Rattle.esp3_resync.proofs.FramesLemmas.{ready_whole, unready_partial}
 use Rattle.esp3_resync.proofs.HeaderLemmas.{is_whole, not_whole, whole_sum, whole_parts}
 use Rattle.esp3_resync.proofs.framer.Framer.move_ready.Goals as goal
