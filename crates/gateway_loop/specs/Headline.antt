@@ -55,24 +55,24 @@ module _ {S : Type 0} (stored : S → DeviceStoreState) where
   -- devices of that state. Any crash state is sound, and is what was known after some prefix of the inputs. The prefix
   -- contains every acknowledged input. The update of the next input may be there too, if the call that commits it
   -- failed.
-  pub record AsSpecified (base : ℕ) (found : Devices) (items : List Input) (out : List Answer → Type 0)
+  pub record AsSpecified (base : ℕ) (found : Devices) (inputs : List Input) (out : List Answer → Type 0)
       (new : HandlerValue S) : Type 0 where
     pub results : List InputResult
     pub answers : List Answer
     pub last : State
-    pub run : Run (initial_state base found) items results answers last
+    pub run : Run (initial_state base found) inputs results answers last
     pub are_out : out answers
     pub known : HasState stored new last
     pub registries : (stored new.registry).sound
     pub left : (left : Devices) → (stored new.registry).may_recover left
-        → AfterPrefix (initial_state base found) items results left
+        → AfterPrefix (initial_state base found) inputs results left
 
   -- the same for some prefix of the inputs, and no other input was handled
-  pub record BrokenOff (base : ℕ) (found : Devices) (items : List Input) (out : List Answer → Type 0)
+  pub record BrokenOff (base : ℕ) (found : Devices) (inputs : List Input) (out : List Answer → Type 0)
       (new : HandlerValue S) : Type 0 where
     pub handled : List Input
     pub later : List Input
-    pub whole : items ≡ handled ++ later
+    pub whole : inputs ≡ handled ++ later
     pub specified : AsSpecified base found handled out new
 
   -- `replay`, for a new gateway, a reader that has these bytes left, and a writer that holds those. At `Ok` the

@@ -23,17 +23,17 @@ IsEventPrefix event other = ⊥
 -- Below, `puts` says that exactly these answers were written, and `breaks` that they were, and one more incompletely.
 module _ {S : Type 0} (stored : S → DeviceStoreState) where
   -- the inputs were handled, and their answers written
-  pub record Answers (old new : HandlerValue S) (items : List Input) (puts : List Answer → Type 0) : Type 0 where
+  pub record Answers (old new : HandlerValue S) (inputs : List Input) (puts : List Answer → Type 0) : Type 0 where
     pub answers : List Answer
-    pub handled : Handles stored old items answers new
+    pub handled : Handles stored old inputs answers new
     pub out : puts answers
 
   -- the inputs were handled, but the last answer was not written completely
-  pub record AnswersPart (old new : HandlerValue S) (items : List Input) (breaks : List Answer → Answer → Type 0)
+  pub record AnswersPart (old new : HandlerValue S) (inputs : List Input) (breaks : List Answer → Answer → Type 0)
       : Type 0 where
     pub answers : List Answer
     pub last : Answer
-    pub handled : Handles stored old items (answers ++ last ∷ []) new
+    pub handled : Handles stored old inputs (answers ++ last ∷ []) new
     pub out : breaks answers last
 
   -- exactly the events' inputs were handled and answered
@@ -51,11 +51,11 @@ module _ {S : Type 0} (stored : S → DeviceStoreState) where
     pub begins : IsEventPrefix event begun
     pub inputs : List Input
     pub own : List Input
-    pub behind : items ≡ inputs_of old.rest events ++ own
+    pub behind : inputs ≡ inputs_of old.rest events ++ own
     pub some : 0 < length own
-    pub stand : inputs_of old.rest (events ++ begun ∷ []) ≡ items ++ map Received new.ready
+    pub stand : inputs_of old.rest (events ++ begun ∷ []) ≡ inputs ++ map Received new.ready
     pub rest : new.rest ≡ rest_of (old.rest ++ bytes_in (events ++ begun ∷ []))
-    pub answered : AnswersPart old.handler new.handler items breaks
+    pub answered : AnswersPart old.handler new.handler inputs breaks
 
   -- the lines that LF ends in what was read were processed
   pub record ProcessesEnded (old new : GatewayValue S) (input : List ℕ) (puts : List Answer → Type 0) : Type 0 where
