@@ -140,7 +140,9 @@ fn order_without_label(name: &[u8], mut left: Option<&[u8]>) -> Option<Order>
         (None, ..) => one_word_order(name),
         (Some(second), None, ..) => two_word_order(name, second),
         (Some(second), Some(third), None, _) => three_word_order(name, second, third),
-        (Some(second), Some(third), Some(fourth), None) => four_word_order(name, second, third, fourth),
+        (Some(second), Some(third), Some(fourth), None) => four_word_order(
+            name, second, third, fourth,
+        ),
         _ => None,
     }
 }

@@ -132,7 +132,12 @@ pub fn packet_of(order: &Order, device: Option<&Device>, base: u32) -> Result<Te
             id,
             channel,
             quantity,
-        } => Actuator::Switch.telegram(id, &[0x06, meter_query_byte(channel, quantity)], device, base),
+        } => Actuator::Switch.telegram(
+            id,
+            &[0x06, meter_query_byte(channel, quantity)],
+            device,
+            base,
+        ),
         Order::Blind { id, value } => {
             let payload = [value as u8, 0x7F, 0x00, 0x01];
             Actuator::Blind.telegram(id, &payload, device, base)

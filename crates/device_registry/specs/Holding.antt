@@ -40,7 +40,7 @@ registry_state s = record {
 abbrev pub registry_state_of : {C : Type 0} → (C → State) → C → DeviceStoreState
 registry_state_of state conn = registry_state (state conn)
 
--- what the registry holds is what is committed
+-- the registry holds exactly the committed devices
 abbrev pub IsCommitted : State → Type 0
 IsCommitted s = HasCleanDisk s → IsTrue s.is_open → (devices : Devices) → HasDevices s devices
     → Holds s.committed.trees devices
@@ -81,7 +81,7 @@ module _ {C : Type 0} (state : C → State) (old new : C) (update : DeviceUpdate
   WritesFor (Relabel label) = WritesRow state new update devices
   WritesFor Forget = get devices update.sender ≡ None → RewritesVersion (state old) (state new)
 
-  -- what the call wrote for the update, even if it changed nothing
+  -- the row that the call wrote for the update, even if it changed nothing
   abbrev pub Writes : Type 0
   Writes = WritesFor update.operation
 

@@ -36,5 +36,9 @@ pub fn are_our_tables(rows: &[Row], version: Version) -> bool
     ensures { result ≡ are_our_tables version rows.now }
 {
     has_catalog_row(rows, META, CREATE_META.as_bytes())
-        && has_catalog_row(rows, version.device_table(), version.create_device_sql().as_bytes())
+        && has_catalog_row(
+            rows,
+            version.device_table(),
+            version.create_device_sql().as_bytes(),
+        )
 }

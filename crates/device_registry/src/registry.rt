@@ -9,7 +9,7 @@ ghost use Rattle.learned_devices.specs.StoreCalls.{LooksUp, Updates, Learns, For
 ghost use Rattle.device_registry.specs.Holding.{HasDevices, IsReturnedByClose, RewritesVersion, WritesRow, registry_state};
 ghost use Rattle.device_registry.specs.Ready.{IsReady, AreReady};
 
-use crate::cache::{Cache, copied, drop_entry, look_up_cached, cache_entry};
+use crate::cache::{Cache, cache_entry, copied, drop_entry, look_up_cached};
 use crate::device_table::DeviceTable;
 use crate::fault::store_fault;
 use crate::sql_connection::SqlConnection;

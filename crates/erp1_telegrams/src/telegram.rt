@@ -16,7 +16,7 @@ pub enum TelegramFault {
     /// The packet is not of the type RADIO_ERP1.
     #[error("no radio packet")]
     NotRadio,
-    /// The RORG is none of RPS, 1BS, 4BS, VLD and UTE.
+    /// The RORG is not RPS, 1BS, 4BS, VLD or UTE.
     #[error("a telegram of another kind")]
     OtherKind,
     /// The payload does not have a length of the telegram's RORG, or the data ends before the sender ID or the status.

@@ -66,7 +66,7 @@ enogate_app =
     with_subcommand
     (with_subcommand (with_subcommand_required (with_version (new_app (codes "enogate")))) replay_app.top) live_app.top
 
--- what was given to the subcommand, if it is `replay` or `live`
+-- the options of the subcommand, if it is `replay` or `live`
 abbrev pub subcommand_rows : Text × List Row → Option (List Row)
 subcommand_rows (name, rows) =
     if bytes_eq name (codes "replay") || bytes_eq name (codes "live") then Some rows else None
@@ -110,13 +110,13 @@ pub record AreLiveOptions (rows : List Row) (options : LiveOptions) : Type 0 whe
   pub out : first_of (codes "out") rows ≡ Some options.out.now
   pub turns : AreTurns rows options.turns
 
--- what a subcommand asks for, by its name and what was given to it
+-- the task of a subcommand, by its name and its options
 abbrev pub Asks : Option (Text × List Row) → Task → Type 0
 Asks None task = ⊥
 Asks (Some (name, rows)) Replay = name ≡ codes "replay"
 Asks (Some (name, rows)) (Live options) = (name ≡ codes "live") × AreLiveOptions rows options
 
--- what a command line that `clap` accepts asks for
+-- the task of a command line that `clap` accepts
 abbrev pub AsksFor : List Text → Task → Type 0
 AsksFor words task = Asks (subcommand_of enogate_app words) task
 

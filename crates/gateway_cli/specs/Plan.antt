@@ -1,4 +1,4 @@
--- What a run opens, with which access, and how long it continues. Own choice.
+-- The plan of a run: the files that it opens, with which access, and how long it continues. Own choice.
 use Rattle.std.specs.Prelude.{ℕ, List}
 use Rattle.std.specs.Borrow.{Bor}
 use Rattle.gateway_cli.specs.declared.Options.{Options}

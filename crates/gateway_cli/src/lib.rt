@@ -20,7 +20,7 @@ use option_values::{base_value, explain_flag, task_value, text_value};
 pub use plan::{Access, FileToOpen, Plan, Service};
 use std::alloc::{AllocError, Global};
 
-/// What the command line asks for.
+/// The task that the command line names, and its options.
 #[derive(Clone, Copy, Debug, PartialEq, Eq)]
 pub struct Options<'a> {
     /// The base ID of the radio module.

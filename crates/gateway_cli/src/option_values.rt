@@ -18,7 +18,7 @@ pub(super) fn text_value<'a>(matches: &ArgMatches<'a>, name: &str) -> Option<&'a
     given(matches)?.get_str(name)
 }
 
-/// What was given to the subcommand, which is `replay` or `live`.
+/// The options of the subcommand, which is `replay` or `live`.
 fn given<'m, 'a>(matches: &'m ArgMatches<'a>) -> Option<&'m ArgMatches<'a>>
     ensures { option_map (λ given. rows_of (found_of given.now)) result
         ≡ option_and_then subcommand_rows (subcommand_rows_of matches.now) }
@@ -56,7 +56,7 @@ pub(super) fn explain_flag(matches: &ArgMatches<'_>) -> bool
     }
 }
 
-/// What the subcommand asks for.
+/// The task of the subcommand.
 pub(super) fn task_value<'a>(matches: &ArgMatches<'a>) -> Task<'a>
     requires { IsComplete (subcommand_rows_of matches.now) }
     ensures { Asks (subcommand_rows_of matches.now) result }

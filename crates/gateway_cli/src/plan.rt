@@ -1,4 +1,4 @@
-//! What a run opens, with which access, and how long it continues.
+//! The plan of a run: the files that it opens, with which access, and how long it continues.
 ghost use Rattle.std.specs.Prelude.{◌≡◌};
 ghost use Rattle.gateway_cli.specs.Plan.{plan_of, service_of};
 

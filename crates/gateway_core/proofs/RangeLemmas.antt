@@ -82,8 +82,7 @@ role-in : (t : Telegram) → IsRoleInRange (teach_in_of t)
 role-in t =
     let p = t.payload in
     of-role IsRoleInRange t tt tt tt tt
-    ((omega arith, omega (arith, field-below p 0 6), omega (arith, field-below p 6 7)), omega (arith, field-below p 13 11))
-    (
+    ((omega arith, omega (arith, field-below p 0 6), omega (arith, field-below p 6 7)), omega (arith, field-below p 13 11)) (
       (omega (arith, field-below p 48 8), omega (arith, field-below p 40 8), omega (arith, field-below p 32 8)),
       omega (arith, field-below p 29 3, field-below p 16 8),
     )

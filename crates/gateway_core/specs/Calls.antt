@@ -8,7 +8,8 @@ use Rattle.json_lines.specs.Counts.{zero_counts}
 use Rattle.gateway_core.specs.Step.{Input, Received, Ordered, Answer}
 use Rattle.gateway_core.specs.Handling.{HandlerValue, Handles}
 
--- what the gateway knows, the ready packets, and the rest of the stream, which may become one more packet
+-- the value of a gateway: what it knows, the ready packets, and the rest of the stream, which may become one more
+-- packet
 pub record GatewayValue (S : Type 0) : Type 0 where
   pub handler : HandlerValue S
   pub ready : List Packet

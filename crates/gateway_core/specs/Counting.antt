@@ -1,4 +1,4 @@
--- What is counted, and that the line that explains a packet gives the reason.
+-- Counters: which input increments which, and the reason in the line that explains a packet.
 use Rattle.std.specs.Prelude.{◌≡◌, ◌↔◌, IsSome, ℕ, List, [], ◌∷◌, Option, Some, None}
 use Rattle.esp3_frames.specs.Packet.{Packet}
 use Rattle.json_lines.specs.declared.counts.Counter.TheVariants as count

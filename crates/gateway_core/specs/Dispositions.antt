@@ -104,7 +104,7 @@ abbrev pub shown_telegram : Telegram → Teach → Disposition → ShownTelegram
 shown_telegram t kind disposition =
     shown_of t (option_or (query_eep kind) disposition.eep) (option_or (query_maker kind) disposition.maker)
 
--- what a packet was: its telegram, if it carries one
+-- the contents of a packet: its telegram, if it carries one
 abbrev pub shown_packet : Packet → Result Telegram TelegramFault → Disposition → ShownPacket
 shown_packet packet (Ok t) disposition = shown.Telegram (shown_telegram t (teach_in_of t) disposition)
 shown_packet packet (Err fault) disposition = shown.Other packet.kind (length packet.body)

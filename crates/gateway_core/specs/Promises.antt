@@ -1,4 +1,4 @@
--- What an acknowledged operation guarantees about its sender, and which operations keep that guarantee. Own choice.
+-- The guarantee of an acknowledged operation about its sender, and the operations that keep it. Own choice.
 use Rattle.std.specs.Prelude.{◌≡◌, Option, Some, None}
 use Rattle.learned_devices.specs.Devices.{DeviceData, Operation, Learn, Forget, Relabel}
 

@@ -1,4 +1,4 @@
--- What a teach line reports, what is reported for a label, and when bytes are sent by radio.
+-- Reports: the meaning of a teach line, the answer to a `label` order, and the reasons for bytes sent by radio.
 use Rattle.std.specs.Prelude.{◌≡◌, ◌⊎◌, ◌≤◌, ℕ, true, IsSome, length, List, Some, None, Ok}
 use Rattle.esp3_frames.specs.Packet.{Packet, spelling}
 use Rattle.erp1_telegrams.specs.Telegram.{Telegram, telegram_of, radio_packet}

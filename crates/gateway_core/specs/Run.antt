@@ -1,4 +1,4 @@
--- What the gateway does with many inputs, some of which may fail.
+-- Runs: many inputs, some of which may fail.
 use Rattle.std.specs.Prelude.{◌≡◌, IsSome, ℕ, ◌+◌, ◌^◌, ◌<◌, List, [], ◌∷◌, map, Option, Some, None}
 use Rattle.json_lines.specs.declared.counts.Counter.TheVariants as count
 use Rattle.json_lines.specs.declared.error_lines.ErrorName.TheVariants as error

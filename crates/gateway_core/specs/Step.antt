@@ -1,4 +1,4 @@
--- What the gateway does with one input: its effect, and so its answer and the next state.
+-- One input: its effect, and so its answer and the next state.
 use Rattle.std.specs.Prelude.{ℕ, Bool, true, false, nat_lt, length, if◌then◌else◌, List, [], ◌∷◌, Option, Some, None}
 use Rattle.std.specs.Prelude.{option_map, is_some, unwrap_or}
 use Rattle.std.specs.Prelude.{Result, Ok, Err}
@@ -52,7 +52,7 @@ use Rattle.gateway_core.specs.Dispositions.{why_filtered, why_silent, why_other,
 use Rattle.gateway_core.specs.Profiles.{read_by}
 use Rattle.gateway_core.specs.Responses.{response_in}
 
--- what the gateway knows: the base ID of its radio module, which never changes, the learn mode, the counters, and the
+-- the state of a gateway: the base ID of its radio module, which never changes, the learn mode, the counters, and the
 -- learned devices
 pub record State : Type 0 where
   pub base : ℕ
@@ -70,7 +70,7 @@ pub data Cause : Type 0 where
   Memory : Cause
   Store : Cause
 
--- what an input needs that can fail: nothing, only memory, or the device store, which needs memory too
+-- the needs of an input that can fail: none, only memory, or the device store, which needs memory too
 pub data Need : Type 0 where
   NeedsNothing : Need
   NeedsMemory : Need
@@ -82,7 +82,7 @@ MayFailFor NeedsStore cause = Unit {0}
 MayFailFor NeedsMemory Memory = Unit {0}
 MayFailFor need cause = ⊥
 
--- what an applied input does: the bytes to send by radio, the lines for the desk, the disposition of a packet, the
+-- the effect of an applied input: the bytes to send by radio, the lines for the desk, the disposition of a packet, the
 -- update of the devices, the mode that it sets, and what it needs
 pub record Effect : Type 0 where
   pub radio : Option (List ℕ)
@@ -107,7 +107,7 @@ device_teach_line known outcome = record { eep = Some known.eep; id = known.id; 
 
 -- ---- a packet
 
--- what is needed, by whether the device store is asked
+-- the need, by whether the device store is asked
 abbrev pub needs_store_if : Bool → Need
 needs_store_if asked = if asked then NeedsStore else NeedsNothing
 

@@ -1,4 +1,4 @@
-//! What the gateway knows, and how it handles one input.
+//! The state of a gateway, and the handling of one input.
 ghost use Rattle.std.specs.Prelude.{◌≡◌, ◌≤◌, true, [], ◌∷◌, length, Some};
 ghost use Rattle.erp1_telegrams.specs.Address.{is_base_id};
 ghost use Rattle.esp3_frames.specs.Outcome.{packet_of};
@@ -19,7 +19,7 @@ mod teach;
 use crate::disposition::Disposition;
 use crate::failure::Failure;
 use crate::handled::{HandledPacket, line_of_other, line_of_telegram};
-use crate::handler::effect::{ReplyEffect, PacketEffect, error_reply};
+use crate::handler::effect::{PacketEffect, ReplyEffect, error_reply};
 use crate::reply::Reply;
 use erp1_telegrams::read;
 use esp3_frames::PacketRef;
@@ -29,7 +29,7 @@ use std::alloc::Global;
 use std::marker::Model;
 use teach_in::{Mode, Why, classify};
 
-/// What the gateway knows: base ID of its radio module, learn mode, counters, and the registry of learned devices.
+/// The state of a gateway: base ID of its radio module, learn mode, counters, and the registry of learned devices.
 #[derive(Drop)]
 pub struct Handler<S> {
     alloc: Global,

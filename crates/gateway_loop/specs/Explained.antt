@@ -1,4 +1,4 @@
--- What the lines that explain packets add to the output.
+-- The effect of the lines that explain packets on the output.
 use Rattle.std.specs.Prelude.{◌≡◌, ℕ, true, false, List, [], ◌∷◌, ◌++◌, Some}
 use Rattle.gateway_core.specs.Step.{Answer}
 use Rattle.gateway_loop.specs.Streams.{SinkValue}

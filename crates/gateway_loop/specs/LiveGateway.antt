@@ -1,4 +1,4 @@
--- What a live gateway reads, handles and writes.
+-- The bytes and inputs that `live` reads, handles and writes.
 use Rattle.std.specs.Prelude.{◌≡◌, ◌↔◌, ◌+◌, ◌-◌, ◌^◌, min, ℕ, Bool, List, [], ◌∷◌, ◌++◌, length}
 use Rattle.std.specs.Prelude.{Option, None, Some, Result, IsOk}
 use Rattle.learned_devices.specs.DeviceStoreState.{DeviceStoreState}

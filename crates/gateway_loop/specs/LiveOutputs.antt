@@ -1,4 +1,4 @@
--- What is written by radio and to the desk for answers.
+-- The bytes written to the radio and to the desk for answers.
 use Rattle.std.specs.Prelude.{ℕ, Bool, List, [], Option, Some, None}
 use Rattle.byte_io.specs.declared.sink.Sink as sinks
 use Rattle.gateway_loop.specs.declared.live_outputs.LiveOutputs.{LiveOutputs}

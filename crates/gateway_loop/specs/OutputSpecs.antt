@@ -20,7 +20,7 @@ abbrev pub Puts : {O A E : Type 0} → OutputSpec O → Result A E → O → O �
 Puts output result old new answer =
     MatchResult result (λ _. output.puts old new (answer ∷ [])) (λ _. output.breaks old new [] answer)
 
--- what an output writes, by what it shows
+-- an output, given as one of the value that it shows
 abbrev pub output_by_view : {O V : Type 0} → (O → V) → OutputSpec V → OutputSpec O
 output_by_view view output = record {
   puts = λ old new. output.puts (view old) (view new);

@@ -1,4 +1,4 @@
--- What a `Driver` handles and writes, for any output.
+-- The inputs that a `Driver` handles, and the answers that it writes, for any output.
 use Rattle.std.specs.Prelude.{◌≡◌, ◌<◌, List, [], ◌∷◌, ◌++◌, length, map, ℕ}
 use Rattle.learned_devices.specs.DeviceStoreState.{DeviceStoreState}
 use Rattle.esp3_frames.specs.Framing.{MayBecomePacket}

@@ -1,4 +1,4 @@
--- What the reads of a source return, and how they go. Own choice.
+-- The reads of a source: their bytes and their results. Own choice.
 use Rattle.std.specs.Prelude.{◌≡◌, ◌≤◌, ◌+◌, ◌⊎◌, ⊤, IfSome, Option, ℕ, List, [], ◌∷◌, ◌++◌, length}
 use Rattle.std.specs.Io.KnownBytes.{Consumes}
 use Rattle.std.specs.List.{concat}

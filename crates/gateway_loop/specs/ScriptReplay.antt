@@ -1,4 +1,4 @@
--- What a replay reads, handles and writes.
+-- The bytes and inputs that `replay` reads, handles and writes.
 use Rattle.std.specs.Prelude.{◌≡◌, ◌↔◌, ◌⊎◌, ◌+◌, ◌-◌, ◌^◌, min, ℕ, Bool, List, length, Result, Err}
 use Rattle.std.specs.Io.KnownBytes.{Consumes, IsAtEnd}
 use Rattle.learned_devices.specs.DeviceStoreState.{DeviceStoreState}

@@ -4,7 +4,7 @@ use Rattle.std.specs.List.{slice_split}
 use Rattle.std.specs.Str.Lines.{strip_carriage_return}
 use Rattle.gateway_core.specs.Events.{Event, Chunk, Line}
 
--- what one turn read of the serial line, and then of the desk
+-- the bytes that one turn read, of the serial line and then of the desk
 pub record Turn : Type 0 where
   pub chunk : List ℕ
   pub desk : List ℕ

@@ -1,7 +1,7 @@
 //! The result of a replay or a live gateway.
 use thiserror::Error;
 
-/// What a replay or a live gateway did.
+/// The result of a replay or of a live gateway.
 #[derive(Clone, Copy, Debug, PartialEq, Eq)]
 pub struct Summary {
     /// How many packets and orders were handled. Stays at its maximum once it has reached it.

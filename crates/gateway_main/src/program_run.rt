@@ -4,7 +4,7 @@ ghost use Rattle.erp1_telegrams.specs.Address;
 ghost use Rattle.gateway_loop.specs.Processing.{IsDrained};
 
 use crate::command_line;
-use crate::ending::{Ending, ServeResult, first_fault, status, ending_without_arguments};
+use crate::ending::{Ending, ServeResult, ending_without_arguments, first_fault, status};
 use crate::fault::Fault;
 use crate::gateway_start::start;
 use crate::registry_gateway::{live, replay};

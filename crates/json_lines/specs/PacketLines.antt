@@ -60,7 +60,7 @@ content_members telegram =
 abbrev pub other_members : ℕ → ℕ → List (List ℕ × List ℕ)
 other_members kind size = (codes "kind", decimal kind) ∷ (codes "size", decimal size) ∷ []
 
--- what the packet was. Own choice
+-- the contents of the packet. Own choice
 abbrev pub packet_members : ShownPacket → List (List ℕ × List ℕ)
 packet_members (Telegram telegram) = sender_members telegram ++ content_members telegram
 packet_members (Other kind size) = other_members kind size

@@ -1,4 +1,4 @@
--- What a packet line shows of a telegram.
+-- The parts of a telegram that a packet line shows.
 use Rattle.std.specs.Prelude.{ℕ, ◌==◌, List, Option, Some, None, if◌then◌else◌}
 use Rattle.erp1_telegrams.specs.declared.eep.Eep.{Eep}
 use Rattle.erp1_telegrams.specs.Telegram.{Telegram}

@@ -1,4 +1,4 @@
-//! The line that explains a packet: what it was, and why it was handled the way it was.
+//! The line that explains a packet: its contents, and why it was handled the way it was.
 
 ghost use Rattle.std.specs.Prelude.{◌≡◌, ◌+◌, ◌≤◌, ◌++◌, length};
 ghost use Rattle.arrayvec.specs.ArrayVec.{array_vec_len};
@@ -38,7 +38,7 @@ impl Model for ShownTelegram {
     ghost view = { λ t. shown_of t.telegram t.eep t.maker };
 }
 
-/// What a packet was.
+/// The contents of a packet.
 #[derive(Clone, Debug, Drop)]
 pub enum ShownPacket {
     /// A packet that carries this telegram.
@@ -52,10 +52,10 @@ pub enum ShownPacket {
     },
 }
 
-/// What a packet was, and why it was handled the way it was.
+/// The contents of a packet, and why it was handled the way it was.
 #[derive(Clone, Debug, Drop)]
 pub struct PacketLine {
-    /// What it was.
+    /// The contents of the packet.
     pub packet: ShownPacket,
     /// Why it was handled the way it was.
     pub why: Why,

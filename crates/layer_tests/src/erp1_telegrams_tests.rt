@@ -1,8 +1,8 @@
 //! Telegrams with known packets, each fault, the capacity that a packet needs, and the IDs of a gateway.
 use arrayvec::ArrayVec;
 use erp1_telegrams::{
-    BROADCAST, Eep, FilterReason, Telegram, TelegramFault, filter_reason, is_base_id, is_gateway_id, read,
-    write,
+    BROADCAST, Eep, FilterReason, Telegram, TelegramFault, filter_reason, is_base_id,
+    is_gateway_id, read, write,
 };
 use esp3_frames::{PacketFault, PacketRef, read_packet};
 use std::test::Fail;

@@ -104,8 +104,18 @@ fn payloads(rt: HostRuntime) -> Result<(), Fail> {
 
 #[test]
 fn data_payloads(rt: HostRuntime) -> Result<(), Fail> {
-    let telegram = Telegram::new(0xA5, &[0x00, 0x00, 0x80, 0x0F], 0x0180_0ABC, 0, BROADCAST, None)?;
-    assert_eq!(rt; data_payload_of(0xA5, &telegram), Ok(&[0x00, 0x00, 0x80, 0x0F]));
+    let telegram = Telegram::new(
+        0xA5,
+        &[0x00, 0x00, 0x80, 0x0F],
+        0x0180_0ABC,
+        0,
+        BROADCAST,
+        None,
+    )?;
+    assert_eq!(rt;
+        data_payload_of(0xA5, &telegram),
+        Ok(&[0x00, 0x00, 0x80, 0x0F])
+    );
     let other: Result<&[u8; 4], Unreadable> = data_payload_of(0xD2, &telegram);
     assert_eq!(rt; other, Err(Unreadable::WrongKind));
     Ok(())

@@ -184,7 +184,14 @@ fn data_of_a_contact(rt: HostRuntime) -> Result<(), Fail> {
 // So is a temperature sensor, A5-02-05: the number 127 is 1024/51 C.
 #[test]
 fn data_of_a_temperature_sensor(rt: HostRuntime) -> Result<(), Fail> {
-    let telegram = Telegram::new(0xA5, &[0x00, 0x00, 0x7F, 0x08], 0x0180_0ABC, 0, BROADCAST, None)?;
+    let telegram = Telegram::new(
+        0xA5,
+        &[0x00, 0x00, 0x7F, 0x08],
+        0x0180_0ABC,
+        0,
+        BROADCAST,
+        None,
+    )?;
     let mut readings = Readings::new();
     let result = profiles_4bs::read_data(Eep::new(0xA5, 0x02, 0x05), &telegram, &mut readings);
     let is_well = are_said(&readings, &[("TMP", Wanted::Value(1024, 51, "C"))]);

@@ -1,4 +1,4 @@
--- What a device store keeps, whatever it is made of, and how an update changes that. Own choice.
+-- The state of a device store, for any implementation, and how an update changes it. Own choice.
 use Rattle.std.specs.Prelude.{◌≡◌, ◌⊎◌}
 use Rattle.learned_devices.specs.Devices.{Devices, DeviceUpdate, apply_update}
 

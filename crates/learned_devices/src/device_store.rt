@@ -27,7 +27,7 @@ impl Receipt {
 
 /// Stores at most 1,000 devices, each under the ID of its sender.
 pub trait DeviceStore {
-    /// What it keeps.
+    /// Its state.
     ghost store_state: { Self → DeviceStoreState };
 
     /// What the call between these two values wrote for this update of these devices, even if it changed none of them.

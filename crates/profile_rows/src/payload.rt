@@ -45,7 +45,10 @@ pub fn payload_of<const N: usize>(rorg: u8, telegram: &Telegram) -> Result<&[u8;
 }
 
 /// The same for a telegram that is known to be data: its LRN bit is not read again.
-pub fn data_payload_of<const N: usize>(rorg: u8, telegram: &Telegram) -> Result<&[u8; N], Unreadable>
+pub fn data_payload_of<const N: usize>(
+    rorg: u8,
+    telegram: &Telegram,
+) -> Result<&[u8; N], Unreadable>
     requires { is_data telegram.now.rorg telegram.now.payload ≡ true }
     ensures { MatchResult result
         (λ bytes. payload_of rorg N telegram.now ≡ Ok bytes.now)

@@ -44,7 +44,11 @@ pub fn supports(eep: Eep) -> bool
 }
 
 // Decodes a payload, or the reason why there is none, by a profile.
-fn read_payload(eep: Eep, payload: Result<&[u8; 4], Unreadable>, readings: &mut Readings) -> Result<(), Unreadable>
+fn read_payload(
+    eep: Eep,
+    payload: Result<&[u8; 4], Unreadable>,
+    readings: &mut Readings,
+) -> Result<(), Unreadable>
     ensures exact { (said : Result (List ℕ) Unreadable) →
         MatchResult payload.entry (λ bytes. said ≡ Ok bytes.now) (λ refusal. said ≡ Err refusal) →
         read_result result readings.new.items ≡ readings_by entries_of (rows_of eep) said }

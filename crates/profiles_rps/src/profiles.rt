@@ -91,7 +91,12 @@ pub fn read(eep: Eep, telegram: &Telegram, readings: &mut Readings) -> Result<()
     ensures exact { read_result result readings.new.items ≡ readings_of eep telegram.now }
     ensures err { OnErr result (readings.new ≡ readings.old) }
 {
-    read_payload(eep, telegram.status(), payload_of(eep.rorg, telegram), readings)
+    read_payload(
+        eep,
+        telegram.status(),
+        payload_of(eep.rorg, telegram),
+        readings,
+    )
 }
 
 /// The same for a telegram that is known to be data, whose LRN bit is not read again.
@@ -100,5 +105,10 @@ pub fn read_data(eep: Eep, telegram: &Telegram, readings: &mut Readings) -> Resu
     ensures exact { read_result result readings.new.items ≡ readings_of eep telegram.now }
     ensures err { OnErr result (readings.new ≡ readings.old) }
 {
-    read_payload(eep, telegram.status(), data_payload_of(eep.rorg, telegram), readings)
+    read_payload(
+        eep,
+        telegram.status(),
+        data_payload_of(eep.rorg, telegram),
+        readings,
+    )
 }

@@ -3,7 +3,7 @@ use crate::telling::Telling;
 use anyhow::Result;
 use gateway_core::StartFault;
 use gateway_main::command_line::{CommandLineFault, read};
-use gateway_main::ending::{Ending, first_fault, status, ending_without_arguments};
+use gateway_main::ending::{Ending, ending_without_arguments, first_fault, status};
 use gateway_main::fault::Fault;
 use gateway_main::{RunFault, Summary};
 use std::alloc::{AllocError, Global};

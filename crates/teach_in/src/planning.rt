@@ -86,9 +86,8 @@ fn plan_by_desk(telegram: &Telegram, teach: &Teach, eep: Eep, known: bool) -> Pl
     match (teach, eep.rorg) {
         (Teach::Contact, rorg::ONE_BS) | (Teach::Bare, rorg::FOUR_BS) => add(telegram, eep, None),
         (Teach::FourByte(query), rorg::FOUR_BS) => add(telegram, eep, Some(query.maker())),
-        (Teach::Plain, rorg) if !known && rorg == telegram.rorg() && can_be_learned_by(telegram) => {
-            add(telegram, eep, None)
-        }
+        (Teach::Plain, rorg) if !known && rorg == telegram.rorg() && can_be_learned_by(telegram) =>
+            { add(telegram, eep, None) }
         _ => Plan::Silent,
     }
 }

@@ -12,7 +12,7 @@ ghost use Rattle.device_registry.specs.Table.Rows.{is_device_row, are_ascending_
 ghost use Rattle.device_registry.specs.Table.Rows.{maker_number};
 ghost use Rattle.device_registry.specs.Table.Rows.{maker_in, label_in};
 
-use super::{VERSION_ROW_KEY, NO_MAKER, Version};
+use super::{NO_MAKER, VERSION_ROW_KEY, Version};
 use crate::ranges::{MAX_MAKER, MAX_PROFILE, MAX_SENDER};
 use erp1_telegrams::Eep;
 use learned_devices::{Device, Label};
@@ -109,7 +109,9 @@ pub fn is_version(rows: &[Row], version: Version) -> bool
     ensures version { IsTrue result → ShowsVersion version rows.now }
     ensures complete { rows.now ≡ (Int (pos 1) ∷ Int (pos (version_number version)) ∷ []) ∷ [] → IsTrue result }
 {
-    rows.len() == 1 && has_number(&rows[0], 0, VERSION_ROW_KEY) && has_number(&rows[0], 1, version.number())
+    rows.len() == 1
+        && has_number(&rows[0], 0, VERSION_ROW_KEY)
+        && has_number(&rows[0], 1, version.number())
 }
 
 /// The device that a row shows. No row of a registry gives an error.

@@ -27,8 +27,8 @@ use Rattle.gateway_core.specs.private.Failures.{cause_in, cause_of}
 use Rattle.gateway_core.specs.Run.{cause_text}
 use Rattle.gateway_core.specs.Handling.{HandlerValue}
 
--- what is done for an input: the answer, without the explanation, the disposition of a packet, and the mode that is
--- set, if any
+-- the effect of an input in the code: the answer, without the explanation, the disposition of a packet, and the mode
+-- that is set, if any
 pub record HandlerEffect : Type 0 where
   pub answer : Answer
   pub disposition : Option Disposition
@@ -39,7 +39,7 @@ abbrev pub MatchesEffect : HandlerEffect → Effect → Type 0
 MatchesEffect done effect =
     (done.answer ≡ answer_from_effect effect) × (done.disposition ≡ effect.disposition) × (done.mode ≡ effect.mode)
 
--- what the handler knows, if these are the devices
+-- the state that the handler knows, if these are the devices
 abbrev pub state_of : {S : Type 0} → HandlerValue S → Devices → State
 state_of v devices = record { base = v.base; mode = v.mode; counts = v.counts; devices = devices }
 

@@ -8,7 +8,7 @@ ghost use Rattle.gateway_core.specs.private.Attempts.{MatchesEffect, Attempts};
 use crate::failure::Failure;
 use crate::handler::Handler;
 use crate::handler::effect::{ReplyEffect, desk_effect, error_effect, mode_effect, relabel_effect};
-use crate::handler::send::{request_base_id, order_error_name};
+use crate::handler::send::{order_error_name, request_base_id};
 use crate::reply::Desk;
 use actuator_commands::{MAX_LINE, Order, parse};
 use erp1_telegrams::Eep;

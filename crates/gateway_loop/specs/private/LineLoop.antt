@@ -1,4 +1,4 @@
--- What a line dispatcher does with bytes: it takes each line as it is completed.
+-- The processing of bytes by a line dispatcher: it processes each line when it is complete.
 use Rattle.std.specs.Prelude.{◌≡◌, ℕ, List, ◌∷◌, ◌++◌, All}
 use Rattle.std.specs.List.{flat_map}
 use Rattle.std.specs.Str.Lines.{strip_carriage_return}
