@@ -1,3 +1,3 @@
 pub mod Counts
-pub mod Limits
+pub mod ReadLimit
 pub mod Writes

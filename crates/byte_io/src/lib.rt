@@ -3,13 +3,13 @@
 #![tactic(auto)]
 
 pub mod laws;
-mod limits;
+mod read_limit;
 mod sink;
 mod source;
 mod tally;
 mod writing;
 
-pub use limits::MAX_READ;
+pub use read_limit::MAX_READ;
 pub use sink::{OverWrite, Sink};
 pub use source::{OverRead, Source};
 pub use tally::Failed;

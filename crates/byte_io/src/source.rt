@@ -2,7 +2,7 @@
 ghost use Rattle.std.specs.Prelude.{◌≡◌, ◌≤◌, ◌<◌, ℕ, List, Option, IfOk, length};
 ghost use Rattle.std.specs.Io.KnownBytes.{ReadConsumes};
 ghost use Rattle.byte_io.specs.Counts.{Counts, count_call, no_calls};
-ghost use Rattle.byte_io.specs.Limits.{max_read};
+ghost use Rattle.byte_io.specs.ReadLimit.{max_read};
 
 use crate::tally::{Failed, Tally};
 use std::io::Read;

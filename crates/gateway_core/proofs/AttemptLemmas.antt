@@ -52,7 +52,7 @@ use Rattle.gateway_core.specs.Profiles.{read_by}
 use Rattle.gateway_core.specs.private.Failures.{cause_of}
 use Rattle.gateway_core.specs.Step.{Cause, Memory, Need, NeedsMemory, NeedsStore, MayFailFor}
 use Rattle.gateway_core.specs.Run.{failure_answer, Applied, Failed, FailedAtCommit, state_after_failure}
-use Rattle.gateway_core.specs.CrashStates.{no_crash_states, after_commit, with_pending_update, IsCrashConsistent}
+use Rattle.gateway_core.specs.CrashStates.{no_crash_states, after_committed_update, with_pending_update, IsCrashConsistent}
 use Rattle.gateway_core.specs.Handling.{HandlerValue, HandlesFrom, Handles}
 use Rattle.gateway_core.specs.private.Attempts.{HandlerEffect, state_of, MatchesEffect, IsUpdateCommitted, IsPending}
 use Rattle.gateway_core.specs.private.Attempts.{AppliesOrFails, Attempts, counts_from}
@@ -523,7 +523,7 @@ module _ {S : Type 0} (stored : S → DeviceStoreState) where
   made-safe : (old new : S) (devices : Devices) (update : Option DeviceUpdate)
       → IsUpdateCommitted (stored old) (stored new) devices update
       → (left : Devices) → (stored new).may_recover left
-      → IsCrashConsistent (stored old).may_recover (after_commit no_crash_states devices update) left
+      → IsCrashConsistent (stored old).may_recover (after_committed_update no_crash_states devices update) left
   made-safe old new devices None keeps left may = inr (refl, keeps.crash left may)
   made-safe old new devices (Some update) commits left may = inl (inl (commits.crash left may))
 

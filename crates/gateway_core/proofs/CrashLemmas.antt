@@ -5,7 +5,7 @@ use Rattle.learned_devices.specs.Devices.{Devices, apply_update}
 use Rattle.learned_devices.specs.Devices.{DeviceUpdate}
 use Rattle.gateway_core.specs.Step.{State, Input, Answer, update_of, with_update}
 use Rattle.gateway_core.specs.Run.{InputResult, Applied, Failed, FailedAtCommit, state_after_result, Run}
-use Rattle.gateway_core.specs.CrashStates.{CrashStates, no_crash_states, after_commit, with_pending_update, crash_states_after_result}
+use Rattle.gateway_core.specs.CrashStates.{CrashStates, no_crash_states, after_committed_update, with_pending_update, crash_states_after_result}
 use Rattle.gateway_core.specs.CrashStates.{crash_states, IsOneOf, IsCrashConsistent, CrashConsistencyComposes}
 
 -- the crash states of a first list of inputs and then a second
@@ -17,7 +17,7 @@ over first second =
     }
 
 over-told : (first second : CrashStates) (devices : Devices) (o : Option DeviceUpdate)
-    → after_commit (over first second) devices o ≡ over first (after_commit second devices o)
+    → after_committed_update (over first second) devices o ≡ over first (after_committed_update second devices o)
 over-told first second devices (Some update) = refl
 over-told first second devices None = refl
 
@@ -107,7 +107,7 @@ safe-pending Before left known (Some update) devices (inl one) = inl (inr one)
 safe-pending Before left known (Some update) devices (inr non) = inr non
 
 safe-told : (Before : Devices → Type 0) (left : CrashStates) (known : Devices) (o : Option DeviceUpdate)
-    → IsCrashConsistent Before left known → IsCrashConsistent Before (after_commit left known o) (with_update known o)
+    → IsCrashConsistent Before left known → IsCrashConsistent Before (after_committed_update left known o) (with_update known o)
 safe-told Before left known None safe = safe
 safe-told Before left known (Some update) safe = inl (inl refl)
 

@@ -5,7 +5,7 @@ use Rattle.std.proofs.Common.{sym, ap, subst, ◌∙◌, arith}
 use Rattle.learned_devices.specs.Devices.{Devices, DeviceUpdate}
 use Rattle.gateway_core.specs.Step.{State, Input, Answer, update_of, with_update}
 use Rattle.gateway_core.specs.Run.{InputResult, Applied, Failed, FailedAtCommit, state_after_result, Run}
-use Rattle.gateway_core.specs.CrashStates.{CrashStates, no_crash_states, after_commit, with_pending_update, crash_states_after_result}
+use Rattle.gateway_core.specs.CrashStates.{CrashStates, no_crash_states, after_committed_update, with_pending_update, crash_states_after_result}
 use Rattle.gateway_core.specs.CrashStates.{crash_states, IsCrashConsistent}
 use Rattle.gateway_core.specs.Sessions.{initial_state, with_interrupted}
 use Rattle.gateway_core.specs.Prefixes.{IsAcknowledged, NoneAcknowledged, state_after_run, AfterPrefix}
@@ -22,7 +22,7 @@ module _ (Before : Devices → Type 0) where
       × (devices ≡ with_update state.devices (update_of state input))))
 
   told_steps : (left : CrashStates) (known devices : Devices) (o : Option DeviceUpdate)
-      → IsCrashConsistent Before (after_commit left known o) devices
+      → IsCrashConsistent Before (after_committed_update left known o) devices
       → (IsCrashConsistent Before left devices × (¬ IsSome o)) ⊎ (devices ≡ with_update known o)
   told_steps left known devices None safe = inl (safe, λ is. absurd cc)
   told_steps left known devices (Some update) (inl (inl is)) = inr is

@@ -14,7 +14,7 @@ use Rattle.learned_devices.proofs.ForCallers.{get-entered}
 use Rattle.gateway_core.specs.Step.{State, Input, Answer, update_of, with_update, state_after}
 use Rattle.gateway_core.specs.Run.{InputResult, Applied, Failed, FailedAtCommit, state_after_result, Run}
 use Rattle.gateway_core.specs.Promises.{Promises, Preserves}
-use Rattle.gateway_core.specs.CrashStates.{CrashStates, no_crash_states, after_commit, with_pending_update, crash_states_after_result}
+use Rattle.gateway_core.specs.CrashStates.{CrashStates, no_crash_states, after_committed_update, with_pending_update, crash_states_after_result}
 use Rattle.gateway_core.specs.CrashStates.{crash_states, IsCrashConsistent}
 use Rattle.gateway_core.specs.Sessions.{Session, initial_state, with_interrupted, IsSession, AreSessions}
 use Rattle.gateway_core.specs.Sessions.{possible_update, DoesNotOverride, NoneOverrides, InterruptedDoesNotOverride}
@@ -145,7 +145,7 @@ module _ (Before : Devices → Type 0) (it : DeviceUpdate) where
 
   after_told : (left : CrashStates) (devices : Devices) (o : Option DeviceUpdate) → DoesNotOverride it o
       → Kept left devices
-      → Kept (after_commit left devices o) (with_update devices o)
+      → Kept (after_committed_update left devices o) (with_update devices o)
   after_told left devices None other kept = kept
   after_told left devices (Some update) other kept =
       let now = get-agreeing devices it update other kept.now in
@@ -254,10 +254,10 @@ run_on old mid last (input ∷ inputs) others (result ∷ results) more [] all r
 told_kept : (Before : Devices → Type 0) (left : CrashStates) (devices : Devices) (o : Option DeviceUpdate)
     (update : DeviceUpdate)
     → o ≡ Some update → IsPromised devices update
-    → Kept Before update (after_commit left devices o) (with_update devices o)
+    → Kept Before update (after_committed_update left devices o) (with_update devices o)
 told_kept Before left devices o update is promised =
     let now = subst (Promises update.operation) (sym (get-same devices update)) promised in
-    let kept : Kept Before update (after_commit left devices (Some update))
+    let kept : Kept Before update (after_committed_update left devices (Some update))
     (with_update devices (Some update)) =
     record {
       now = now;
@@ -270,7 +270,7 @@ told_kept Before left devices o update is promised =
             | inr non ↦ absurd (let e = non.0 in cc)
           ];
     } in
-    subst (λ o. Kept Before update (after_commit left devices o) (with_update devices o)) (sym is) kept
+    subst (λ o. Kept Before update (after_committed_update left devices o) (with_update devices o)) (sym is) kept
 
 pub updates_survive_restarts : UpdatesSurviveRestarts
 updates_survive_restarts session update sessions last is tells spares are =

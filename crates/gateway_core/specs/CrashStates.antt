@@ -13,9 +13,9 @@ abbrev pub no_crash_states : CrashStates
 no_crash_states = record { has_commit = false; maps = [] }
 
 -- a committed update leaves only the devices with it
-abbrev pub after_commit : CrashStates → Devices → Option DeviceUpdate → CrashStates
-after_commit left devices (Some update) = record { has_commit = true; maps = apply_update devices update ∷ [] }
-after_commit left devices None = left
+abbrev pub after_committed_update : CrashStates → Devices → Option DeviceUpdate → CrashStates
+after_committed_update left devices (Some update) = record { has_commit = true; maps = apply_update devices update ∷ [] }
+after_committed_update left devices None = left
 
 -- an update that is not committed also leaves the devices with it
 abbrev pub with_pending_update : CrashStates → Devices → Option DeviceUpdate → CrashStates
@@ -24,7 +24,7 @@ with_pending_update left devices (Some update) =
 with_pending_update left devices None = left
 
 abbrev pub crash_states_after_result : CrashStates → State → Input → InputResult → CrashStates
-crash_states_after_result left state input Applied = after_commit left state.devices (update_of state input)
+crash_states_after_result left state input Applied = after_committed_update left state.devices (update_of state input)
 crash_states_after_result left state input (Failed cause) = left
 crash_states_after_result left state input (FailedAtCommit cause) = with_pending_update left state.devices (update_of state input)
 

@@ -1,7 +1,7 @@
 //! The readings of a telegram by the profile of its sender.
 ghost use Rattle.std.specs.Prelude.{◌≡◌, true};
 ghost use Rattle.gateway_core.specs.Profiles;
-ghost use Rattle.profile_rows.specs.Answer.{read_result};
+ghost use Rattle.profile_rows.specs.ReadResult.{read_result};
 ghost use Rattle.profile_rows.specs.Payload.{is_data};
 
 use erp1_telegrams::{Eep, Telegram, rorg};

@@ -10,8 +10,8 @@ use Rattle.std.proofs.lemmas.List.{length-take}
 use Rattle.std.proofs.lemmas.List.Concat.{concat_is, flat_map-append}
 use Rattle.byte_io.specs.declared.tally.Failed.{Failed}
 use Rattle.byte_io.specs.Counts.{count_call, saturated_increment}
-use Rattle.gateway_loop.specs.Reads.{AreReads, IsRead, MakesReads, LastReadFails, AllReadsSucceed}
-use Rattle.byte_io.specs.Limits.{max_read}
+use Rattle.gateway_loop.specs.Reads.{AreReads, IsRead, MakesReads, OneReadFails, AllReadsSucceed}
+use Rattle.byte_io.specs.ReadLimit.{max_read}
 use Rattle.gateway_loop.specs.Streams.{SourceValue}
 use Rattle.gateway_loop.proofs.CallCountLemmas.{made_at, made_more, made_none}
 
@@ -89,7 +89,7 @@ one_read_more old mid new reads n turn turns buffer p count below within room by
 )
 
 pub reads_fail : (old mid new : SourceValue) (reads : List (List ℕ)) (error : Failed) → AllReadsSucceed old mid reads
-    → Keeps mid.left new.left → new.counts ≡ count_call {E = Failed} mid.counts (Err error) → LastReadFails old new reads
+    → Keeps mid.left new.left → new.counts ≡ count_call {E = Failed} mid.counts (Err error) → OneReadFails old new reads
 reads_fail old mid new reads error p kept told = record {
   gave = record {
     all = Consumes-kept old.left mid.left new.left (concat reads) p.gave.all kept;

@@ -12,7 +12,7 @@ use Rattle.gateway_loop.specs.declared.runs.RunFault.{RunFault}
 use Rattle.gateway_loop.specs.declared.runs.RunFault.TheVariants.{Read, Write, TooManyTurns}
 use Rattle.gateway_loop.specs.declared.runs.Summary.{Summary}
 use Rattle.gateway_loop.specs.Processing.{Breaks, Processes}
-use Rattle.gateway_loop.specs.Reads.{LastReadFails, AllReadsSucceed}
+use Rattle.gateway_loop.specs.Reads.{OneReadFails, AllReadsSucceed}
 use Rattle.gateway_loop.specs.Streams.{SinkValue, SourceValue, sink_value, source_value}
 use Rattle.gateway_loop.specs.Turns.{Turn, desk_reads, events_of_turns, serial_reads}
 use Rattle.gateway_loop.specs.LiveOutputs.{live_output}
@@ -46,10 +46,10 @@ module _ {S : Type 0} (old new : LiveValue S) where
   -- After the turns the next read failed: of the serial line, or, after a chunk, of the desk.
   abbrev pub NextReadFails : List Turn → Option (List ℕ) → Type 0
   NextReadFails turns None =
-      LastReadFails old.serial new.serial (serial_reads turns) × AllReadsSucceed old.desk new.desk (desk_reads turns)
+      OneReadFails old.serial new.serial (serial_reads turns) × AllReadsSucceed old.desk new.desk (desk_reads turns)
   NextReadFails turns (Some chunk) =
       AllReadsSucceed old.serial new.serial (serial_reads turns ++ chunk ∷ [])
-      × LastReadFails old.desk new.desk (desk_reads turns)
+      × OneReadFails old.desk new.desk (desk_reads turns)
 
   -- this many reads of each source were made, no read failed, and all writes succeeded
   pub record AllSucceeded (turns : ℕ) : Type 0 where

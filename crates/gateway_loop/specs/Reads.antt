@@ -3,7 +3,7 @@ use Rattle.std.specs.Prelude.{◌≡◌, ◌≤◌, ◌+◌, ◌⊎◌, ⊤, IfS
 use Rattle.std.specs.Io.KnownBytes.{Consumes}
 use Rattle.std.specs.List.{concat}
 use Rattle.byte_io.specs.Counts.{CallsMade, NoneFailed, FailedOnceMore}
-use Rattle.byte_io.specs.Limits.{max_read}
+use Rattle.byte_io.specs.ReadLimit.{max_read}
 use Rattle.gateway_loop.specs.Streams.{SourceValue}
 
 -- The bytes of one read: `left` is what the source had left before all reads, if that is known, and `before` what the
@@ -29,7 +29,7 @@ pub record AllReadsSucceed (old new : SourceValue) (reads : List (List ℕ)) : T
   pub well : NoneFailed old.counts new.counts
 
 -- one read more than these was made, and one failed
-pub record LastReadFails (old new : SourceValue) (reads : List (List ℕ)) : Type 0 where
+pub record OneReadFails (old new : SourceValue) (reads : List (List ℕ)) : Type 0 where
   pub gave : GivesBytes old new reads
   pub made : CallsMade old.counts new.counts (length reads + 1)
   pub failed : FailedOnceMore old.counts new.counts
@@ -38,4 +38,4 @@ pub record LastReadFails (old new : SourceValue) (reads : List (List ℕ)) : Typ
 abbrev pub MakesReads : SourceValue → SourceValue → ℕ → Type 0
 MakesReads old new most =
     (reads : List (List ℕ)) × ((AllReadsSucceed old new reads × (length reads ≤ most))
-    ⊎ (LastReadFails old new reads × (length reads + 1 ≤ most)))
+    ⊎ (OneReadFails old new reads × (length reads + 1 ≤ most)))

@@ -12,7 +12,7 @@ ghost use Rattle.gateway_loop.specs.Processing.{IsDrained};
 ghost use Rattle.gateway_loop.specs.Script.{event_of, chunk_or_line};
 
 use crate::digits::decode;
-use crate::limits::MAX_CHUNK;
+use crate::line_limits::MAX_CHUNK;
 use crate::reply_sink::ReplySink;
 use byte_io::Failed;
 use gateway_core::{DeviceStore, GatewayOver, HandledPacket, MAX_LINE, Reply};

@@ -5,7 +5,7 @@ mod desk_text;
 mod digits;
 mod driver;
 pub mod laws;
-mod limits;
+mod line_limits;
 mod line_loop;
 mod live_gateway;
 mod live_outputs;

@@ -2,7 +2,7 @@
 ghost use Rattle.std.specs.Prelude.{◌≡◌, [], ◌++◌, take};
 ghost use Rattle.gateway_loop.specs.private.Lines.{max_partial_line};
 
-use crate::limits::MAX_PARTIAL_LINE;
+use crate::line_limits::MAX_PARTIAL_LINE;
 use arrayvec::ArrayVec;
 use std::marker::Model;
 

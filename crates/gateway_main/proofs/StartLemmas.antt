@@ -12,7 +12,7 @@ use Rattle.gateway_core.specs.Calls.{GatewayValue, new_gateway_value}
 use Rattle.gateway_loop.specs.Processing.{IsDrained}
 use Rattle.gateway_main.specs.Faults.{fault_of_open}
 use Rattle.gateway_loop.specs.Headline.{IsNew}
-use Rattle.gateway_main.specs.Started.{RefusesToStart, Starts}
+use Rattle.gateway_main.specs.Started.{MayFailToStart, Starts}
 use Rattle.gateway_main.specs.declared.fault.Fault.TheVariants.{Store, Memory}
 
 pub idle_at_first : {S : Type 0} (base : ℕ) (registry : S) (new : GatewayValue S)
@@ -59,12 +59,12 @@ new_gateway {C} state database registry base new is opened =
     ))
 
 memory_or_store : {C : Type 0} (state : C → State) (database : C) (is_memory : Bool)
-    → RefusesToStart state database (if is_memory then Memory else Store)
+    → MayFailToStart state database (if is_memory then Memory else Store)
 memory_or_store state database true = tt
 memory_or_store state database false = tt
 
 -- a failed open is reported with its own cause
 pub refuses_as_open : {C : Type 0} (state : C → State) (database : C) (why : OpenFault)
-    → RefusesAndDrops state database why → RefusesToStart state database (fault_of_open why)
+    → RefusesAndDrops state database why → MayFailToStart state database (fault_of_open why)
 refuses_as_open state database NotARegistry refused = refused refl
 refuses_as_open state database (Failed fault) refused = memory_or_store state database fault.is_memory

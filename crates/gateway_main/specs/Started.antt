@@ -21,12 +21,12 @@ pub record Starts {C : Type 0} (state : C → State) (database : C) (base : ℕ)
 
 -- Why a start fails: the database is not a registry, as its open defines it; or the device store fails; or out of
 -- memory. No postcondition says which of the latter two it is, nor what is left. Nothing has been read or written.
-abbrev pub RefusesToStart : {C : Type 0} → (C → State) → C → Fault → Type 0
-RefusesToStart {C} state database NotARegistry =
+abbrev pub MayFailToStart : {C : Type 0} → (C → State) → C → Fault → Type 0
+MayFailToStart {C} state database NotARegistry =
     (last : C) × RefusesToOpen (state database) (state last) opening.NotARegistry
-RefusesToStart state database Store = ⊤
-RefusesToStart state database Memory = ⊤
-RefusesToStart state database CannotOpen = ⊥
-RefusesToStart state database Read = ⊥
-RefusesToStart state database Write = ⊥
-RefusesToStart state database TooManyTurns = ⊥
+MayFailToStart state database Store = ⊤
+MayFailToStart state database Memory = ⊤
+MayFailToStart state database CannotOpen = ⊥
+MayFailToStart state database Read = ⊥
+MayFailToStart state database Write = ⊥
+MayFailToStart state database TooManyTurns = ⊥

@@ -8,7 +8,7 @@ ghost use Rattle.device_registry.specs.Holding.{Finds, registry_state_of};
 ghost use Rattle.gateway_core.specs.Calls.{new_gateway_value};
 ghost use Rattle.gateway_loop.specs.Headline.{IsNew};
 ghost use Rattle.gateway_loop.specs.Processing.{IsDrained};
-ghost use Rattle.gateway_main.specs.Started.{RefusesToStart, Starts};
+ghost use Rattle.gateway_main.specs.Started.{MayFailToStart, Starts};
 
 use crate::fault::Fault;
 use device_registry::{RegistryOver, SqlConnection};
@@ -38,7 +38,7 @@ pub fn start<C: SqlConnection + Drop>(
     ensures idle { IfOk result IsDrained }
     ensures starts { IfOk result (λ gateway. HasCleanDisk (C.state gateway.handler.registry) →
         Starts C.state conn base gateway.handler) }
-    ensures refused { IfErr result (RefusesToStart C.state conn) }
+    ensures refused { IfErr result (MayFailToStart C.state conn) }
 {
     let registry = RegistryOver::open_with(alloc, conn, remembered)?;
     Ok(GatewayOver::with_base_id(alloc, registry, base)?)

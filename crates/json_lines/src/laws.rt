@@ -7,7 +7,7 @@ ghost use Rattle.teach_in.specs.declared.why.Why.{Why};
 ghost use Rattle.json_lines.specs.declared.limits.TheConstants.{MAX_PACKET_LINE};
 
 /// Lines that together have the text of a teach line are one teach line, with the same outcome.
-pub fn teach_texts_are_of_teach_lines()
+pub fn teach_text_is_one_teach_line()
     ensures { (lines : List DeskLine) (told : TeachLine) → texts lines ≡ text (Teach told)
         → (line : TeachLine) × (lines ≡ Teach line ∷ []) × (line.outcome ≡ told.outcome) }
 {}

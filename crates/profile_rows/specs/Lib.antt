@@ -1,5 +1,5 @@
 pub mod Reading
 pub mod Rows
 pub mod Profile
-pub mod Answer
+pub mod ReadResult
 pub mod Payload

@@ -2,7 +2,7 @@
 
 ghost use Rattle.std.specs.Prelude.{◌≡◌, option_map};
 ghost use Rattle.std.specs.Bool.{OnFalse};
-ghost use Rattle.profile_rows.specs.Answer.{entries_if};
+ghost use Rattle.profile_rows.specs.ReadResult.{entries_if};
 ghost use Rattle.profile_rows.specs.Profile.{rows_in};
 ghost use Rattle.profile_rows.specs.Rows.{entries_of};
 ghost use Rattle.profiles_4bs.specs.Meter.{meter_profiles};

@@ -2,7 +2,7 @@
 
 ghost use Rattle.std.specs.Prelude.{◌≡◌, ℕ, List, true, option_map, Result, Ok, Err, OnErr, MatchResult};
 ghost use Rattle.std.specs.Bool.{OnFalse};
-ghost use Rattle.profile_rows.specs.Answer.{read_result, entries_if};
+ghost use Rattle.profile_rows.specs.ReadResult.{read_result, entries_if};
 ghost use Rattle.profile_rows.specs.Payload.{is_data, readings_by};
 ghost use Rattle.profile_rows.specs.Rows.{entries_of};
 ghost use Rattle.profiles_4bs.specs.Profiles.{rows_of, supported, readings_of};

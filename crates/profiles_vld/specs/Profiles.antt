@@ -41,9 +41,9 @@ abbrev pub supported : Eep → Bool
 supported eep = is_some (payload_readings_of eep)
 
 -- the readings of a telegram with this RORG by a profile, or the first reason to reject it
-abbrev pub read_by : ℕ → (List ℕ → Result (List Entry) Unreadable) → Telegram → Result (List Entry) Unreadable
-read_by rorg says t = if not (t.rorg == rorg) then Err refusals.WrongKind else says t.payload
+abbrev pub read_if_rorg : ℕ → (List ℕ → Result (List Entry) Unreadable) → Telegram → Result (List Entry) Unreadable
+read_if_rorg rorg says t = if not (t.rorg == rorg) then Err refusals.WrongKind else says t.payload
 
 -- the readings of a telegram by a profile, or the first reason to reject it (own choice: the order of the reasons)
 abbrev pub readings_of : Eep → Telegram → Result (List Entry) Unreadable
-readings_of eep t = option_map_or (λ says. read_by eep.rorg says t) (payload_readings_of eep) (Err refusals.NotSupported)
+readings_of eep t = option_map_or (λ says. read_if_rorg eep.rorg says t) (payload_readings_of eep) (Err refusals.NotSupported)

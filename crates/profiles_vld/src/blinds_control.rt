@@ -1,7 +1,7 @@
 //! Blinds control for position and angle: the profile D2-05-00.
 
 ghost use Rattle.std.specs.Prelude.{◌≡◌, OnErr};
-ghost use Rattle.profile_rows.specs.Answer.{read_result};
+ghost use Rattle.profile_rows.specs.ReadResult.{read_result};
 ghost use Rattle.profiles_vld.specs.Profiles.{blinds_control_readings};
 
 use bit_fields::get;

@@ -2,7 +2,7 @@
 
 ghost use Rattle.std.specs.Prelude.{◌≡◌, OnErr};
 ghost use Rattle.bit_fields.specs.Bits.{field};
-ghost use Rattle.profile_rows.specs.Answer.{read_result};
+ghost use Rattle.profile_rows.specs.ReadResult.{read_result};
 ghost use Rattle.profiles_vld.specs.ElectronicSwitches.{status_response, measurement_response};
 ghost use Rattle.profiles_vld.specs.Payload.{entries_if_length};
 ghost use Rattle.profiles_vld.specs.Profiles.{electronic_switch_readings};

@@ -1,7 +1,7 @@
 //! The VLD profiles, and decoding telegrams by them.
 
 ghost use Rattle.std.specs.Prelude.{◌≡◌, option_map, IfNone, IfSome, OnErr};
-ghost use Rattle.profile_rows.specs.Answer.{read_result};
+ghost use Rattle.profile_rows.specs.ReadResult.{read_result};
 ghost use Rattle.profiles_vld.specs.Profiles.{payload_readings_of, supported, readings_of};
 
 use crate::{blinds_control, electronic_switches};
