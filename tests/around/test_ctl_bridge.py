@@ -199,6 +199,11 @@ class LastSeen(WithBridge):
         self.assertRegex(heading, "SIGNAL +LAST SEEN$")
         self.assertRegex(seen, rf"^Attic +{SENSOR} .*Temperature 20.08 °C +-45 dBm +[0-9]+ s ago$")
         self.assertRegex(unseen, f"{NEVER_HEARD} +A5-02-05 +temperature$")
+        self.assertEqual(self.ctl("devices").out.splitlines()[2], unseen)
+        first, second, _ = map(json.loads, self.ctl("devices", "--json").out.splitlines())
+        self.assertLess(abs(time.time() - first["seen"]), 3 * WITHIN)
+        self.assertEqual((first["id"], first["label"], second["id"], second["seen"]),
+                         (SENSOR, "Attic", NEVER_HEARD, None))
         self.bridge.end()
         self.assertEqual(self.row(), "")
         self.assertNotIn("LAST SEEN", self.ctl("list").out)

@@ -84,19 +84,28 @@ class Tables(CtlTest):
     """What people see, by a gateway with three devices."""
 
     def test_list_and_status(self):
+        self.assert_ends(self.ctl("devices"), REFUSED, "give the order `list` once")
         self.assert_run(self.ctl("list"), OK, "no device is learned\n")
+        self.assert_run(self.ctl("devices"), OK, "no device is learned\n")
         for order in ("add 01800A01 D5-00-01", "add 01800A02 A5-02-05", "add 01800A0F D2-01-0F", "label 01800A01 Door"):
             self.assertEqual(self.ctl(*order.split(" ")).status, OK)
         self.stick.bring("01800A01", "D5 09")
         self.stick.bring("01800A02", "A5 00007F08")
         self.stick.bring("01800A0F", "D2 046064")
         self.read_all(3)
-        self.assert_run(self.ctl("list"), OK, """\
+        table = """\
 LABEL  ID        PROFILE   NAME                         LAST READINGS         SIGNAL
 Door   01800A01  D5-00-01  single contact               Contact closed        -45 dBm
        01800A02  A5-02-05  temperature                  Temperature 20.08 °C  -45 dBm
        01800A0F  D2-01-0F  electronic switch or dimmer  OV 100 %              -45 dBm
-""")
+"""
+        # The lines have no label until they have a list.
+        without_labels = "".join(row[len("LABEL  "):] for row in table.splitlines(True))
+        self.assert_run(self.ctl("devices"), OK, without_labels)
+        self.assert_run(self.ctl("list"), OK, table)
+        before = self.gateway.desk.read_bytes()
+        self.assert_run(self.ctl("devices"), OK, table)
+        self.assertEqual(self.gateway.desk.read_bytes(), before)
         self.gateway.rotate()
         self.assertIn("Temperature 20.08 °C", self.ctl("list").out)
         self.assert_run(self.ctl("status"), OK, """\

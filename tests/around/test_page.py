@@ -59,6 +59,10 @@ new MutationObserver(() => window.repaints++).observe(document.querySelector(arg
                                                       { childList: true, characterData: true, subtree: true });
 """
 MOST_REPAINTS_A_SECOND = 5
+GET_POLICY = """
+const [done] = arguments;
+fetch("index.html").then(response => done(response.headers.get("content-security-policy")));
+"""
 
 
 def setUpModule() -> None:
@@ -244,6 +248,9 @@ class Reads(PageTest):
     def test_everything_comes_from_this_host(self):
         script = "return performance.getEntriesByType('resource').map(entry => new URL(entry.name).host)"
         self.assertEqual(set(browser.run(script)), {f"127.0.0.1:{cockpit.port}"})
+        policy = str(browser.driver.execute_async_script(GET_POLICY))
+        self.assertIn("default-src 'self'", policy)
+        self.assertNotIn("*", policy)
 
 
 class Acts(PageTest):
@@ -345,6 +352,19 @@ class Acts(PageTest):
         script = ("return [...document.querySelectorAll(arguments[0])]"
                   ".find(({ textContent }) => textContent === arguments[1])")
         browser.run(script, self.row(device, "actuators") + " button", name).click()
+
+    def test_the_devices_are_asked_for_after_a_telegram_was_learned(self):
+        """The device may have had a label."""
+        self.wait(lambda: browser.text("#devices-note"), lambda text: "last list" not in text, "the first list")
+        before = self.lists()
+        ctl("learn", "on")
+        stick.bring("01800B06", "D5 00")
+        self.wait(self.lists, lambda count: count == before + 1, "the lists")
+        ctl("learn", "off")
+
+    def lists(self) -> int:
+        """How many lists were asked for."""
+        return gateway.desk.read_text().splitlines().count("list")
 
     def test_an_order_that_is_refused_is_explained(self):
         self.learn("01800B21", "D2-01-12")
@@ -499,6 +519,12 @@ class Rights(PageTest):
         self.tab("teach")
         for name in ("open", "answer", "as", "close"):
             self.assertFalse(browser.find(f"#teach-{name}").is_enabled(), name)
+        ctl("add", "01800D04", "D2-01-02")
+        self.tab("actuators")
+        self.wait_for_text(self.row("01800D04", "actuators"), "Dim to")
+        script = "return [...document.querySelectorAll(arguments[0])].map(({ disabled }) => disabled)"
+        controls = f"{self.row('01800D04', 'actuators')} :is(button, input)"
+        self.wait(lambda: browser.run(script, controls), lambda found: len(found) == 4 and all(found))
         self.tab("gateway")
         self.assertFalse(browser.find("#gateway-refresh").is_enabled())
         self.assertFalse(browser.find("#problem").is_displayed(), browser.text("#problem"))

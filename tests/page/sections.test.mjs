@@ -2,6 +2,7 @@ import assert from "node:assert/strict";
 import { test } from "node:test";
 
 import { isQuiet, selected } from "../../contrib/cockpit/enogate/devices.js";
+import { baseText } from "../../contrib/cockpit/enogate/gateway.js";
 import { profilesFor } from "../../contrib/cockpit/enogate/learn.js";
 import { Model } from "../../contrib/cockpit/enogate/model.js";
 import { filtered } from "../../contrib/cockpit/enogate/packets.js";
@@ -62,6 +63,14 @@ test("the profiles of the kind of a sender are offered", () => {
     assert.deepEqual(profilesFor({ rorg: "D5", eep: null }), ["D5-00-01"]);
     assert.equal(profilesFor({ rorg: "D4", eep: "D2-01-12" }).length, 20);
     assert.equal(profilesFor({ rorg: "D4", eep: null }).length, 65);
+});
+
+test("the base ID is that of the module, and a setting that differs is named", () => {
+    const shown = (reported, ...set) => baseText(reported, new Map(set.map(text => ["BASE", text])));
+    assert.equal(shown("FFA1B280", "ffa1b280"), "FFA1B280");
+    assert.equal(shown("FFA1B280", "FF800000"), "FFA1B280, but the setting BASE is FF800000");
+    assert.deepEqual([shown("FFA1B280"), shown("FFA1B280", ""), shown(null, "ffa1b280"), shown(null)],
+                     ["FFA1B280", "FFA1B280", "FFA1B280", "not known yet"]);
 });
 
 test("packets are filtered by ID and label", () => {

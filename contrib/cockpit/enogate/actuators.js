@@ -32,8 +32,8 @@ class ActuatorRow {
         idCell.className = "mono";
         setText(idCell, id);
         this.abilities = orders.abilities(eep);
-        this.controls = this.abilities.kind === "blind" ? this.blindControls() : this.switchControls();
-        controls.append(...this.controls.flatMap(control => [control, " "]));
+        const made = this.abilities.kind === "blind" ? this.blindControls() : this.switchControls();
+        controls.append(...made.flatMap(control => [control, " "]));
     }
 
     blindControls() {
@@ -85,7 +85,7 @@ class ActuatorRow {
     fill(device) {
         setText(this.label, device.label || "–");
         setText(this.state, words.readingsText([...device.readings.values()]) || "not known yet");
-        for (const control of this.controls)
+        for (const control of this.element.querySelectorAll("button, input, select"))
             control.disabled = !device.mayAct;
     }
 }

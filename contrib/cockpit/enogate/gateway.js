@@ -3,6 +3,14 @@
 import { byId, setText } from "./dom.js";
 import * as words from "./words.js";
 
+/** The base ID that the module has reported. It should be that of the settings. */
+export function baseText(reported, settings) {
+    const set = (settings.get("BASE") || "").toUpperCase();
+    if (reported && set && reported !== set)
+        return `${reported}, but the setting BASE is ${set}`;
+    return reported || set || "not known yet";
+}
+
 export class GatewaySection {
     constructor(page) {
         this.page = page;
@@ -15,19 +23,12 @@ export class GatewaySection {
         const serial = settings.get("SERIAL") || "";
         setText(byId("gateway-service"), words.service(health.states));
         setText(byId("gateway-stick"), serial ? `${stick} (${serial})` : stick);
-        setText(byId("gateway-base"), this.base(model, settings));
+        setText(byId("gateway-base"), baseText(model.base, settings));
         setText(byId("gateway-window"), model.mode ?? "not known yet");
         setText(byId("gateway-devices"), model.isListed ? String(model.devices.size) : "not known yet");
         for (const name of ["readings", "teach", "responses", "ignored", "refused"])
             setText(byId(`counter-${name}`), model.counters ? String(model.counters[name]) : "–");
         setText(byId("counters-time"), model.counters ? `(counted at ${words.clock(model.counters.time)})` : "");
         byId("gateway-refresh").disabled = !this.page.mayAct;
-    }
-
-    base(model, settings) {
-        const set = (settings.get("BASE") || "").toUpperCase();
-        if (model.base && set && model.base !== set)
-            return `${model.base}, but the setting BASE is ${set}`;
-        return model.base || set || "not known yet";
     }
 }

@@ -127,7 +127,7 @@ class Page {
             tab.setAttribute("aria-selected", String(isOpen));
             byId(tab.dataset.section).hidden = !isOpen;
         }
-        this.painter.ask();
+        this.painter.now();
     }
 
     take(line, now) {
@@ -167,7 +167,7 @@ class Page {
         pressed.disabled = true;
         this.complain(await this.errorOf(order));
         pressed.disabled = !this.mayAct;
-        this.painter.ask();
+        this.painter.now();
     }
 
     /** Asks for the devices. The answer comes with the lines, and with it the counters and the learn window. */

@@ -37,19 +37,19 @@ fewer_recalled s old new recalls fewer entry has clean = recalls entry (fewer en
 pub recalled : (s : State) (id : ℕ) (known : Option Device) → HasCleanDisk s → EntryAgrees s (id, known)
     → (devices : Devices) → HasDevices s devices → known ≡ device_of devices id
 recalled s id known clean right devices has = right.is ∙ ap (λ (m : Devices). device_of m id)
-    (registers_once s.now right.devices devices right.shows.registers (has clean right.shows.is_open))
+    (registers_once s.now right.devices devices right.shows.holds (has clean right.shows.is_open))
 
 pub unmoved : (s : State) (devices : Devices) → HasDevices s devices
     → Keeps (registry_state s) (registry_state s) devices
 unmoved s devices has = record { now = has; crash = λ left may. may }
 
-held : {s : State} (ready : IsReady s) → HasDevices s ready.devices
-held ready = λ _ _. ready.shows.registers
+held : {s : State} (ready : IsReady s) → HasDevices s ready.held
+held ready = λ _ _. ready.shows.holds
 
 -- and it implies that the registry is ready
 pub told_ready : (s : State) (entry : Entry) → EntryAgrees s entry → IsReady s × IsReady s
 told_ready s entry right =
-    let it : IsReady s = record { devices = right.devices; shows = right.shows } in (it, it)
+    let it : IsReady s = record { held = right.devices; shows = right.shows } in (it, it)
 
 -- a correct entry stays correct after a call that keeps each list of devices
 still : (old new : State) → HasCleanDisk new → IsReady new
@@ -57,7 +57,7 @@ still : (old new : State) → HasCleanDisk new → IsReady new
     → EntryAgrees new entry
 still old new clean ready keeps entry right = record {
   devices = right.devices;
-  shows = shows_them new right.devices clean ready (keeps right.devices (λ _ _. right.shows.registers));
+  shows = shows_them new right.devices clean ready (keeps right.devices (λ _ _. right.shows.holds));
   is = right.is;
 }
 
@@ -70,7 +70,7 @@ pub found_recalled : (old new : State) (id : ℕ) (known : Option Device) (befor
     → CacheAgrees new later
 found_recalled old new id known before later early sure found recalls fewer entry has clean =
     let it = sure clean in
-    let was_devices = it.0.devices in
+    let was_devices = it.0.held in
     let had = held it.0 in
     elim (fewer entry has) [
       | inl was ↦ still old new clean it.1 (λ devices had. (found clean devices had).1.now) entry
@@ -135,17 +135,17 @@ changed_recalled old new update known before between later early sure commits is
           record {
             devices = apply_update right.devices update;
             shows = shows_them new (apply_update right.devices update) clean it.1
-                (commits clean right.devices (λ _ _. right.shows.registers)).now;
+                (commits clean right.devices (λ _ _. right.shows.holds)).now;
             is = right.is ∙ ap (option_map (device entry.0))
                 (sym (elsewhere right.devices id (known_after right.devices update) entry.0 left.1));
           }
       | inr same ↦
           subst (EntryAgrees new) (sym same) (record {
-            devices = apply_update it.0.devices update;
-            shows = shows_them new (apply_update it.0.devices update) clean it.1
-                (commits clean it.0.devices (held it.0)).now;
-            is = is (early clean) it.0.devices (held it.0) ∙ ap (option_map (device id))
-                (sym (there it.0.devices id (known_after it.0.devices update)));
+            devices = apply_update it.0.held update;
+            shows = shows_them new (apply_update it.0.held update) clean it.1
+                (commits clean it.0.held (held it.0)).now;
+            is = is (early clean) it.0.held (held it.0) ∙ ap (option_map (device id))
+                (sym (there it.0.held id (known_after it.0.held update)));
           })
     ]
 

@@ -1,27 +1,23 @@
 -- The statements that create the two tables make a registry without devices.
-use Rattle.std.proofs.Common.{◌≡◌, ℕ, List, [], ◌∷◌, length, ◌≤◌, ◌<◌, false, None, Option, Ok}
-use Rattle.std.proofs.Common.{OnOk, IfErr, true, Result, arith, IsTrue, MatchBool, refl, sym, ap, subst, ◌∙◌}
+use Rattle.std.proofs.Common.{◌≡◌, ℕ, List, [], ◌∷◌, length, ◌≤◌, ◌<◌, false, None, Ok}
+use Rattle.std.proofs.Common.{OnOk, IfErr, true, Result, arith, IsTrue, refl, sym, ap, subst, ◌∙◌}
 use Rattle.std.specs.List.{AllByRecursion}
 use Rattle.std.specs.FinMap.{empty}
 use Rattle.sqlite.specs.Schema.{Schema}
 use Rattle.sqlite.specs.Table.{Table}
 use Rattle.sqlite.specs.Source.TheVariants.{Values}
 use Rattle.sqlite.specs.Command.TheVariants.{CreateTable, Insert}
-use Rattle.sqlite.specs.Compile.{table_defined_by}
 use Rattle.sqlite_catalog.specs.Change.{created, next_tree, is_used, KeepsRows}
-use Rattle.sqlite.specs.declared.run.Mode.{Mode}
 use Rattle.sqlite.specs.declared.error.Error.{Error}
 use Rattle.sqlite.specs.Effect.{Database, IsDatabase}
-use Rattle.sqlite.specs.Does.{Tally, Does, MakesTable, sequence_text, lacks_sequence}
-use Rattle.sqlite.specs.Rows.{Gives}
-use Rattle.sqlite.specs.Listing.{understood}
+use Rattle.sqlite.specs.Does.{Does, lacks_sequence}
 use Rattle.sqlite.specs.State.{State, HasCleanDisk, Survives, ExecutesInside, mode_of}
 use Rattle.sqlite.specs.Steps.{FailsToCommit}
 use Rattle.sqlite.specs.Held.{Held, state}
 use Rattle.sqlite_trees.specs.declared.store.Store.{Ghosts}
-use Rattle.sqlite.proofs.Callers.{runs_as, statement_of}
+use Rattle.sqlite.proofs.Callers.{runs_as}
 use Rattle.device_registry.specs.declared.table.Version.TheVariants.{Second}
-use Rattle.device_registry.specs.Table.{create_meta_sql, create_device_sql, write_version_sql}
+use Rattle.device_registry.specs.Table.{meta_name, create_meta_sql, create_device_sql, write_version_sql}
 use Rattle.device_registry.specs.Table.{device_name, meta_table, device_table}
 use Rattle.device_registry.specs.Stored.{HasTables, AreListed, IsRegistryOf}
 use Rattle.device_registry.specs.Table.Rows.{RowidsDiffer, IsDevice, devices_in}
@@ -30,47 +26,20 @@ use Rattle.device_registry.specs.Stored.{AdmitsTables}
 use Rattle.device_registry.specs.SchemaChecks.{admits_tables}
 use Rattle.device_registry.specs.private.Transaction.{IsMidTransaction, IsListedMidTransaction}
 use Rattle.device_registry.proofs.TableTexts.{meta_is, device_is}
-use Rattle.device_registry.proofs.RowWrites.{went, same_value}
 use Rattle.device_registry.proofs.CreateTablesMeaning.{meta_makes, device_makes}
 use Rattle.device_registry.proofs.VersionMeaning.{number_means, version_terms}
 use Rattle.device_registry.proofs.TablesAdded.{with_meta, with_both, made_tables, half_free}
-use Rattle.device_registry.proofs.TablesAdded.{still_counted, lows, owners_below, all_last}
-use Rattle.device_registry.proofs.TablesAlone.{meta_alone}
+use Rattle.keyed_table.proofs.Creates.{creates_table, still_counted}
+use Rattle.keyed_table.proofs.LoneTables.{is_created}
+use Rattle.device_registry.proofs.TablesAlone.{StandIn, meta_alone}
 use Rattle.device_registry.proofs.RewriteVersionEffect.{version_row}
 use Rattle.device_registry.proofs.SchemaTests.{cleared}
 use Rattle.device_registry.proofs.TransactionEnd.{Commits, Ends, Shown, ends}
-use Rattle.device_registry.proofs.TransactionSteps.{since}
+use Rattle.keyed_table.proofs.Transactions.{since}
 use Rattle.device_registry.proofs.VersionWrites.{numbers, has_at}
-use Rattle.device_registry.proofs.TablesMigrated.{has_before}
 use Rattle.sqlite_catalog.proofs.StepLemmas.{table_below}
 use Rattle.sqlite_rules.specs.Lists.{Has}
-use Rattle.sqlite_rules.proofs.ListLemmas.{all_has}
-
--- a table is created, empty, and the other tables keep their rows
-pub creates : (limit : Option ℕ) (mode : Mode) (old after : Database) (text : List ℕ) (tally : Tally) (table : Table)
-    → table_defined_by text ≡ Ok table → lacks_sequence (created old.schema table) ≡ false
-    → Does limit mode [] old text None CreateTable (Ok (tally, after))
-    → (after.schema ≡ created old.schema table) × (after.trees (next_tree old.schema) ≡ [])
-    × KeepsRows old.schema.tables old.trees after.trees
-creates limit mode old after text tally table defined none h =
-    let made = went h in
-    let both = went made.1 in
-    let is : both.0.schema ≡ created old.schema table =
-    both.1.is ∙ ap (created old.schema) (same_value (sym both.1.defined ∙ defined)) in
-    let same : made.0 ≡ both.0 =
-    same_value (subst (λ b. MatchBool b (MakesTable sequence_text both.0 (Ok made.0)) (Gives both.0 (Ok made.0)))
-    (ap lacks_sequence is ∙ none) both.2) in
-    let now : after ≡ both.0 = ap (λ (p : Tally × Database). p.1) (same_value made.2) ∙ same in (
-      ap (λ (d : Database). d.schema) now ∙ is,
-      ap (λ (d : Database). d.trees (next_tree old.schema)) now ∙ both.1.empty,
-      subst (λ (d : Database). KeepsRows old.schema.tables old.trees d.trees) (sym now) both.1.others,
-    )
-
--- the tables, in the trees of these numbers
-record StandIn (schema : Schema) (meta devices : ℕ) : Type 0 where
-  tables : HasTables Second schema
-  meta_is : tables.meta ≡ meta
-  devices_is : tables.devices ≡ devices
+use Rattle.sqlite_rules.proofs.ListLemmas.{all_has, has_left}
 
 -- the two tables hold the version row and nothing else
 registers : (db : Database) (t : HasTables Second db.schema) → db.trees t.meta ≡ version_row ∷ []
@@ -104,7 +73,7 @@ module _ (a b c : State) (i j : ℕ) (clear : AdmitsTables a.now.schema) (sound 
   half =
       let makes = meta_makes a.now.schema clear.free_meta in
       let one = runs_as create_meta_sql [] a b a.now.schema refl CreateTable makes.means.is makes.means.plain i first.0 in
-      let made = creates a.step_limit (mode_of a) a.now b.now create_meta_sql one.tally (meta_table 0) meta_is half_counted
+      let made = creates_table a.step_limit (mode_of a) a.now b.now create_meta_sql one.tally (meta_table 0) meta_is half_counted
       (subst (λ t. Does a.step_limit (mode_of a) [] a.now t None CreateTable (Ok (one.tally, b.now))) makes.alone
       one.changed) in
       (made.0, made.1, one.sound, made.2)
@@ -120,15 +89,17 @@ module _ (a b c : State) (i j : ℕ) (clear : AdmitsTables a.now.schema) (sound 
       let two =
       runs_as (create_device_sql Second) [] b c b.now.schema refl CreateTable makes.means.is makes.means.plain j second.0 in
       let made =
-      creates b.step_limit (mode_of b) b.now c.now (create_device_sql Second) two.tally (device_table Second 0)
+      creates_table b.step_limit (mode_of b) b.now c.now (create_device_sql Second) two.tally (device_table Second 0)
       (device_is Second)
       (still_counted b.now.schema (device_table Second 0) refl
       (subst (λ s. lacks_sequence s ≡ false) (sym before.0) half_counted))
       (subst (λ t. Does b.step_limit (mode_of b) [] b.now t None CreateTable (Ok (two.tally, c.now))) makes.alone
       two.changed) in
       let kept =
-      all_last (λ t. c.now.trees t.tree ≡ b.now.trees t.tree) a.now.schema.tables (meta_table (next_tree a.now.schema))
-      (subst (λ (s : Schema). KeepsRows s.tables b.now.trees c.now.trees) before.0 made.2) in (
+      all_has (λ t. c.now.trees t.tree ≡ b.now.trees t.tree) (with_meta a.now.schema).tables
+      (meta_table (next_tree a.now.schema))
+      (subst (λ (s : Schema). KeepsRows s.tables b.now.trees c.now.trees) before.0 made.2)
+      (is_created a.now.schema meta_name _ _) in (
         made.0 ∙ ap (λ s. created s (device_table Second 0)) before.0,
         subst (λ s. c.now.trees (next_tree s) ≡ []) before.0 made.1,
         kept ∙ before.1,
@@ -139,30 +110,17 @@ module _ (a b c : State) (i j : ℕ) (clear : AdmitsTables a.now.schema) (sound 
   kept_all : (table : Table) → Has a.now.schema.tables table
       → Has c.now.schema.tables table × (c.now.trees table.tree ≡ a.now.trees table.tree)
   kept_all table has =
-      let in_half = has_before a.now.schema.tables (meta_table (next_tree a.now.schema) ∷ []) table has in
+      let in_half = has_left a.now.schema.tables (meta_table (next_tree a.now.schema) ∷ []) table has in
       let in_b : Has b.now.schema.tables table = subst (λ (s : Schema). Has s.tables table) (sym half.0) in_half in
-      let in_both = has_before (with_meta a.now.schema).tables
+      let in_both = has_left (with_meta a.now.schema).tables
       (device_table Second (next_tree (with_meta a.now.schema)) ∷ []) table in_half in (
         subst (λ (s : Schema). Has s.tables table) (sym whole.0) in_both,
         all_has (λ (t : Table). c.now.trees t.tree ≡ b.now.trees t.tree) b.now.schema.tables table whole.4 in_b
             ∙ all_has (λ (t : Table). b.now.trees t.tree ≡ a.now.trees t.tree) a.now.schema.tables table half.3 has,
       )
 
-  stand : StandIn c.now.schema (next_tree a.now.schema) (next_tree (with_meta a.now.schema))
-  stand =
-      let before = half in
-      let after = whole in
-      let low =
-      all_last (λ t. t.tree < 65536) a.now.schema.tables (meta_table (next_tree a.now.schema))
-      (subst (λ (s : Schema). AllByRecursion (λ t. t.tree < 65536) s.tables) before.0
-      (lows b.now.schema b.now.trees before.2)) in
-      let lower = all_last (λ t. t.tree < 65536) (with_meta a.now.schema).tables
-      (device_table Second (next_tree (with_meta a.now.schema)))
-      (subst (λ (s : Schema). AllByRecursion (λ t. t.tree < 65536) s.tables) after.0
-      (lows c.now.schema c.now.trees after.3)) in
-      let t = made_tables a.now.schema clear low lower (owners_below a.now.schema a.now.trees sound) in
-      subst (λ s. StandIn s (next_tree a.now.schema) (next_tree (with_meta a.now.schema))) (sym after.0)
-      (record { tables = t.0; meta_is = t.1; devices_is = t.2 })
+  stand : StandIn Second c.now.schema (next_tree a.now.schema) (next_tree (with_meta a.now.schema))
+  stand = made_tables a.now c.now clear sound whole.0 whole.3
 
 -- each earlier table still exists, with the same rows
 abbrev KeepsAll : Database → Database → Type 0
@@ -187,14 +145,14 @@ makes a b c d i j k clear sound first second third =
     let none : c.now.trees t.meta ≡ [] = ap c.now.trees it.meta_is ∙ after.2 in
     let put =
     numbers c.now.schema t.meta_at t.meta c.step_limit (mode_of c) c.now.trees
-    (statement_of write_version_sql (understood c.now.schema write_version_sql)) three.tally d.now t.meta_stands.there
+    three.tally d.now t.meta_stands.there
     (meta_alone c.now.schema t) none three.changed in
     let kept : d.now.trees t.devices ≡ [] = put.2.tables t.devices_at (device_table Second t.devices)
     t.devices_stand.there
-    (λ e. t.apart (sym e)) ∙ ap c.now.trees it.devices_is ∙ after.1 in
-    let now = subst (λ s. StandIn s t.meta t.devices) (sym put.0)
-    (record { tables = t; meta_is = refl; devices_is = refl }) in (
-      registers d.now now.tables (ap d.now.trees now.meta_is ∙ put.1) (ap d.now.trees now.devices_is ∙ kept),
+    (λ e. t.apart (sym e)) ∙ ap c.now.trees it.devices_are ∙ after.1 in
+    let now = subst (λ s. StandIn Second s t.meta t.devices) (sym put.0)
+    (record { tables = t; meta_is = refl; devices_are = refl }) in (
+      registers d.now now.tables (ap d.now.trees now.meta_is ∙ put.1) (ap d.now.trees now.devices_are ∙ kept),
       three.sound,
       λ table has.
           let low = table_below a.now.schema table has in

@@ -1,5 +1,5 @@
 -- A database holds one list of devices; how a write of rows changes it.
-use Rattle.std.proofs.Common.{is_some, ◌<◌, ℤ}
+use Rattle.std.proofs.Common.{is_some, ◌<◌}
 use Rattle.std.proofs.Common.{◌≡◌, ◌≢◌, ℕ, ◌≤◌, ◌+◌, ◌-◌, Bool, true, false, cond, nat_le}
 use Rattle.std.proofs.Common.{refl, List, [], ◌∷◌}
 use Rattle.std.proofs.Common.{length, map, Some, Option, slice_get, sym, ap, subst, ◌∙◌, arith}
@@ -12,9 +12,9 @@ use Rattle.sqlite.specs.Schema.{Schema}
 use Rattle.sqlite.specs.Table.{Table}
 use Rattle.sqlite.specs.Effect.{Database, IsDatabase}
 use Rattle.sqlite.specs.Listing.{shown}
-use Rattle.sqlite_trees.specs.Tree.{Trees, without_rowid}
+use Rattle.sqlite_trees.specs.Tree.{Trees}
 use Rattle.sqlite_trees.specs.Objects.{catalog_tree}
-use Rattle.sqlite_rules.specs.Edit.{without_all, put_all, IsNoIndex}
+use Rattle.sqlite_rules.specs.Edit.{put_all, edit_of, IsNoIndex}
 use Rattle.sqlite_rules.specs.Lists.{Has}
 use Rattle.sqlite_rules.proofs.ListLemmas.{all_from, has_got}
 use Rattle.sqlite_catalog.specs.Listing.{IsSound, IsTableRow, IsIndexRow}
@@ -28,12 +28,23 @@ use Rattle.device_registry.specs.Stored.{IsRegistry, IsRegistryOfVersion, HoldsA
 use Rattle.device_registry.specs.Stored.{AreListed, IsListedAs}
 use Rattle.device_registry.specs.Table.Rows.{RowidsDiffer, IsDevice, IsVersion, devices_in, rows_of, device_row}
 use Rattle.device_registry.specs.Opening.{DevicesAreLimited}
-use Rattle.device_registry.proofs.RowsAsMap.{IsShort, devices_replaced, put_are_devices, all_without_are_devices}
-use Rattle.device_registry.proofs.DistinctRows.{len_is, apart_put}
-use Rattle.device_registry.proofs.UpsertEffect.{IsPut}
-use Rattle.device_registry.proofs.RowWrites.{SparesOthers, without_once}
-use Rattle.device_registry.proofs.ForgetEffect.{IsForgotten}
 use Rattle.device_registry.proofs.RewriteVersionEffect.{version_row}
+use Rattle.device_registry.proofs.DeviceChecks.{checked}
+use Rattle.device_registry.proofs.DeviceCodec.{IsShort, data_in, data_back, keyed}
+use Rattle.device_registry.proofs.StatementTexts.{forget_query}
+use Rattle.device_registry.proofs.TablesAlone.{devices_alone}
+use Rattle.learned_devices.specs.Labels.{is_label}
+use Rattle.sqlite.specs.Query.{IsAnswer}
+use Rattle.sqlite.specs.Program.{overlay}
+use Rattle.sqlite_trees.proofs.TreeLemmas.{all-put_row}
+use Rattle.sqlite_rules.specs.Calls.{ids_of}
+use Rattle.sqlite_rules.specs.declared.error.Rowids.TheVariants.{Given}
+use Rattle.keyed_table.specs.Queries.{asked}
+use Rattle.keyed_table.specs.Rows.{HasKey, AreKeyed}
+use Rattle.keyed_table.proofs.RowsAsMap.{len_is, differ_from, keyed_without_all}
+use Rattle.keyed_table.proofs.MapWrites.{all_without_all, removes, upserts_map, upserts_keyed}
+use Rattle.keyed_table.proofs.TableWrites.{SparesOthers, IsStep}
+use Rattle.keyed_table.proofs.Upserts.{IsUpserted}
 
 -- ---- one database has one list of devices
 
@@ -72,7 +83,7 @@ held_by version trees a b one other =
     (subst (λ (t : Trees). Rattle.sqlite_catalog.specs.Listing.Lists (t catalog_tree) one.db.schema) trees_are
     one.sound.lists) other.sound.lists in
     let db : one.db ≡ other.db = λ i. record { schema = schema i; trees = trees_are i } in
-    registers_by version other.db a b (subst (λ db. IsRegistryOfVersion version db a) db one.registers) other.registers
+    registers_by version other.db a b (subst (λ db. IsRegistryOfVersion version db a) db one.holds) other.holds
 
 pub held_once : (trees : Trees) (a b : Devices) → Holds trees a → Holds trees b → a ≡ b
 held_once = held_by Second
@@ -137,17 +148,14 @@ not_more : (b : Bool) (n without : ℕ) → without ≡ cond b (n - 1) n → wit
 not_more true n without less = omega arith
 not_more false n without less = omega arith
 
-all_without_once : (rows : List Row) (ids : List ℤ) → RowidsDiffer rows → RowidsDiffer (without_all rows ids)
-all_without_once rows [] h = h
-all_without_once rows (id ∷ ids) h = all_without_once (without_rowid id rows) ids (without_once id rows h)
-
 pub few_devices : (db : Database) (devices : Devices) → IsRegistryOf db devices → len devices ≤ max_devices
 few_devices db devices had =
     let r = had.registry in subst (λ m. len m ≤ max_devices) had.is
-    (subst (λ n. n ≤ max_devices) (sym (len_is (db.trees r.tables.devices) r.whole.rows r.whole.once)) r.whole.few)
+    (subst (λ n. n ≤ max_devices)
+    (sym (len_is data_in (db.trees r.tables.devices) (keyed _ r.whole.rows r.whole.once))) r.whole.few)
 
 pub devices_are_limited : DevicesAreLimited
-devices_are_limited trees devices holds = few_devices holds.db devices holds.registers
+devices_are_limited trees devices holds = few_devices holds.db devices holds.holds
 
 pub fewer : (devices : Devices) (id : ℕ) → len (remove devices id) ≤ len devices
 fewer devices id = not_more (contains_key devices id) (len devices) _ (len-remove nat_cmp_total devices id)
@@ -175,48 +183,59 @@ module _ (before after : Database) (devices : Devices) (had : IsRegistryOf befor
         (has_got before.schema.tables had.registry.tables.devices_at (device_table Second had.registry.tables.devices)
         had.registry.tables.devices_stand.there)
 
-    pub put_registers : (id : ℕ) (it : DeviceData) → IsShort it.eep → is_full devices id ≡ false
-        → after.schema ≡ before.schema → IsPut before.schema had.registry.tables.devices id it before.trees after.trees
-        → IsRegistryOf after (insert devices id it)
-    put_registers id it short room schema put =
-        let r = had.registry in
-        let all =
-        subst (AllByRecursion IsDevice) (sym put.rows) (put_are_devices _ (device_row id it) put.device
-        (all_without_are_devices (before.trees r.tables.devices) put.gone r.whole.rows)) in
-        let once =
-        subst RowidsDiffer (sym put.rows) (apart_put (device_row id it) _ put.fresh
-        (all_without_once (before.trees r.tables.devices) put.gone r.whole.once)) in
-        let is : devices_in (after.trees r.tables.devices) ≡ insert devices id it =
-        ap devices_in put.rows ∙ devices_replaced (before.trees r.tables.devices) put.gone id it short r.whole.rows
-        put.same ∙ ap (λ m. insert m id it) had.is in
-        let size : length (after.trees r.tables.devices) ≡ len (insert devices id it) =
-        sym (len_is (after.trees r.tables.devices) all once) ∙ ap len is in
-        let few : len (insert devices id it) ≤ max_devices =
-        count-with (contains_key devices id) (len devices) _ _ (len-insert nat_cmp_total devices id it)
-        (len-remove nat_cmp_total devices id) room (few_devices before devices had) in
-        registers_after before r after (insert devices id it) schema
-        (put.others.objects devices_beside (no_index_there before.schema before.trees sound)) r.whole.row
-        (put.others.tables r.tables.meta_at (meta_table r.tables.meta) r.tables.meta_stands.there r.tables.apart
-        ∙ r.whole.one)
-        r.whole.numbered all once (subst (λ n. n ≤ max_devices) (sym size) few) is
-
-    pub forgotten_registers : (id : ℕ) → after.schema ≡ before.schema
-        → IsForgotten id (before.trees had.registry.tables.devices) (after.trees had.registry.tables.devices)
+    -- only the device table has other rows
+    rows_register : (now : Devices) → after.schema ≡ before.schema
         → SparesOthers before.schema had.registry.tables.devices before.trees after.trees
-        → IsRegistryOf after (remove devices id)
-    forgotten_registers id schema gone others =
+        → AllByRecursion IsDevice (after.trees had.registry.tables.devices)
+        → AreKeyed (after.trees had.registry.tables.devices)
+        → devices_in (after.trees had.registry.tables.devices) ≡ now → len now ≤ max_devices → IsRegistryOf after now
+    rows_register now schema others all once is few =
         let r = had.registry in
-        let is : devices_in (after.trees r.tables.devices) ≡ remove devices id =
-        gone.map_is ∙ ap (λ m. remove m id) had.is in
-        let size : length (after.trees r.tables.devices) ≡ len (remove devices id) =
-        sym (len_is (after.trees r.tables.devices) gone.rows gone.once) ∙ ap len is in
-        let few : len (remove devices id) ≤ max_devices =
-        omega (arith, fewer devices id, few_devices before devices had) in
-        registers_after before r after (remove devices id) schema
+        registers_after before r after now schema
         (others.objects devices_beside (no_index_there before.schema before.trees sound)) r.whole.row
         (others.tables r.tables.meta_at (meta_table r.tables.meta) r.tables.meta_stands.there r.tables.apart
         ∙ r.whole.one)
-        r.whole.numbered gone.rows gone.once (subst (λ n. n ≤ max_devices) (sym size) few) is
+        r.whole.numbered all (differ_from _ once.apart)
+        (subst (λ n. n ≤ max_devices) (sym (ap len is) ∙ len_is data_in (after.trees r.tables.devices) once) few) is
+
+    there : AreKeyed (before.trees had.registry.tables.devices)
+    there = keyed _ had.registry.whole.rows had.registry.whole.once
+
+    pub put_registers : (id : ℕ) (it : DeviceData) → IsShort it.eep → is_label it.label ≡ true
+        → is_full devices id ≡ false → after.schema ≡ before.schema
+        → IsUpserted before.schema (device_table Second had.registry.tables.devices) (device_row id it) before.trees
+        after.trees
+        → IsRegistryOf after (insert devices id it)
+    put_registers id it short label room schema put =
+        let r = had.registry in
+        let d = r.tables.devices in
+        let key : HasKey (device_row id it) = record { id = id; id_is = refl } in
+        let alone = (devices_alone before.schema r.tables).unindexed in
+        let all = subst (AllByRecursion IsDevice) (sym put.rows) (all-put_row IsDevice (device_row id it) _
+        (checked d id it label put.judged.3)
+        (all_without_all IsDevice (before.trees d) (ids_of put.found) r.whole.rows)) in
+        rows_register (insert devices id it) schema put.others all
+        (upserts_keyed data_in before.schema (device_table Second d) (device_row id it) before.trees after.trees put key
+        there alone)
+        (upserts_map data_in before.schema (device_table Second d) (device_row id it) before.trees after.trees put key
+        there alone ∙ ap (insert _ id) (data_back id it short) ∙ ap (λ m. insert m id it) had.is)
+        (count-with (contains_key devices id) (len devices) _ _ (len-insert nat_cmp_total devices id it)
+        (len-remove nat_cmp_total devices id) room (few_devices before devices had))
+
+    pub forgotten_registers : (id : ℕ) (rows : List Row)
+        → IsAnswer (forget_query had.registry.tables.devices) (overlay before.trees []) (asked id) rows
+        → IsStep before.schema before.trees (edit_of before.trees (device_table Second had.registry.tables.devices)
+        (ids_of rows) Given 0 []) after
+        → IsRegistryOf after (remove devices id)
+    forgotten_registers id rows a step =
+        let r = had.registry in
+        let d = r.tables.devices in
+        rows_register (remove devices id) step.schema_is step.others
+        (subst (AllByRecursion IsDevice) (sym step.rows)
+        (all_without_all IsDevice (before.trees d) (ids_of rows) r.whole.rows))
+        (subst AreKeyed (sym step.rows) (keyed_without_all (before.trees d) (ids_of rows) there))
+        (ap devices_in step.rows ∙ removes data_in d id before.trees rows there a ∙ ap (λ m. remove m id) had.is)
+        (omega (arith, fewer devices id, few_devices before devices had))
 
     pub renewed_registers : after.schema ≡ before.schema → after.trees had.registry.tables.meta ≡ version_row ∷ []
         → SparesOthers before.schema had.registry.tables.meta before.trees after.trees → IsRegistryOf after devices

@@ -43,14 +43,14 @@ registers-in registers = subst AreInRange registers.is (rows-in _ registers.regi
 
 found-in : {trees : Trees} {devices : Devices} → Finds trees devices → AreInRange devices
 found-in found = elim found [
-  | inl (version, holds) ↦ registers-in holds.registers
+  | inl (version, holds) ↦ registers-in holds.holds
   | inr (free, none) ↦ subst AreInRange (sym none) empty-in
 ]
 
 pub registries_are_in_range : {C : Type 0} (state : C → State) → RegistriesAreInRange state
 registries_are_in_range state = record {
   held = λ c devices clean is_open has. registers-in (has clean is_open);
-  left = λ c devices (trees, leaves, holds). registers-in holds.registers;
+  left = λ c devices (trees, leaves, holds). registers-in holds.holds;
   found = λ trees devices found. found-in found;
   opened = λ old new devices opens. found-in opens.found;
 }

@@ -12,11 +12,11 @@ use Rattle.device_registry.specs.Table.{list_objects_sql}
 use Rattle.device_registry.specs.private.CatalogRows.{are_our_tables}
 use Rattle.device_registry.specs.Stored.{AreListed}
 use Rattle.device_registry.specs.private.Transaction.{IsUncommitted, IsMidTransaction, IsListedMidTransaction}
-use Rattle.device_registry.proofs.ListObjectsAnswer.{listing_plain}
-use Rattle.device_registry.proofs.RefusalKeeps.{spared_commit}
-use Rattle.device_registry.proofs.StatementSteps.{not_shown, shown_same}
+use Rattle.keyed_table.proofs.ObjectsAnswer.{listing_plain}
+use Rattle.keyed_table.proofs.Refusals.{spared_commit}
+use Rattle.keyed_table.proofs.Statements.{not_shown, shown_same}
 use Rattle.device_registry.proofs.TablesRecognized.{ours_told}
-use Rattle.device_registry.proofs.TransactionSteps.{uncommitted_then}
+use Rattle.keyed_table.proofs.Transactions.{uncommitted_then}
 
 -- the query commits nothing
 seen_commit : {V : Type 0} (items : V → List Row) (old new : State) (r : Result V Error) → IsDatabase old.now

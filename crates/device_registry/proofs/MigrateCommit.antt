@@ -20,7 +20,7 @@ use Rattle.device_registry.specs.private.Transaction.{IsUncommitted, IsMidTransa
 use Rattle.device_registry.proofs.DevicesHeld.{registers_by}
 use Rattle.device_registry.proofs.MigrateEffect.{migrates, others_kept}
 use Rattle.device_registry.proofs.TransactionEnd.{Commits, Ends, Shown, ends}
-use Rattle.device_registry.proofs.TransactionSteps.{since}
+use Rattle.keyed_table.proofs.Transactions.{since}
 
 abbrev pub migration : List (List ℕ)
 migration = create_device_sql Second ∷ copy_sql ∷ drop_sql ∷ rewrite_version_sql ∷ []

@@ -3,7 +3,7 @@ use Rattle.std.proofs.Common.{◌≡◌, ◌≢◌, ◌≤◌, ◌<◌, ◌==◌
 use Rattle.std.proofs.Common.{refl, sym, ap, subst, ◌∙◌, arith}
 use Rattle.std.specs.List.{AllByRecursion}
 use Rattle.std.specs.List.Sorted.{IsPermutation}
-use Rattle.std.proofs.lemmas.List.Sorted.{IsPermutation-trans, length_permutation}
+use Rattle.std.proofs.lemmas.List.Sorted.{length_permutation}
 use Rattle.sqlite.specs.Order.{Row}
 use Rattle.sqlite.specs.Schema.{Schema}
 use Rattle.sqlite.specs.Table.{Table}
@@ -12,9 +12,8 @@ use Rattle.sqlite.specs.Command.TheVariants.{CreateTable, Insert, DropTable, Upd
 use Rattle.sqlite_schema.specs.Names.{same_name, view_named}
 use Rattle.sqlite_catalog.specs.Change.{without_table, KeepsRows}
 use Rattle.sqlite_trees.proofs.ListLemmas.{all-permutation}
-use Rattle.sqlite_rules.specs.Edit.{put_all}
 use Rattle.sqlite_rules.specs.Lists.{Has}
-use Rattle.sqlite_rules.proofs.ListLemmas.{all_has, has_got}
+use Rattle.sqlite_rules.proofs.ListLemmas.{all_has, has_got, has_kept}
 use Rattle.sqlite.specs.Effect.{Database, IsDatabase}
 use Rattle.sqlite.specs.Does.{Does}
 use Rattle.sqlite.specs.Listing.{understood}
@@ -26,36 +25,32 @@ use Rattle.device_registry.specs.Table.{create_device_sql, copy_sql, drop_sql, r
 use Rattle.device_registry.specs.Table.{device_table, meta_table}
 use Rattle.device_registry.specs.Table.Rows.{IsDevice, RowidsDiffer, devices_in, rows_of}
 use Rattle.device_registry.specs.Stored.{HasTables, IsRegistry, AreListed, IsRegistryOf}
-use Rattle.device_registry.proofs.StatementTexts.{program_of, copy_query, renew_query}
+use Rattle.device_registry.proofs.StatementTexts.{copy_query, renew_query}
+use Rattle.keyed_table.specs.Queries.{program_of}
 use Rattle.device_registry.proofs.TableTexts.{device_is}
 use Rattle.device_registry.proofs.CreateTablesMeaning.{device_makes}
 use Rattle.device_registry.proofs.MigrationMeaning.{copy_means, drop_means}
 use Rattle.device_registry.proofs.VersionMeaning.{renew_means}
 use Rattle.device_registry.proofs.VersionWrites.{has_at}
 use Rattle.device_registry.proofs.RewriteVersionEffect.{version_row, renews}
-use Rattle.device_registry.proofs.CreateEffect.{creates}
 use Rattle.device_registry.proofs.CopyEffect.{copies}
-use Rattle.device_registry.proofs.DropEffect.{drops}
-use Rattle.device_registry.proofs.RowsCopied.{copied, same_devices}
-use Rattle.device_registry.proofs.DistinctRows.{apart_turned}
-use Rattle.device_registry.proofs.TablesAdded.{still_counted, none_at}
-use Rattle.device_registry.proofs.TablesRecognized.{no_view}
-use Rattle.device_registry.proofs.TablesMigrated.{IsLone, lone_stands, lone_alone, added, fresh, dropped, first_lone}
+use Rattle.keyed_table.proofs.Drops.{drops}
+use Rattle.keyed_table.proofs.Creates.{creates_table, still_counted, none_at}
+use Rattle.keyed_table.proofs.LoneTables.{IsLone, lone_stands, lone_alone, apart_trees}
+use Rattle.keyed_table.proofs.ListedTables.{no_view}
+use Rattle.keyed_table.proofs.RowsAsMap.{differ_from, keyed_turned, same_map_of}
+use Rattle.device_registry.proofs.DeviceCodec.{data_in, keyed}
+use Rattle.device_registry.proofs.TablesMigrated.{added, fresh, dropped, first_lone}
 use Rattle.sqlite_catalog.proofs.StepLemmas.{table_below}
-use Rattle.device_registry.proofs.TablesMigrated.{is_kept, apart_trees}
-use Rattle.device_registry.proofs.TablesMigrated.{new_lone, has_added, meta_apart, meta_lone, left_lone, migrated}
-use Rattle.device_registry.proofs.RowWrites.{SparesOthers}
+use Rattle.device_registry.proofs.TablesMigrated.{new_lone, has_added, meta_apart, meta_left, new_left, migrated}
+use Rattle.keyed_table.proofs.TableWrites.{SparesOthers}
 
--- rows inserted into an empty table in any order, with the version row, are a registry of their devices
-registers : (db : Database) (t : HasTables Second db.schema) (devices rows : List Row)
-    → db.trees t.meta ≡ version_row ∷ [] → db.trees t.devices ≡ put_all [] rows → IsPermutation devices rows
-    → AllByRecursion IsDevice devices → RowidsDiffer devices → length devices ≤ max_devices
-    → AreListed Second db.trees → IsRegistryOf db (devices_in devices)
-registers db t devices rows version put turned all once few listed =
-    let same : IsPermutation devices (put_all [] rows) =
-    IsPermutation-trans _ _ _ turned
-    (copied rows (all-permutation IsDevice devices rows turned all) (apart_turned devices rows turned once)) in
-    let here : IsPermutation devices (db.trees t.devices) = subst (IsPermutation devices) (sym put) same in
+-- the rows of devices in any order, with the version row, are a registry of the devices
+registers : (db : Database) (t : HasTables Second db.schema) (rows : List Row) → db.trees t.meta ≡ version_row ∷ []
+    → IsPermutation rows (db.trees t.devices) → AllByRecursion IsDevice rows → RowidsDiffer rows
+    → length rows ≤ max_devices → AreListed Second db.trees → IsRegistryOf db (devices_in rows)
+registers db t rows version here all differ few listed =
+    let were = keyed rows all differ in
     record {
       registry = record {
         tables = t;
@@ -63,13 +58,13 @@ registers db t devices rows version put turned all once few listed =
           row = version_row;
           one = version;
           numbered = record { key = refl; number = refl };
-          rows = all-permutation IsDevice devices (db.trees t.devices) here all;
-          once = apart_turned devices (db.trees t.devices) here once;
-          few = omega (arith, few, length_permutation devices (db.trees t.devices) here);
+          rows = all-permutation IsDevice rows (db.trees t.devices) here all;
+          once = differ_from _ (keyed_turned rows (db.trees t.devices) here were).apart;
+          few = omega (arith, few, length_permutation rows (db.trees t.devices) here);
         };
         listed = listed;
       };
-      is = sym (same_devices devices (db.trees t.devices) here all once);
+      is = sym (same_map_of data_in rows (db.trees t.devices) here were);
     }
 
 below_is : (x y : ℕ) → x < y → x ≡ y → ⊥
@@ -99,7 +94,7 @@ module _ (a b c d e : State) (i j k l : ℕ) (registry : IsRegistry First a.now)
         let makes = device_makes a.now.schema t.free in
         let ran =
         runs_as (create_device_sql Second) [] a b a.now.schema refl CreateTable makes.means.is makes.means.plain i one.0 in
-        let it = creates a.step_limit (mode_of a) a.now b.now (create_device_sql Second) ran.tally (device_table Second 0)
+        let it = creates_table a.step_limit (mode_of a) a.now b.now (create_device_sql Second) ran.tally (device_table Second 0)
         (device_is Second) (still_counted a.now.schema (device_table Second 0) refl t.counted)
         (subst (λ text. Does a.step_limit (mode_of a) [] a.now text None CreateTable (Ok (ran.tally, b.now)))
         makes.alone
@@ -125,23 +120,19 @@ module _ (a b c d e : State) (i j k l : ℕ) (registry : IsRegistry First a.now)
         (has_got a.now.schema.tables t.devices_at (device_table First t.devices) t.devices_stand.there))
 
     filled : (c.now.schema ≡ b.now.schema) × SparesOthers b.now.schema tree b.now.trees c.now.trees
-        × ((rows : List Row) × IsPermutation (rows_of First (a.now.trees t.devices)) rows
-        × (c.now.trees tree ≡ put_all [] rows)) × IsDatabase c.now
+        × IsPermutation (rows_of First (a.now.trees t.devices)) (c.now.trees tree) × IsDatabase c.now
     filled =
-        let from = lone_stands b.now made.3 (device_name First) (device_table First t.devices) first_in_b in
-        let to = lone_stands b.now made.3 (device_name Second) (device_table Second tree) new_in_b in
+        let from = lone_stands b.now made.3 first_in_b in
+        let to = lone_stands b.now made.3 new_in_b in
         let means = copy_means b.now.schema from.0 t.devices from.1 to.0 tree to.1 in
         let ran = runs_as copy_sql [] b c b.now.schema refl (Insert to.0 (Query (program_of (copy_query t.devices))))
         means.is means.plain j two.0 in
         let it = copies b.now.schema to.0 tree t.devices b.step_limit (mode_of b) b.now.trees
-        (statement_of copy_sql (understood b.now.schema copy_sql)) ran.tally c.now to.1.there
-        (lone_alone b.now.schema (device_name Second) (device_table Second tree) new_in_b) made.1
-        (subst (AllByRecursion IsDevice) (sym devices_in_b) registry.whole.rows) ran.changed in (
-          it.0,
-          it.1,
-          (it.2.0, subst (λ rows. IsPermutation rows it.2.0) devices_in_b it.2.1, it.2.2),
-          ran.sound,
-        )
+        ran.tally c.now to.1.there
+        (lone_alone new_in_b) made.1
+        (subst (AllByRecursion IsDevice) (sym devices_in_b) registry.whole.rows)
+        (subst RowidsDiffer (sym devices_in_b) registry.whole.once) ran.changed in
+        (it.0, it.1, subst (λ rows. IsPermutation rows (c.now.trees tree)) devices_in_b it.2, ran.sound)
 
     -- ---- the old table is dropped
 
@@ -158,11 +149,11 @@ module _ (a b c d e : State) (i j k l : ℕ) (registry : IsRegistry First a.now)
 
     left : (d.now.schema ≡ schema_d) × KeepsRows d.now.schema.tables c.now.trees d.now.trees × IsDatabase d.now
     left =
-        let at = lone_stands c.now filled.3 (device_name First) (device_table First t.devices) first_in_c in
+        let at = lone_stands c.now filled.3 first_in_c in
         let means = drop_means c.now.schema at.0 t.devices at.1 no_view_in_c in
         let ran = runs_as drop_sql [] c d c.now.schema refl (DropTable at.0) means.is means.plain k three.0 in
-        let it = drops c.now.schema at.0 t.devices c.step_limit (mode_of c) c.now.trees
-        (statement_of drop_sql (understood c.now.schema drop_sql)) ran.tally d.now at.1.there first_in_c.spares
+        let it = drops c.now.schema at.0 (device_table First t.devices) c.step_limit (mode_of c) c.now.trees
+        (statement_of drop_sql (understood c.now.schema drop_sql)) ran.tally d.now at.1.there refl first_in_c.spares
         ran.changed in (
           it.0 ∙ ap (λ s. without_table s t.devices) schema_c,
           subst (λ (s : Schema). KeepsRows s.tables c.now.trees d.now.trees) (sym it.0) it.1,
@@ -170,11 +161,11 @@ module _ (a b c d e : State) (i j k l : ℕ) (registry : IsRegistry First a.now)
         )
 
     meta_in_d : IsLone d.now.schema meta_name (meta_table t.meta)
-    meta_in_d = subst (λ s. IsLone s meta_name (meta_table t.meta)) (sym left.0) (meta_lone a.now sound t)
+    meta_in_d = subst (λ s. IsLone s meta_name (meta_table t.meta)) (sym left.0) (meta_left a.now sound t)
 
     new_in_d : IsLone d.now.schema (device_name Second) (device_table Second tree)
     new_in_d = subst (λ s. IsLone s (device_name Second) (device_table Second tree)) (sym left.0)
-        (left_lone a.now sound t)
+        (new_left a.now sound t)
 
     kept_in_d : (table : Table) → Has d.now.schema.tables table → d.now.trees table.tree ≡ c.now.trees table.tree
     kept_in_d table has =
@@ -196,15 +187,14 @@ module _ (a b c d e : State) (i j k l : ℕ) (registry : IsRegistry First a.now)
     written : (e.now.schema ≡ d.now.schema) × (e.now.trees t.meta ≡ version_row ∷ [])
         × SparesOthers d.now.schema t.meta d.now.trees e.now.trees × IsDatabase e.now
     written =
-        let at = lone_stands d.now left.2 meta_name (meta_table t.meta) meta_in_d in
+        let at = lone_stands d.now left.2 meta_in_d in
         let means = renew_means d.now.schema at.0 t.meta at.1 in
         let ran = runs_as rewrite_version_sql [] d e d.now.schema refl (Update at.0 (program_of (renew_query t.meta)))
         means.is
         means.plain l four.0 in
         let it = renews d.now.schema at.0 t.meta d.step_limit (mode_of d) d.now.trees
-        (statement_of rewrite_version_sql (understood d.now.schema rewrite_version_sql)) ran.tally e.now
-        registry.whole.row at.1.there
-        (lone_alone d.now.schema meta_name (meta_table t.meta) meta_in_d) version_in_d registry.whole.numbered.key
+        ran.tally e.now registry.whole.row at.1.there
+        (lone_alone meta_in_d) version_in_d registry.whole.numbered.key
         ran.changed in
         (it.0, it.1, it.2, ran.sound)
 
@@ -215,12 +205,13 @@ module _ (a b c d e : State) (i j k l : ℕ) (registry : IsRegistry First a.now)
     migrates =
         let to = migrated a.now sound t c.now e.now filled.3 schema_c written.3 (written.0 ∙ left.0) in
         let at = has_at d.now.schema.tables (device_table Second tree) new_in_d.listed in
-        let put : e.now.trees tree ≡ put_all [] filled.2.0 =
+        let put : e.now.trees tree ≡ c.now.trees tree =
         written.2.tables at.0 (device_table Second tree) at.1 (λ same. meta_apart a.now sound t (sym same))
-        ∙ kept_in_d (device_table Second tree) new_in_d.listed ∙ filled.2.2 in (
-          registers e.now to.0 (rows_of First (a.now.trees t.devices)) filled.2.0
-              (ap e.now.trees to.1 ∙ written.1) (ap e.now.trees to.2 ∙ put) filled.2.1 registry.whole.rows
-              registry.whole.once registry.whole.few,
+        ∙ kept_in_d (device_table Second tree) new_in_d.listed in
+        let devices = rows_of First (a.now.trees t.devices) in (
+          registers e.now to.tables devices (ap e.now.trees to.meta_is ∙ written.1)
+              (subst (IsPermutation devices) (sym (ap e.now.trees to.devices_are ∙ put)) filled.2)
+              registry.whole.rows registry.whole.once registry.whole.few,
           written.3,
         )
 
@@ -232,7 +223,7 @@ module _ (a b c d e : State) (i j k l : ℕ) (registry : IsRegistry First a.now)
         let in_added = has_added a.now sound t table has in
         let in_b : Has b.now.schema.tables table = subst (λ (s : Schema). Has s.tables table) (sym made.0) in_added in
         let in_d : Has d.now.schema.tables table = subst (λ (s : Schema). Has s.tables table) (sym left.0)
-        (is_kept (λ (x : Table). not (x.tree == t.devices)) schema_b.tables table in_added
+        (has_kept (λ (x : Table). not (x.tree == t.devices)) schema_b.tables table in_added
         (apart_trees table.tree t.devices not_first)) in
         let at_b = has_at b.now.schema.tables table in_b in
         let at_d = has_at d.now.schema.tables table in_d in (

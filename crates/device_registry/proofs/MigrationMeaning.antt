@@ -18,10 +18,12 @@ use Rattle.sqlite_resolve.specs.Compile.{source_of, queried, is_reserved}
 use Rattle.sqlite_resolve.specs.Write.{inserted, selected, as_row, places}
 use Rattle.sqlite_tied.specs.Compute.{everything}
 use Rattle.device_registry.specs.declared.table.Version.TheVariants.{First, Second}
-use Rattle.device_registry.proofs.StatementTexts.{column_read, program_of, plain_query, copy_query}
-use Rattle.device_registry.proofs.TextMeaning.{IsRead, Means, means, draft_of, program_is}
-use Rattle.device_registry.proofs.SelectMeaning.{PlainSelect, plain_select, select_of, asked, query_is}
-use Rattle.device_registry.proofs.WriteMeaning.{insert_means}
+use Rattle.keyed_table.specs.Queries.{program_of, plain_query}
+use Rattle.keyed_table.proofs.SelectMeaning.{column_read}
+use Rattle.device_registry.proofs.StatementTexts.{copy_query}
+use Rattle.keyed_table.proofs.TextMeaning.{IsRead, Means, means, draft_of, program_is}
+use Rattle.keyed_table.proofs.SelectMeaning.{PlainSelect, plain_select, select_of, asked, query_is}
+use Rattle.keyed_table.proofs.WriteMeaning.{insert_means}
 use Rattle.device_registry.specs.Table.{copy_sql, drop_sql, device_name, device_table}
 use Rattle.device_registry.specs.Stored.{IsTableAt}
 

@@ -36,9 +36,9 @@ use Rattle.sqlite_catalog.specs.Listing.{IsSound}
 use Rattle.sqlite.specs.Schema.{Schema}
 use Rattle.sqlite_schema.specs.Names.{table_named}
 use Rattle.device_registry.proofs.TablesRecognized.{same_schema, free_found}
-use Rattle.device_registry.proofs.CreateTablesMeaning.{unused}
+use Rattle.keyed_table.proofs.Creates.{unused}
 use Rattle.device_registry.proofs.SchemaTests.{cleared}
-use Rattle.device_registry.proofs.StatementSteps.{unchanged}
+use Rattle.keyed_table.proofs.Statements.{unchanged}
 use Rattle.device_registry.proofs.DevicesHeld.{held_by, held_once}
 
 -- the disk was clean before
@@ -116,7 +116,7 @@ module _ {old new : State} {P : Trees → Type 0} (rest : HasCleanDisk old → I
 
   pub begun_bare : {A : Type 0} → HasCleanDisk new → AreRegistryTrees old.now.trees → A
   begun_bare clean is_held = let it = is_held.holds in absurd (
-      not_bare Second old.now.trees it.db it.same it.sound it.registers.registry (it_was_bare clean))
+      not_bare Second old.now.trees it.db it.same it.sound it.holds.registry (it_was_bare clean))
 
 pub begun_stop : {old new : State} → (HasCleanDisk old → IsSettledOpen old) → IsTrue (admits_tables old.now.schema)
     → Survives old new (λ trees. Holds trees empty) → Survives old new (KeepsFoundDevices old.now.trees)
@@ -160,17 +160,17 @@ shown s rest it = (
     idle = rest.idle;
     settled = rest.settled;
     sound = rest.sound;
-    registers = record { registry = it; is = refl };
+    holds = record { registry = it; is = refl };
   },
 )
 
 held : (s : State) (devices : Devices) → IsReadyWith s devices → Holds s.now.trees devices
-held s devices shows = record { db = s.now; same = refl; sound = shows.sound; registers = shows.registers }
+held s devices shows = record { db = s.now; same = refl; sound = shows.sound; holds = shows.holds }
 
 pub ready : (old mid : State) → IsSettledOpen old → IsUnchanged old mid → IsRegistry Second old.now → IsReady mid
 ready old mid rest same it =
     let was = shown old rest it in
-    record { devices = was.0; shows = (unchanged old mid same same.0.is_open).1 was.0 was.1 }
+    record { held = was.0; shows = (unchanged old mid same same.0.is_open).1 was.0 was.1 }
 
 -- the queries in between changed nothing
 pub same_rows : (old mid new : State) → IsUnchanged old mid → KeepsRows mid new → KeepsRows old new
@@ -232,7 +232,7 @@ first_shown s rest it =
     let registers : IsRegistryOfVersion First s.now devices = record { registry = it; is = refl } in (
       devices,
       registers,
-      record { db = s.now; same = refl; sound = rest.sound; registers = registers },
+      record { db = s.now; same = refl; sound = rest.sound; holds = registers },
     )
 
 -- the state between is unchanged
@@ -269,7 +269,7 @@ module _ {old mid new : State} {P : Trees → Type 0} (asked : Took First old mi
       let holds = is_held.holds in
       absurd (other_version old.now.schema it.2.tables (subst (HasTables Second)
       (one_schema old.now.trees holds.db old.now holds.same refl holds.sound it.0.sound)
-      holds.registers.registry.tables))
+      holds.holds.registry.tables))
 
 pub migrated_stop : {old mid new : State} → Took First old mid → Survives old mid (λ _. ⊥)
     → Survives mid new (λ trees. (devices : Devices) → IsRegistryOfVersion First mid.now devices → Holds trees devices)
@@ -295,7 +295,7 @@ is_other s rest none unclear devices (inl (version, holds)) = none version (reco
   db = holds.db;
   same = holds.same;
   sound = holds.sound;
-  registry = holds.registers.registry;
+  registry = holds.holds.registry;
 })
 is_other s rest none unclear devices (inr (free, is)) = unclear (free_found s rest free)
 
@@ -314,15 +314,6 @@ pub registries : (s : State) (devices : Devices) → IsReadyWith s devices → L
 registries s devices shows leaves trees may =
     record { devices = devices; holds = left s devices shows leaves trees may }
 
--- after a query the connection still shows the same
-pub rests : (old mid : State) → IsUnchanged old mid → IsSettledOpen old → IsSettledOpen mid
-rests old mid same rest = record {
-  is_open = same.0.is_open;
-  idle = same.0.mode ∙ rest.idle;
-  settled = same.0.now_is ∙ rest.settled ∙ sym same.0.committed_is;
-  sound = subst IsDatabase (sym same.0.now_is) rest.sound;
-}
-
 pub last : (old mid : State) → IsUnchanged old mid → IsSettledOpen old → mid.now.trees ≡ old.committed.trees
 last old mid same rest = ap (λ (db : Database). db.trees) (same.0.now_is ∙ rest.settled)
 
@@ -331,7 +322,7 @@ pub opened : (old mid new : State) (devices : Devices) → IsUnchanged old mid �
 opened old mid new devices same rest it leaves = record {
   was_open = same.0.was_open;
   found = subst (λ trees. Finds trees devices) (last old mid same rest) it.found;
-  now = λ clean is_open. it.shows.registers;
+  now = λ clean is_open. it.shows.holds;
   crash = λ other may. held_once may.0 other devices may.2 (left new devices it.shows leaves may.0 may.1);
 }
 
@@ -351,7 +342,7 @@ opened_if old mid new law (Ok v) was it written =
     record {
       registries = registries new it.0 it.1.shows leaves;
       opens = (it.0, opened old mid new it.0 was.0 was.1 it.1 leaves);
-      ready = record { devices = it.0; shows = it.1.shows };
+      ready = record { held = it.0; shows = it.1.shows };
       written = written;
     }
 opened_if old mid new law (Err e) was it written = tt
@@ -444,14 +435,14 @@ holds_same : (trees : Trees) (v w : Version) (left found : Devices) → HoldsAs 
     → left ≡ found
 holds_same trees v w left found one two =
     let schema = one_schema trees one.db two.db one.same two.same one.sound two.sound in
-    let same = one_version v w two.db.schema (subst (HasTables v) schema one.registers.registry.tables)
-    two.registers.registry.tables in
+    let same = one_version v w two.db.schema (subst (HasTables v) schema one.holds.registry.tables)
+    two.holds.registry.tables in
     held_by w trees left found (subst (λ u. HoldsAs u trees left) same one) two
 
 holds_none : (trees : Trees) (version : Version) (devices : Devices) → HoldsAs version trees devices
     → AdmitsRegistry trees → ⊥
 holds_none trees version devices holds =
-    not_bare version trees holds.db holds.same holds.sound holds.registers.registry
+    not_bare version trees holds.db holds.same holds.sound holds.holds.registry
 
 pub opens_agree : OpensAgree
 opens_agree trees left found (inl one) (inl two) = holds_same trees one.0 two.0 left found one.1 two.1

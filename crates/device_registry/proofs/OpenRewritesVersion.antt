@@ -25,7 +25,8 @@ use Rattle.device_registry.specs.Holding.{RewritesVersion}
 use Rattle.device_registry.specs.Ready.{IsReadyWith, IsReady}
 use Rattle.device_registry.specs.Opening.{IsSettledOpen}
 use Rattle.device_registry.proofs.OpenCalls.{Took, last, taken_ready}
-use Rattle.device_registry.proofs.StatementTexts.{program_of, renew_query}
+use Rattle.keyed_table.specs.Queries.{program_of}
+use Rattle.device_registry.proofs.StatementTexts.{renew_query}
 use Rattle.device_registry.proofs.TablesRecognized.{same_schema}
 use Rattle.device_registry.proofs.VersionMeaning.{renew_means}
 use Rattle.device_registry.proofs.VersionWrites.{changes_one}
@@ -113,7 +114,7 @@ pub written_by : (old mid new : State) (count : ℕ) (devices : Devices) → IsR
     → RewritesVersion old new
 written_by old mid new count devices shows same survives ready runs =
     let one = changes_one mid new count ready runs in
-    renewed_between old mid new shows.registers.registry.tables same survives
+    renewed_between old mid new shows.holds.registry.tables same survives
     (subst (λ n. Executes rewrite_version_sql [] mid new (Ok n)) one runs)
 
 -- a sound database with the trees of a registry has its tables
@@ -122,7 +123,7 @@ has_tables db sound held =
     let its = held.holds.db in
     let same : its.schema ≡ db.schema = same_schema db.trees its.schema db.schema
     (subst (IsSound its.schema) held.holds.same held.holds.sound) sound in
-    subst (HasTables Second) same held.holds.registers.registry.tables
+    subst (HasTables Second) same held.holds.holds.registry.tables
 
 pub renewed_if : {T : Type 0} (r : Result T OpenFault) (old mid new : State) → IsUnchanged old mid → IsSettledOpen old
     → Survives old mid (λ _. ⊥) → OnOk r (AreRegistryTrees mid.now.trees → RewritesVersion mid new)

@@ -25,7 +25,7 @@ use Rattle.device_registry.specs.private.TableCalls.{Adds}
 use Rattle.device_registry.specs.Ready.{IsReadyWith, IsReady, StaysReady, KeepsDevices, WritesNothing, CommitsOrFails}
 use Rattle.device_registry.specs.Table.Rows.{device_in_row}
 use Rattle.device_registry.proofs.DevicesHeld.{held_once, registers_once, room_for_known}
-use Rattle.device_registry.proofs.StatementSteps.{ready_on}
+use Rattle.keyed_table.proofs.Statements.{ready_on}
 
 -- the invariant of a registry, about its connection between two calls
 abbrev pub IsWell : State → Type 0
@@ -40,7 +40,7 @@ shows_them s devices clean ready has =
       idle = it.idle;
       settled = it.settled;
       sound = it.sound;
-      registers = has clean it.is_open;
+      holds = has clean it.is_open;
     }
 
 -- ---- nothing was written
@@ -50,7 +50,7 @@ module _ (old new : State) (stays : WritesNothing old new) (well : IsWell old) w
       → Keeps (registry_state old) (registry_state new) devices
   keeps clean devices has = record {
     now = λ _ is_open. let on = stays.goes_on clean is_open in let early = stays.clean clean in
-        (on.1 devices (shows_them old devices early (well.1 early on.0) has)).registers;
+        (on.1 devices (shows_them old devices early (well.1 early on.0) has)).holds;
     crash = λ left (trees, may, holds). (trees, stays.crash clean trees may, holds);
   }
 
@@ -65,8 +65,8 @@ module _ (old new : State) (stays : WritesNothing old new) (well : IsWell old) w
   shown_before clean devices shows =
       let on = stays.goes_on clean shows.is_open in
       let was = well.1 (stays.clean clean) on.0 in
-      let same : was.devices ≡ devices =
-      registers_once new.now was.devices devices (on.1 was.devices was.shows).registers shows.registers in
+      let same : was.held ≡ devices =
+      registers_once new.now was.held devices (on.1 was.held was.shows).holds shows.holds in
       subst (IsReadyWith old) same was.shows
 
   pub keeps_well : IsWell new
@@ -85,7 +85,7 @@ kept_pends old new update devices keeps = record { now = keeps.now; crash = λ l
 pub ready_both : (old new : State) → WritesNothing old new → IsWell old → HasCleanDisk new → IsReady new
     → IsReady old × IsReady new
 ready_both old new stays well clean ready =
-    (record { devices = ready.devices; shows = shown_before old new stays well clean ready.devices ready.shows }, ready)
+    (record { held = ready.held; shows = shown_before old new stays well clean ready.held ready.shows }, ready)
 
 pub ready_if : {T E : Type 0} (r : Result T E) (old new : State) → WritesNothing old new → IsWell old → HasCleanDisk new
     → IsReady new → OnOk r (IsReady old × IsReady new)
@@ -102,7 +102,7 @@ module _ {T E : Type 0} (old mid new : State) (update : DeviceUpdate) (result : 
     | inl before ↦ (keeps_well old mid stays well).0 (turns.clean clean) trees before
     | inr written ↦
         let it = (keeps_well old mid stays well).1 (turns.clean clean) written.0 in
-        record { devices = apply_update it.devices update; holds = written.1 it.devices it.shows }
+        record { devices = apply_update it.held update; holds = written.1 it.held it.shows }
   ]
 
   -- and failed
@@ -122,7 +122,7 @@ module _ {T E : Type 0} (old mid new : State) (update : DeviceUpdate) (result : 
       let shows = λ (is_open : IsTrue mid.is_open). shows_them mid devices middle
       ((keeps_well old mid stays well).1 middle is_open) same.now in
       record {
-        now = λ _ is_open. let on = goes_on is_open in (on.1 devices (shows on.0)).registers;
+        now = λ _ is_open. let on = goes_on is_open in (on.1 devices (shows on.0)).holds;
         crash = λ left (trees, may, holds). elim (turns.crash clean trees may) [
           | inl before ↦ inl (trees, stays.crash middle trees before, holds)
           | inr written ↦
@@ -135,7 +135,7 @@ module _ {T E : Type 0} (old mid new : State) (update : DeviceUpdate) (result : 
       → IsReady mid → IsReady old × IsReady new
   ready_made made clean was = (
     (ready_both old mid stays well (turns.clean clean) was).0,
-    record { devices = apply_update was.devices update; shows = made was.devices was.shows },
+    record { held = apply_update was.held update; shows = made was.held was.shows },
   )
 
   -- or was made
@@ -152,7 +152,7 @@ module _ {T E : Type 0} (old mid new : State) (update : DeviceUpdate) (result : 
   made_well made was = (
     tried_registries,
     λ clean _. let it = was (turns.clean clean) in
-        record { devices = apply_update it.devices update; shows = made clean it.devices it.shows },
+        record { held = apply_update it.held update; shows = made clean it.held it.shows },
   )
 
   pub commits : ((devices : Devices) → IsReadyWith mid devices → IsReadyWith new (apply_update devices update))
@@ -163,12 +163,12 @@ module _ {T E : Type 0} (old mid new : State) (update : DeviceUpdate) (result : 
   commits made clean was last devices has =
       let shows = made_shows made clean was devices has in
       record {
-        now = λ _ _. shows.registers;
+        now = λ _ _. shows.holds;
         crash = λ left (trees, may, holds).
             let same : new.now.trees ≡ trees =
             sym (last trees shows.is_open may ∙ ap (λ (db : Database). db.trees) (sym shows.settled)) in
             held_once trees left (apply_update devices update) holds
-            (record { db = new.now; same = same; sound = shows.sound; registers = shows.registers });
+            (record { db = new.now; same = same; sound = shows.sound; holds = shows.holds });
       }
 
 -- ---- the cases of a result
@@ -321,7 +321,7 @@ pub puts_it : (old mid : State) → WritesNothing old mid → IsWell old → (up
     → apply_update devices update ≡ insert devices update.sender it
 puts_it old mid stays well update it makes clean devices shows =
     let was = shown_before old mid stays well clean devices shows in
-    becomes devices update it (makes (stays.clean clean) devices (λ _ _. was.registers))
+    becomes devices update it (makes (stays.clean clean) devices (λ _ _. was.holds))
 
 -- ---- a label
 
@@ -331,12 +331,12 @@ pub room_if_known : (s : State) (id : ℕ) (label : List ℕ) (it : DeviceData)
     → data_after (get devices id) (Relabel label) ≡ Some it)
     → HasCleanDisk s → (devices : Devices) → IsReadyWith s devices → is_full devices id ≡ false
 room_if_known s id label it known clean devices shows =
-    go (get devices id) refl (known clean devices (λ _ _. shows.registers))
+    go (get devices id) refl (known clean devices (λ _ _. shows.holds))
   where
     go : (o : Option DeviceData) → get devices id ≡ o → data_after o (Relabel label) ≡ Some it
         → is_full devices id ≡ false
     go None is none = absurd (let e = none in cc)
-    go (Some was) is some = room_for_known s.now devices id was shows.registers is
+    go (Some was) is some = room_for_known s.now devices id was shows.holds is
 
 is_known : (known : Option DeviceData) (label : List ℕ) (it : DeviceData) → data_after known (Relabel label) ≡ Some it
     → true ≡ is_some known
@@ -455,9 +455,9 @@ module _ (old mid : State) (id : ℕ) where
       told_now clean devices has =
           let was = (ready clean).0 in
           let is_open = (ready clean).1.shows.is_open in
-          let it = looks.devices clean was.devices (λ _ _. was.shows.registers) in
+          let it = looks.devices clean was.held (λ _ _. was.shows.holds) in
           it.0 ∙ ap (λ (d : Devices). device_of d id)
-          (registers_once mid.now was.devices devices (it.1.now clean is_open) (has clean is_open))
+          (registers_once mid.now was.held devices (it.1.now clean is_open) (has clean is_open))
 
       -- a device with the label that its sender keeps
       pub keeps_label : (it : Device) (eep : Eep) (maker : Option ℕ) → it.id ≡ id
@@ -567,7 +567,7 @@ hands_on s well = record {
         db = s.now;
         same = ap (λ (db : Database). db.trees) it.settled;
         sound = it.sound;
-        registers = it.registers;
+        holds = it.holds;
       };
 }
 
@@ -576,7 +576,7 @@ hands_on s well = record {
 -- if the connection is closed, any devices will do
 some_by : (s : State) (is_open : Bool) → s.is_open ≡ is_open → HasCleanDisk s → StaysReady s
     → (devices : Devices) × HasDevices s devices
-some_by s true is clean ready = let it = ready clean is in (it.devices, λ _ _. it.shows.registers)
+some_by s true is clean ready = let it = ready clean is in (it.held, λ _ _. it.shows.holds)
 some_by s false is clean ready = (empty, λ _ is_open. absurd (let e = sym is ∙ is_open in cc))
 
 pub holds_some : (s : State) → StaysReady s → HoldsSomeDevices s

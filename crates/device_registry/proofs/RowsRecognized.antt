@@ -1,93 +1,51 @@
 -- The output of the two queries that read a whole table.
 use Rattle.sqlite.specs.declared.error.Error.{Error}
 use Rattle.std.proofs.Common.{◌≡◌, ◌≢◌, ◌+◌, nat_le, ℕ, ℤ, true, ◌≤ℤ◌, negsuc, Less, Result, Ok, Err, IfOk}
-use Rattle.std.proofs.Common.{◌≤◌, pos, List, [], ◌∷◌, map, length, refl, sym, ap, subst, ◌∙◌, arith, codes}
+use Rattle.std.proofs.Common.{◌≤◌, pos, List, [], ◌∷◌, map, length, refl, sym, ap, subst, ◌∙◌, arith}
 use Rattle.std.specs.List.Sorted.{IsPermutation}
-use Rattle.std.proofs.lemmas.List.Sorted.{length_permutation, IsPermutation-sym}
+use Rattle.std.proofs.lemmas.List.Sorted.{length_permutation, IsPermutation-sym, IsPermutation-map}
 use Rattle.sqlite.specs.declared.types.Value.TheVariants.{Null, Int, Real, Text, Blob}
 use Rattle.sqlite.specs.Order.{Row, column, value_cmp}
-use Rattle.sqlite.specs.Query.{IsAnswer, output, Output}
+use Rattle.sqlite.specs.Query.{IsAnswer}
 use Rattle.sqlite.specs.Program.{overlay}
 use Rattle.sqlite_trees.specs.Tree.{Trees, IsTable, rowid}
-use Rattle.sqlite.specs.Command.TheVariants.{Select}
 use Rattle.sqlite.specs.Listing.{understood}
 use Rattle.sqlite.specs.Effect.{Database}
 use Rattle.sqlite.specs.State.{State, Shown, IsUnchanged}
-use Rattle.sqlite.proofs.Callers.{IsPlain, reads_as, one_permutation}
+use Rattle.sqlite.proofs.Callers.{IsPlain}
 use Rattle.learned_devices.specs.Labels.{is_label}
 use Rattle.device_registry.specs.declared.table.Version.{Version}
+use Rattle.device_registry.specs.declared.table.Version.TheVariants.{First, Second}
 use Rattle.device_registry.specs.Table.{version_number, find_all_sql, read_version_sql}
 use Rattle.device_registry.specs.Table.{max_sender, max_profile, max_maker}
 use Rattle.device_registry.specs.Stored.{HasTables, HasValidRows}
-use Rattle.device_registry.specs.Table.Rows.{RowidsDiffer, IsDevice, rows_of}
+use Rattle.device_registry.specs.Table.Rows.{RowidsDiffer, IsDevice, rows_of, with_label}
 use Rattle.learned_devices.specs.Devices.{max_devices}
 use Rattle.device_registry.specs.Table.Rows.{ShowsVersion, natural_in, is_number, is_maker, is_label_text}
 use Rattle.device_registry.specs.Table.Rows.{is_device_row, are_ascending_devices}
-use Rattle.device_registry.proofs.DistinctRows.{ranked, ranked_all, ranked_rises, apart_turned}
-use Rattle.device_registry.proofs.ListDevicesAnswer.{shown, out, outs_are, shown_are, shows_ranked, envs}
+use Rattle.keyed_table.proofs.Answers.{shows_one, one_shown}
+use Rattle.keyed_table.proofs.RowsApart.{ranked, ranked_rises, ranked_permutes}
+use Rattle.keyed_table.proofs.RowsAsMap.{differ_from, keyed_turned, key_below}
+use Rattle.keyed_table.proofs.TextMeaning.{answer_of}
+use Rattle.device_registry.proofs.DeviceCodec.{key_of, keyed, stored_keyed}
+use Rattle.device_registry.proofs.ListDevicesAnswer.{shown, shows_devices, shows_ranked}
 use Rattle.std.specs.List.{AllByRecursion}
 use Rattle.std.proofs.lemmas.Bool.Decides.{nat_tests}
 use Rattle.std.proofs.lemmas.List.{length-map}
 use Rattle.std.proofs.lemmas.Int.{ints}
 use Rattle.sqlite.specs.declared.types.Value.{Value}
-use Rattle.sqlite_trees.proofs.ListLemmas.{all_weaker, all-permutation, pull_back}
-use Rattle.device_registry.proofs.StatementSteps.{shown_same}
-use Rattle.device_registry.proofs.SenderTests.{overlay_is, above}
-use Rattle.device_registry.proofs.StatementTexts.{program_of, all_query}
-use Rattle.device_registry.proofs.ListDevicesMeaning.{all_means, shown_columns}
+use Rattle.sqlite_trees.proofs.ListLemmas.{all_weaker, all-permutation, ascending-map, pull_back}
+use Rattle.keyed_table.proofs.Statements.{shown_same}
+use Rattle.device_registry.proofs.StatementTexts.{all_query}
+use Rattle.device_registry.proofs.DeviceMeaning.{all_means}
 use Rattle.device_registry.proofs.VersionMeaning.{version_query, version_means}
-use Rattle.device_registry.proofs.TestSteps.{both}
-
-all_counted : (version : Version) (d : ℕ) (db : Trees) (rows : List Row)
-    → IsAnswer (all_query version d) (overlay db []) [] rows → length rows ≡ length (rows_of version (db d))
-all_counted version d db rows a =
-    let q = all_query version d in
-    let kept : a.kept ≡ map out (rows_of version (db d)) =
-    a.distinct ∙ ap (map (output q)) (a.grouped ∙ ap envs (overlay_is db d)) ∙ outs_are version d (db d) in
-    ap length a.shown ∙ length-map a.ordered (λ (o : Output). o.1) ∙ length_permutation a.kept a.ordered a.same
-    ∙ ap length kept ∙ length-map (rows_of version (db d)) out
-
--- the table has exactly one row, with the number that is shown
-record IsOne (table : List Row) (shown : Row) : Type 0 where
-  row : Row
-  are : table ≡ row ∷ []
-  same : shown ≡ column row 0 ∷ column row 2 ∷ []
-
-first_same : (x y : Row) → ◌≡◌ {A = List Row} (x ∷ []) (y ∷ []) → x ≡ y
-first_same x y e = cc
-
-versioned : (d : ℕ) (table : List Row) (shown : Row) (ordered : List Output)
-    → shown ∷ [] ≡ map (λ (o : Output). o.1) ordered → IsPermutation
-    (map (output (version_query d)) (envs table)) ordered → IsOne table shown
-versioned d [] shown ordered is same =
-    absurd (let n = length_permutation _ ordered same in
-    let m = ap length is ∙ length-map ordered (λ (o : Output). o.1) in omega (arith, n, m))
-versioned d (r ∷ []) shown ordered is same = record {
-  row = r;
-  are = refl;
-  same =
-      first_same _ _ (is ∙ ap (map (λ (o : Output). o.1))
-      (one_permutation ([], column r 0 ∷ column r 2 ∷ []) ordered same));
-}
-versioned d (r ∷ s ∷ more) shown ordered is same =
-    absurd (let n = length_permutation _ ordered same in
-    let m = ap length is ∙ length-map ordered (λ (o : Output). o.1) in omega (arith, n, m))
-
-version_shown : {version : Version} (d : ℕ) (db : Trees) (rows : List Row) (it : ShowsVersion version rows)
-    → IsAnswer (version_query d) (overlay db []) [] rows → IsOne (db d) it.row
-version_shown d db rows it a =
-    let kept : a.kept ≡ map (output (version_query d)) (envs (db d)) = a.distinct
-    ∙ ap (map (output (version_query d))) (subst (λ rs. a.staged ≡ envs rs) (overlay_is db d) a.grouped) in
-    versioned d (db d) it.row a.ordered (sym it.are ∙ a.shown) (subst (λ k. IsPermutation k a.ordered) kept a.same)
+use Rattle.std.proofs.lemmas.Bool.{and_parts}
 
 -- the output of the query for the version
 version_reads : {version : Version} (old new : State) (rows : List Row) (t : HasTables version old.now.schema)
     → Shown read_version_sql [] old new rows → IsAnswer (version_query t.meta) (overlay old.now.trees []) [] rows
 version_reads old new rows t h =
-    let means = version_means old.now.schema t.meta_at t.meta t.meta_stands in
-    (reads_as read_version_sql [] old new old.now.schema refl
-    (Select (program_of (version_query t.meta)) (codes "k" ∷ codes "version" ∷ [])) means.is means.plain means.unlisted
-    rows h).answer Null
+    answer_of [] old new rows (version_means old.now.schema t.meta_at t.meta t.meta_stands) refl h
 
 -- ---- ascending rows
 
@@ -134,9 +92,9 @@ labelled (Blob b) h = absurd cc
 -- what is shown as a device is one
 device_is : (row : Row) → is_device_row (shown row) ≡ true → IsDevice row
 device_is row h =
-    let all = both _ _ h in
-    let three = both _ _ all.0 in
-    let two = both _ _ three.0 in
+    let all = and_parts _ _ h in
+    let three = and_parts _ _ all.0 in
+    let two = and_parts _ _ three.0 in
     let id = numbered max_sender (column row 0) two.0 in
     let eep = numbered max_profile (column row 2) two.1 in
     let maker = maker_numbered (column row 3) three.1 in
@@ -174,8 +132,8 @@ rising : (least : ℕ) (rows : List Row) → are_ascending_devices least (map sh
     → AllByRecursion IsDevice rows × AllByRecursion (AtLeast least) rows × RowidsDiffer rows
 rising least [] h = (tt, tt, tt)
 rising least (row ∷ rows) h =
-    let parts = both _ _ h in
-    let first = both _ _ parts.0 in
+    let parts = and_parts _ _ h in
+    let first = and_parts _ _ parts.0 in
     let up = at_most least (natural_in (column row 0)) first.1 in
     let more = rising (natural_in (column row 0) + 1) rows parts.1 in (
       (device_is row first.0, more.0),
@@ -192,15 +150,14 @@ rows_are : (version : Version) (d : ℕ) (db : Trees) (rows : List Row)
     → IsAnswer (all_query version d) (overlay db []) [] rows → are_ascending_devices 0 rows ≡ true
     → AllByRecursion IsDevice (rows_of version (db d)) × RowidsDiffer (rows_of version (db d))
 rows_are version d db rows a h =
-    let q = all_query version d in
     let table = rows_of version (db d) in
-    let kept : a.kept ≡ map out table =
-    a.distinct ∙ ap (map (output q)) (a.grouped ∙ ap envs (overlay_is db d)) ∙ outs_are version d (db d) in
-    let to = pull_back out a.kept a.ordered a.same table kept in
-    let are : rows ≡ map shown to.0 = a.shown ∙ ap (map (λ (o : Output). o.1)) to.2 ∙ shown_are to.0 in
-    let it = rising 0 to.0 (subst (λ rs. are_ascending_devices 0 rs ≡ true) are h) in
-    let back = IsPermutation-sym table to.0 to.1 in
-    (all-permutation IsDevice to.0 table back it.0, apart_turned to.0 table back it.2)
+    let shows = shows_devices version d db rows a in
+    let to = pull_back shown (map shown table) rows shows table refl in
+    let it = rising 0 to.0 (subst (λ rs. are_ascending_devices 0 rs ≡ true) to.2 h) in
+    let back = IsPermutation-sym table to.0 to.1 in (
+      all-permutation IsDevice to.0 table back it.0,
+      differ_from table (keyed_turned to.0 table back (keyed to.0 it.0 it.2)).apart,
+    )
 
 -- the rows of devices, none twice, are shown in ascending order
 shown_rise : (least : ℕ) (rows : List Row) → AllByRecursion IsDevice rows → IsTable rows
@@ -214,13 +171,21 @@ shown_rise least (row ∷ rows) all up high =
         rs → AllByRecursion (AtLeast (natural_in (column row 0) + 1)) rs
     raised [] ds low = tt
     raised (r ∷ rs) ds low =
-        let a = ap natural_in all.0.id_is in
-        let b = ap natural_in ds.0.id_is in
-        let less = above row r all.0 ds.0 low.0 in (omega (arith, a, b, less), raised rs ds.1 low.1)
+        let less = key_below row r (key_of row all.0) (key_of r ds.0) low.0 in (omega (arith, less), raised rs ds.1 low.1)
 
 from_zero : (rows : List Row) → AllByRecursion (AtLeast 0) rows
 from_zero [] = tt
 from_zero (row ∷ rows) = (omega arith, from_zero rows)
+
+-- the same rows as rows of version 2
+rising_as : (version : Version) (rows : List Row) → IsTable rows → IsTable (rows_of version rows)
+rising_as First rows up = ascending-map _ with_label rows up
+rising_as Second rows up = up
+
+turned : (version : Version) (xs ys : List Row) → IsPermutation xs ys → AllByRecursion IsDevice (rows_of version xs)
+    → AllByRecursion IsDevice (rows_of version ys)
+turned First xs ys same = all-permutation IsDevice _ _ (IsPermutation-map with_label xs ys same)
+turned Second xs ys same = all-permutation IsDevice xs ys same
 
 module _ (version : Version) where
   -- the output of the query for all devices
@@ -229,36 +194,33 @@ module _ (version : Version) where
       → IsAnswer (all_query version t.devices) (overlay old.now.trees []) [] devices
   devices_read old mid new devices t same h =
       let means = all_means version old.now.schema t.devices_at t.devices t.devices_stand in
-      let schema = ap (λ (d : Database). d.schema) same.0.now_is in
-      let read = reads_as (find_all_sql version) [] mid new old.now.schema schema
-      (Select (program_of (all_query version t.devices)) (shown_columns version)) means.is means.plain means.unlisted
-      devices h in
       subst (λ (d : Database). IsAnswer (all_query version t.devices) (overlay d.trees []) [] devices) same.0.now_is
-      (read.answer Null)
+      (answer_of [] mid new devices means (ap (λ (d : Database). d.schema) same.0.now_is) h)
 
   -- the query for all devices shows as many rows as there are
   pub devices_told : (old mid new : State) (devices : List Row) (t : HasTables version old.now.schema)
       → IsUnchanged old mid → Shown (find_all_sql version) [] mid new devices
       → length devices ≡ length (rows_of version (old.now.trees t.devices))
   devices_told old mid new devices t same h =
-      all_counted version t.devices old.now.trees devices (devices_read old mid new devices t same h)
+      let a = devices_read old mid new devices t same h in
+      length_permutation _ devices (shows_devices version t.devices old.now.trees devices a) ∙ length-map _ shown
 
   pub whole : (old mid new : State) (versions devices : List Row) (t : HasTables version old.now.schema)
       → ShowsVersion version versions → Shown read_version_sql [] old mid versions → IsUnchanged old mid
       → Shown (find_all_sql version) [] mid new devices → length devices ≤ max_devices
       → are_ascending_devices 0 devices ≡ true → HasValidRows version old.now.trees t.meta t.devices
   whole old mid new versions devices t shows first same second few rise =
-      let it = version_shown t.meta old.now.trees versions shows (version_reads old mid versions t first) in
+      let it = one_shown old.now.trees shows.row shows.are (version_reads old mid versions t first) in
       let count = devices_told old mid new devices t same second in
       let are =
       rows_are version t.devices old.now.trees devices (devices_read old mid new devices t same second) rise in
       record {
-        row = it.row;
-        one = it.are;
+        row = it.0;
+        one = it.1;
         numbered =
             record {
-              key = sym (ap (λ r. column r 0) it.same) ∙ shows.key;
-              number = sym (ap (λ r. column r 1) it.same) ∙ shows.number;
+              key = sym (ap (λ r. column r 0) it.2) ∙ shows.key;
+              number = sym (ap (λ r. column r 1) it.2) ∙ shows.number;
             };
         rows = are.0;
         once = are.1;
@@ -270,22 +232,19 @@ module _ (version : Version) where
       → HasValidRows version old.now.trees t.meta t.devices → IsUnchanged old mid
       → Shown (find_all_sql version) [] mid new devices → are_ascending_devices 0 devices ≡ true
   rise_told old mid new devices t it same h =
-      let table = rows_of version (old.now.trees t.devices) in
-      let all = ranked_all IsDevice table it.rows in
+      let table = old.now.trees t.devices in
+      let up = ranked table in
+      let there = stored_keyed version table it.rows it.once in
       ap (are_ascending_devices 0) (shows_ranked version t.devices old.now.trees devices it.rows it.once
       (devices_read old mid new devices t same h))
-      ∙ shown_rise 0 (ranked table) all (ranked_rises table) (from_zero (ranked table))
+      ∙ shown_rise 0 (rows_of version up) (turned version table up (ranked_permutes table there.apart) it.rows)
+      (rising_as version up (ranked_rises table)) (from_zero (rows_of version up))
 
   pub version_told : (old new : State) (rows : List Row) (t : HasTables version old.now.schema)
       (it : HasValidRows version old.now.trees t.meta t.devices) → Shown read_version_sql [] old new rows
       → rows ≡ (Int (pos 1) ∷ Int (pos (version_number version)) ∷ []) ∷ []
   version_told old new rows t it h =
-      let a = version_reads old new rows t h in
-      let o : Output = ([], column it.row 0 ∷ column it.row 2 ∷ []) in
-      let kept : a.kept ≡ o ∷ [] = a.distinct ∙ ap (map (output (version_query t.meta)))
-      (subst (λ rs. a.staged ≡ envs rs) (overlay_is old.now.trees t.meta ∙ it.one) a.grouped) in
-      a.shown ∙ ap (map (λ (o : Output). o.1))
-      (one_permutation o a.ordered (subst (λ k. IsPermutation k a.ordered) kept a.same))
+      shows_one old.now.trees it.row it.one (version_reads old new rows t h)
       ∙ ap (λ v. (v ∷ column it.row 2 ∷ []) ∷ []) it.numbered.key
       ∙ ap (λ v. (Int (pos 1) ∷ v ∷ []) ∷ []) it.numbered.number
 

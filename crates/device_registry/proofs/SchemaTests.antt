@@ -1,10 +1,10 @@
 -- The tests of a schema, and what they imply.
-use Rattle.std.proofs.Common.{inl, inr, suc, ◌≡◌, ◌≢◌, ℕ, ◌+◌, ◌==◌, List, [], ◌∷◌, Bool, true, false, not}
-use Rattle.std.proofs.Common.{◌&&◌, ◌||◌, Some, None, Option, if◌then◌else◌, subst, refl, sym, ap, ◌∙◌, arith, IsTrue}
+use Rattle.std.proofs.Common.{inl, inr, ◌≡◌, ◌≢◌, ℕ, ◌==◌, List, Bool, true, false, not}
+use Rattle.std.proofs.Common.{◌&&◌, ◌||◌, Some, None, Option, if◌then◌else◌, refl, sym, ap, ◌∙◌, arith, IsTrue}
 use Rattle.std.proofs.Common.{is_some, is_none, slice_get, option_map, option_and_then, codes}
 use Rattle.std.proofs.lemmas.Bool.Decides.{nat_tests}
-use Rattle.std.proofs.lemmas.Bool.{cases_Bool, not-true, or_parts}
-use Rattle.std.specs.List.{AllByRecursion, list_any, list_all, position_from}
+use Rattle.std.proofs.lemmas.Bool.{cases_Bool, not-true, or_parts, and_parts}
+use Rattle.std.specs.List.{AllByRecursion, list_any}
 use Rattle.sqlite.specs.Schema.{Schema}
 use Rattle.sqlite.specs.Table.{Table}
 use Rattle.sqlite.specs.Does.{lacks_sequence}
@@ -21,33 +21,22 @@ use Rattle.device_registry.specs.SchemaChecks.{refers_to, is_referenced, are_our
 use Rattle.device_registry.specs.SchemaChecks.{admits_tables, is_alone_in_tree}
 use Rattle.device_registry.specs.SchemaChecks.{can_count_rowids}
 use Rattle.device_registry.specs.SchemaChecks.{is_unaffected, trees_if_unaffected, tree_of_table, trees_of_tables}
-use Rattle.device_registry.proofs.TestSteps.{both}
-
-pub none_any : {X : Type 0} (test : X → Bool) (xs : List X) → list_any test xs ≡ false
-    → AllByRecursion (λ x. test x ≡ false) xs
-none_any test [] h = tt
-none_any test (x ∷ xs) h = elim (cases_Bool (test x)) [
-  | inl here ↦ absurd (let e = rw here at h in cc)
-  | inr passed ↦ (passed, none_any test xs (rw passed at h))
-]
-
-pub any_none : {X : Type 0} (test : X → Bool) (xs : List X) → AllByRecursion (λ x. test x ≡ false) xs
-    → list_any test xs ≡ false
-any_none test [] all = refl
-any_none test (x ∷ xs) all = rw all.0 (any_none test xs all.1)
+use Rattle.device_registry.proofs.TablesAlone.{meta_lone, devices_lone, spares_meta, spares_devices}
+use Rattle.sqlite_keyed.proofs.ListLemmas.{none_from_any, any_from_none, all_from_test, test_from_all}
+use Rattle.keyed_table.proofs.ListedTables.{IsNamed, placed}
 
 spares : (schema : Schema) (name : List ℕ) → is_referenced schema name ≡ false
     → AllByRecursion (HasNoReferenceTo name) schema.tables
 spares schema name h =
     all_weaker (λ t. refers_to name t ≡ false) (HasNoReferenceTo name)
-    (λ t none. none_any (λ reference. same_name reference.parent name) t.references none) schema.tables
-    (none_any (refers_to name) schema.tables h)
+    (λ t none. none_from_any (λ reference. same_name reference.parent name) t.references none) schema.tables
+    (none_from_any (refers_to name) schema.tables h)
 
 unreferred : (schema : Schema) (name : List ℕ) → AllByRecursion (HasNoReferenceTo name) schema.tables
     → is_referenced schema name ≡ false
 unreferred schema name all =
-    any_none (refers_to name) schema.tables (all_weaker (HasNoReferenceTo name) (λ t. refers_to name t ≡ false)
-    (λ t none. any_none (λ reference. same_name reference.parent name) t.references none) schema.tables all)
+    any_from_none (refers_to name) schema.tables (all_weaker (HasNoReferenceTo name) (λ t. refers_to name t ≡ false)
+    (λ t none. any_from_none (λ reference. same_name reference.parent name) t.references none) schema.tables all)
 
 -- what holds for both versions holds for any version
 pub by_version : (P : Version → Type 0) → P First → P Second → (version : Version) → P version
@@ -71,12 +60,8 @@ spared schema h =
 
 unspared : (schema : Schema) → NoneRefersToOurs schema → are_ours_referenced schema ≡ false
 unspared schema all =
-    let meta =
-    unreferred schema meta_name (all_weaker HasNoReferenceToOurs (HasNoReferenceTo meta_name) (λ t h. h.meta)
-    schema.tables all) in
-    let devices = λ (version : Version). unreferred schema (device_name version)
-    (all_weaker HasNoReferenceToOurs (HasNoReferenceTo (device_name version)) (λ t h. h.devices version) schema.tables
-    all) in
+    let meta = unreferred schema meta_name (spares_meta schema all) in
+    let devices = λ (version : Version). unreferred schema (device_name version) (spares_devices version schema all) in
     rw (meta, devices First, devices Second) refl
 
 unindexed : (schema : Schema) (tree : ℕ) → is_indexed schema tree ≡ false
@@ -84,41 +69,13 @@ unindexed : (schema : Schema) (tree : ℕ) → is_indexed schema tree ≡ false
 unindexed schema tree h =
     all_weaker (λ index. (index.table == tree) ≡ false) (λ index. index.table ≢ tree)
     (λ index other. grind (arith, nat_tests, other)) schema.indexes
-    (none_any (λ index. index.table == tree) schema.indexes h)
+    (none_from_any (λ index. index.table == tree) schema.indexes h)
 
 not_indexed : (schema : Schema) (tree : ℕ) → AllByRecursion (λ index. index.table ≢ tree) schema.indexes
     → is_indexed schema tree ≡ false
 not_indexed schema tree all =
-    any_none (λ index. index.table == tree) schema.indexes (all_weaker (λ index. index.table ≢ tree)
+    any_from_none (λ index. index.table == tree) schema.indexes (all_weaker (λ index. index.table ≢ tree)
     (λ index. (index.table == tree) ≡ false) (λ index other. grind (arith, nat_tests, other)) schema.indexes all)
-
--- what is found at an index is there, and passes the test
-record IsFoundAt {X : Type 0} (test : X → Bool) (i at : ℕ) (xs : List X) : Type 0 where
-  k : ℕ
-  at_is : at ≡ i + k
-  it : X
-  there : slice_get xs k ≡ Some it
-  passes : test it ≡ true
-
-placed : {X : Type 0} (test : X → Bool) (i at : ℕ) (xs : List X) → position_from test i xs ≡ Some at
-    → IsFoundAt test i at xs
-placed test i at [] h = absurd (let e = h in cc)
-placed test i at (x ∷ xs) h = elim (cases_Bool (test x)) [
-  | inl here ↦ let e : i ≡ at = (let f = rw here at h in cc) in
-      record { k = 0; at_is = omega (arith, e); it = x; there = refl; passes = here }
-  | inr passed ↦ let it = placed test (i + 1) at xs (rw passed at h) in
-      record { k = suc it.k; at_is = omega (arith, it.at_is); it = it.it; there = it.there; passes = it.passes }
-]
-
--- the table that a name finds has it
-pub has_name : (schema : Schema) (name : List ℕ) (at : ℕ) (table : Table) → table_named schema name ≡ Some at
-    → slice_get schema.tables at ≡ Some table → same_name table.name name ≡ true
-has_name schema name at table named is =
-    let it = placed (λ t. same_name t.name name) 0 at schema.tables named in
-    let same : at ≡ it.k = omega (arith, it.at_is) in
-    let one : ◌≡◌ (Some it.it) (Some table) = sym it.there ∙ ap (slice_get schema.tables) (sym same) ∙ is in
-    let e : it.it ≡ table = cc in
-    ap (λ (t : Table). same_name t.name name) (sym e) ∙ it.passes
 
 there : (schema : Schema) (name : List ℕ) (o : Option ℕ) → table_named schema name ≡ o
     → is_some (option_and_then (slice_get schema.tables) o) ≡ is_some o
@@ -141,10 +98,10 @@ counted schema =
 
 pub cleared : (schema : Schema) → IsTrue (admits_tables schema) → AdmitsTables schema
 cleared schema h =
-    let a = both _ _ h in
-    let b = both _ _ a.0 in
-    let c = both _ _ b.0 in
-    let d = both _ _ c.0 in
+    let a = and_parts _ _ h in
+    let b = and_parts _ _ a.0 in
+    let c = and_parts _ _ b.0 in
+    let d = and_parts _ _ c.0 in
     record {
       free_meta = not-true _ d.0;
       free_devices =
@@ -172,16 +129,6 @@ pub record IsLeftAlone (version : Version) (schema : Schema) (meta devices : ℕ
   pub free : is_used schema (device_name (other version)) ≡ false
   pub counted : CanCountRowids version schema
 
-all_true : {X : Type 0} (test : X → Bool) (xs : List X) → list_all test xs ≡ true
-    → AllByRecursion (λ x. test x ≡ true) xs
-all_true test [] h = tt
-all_true test (x ∷ xs) h = let parts = both (test x) (list_all test xs) h in (parts.0, all_true test xs parts.1)
-
-true_all : {X : Type 0} (test : X → Bool) (xs : List X) → AllByRecursion (λ x. test x ≡ true) xs
-    → list_all test xs ≡ true
-true_all test [] all = refl
-true_all test (x ∷ xs) all = rw all.0 (true_all test xs all.1)
-
 same_tree : (a b : ℕ) → a ≡ b → (a == b) ≡ true
 same_tree a b e = grind (arith, nat_tests)
 
@@ -193,11 +140,11 @@ lone : (schema : Schema) (name : List ℕ) (tree : ℕ) → is_alone_in_tree sch
 lone schema name tree h =
     all_weaker (λ t. (not (t.tree == tree) || same_name t.name name) ≡ true) (TreeHasName name tree) (λ t passed is.
     let e = same_tree t.tree tree is in rw e at passed) schema.tables
-    (all_true (λ t. not (t.tree == tree) || same_name t.name name) schema.tables h)
+    (all_from_test (λ t. not (t.tree == tree) || same_name t.name name) schema.tables h)
 
 is_alone : (schema : Schema) (name : List ℕ) (tree : ℕ) → AllByRecursion (TreeHasName name tree) schema.tables
     → is_alone_in_tree schema name tree ≡ true
-is_alone schema name tree all = true_all (λ t. not (t.tree == tree) || same_name t.name name) schema.tables
+is_alone schema name tree all = test_from_all (λ t. not (t.tree == tree) || same_name t.name name) schema.tables
     (all_weaker (TreeHasName name tree) (λ t. (not (t.tree == tree) || same_name t.name name) ≡ true)
     (λ t keeps. elim (cases_Bool (t.tree == tree)) [
       | inl tie ↦ rw (tie, keeps (tree_same t.tree tree tie)) refl
@@ -216,12 +163,12 @@ so_tested Second schema h = refl
 left_alone : (version : Version) (schema : Schema) (meta devices : ℕ)
     → is_unaffected version schema meta devices ≡ true → IsLeftAlone version schema meta devices
 left_alone version schema meta devices h =
-    let count = both _ _ h in
-    let free = both _ _ count.0 in
-    let z = both _ _ free.0 in
-    let y = both _ _ z.0 in
-    let a = both _ _ y.0 in
-    let b = both _ _ a.0 in
+    let count = and_parts _ _ h in
+    let free = and_parts _ _ count.0 in
+    let z = and_parts _ _ free.0 in
+    let y = and_parts _ _ z.0 in
+    let a = and_parts _ _ y.0 in
+    let b = and_parts _ _ a.0 in
     let name = device_name version in
     record {
       alone =
@@ -236,24 +183,26 @@ left_alone version schema meta devices h =
       counted = are_so version schema count.1;
     }
 
--- the table of this name
-pub record IsNamed (schema : Schema) (name : List ℕ) (tree : ℕ) : Type 0 where
-  pub at : ℕ
-  pub table : Table
-  pub named : table_named schema name ≡ Some at
-  pub there : slice_get schema.tables at ≡ Some table
-  pub is : table.tree ≡ tree
+and_then_is : {A B : Type 0} (f : A → Option B) (o : Option A) (y : B) → option_and_then f o ≡ Some y
+    → (x : A) × (o ≡ Some x) × (f x ≡ Some y)
+and_then_is f None y h = absurd (let e = h in cc)
+and_then_is f (Some x) y h = (x, refl, h)
 
-named_at : (schema : Schema) (name : List ℕ) (tree : ℕ) (o : Option ℕ) → table_named schema name ≡ o
-    → option_map (λ (table : Table). table.tree) (option_and_then (slice_get schema.tables) o) ≡ Some tree
+map_is : {A B : Type 0} (f : A → B) (o : Option A) (y : B) → option_map f o ≡ Some y
+    → (x : A) × (o ≡ Some x) × (f x ≡ y)
+map_is f None y h = absurd (let e = h in cc)
+map_is f (Some x) y h = (x, refl, (let e = h in cc))
+
+if_is : {A : Type 0} (b : Bool) (x y : A) → (if b then Some x else None) ≡ Some y → (b ≡ true) × (x ≡ y)
+if_is true x y h = (refl, (let e = h in cc))
+if_is false x y h = absurd (let e = h in cc)
+
+named_at : (schema : Schema) (name : List ℕ) (tree : ℕ) → tree_of_table schema name ≡ Some tree
     → IsNamed schema name tree
-named_at schema name tree None named h = absurd (let e = h in cc)
-named_at schema name tree (Some at) named h = got (slice_get schema.tables at) refl h
-  where
-    got : (slot : Option Table) → slice_get schema.tables at ≡ slot
-        → option_map (λ (table : Table). table.tree) slot ≡ Some tree → IsNamed schema name tree
-    got None is h = absurd (let e = h in cc)
-    got (Some table) is h = record { at = at; table = table; named = named; there = is; is = (let e = h in cc) }
+named_at schema name tree h =
+    let table = map_is (λ (table : Table). table.tree) _ tree h in
+    let at = and_then_is (slice_get schema.tables) (table_named schema name) table.0 table.1 in
+    record { at = at.0; table = table.0; named = at.1; there = at.2; is = table.2 }
 
 -- the indexes at which the two tables of a version are found
 pub record IsPlaced (version : Version) (schema : Schema) (meta devices : ℕ) : Type 0 where
@@ -265,38 +214,20 @@ module _ (version : Version) (schema : Schema) where
   abbrev name : List ℕ
   name = device_name version
 
-  module _ (meta devices : ℕ) where
-    third : (m d : ℕ) → tree_of_table schema meta_name ≡ Some m → tree_of_table schema name ≡ Some d
-        → trees_if_unaffected version schema m d ≡ Some (meta, devices) → IsPlaced version schema meta devices
-    third m d p q h = elim (cases_Bool (is_unaffected version schema m d)) [
-      | inl alone ↦
-          let pair : ◌≡◌ {A = ℕ × ℕ} (m, d) (meta, devices) = (let e = rw alone at h in cc) in
-          let x : m ≡ meta = ap (λ (o : ℕ × ℕ). o.0) pair in
-          let y : d ≡ devices = ap (λ (o : ℕ × ℕ). o.1) pair in
-          record {
-            meta_is = named_at schema meta_name meta (table_named schema meta_name) refl (p ∙ ap Some x);
-            devices_are = named_at schema name devices (table_named schema name) refl (q ∙ ap Some y);
-            alone =
-                left_alone version schema meta devices (subst (λ n. is_unaffected version schema n devices ≡ true) x
-                (subst (λ n. is_unaffected version schema m n ≡ true) y alone));
-          }
-      | inr apart ↦ absurd (let e = rw apart at h in cc)
-    ]
-
-    second : (m : ℕ) (o : Option ℕ) → tree_of_table schema meta_name ≡ Some m → tree_of_table schema name ≡ o
-        → option_and_then (trees_if_unaffected version schema m) o ≡ Some (meta, devices)
-        → IsPlaced version schema meta devices
-    second m None p q h = absurd (let e = h in cc)
-    second m (Some d) p q h = third m d p q h
-
-    first : (o : Option ℕ) → tree_of_table schema meta_name ≡ o
-        → option_and_then (λ m. option_and_then (trees_if_unaffected version schema m) (tree_of_table schema name)) o
-        ≡ Some (meta, devices) → IsPlaced version schema meta devices
-    first None p h = absurd (let e = h in cc)
-    first (Some m) p h = second m (tree_of_table schema name) p refl h
-
-    pub found : trees_of_tables version schema ≡ Some (meta, devices) → IsPlaced version schema meta devices
-    found h = first (tree_of_table schema meta_name) refl h
+  pub found : (meta devices : ℕ) → trees_of_tables version schema ≡ Some (meta, devices)
+      → IsPlaced version schema meta devices
+  found meta devices h =
+      let m = and_then_is _ (tree_of_table schema meta_name) (meta, devices) h in
+      let d = and_then_is (trees_if_unaffected version schema m.0) (tree_of_table schema name) (meta, devices) m.2 in
+      let alone = if_is (is_unaffected version schema m.0 d.0) (m.0, d.0) (meta, devices) d.2 in
+      let x : m.0 ≡ meta = ap (λ (o : ℕ × ℕ). o.0) alone.1 in
+      let y : d.0 ≡ devices = ap (λ (o : ℕ × ℕ). o.1) alone.1 in
+      record {
+        meta_is = named_at schema meta_name meta (m.1 ∙ ap Some x);
+        devices_are = named_at schema name devices (d.1 ∙ ap Some y);
+        alone = left_alone version schema meta devices
+            (ap (λ (o : ℕ × ℕ). is_unaffected version schema o.0 o.1) (sym alone.1) ∙ alone.0);
+      }
 
   -- and at which a registry has them
   pub placed_tables : (t : HasTables version schema) → trees_of_tables version schema ≡ Some (t.meta, t.devices)
@@ -304,14 +235,12 @@ module _ (version : Version) (schema : Schema) where
       let meta : tree_of_table schema meta_name ≡ Some t.meta = rw (t.meta_stands.named, t.meta_stands.there) in
       let devices : tree_of_table schema name ≡ Some t.devices = rw (t.devices_stand.named, t.devices_stand.there) in
       let a = unspared schema t.spared in
-      let c = not_indexed schema t.meta
-      (all_weaker _ (λ index. index.table ≢ t.meta) (λ x h. h.0) schema.indexes t.unindexed) in
-      let d = not_indexed schema t.devices
-      (all_weaker _ (λ index. index.table ≢ t.devices) (λ x h. h.1) schema.indexes t.unindexed) in
-      let m = is_alone schema meta_name t.meta
-      (all_weaker _ (TreeHasName meta_name t.meta) (λ x h. h.0) schema.tables t.alone) in
-      let n =
-      is_alone schema name t.devices (all_weaker _ (TreeHasName name t.devices) (λ x h. h.1) schema.tables t.alone) in
+      let one = meta_lone schema t in
+      let two = devices_lone schema t in
+      let c = not_indexed schema t.meta one.unindexed in
+      let d = not_indexed schema t.devices two.unindexed in
+      let m = is_alone schema meta_name t.meta one.keeps in
+      let n = is_alone schema name t.devices two.keeps in
       let counted = so_tested version schema t.counted in
       let alone : is_unaffected version schema t.meta t.devices ≡ true = rw (a, c, d, m, n, t.free, counted) refl in
       let pair : Bool → Option (ℕ × ℕ) = λ b. if b then Some (t.meta, t.devices) else None in

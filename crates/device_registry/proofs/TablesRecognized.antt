@@ -1,136 +1,39 @@
 -- A database that lists the registry's texts in the trees of its two names has the registry's tables.
-use Rattle.std.proofs.Common.{codes, not, ◌≡◌, inl, inr, ℕ, ◌<◌, ◌==◌, ◌^◌, nat_le, Bool, true, false}
-use Rattle.std.proofs.Common.{List, [], ◌∷◌, ◌++◌, map}
-use Rattle.std.proofs.Common.{◌&&◌, ◌||◌, Some, option_map, Ok, refl, sym, ap, subst, ◌∙◌, arith, IsTrue, is_eq}
-use Rattle.std.proofs.lemmas.Bool.Decides.{nat_tests}
-use Rattle.std.proofs.lemmas.Slice.Eq.{bytes_eq-Decides}
-use Rattle.std.proofs.lemmas.List.Sorted.{list_any-IsPermutation}
-use Rattle.std.specs.List.{AllByRecursion, find, list_any, flat_map}
-use Rattle.sqlite.specs.declared.types.Value.{Value}
-use Rattle.sqlite.specs.declared.types.Value.TheVariants.{Text, Int, Null, Real, Blob}
-use Rattle.sqlite.specs.Order.{Row, column, value_cmp}
+use Rattle.std.proofs.Common.{◌≡◌, ℕ, true}
+use Rattle.std.proofs.Common.{List, []}
+use Rattle.std.proofs.Common.{◌&&◌, Some, refl, sym, ap, subst, ◌∙◌, IsTrue}
+use Rattle.std.specs.List.{list_any}
+use Rattle.sqlite.specs.Order.{Row}
 use Rattle.sqlite.specs.Schema.{Schema}
-use Rattle.sqlite.specs.Table.{Table}
-use Rattle.sqlite.specs.Query.{IsAnswer, output, Output}
-use Rattle.sqlite.specs.Program.{overlay}
-use Rattle.sqlite.specs.Compile.{table_defined_by}
-use Rattle.sqlite.specs.Listing.{shown}
 use Rattle.sqlite.specs.State.{State, Shown}
 use Rattle.sqlite.specs.Effect.{Database, IsDatabase}
-use Rattle.sqlite_sql.specs.Term.{Env}
 use Rattle.sqlite_schema.specs.Names.{same_name}
-use Rattle.sqlite_typing.specs.Types.{row_classes}
 use Rattle.sqlite_trees.specs.Objects.{catalog_tree}
-use Rattle.sqlite_trees.specs.Tree.{Trees, IsAscending}
+use Rattle.sqlite_trees.specs.Tree.{Trees}
 use Rattle.sqlite_trees.proofs.ListLemmas.{all_weaker}
-use Rattle.sqlite_rules.specs.Lists.{Has}
-use Rattle.sqlite_rules.proofs.ListLemmas.{all_from, all_has, has_got, has_filtered, some_has, some_from}
-use Rattle.sqlite_rules.proofs.TableLemmas.{put_all_has}
-use Rattle.sqlite_rules.proofs.ProbeLemmas.{has_mapped}
-use Rattle.sqlite_catalog.specs.Listing.{IsSound, IsTableRow, IsViewRow, IsIndexRow, is_table_row, is_view_row}
-use Rattle.sqlite_catalog.specs.Listing.{is_index_row, is_foreign_row}
-use Rattle.sqlite_catalog.proofs.LayoutLemmas.{zipped_left}
-use Rattle.sqlite_catalog.proofs.SoundLemmas.{names_agree, lowered, list_parts}
-use Rattle.sqlite_catalog.proofs.StepLemmas.{named_once}
-use Rattle.sqlite_trees.specs.Sound as sound
-use Rattle.sqlite_trees.specs.Sound.{Head, head_at, may_follow, are_in_order}
-use Rattle.sqlite_value.specs.Order.{bytes}
-use Rattle.sqlite_value.proofs.OrderLemmas.{value_cmp-Text}
-use Rattle.std.specs.Char.{to_ascii_lowercase}
-use Rattle.std.proofs.lemmas.List.Folds.{list_any-append}
-use Rattle.std.proofs.lemmas.Bool.{cases_Bool, not-true}
+use Rattle.sqlite_rules.proofs.ListLemmas.{all_has, has_got}
+use Rattle.sqlite_catalog.specs.Listing.{IsSound}
 use Rattle.device_registry.specs.declared.table.Version.{Version}
 use Rattle.device_registry.specs.declared.table.Version.TheVariants.{First, Second}
 use Rattle.device_registry.specs.Table.{list_objects_sql, meta_name, device_name, create_meta_sql}
 use Rattle.device_registry.specs.Table.{create_device_sql, meta_table, device_table}
-use Rattle.device_registry.specs.Stored.{IsTableAt, TreeHasName, HasTables, IsRegistry, catalog_rows, IsListedAs}
+use Rattle.device_registry.specs.Stored.{TreeHasName, HasTables, IsRegistry}
 use Rattle.device_registry.specs.Stored.{AreListed}
 use Rattle.device_registry.specs.Stored.{AdmitsRegistry, AdmitsTables}
 use Rattle.device_registry.specs.Opening.{IsOwnRegistry, IsSettledOpen}
-use Rattle.device_registry.specs.private.CatalogRows.{has_text, is_catalog_row, are_our_tables}
+use Rattle.device_registry.specs.private.CatalogRows.{is_catalog_row, are_our_tables}
 use Rattle.device_registry.specs.SchemaChecks.{admits_tables, trees_of_tables}
 use Rattle.sqlite_catalog.proofs.ReadLemmas.{lists_once}
 use Rattle.device_registry.proofs.TableTexts.{meta_is, device_is}
-use Rattle.device_registry.proofs.ListObjectsMeaning.{list_query_is}
-use Rattle.device_registry.proofs.ListObjectsAnswer.{listing_shows}
-use Rattle.device_registry.proofs.SchemaTests.{IsNamed, IsPlaced, found, has_name, is_cleared}
-use Rattle.device_registry.proofs.TestSteps.{both}
-
--- ---- what a line implies
-
-text_is : (v : Value) (text : List ℕ) → has_text v text ≡ true → v ≡ Text text
-text_is (Text t) text h = ap Text ((bytes_eq-Decides t text).0 h)
-text_is (Int n) text h = absurd cc
-text_is Null text h = absurd cc
-text_is (Real x) text h = absurd cc
-text_is (Blob b) text h = absurd cc
-
-abbrev line : Row → Row
-line r = column r 2 ∷ column r 1 ∷ column r 5 ∷ []
-
-any_mapped : {X Y : Type 0} (test : Y → Bool) (f : X → Y) (xs : List X)
-    → list_any test (map f xs) ≡ list_any (λ x. test (f x)) xs
-any_mapped test f [] = refl
-any_mapped test f (x ∷ xs) = ap (λ b. test (f x) || b) (any_mapped test f xs)
-
-abbrev envs : List Row → List Env
-envs rows = flat_map (λ r. ([] ∷ r ∷ []) ∷ []) rows
-
-any_output : (test : Row → Bool) (rows : List Row) → list_any (λ (o : Output). test o.1)
-    (map (output list_query_is) (envs rows)) ≡ list_any (λ r. test (line r)) rows
-any_output test [] = refl
-any_output test (r ∷ rows) = ap (λ b. test (line r) || b) (any_output test rows)
-
--- the output passes a test if the list of objects does
-answered : (test : Row → Bool) (db : Trees) (rows : List Row) → IsAnswer list_query_is (overlay db []) [] rows
-    → list_any test rows ≡ list_any (λ r. test (line r)) (db 0)
-answered test db rows it =
-    let kept : it.kept ≡ map (output list_query_is) (envs (db 0)) =
-    it.distinct ∙ ap (map (output list_query_is)) it.grouped in
-    ap (list_any test) it.shown ∙ any_mapped test (λ (o : Output). o.1) it.ordered
-    ∙ sym (list_any-IsPermutation (λ (o : Output). test o.1) it.kept it.ordered it.same)
-    ∙ ap (list_any (λ (o : Output). test o.1)) kept ∙ any_output test (db 0)
-
-here : (trees : Trees) (name text : List ℕ) → list_any (λ r. is_catalog_row name text (line r)) (catalog_rows trees) ≡ true
-    → IsListedAs trees name text
-here trees name text h =
-    let hit = some_has (λ r. is_catalog_row name text (line r)) _ h in
-    let passes = both _ _ hit.2 in
-    record {
-      row = hit.0;
-      listed = hit.1;
-      name_is = text_is (column hit.0 2) name passes.0;
-      sql = text_is (column hit.0 5) text passes.1;
-    }
-
--- the query for the objects passes a test if the list of objects does
-lists_as : (old new : State) (rows : List Row) → IsDatabase old.now → Shown list_objects_sql [] old new rows
-    → (test : Row → Bool) → list_any test rows ≡ list_any (λ r. test (line r)) (catalog_rows old.now.trees)
-lists_as old new rows sound shows test =
-    let show = listing_shows old new rows sound shows in
-    answered test show.0.trees rows (show.2.answer Null) ∙ ap (list_any (λ r. test (line r))) show.1
-
--- what the query shows is listed
-told : (old new : State) (rows : List Row) → IsDatabase old.now → Shown list_objects_sql [] old new rows
-    → (name text : List ℕ) → list_any (is_catalog_row name text) rows ≡ true → IsListedAs old.now.trees name text
-told old new rows sound shows name text h =
-    here old.now.trees name text (sym (lists_as old new rows sound shows (is_catalog_row name text)) ∙ h)
-
--- what is listed is shown by the query
-shows_line : (old new : State) (rows : List Row) → IsDatabase old.now → Shown list_objects_sql [] old new rows
-    → (name text : List ℕ) → IsListedAs old.now.trees name text → list_any (is_catalog_row name text) rows ≡ true
-shows_line old new rows sound shows name text it =
-    let passes : is_catalog_row name text (line it.row) ≡ true =
-    ap (λ v. has_text v name && has_text (column it.row 5) text) it.name_is
-    ∙ ap (λ v. has_text (Text name) name && has_text v text) it.sql
-    ∙ rw ((bytes_eq-Decides name name).1 refl, (bytes_eq-Decides text text).1 refl) refl in
-    lists_as old new rows sound shows (is_catalog_row name text)
-    ∙ some_from (λ r. is_catalog_row name text (line r)) _ it.row it.listed passes
+use Rattle.keyed_table.proofs.ListedTables.{defined, stands_in}
+use Rattle.device_registry.proofs.SchemaTests.{IsPlaced, found, is_cleared}
+use Rattle.std.proofs.lemmas.Bool.{and_parts}
+use Rattle.keyed_table.proofs.ObjectsListed.{told, shows_line}
 
 pub ours_told : (version : Version) (old new : State) (rows : List Row) → IsDatabase old.now
     → Shown list_objects_sql [] old new rows → are_our_tables version rows ≡ true → AreListed version old.now.trees
 ours_told version old new rows sound shows h =
-    let parts = both _ _ h in (
+    let parts = and_parts _ _ h in (
       told old new rows sound shows meta_name create_meta_sql parts.0,
       told old new rows sound shows (device_name version) (create_device_sql version) parts.1,
     )
@@ -143,220 +46,6 @@ ours_shown version old new rows sound shows listed =
     ∙ shows_line old new rows sound shows (device_name version) (create_device_sql version) listed.1
 
 -- ---- the tables
-
-text_same : (a b : List ℕ) → ◌≡◌ {A = Value} (Text a) (Text b) → a ≡ b
-text_same a b e = cc
-
-defined_as : (row : Row) (t : Table) (text : List ℕ) (made : Table) → IsTableRow row t → column row 4 ≡ Text text
-    → table_defined_by text ≡ Ok made → t ≡ record made { tree = t.tree }
-defined_as row t text made it lists is =
-    let sql : it.sql ≡ text = text_same _ _ (sym it.sql_is ∙ lists) in
-    let both : ◌≡◌ (Ok made) (Ok it.defined.0) = sym is ∙ ap table_defined_by (sym sql) ∙ it.defined.1 in
-    let same : it.defined.0 ≡ made = cc in
-    it.defined.2 ∙ ap (λ (m : Table). record m { tree = t.tree }) same
-
--- ---- the objects have different names
-
-abbrev name_in : Row → List ℕ
-name_in row = bytes (column row 2)
-
-untrue : false ≡ true → ⊥
-untrue e = cc
-
--- the row of a table is not that of a view or an index
-no_view_row : (row : Row) → is_table_row row ≡ true → column row 1 ≡ Text (codes "table") → is_view_row row ≡ true → ⊥
-no_view_row row table kind view =
-    let own : is_foreign_row row ≡ false = not-true _ (both _ _ table).1 in
-    let e : false ≡ true =
-    sym (ap (λ b. is_eq (value_cmp (column row 1) (Text (codes "view"))) || b) own
-    ∙ ap (λ v. is_eq (value_cmp v (Text (codes "view"))) || false) kind
-    ∙ ap (λ o. is_eq o || false) (value_cmp-Text (codes "table") (codes "view"))) ∙ view in
-    absurd (untrue e)
-
-no_index_row : (row : Row) → is_table_row row ≡ true → is_index_row row ≡ true → ⊥
-no_index_row row table index =
-    let e : false ≡ true = sym (ap (λ b. not (b || is_view_row row)) table) ∙ index in
-    absurd (untrue e)
-
-not_both : (b : Bool) → b ≡ true → b ≡ false → ⊥
-not_both true h k = absurd cc
-not_both false h k = absurd cc
-
--- no row has the name of an earlier head
-NewIn : List Head → List Row → Type 0
-NewIn earlier = AllByRecursion (λ row. list_any (λ e. sound.same_name (bytes e.1) (name_in row)) earlier ≡ false)
-
-either_false : (a b : Bool) → (a || b) ≡ false → (a ≡ false) × (b ≡ false)
-either_false true b h = absurd cc
-either_false false b h = (refl, h)
-
-names_apart : (earlier : List Head) (rows : List Row) → are_in_order earlier (map (head_at 1) rows) ≡ true
-    → NewIn earlier rows × IsAscending (λ a b. sound.same_name (name_in a) (name_in b) ≡ false) rows
-unfolding NewIn may_follow
-names_apart earlier [] h = (tt, tt)
-names_apart earlier (row ∷ rows) h =
-    let parts = both _ _ h in
-    let first = not-true _ (both _ _ parts.0).0 in
-    let more = names_apart (earlier ++ head_at 1 row ∷ []) rows parts.1 in
-    let split =
-    all_weaker (λ r. list_any (λ (e : Head). sound.same_name (bytes e.1) (name_in r))
-    (earlier ++ head_at 1 row ∷ []) ≡ false)
-    (λ r. (list_any (λ (e : Head). sound.same_name (bytes e.1) (name_in r)) earlier ≡ false)
-    × (sound.same_name (name_in row) (name_in r) ≡ false))
-    (λ r none. let two = either_false _ _
-    (sym (list_any-append (λ (e : Head). sound.same_name (bytes e.1) (name_in r)) earlier (head_at 1 row ∷ []))
-    ∙ none) in (two.0, (either_false _ _ two.1).0)) rows more.0 in (
-      (
-        first,
-        all_weaker _ (λ r. list_any (λ (e : Head). sound.same_name (bytes e.1) (name_in r)) earlier ≡ false)
-            (λ r both. both.0) rows split,
-      ),
-      (all_weaker _ (λ r. sound.same_name (name_in row) (name_in r) ≡ false) (λ r both. both.1) rows split, more.1),
-    )
-
--- no two rows have the same name
-AreApart : List Row → Type 0
-AreApart = IsAscending (λ a b. sound.same_name (name_in a) (name_in b) ≡ false)
-
-one_row : (rows : List Row) (a b : Row) → AreApart rows
-    → Has rows a → Has rows b → map to_ascii_lowercase (name_in a) ≡ map to_ascii_lowercase (name_in b) → a ≡ b
-unfolding AreApart
-one_row [] a b apart p q same = absurd p
-one_row (r ∷ rows) a b apart (inl p) (inl q) same = p ∙ sym q
-one_row (r ∷ rows) a b apart (inl p) (inr q) same =
-    absurd (not_both _ (sym (names_agree (name_in r) (name_in b)) ∙ (lowered (name_in r) (name_in b)).1
-    (ap (λ x. map to_ascii_lowercase (name_in x)) (sym p) ∙ same)) (all_has _ rows b apart.0 q))
-one_row (r ∷ rows) a b apart (inr p) (inl q) same =
-    absurd (not_both _ (sym (names_agree (name_in r) (name_in a)) ∙ (lowered (name_in r) (name_in a)).1
-    (ap (λ x. map to_ascii_lowercase (name_in x)) (sym q) ∙ sym same)) (all_has _ rows a apart.0 p))
-one_row (r ∷ rows) a b apart (inr p) (inr q) same = one_row rows a b apart.1 p q same
-
--- what is listed is an object
-record IsObject (trees : Trees) (name text : List ℕ) : Type 0 where
-  row : Row
-  there : Has (trees catalog_tree) row
-  name_is : column row 2 ≡ Text name
-  sql : column row 4 ≡ Text text
-
-object : (trees : Trees) (name text : List ℕ) → IsListedAs trees name text → IsObject trees name text
-object trees name text it = elim (put_all_has (map shown (trees catalog_tree)) [] it.row it.listed) [
-  | inl new ↦
-      let was = has_mapped shown (trees catalog_tree) it.row new in
-      record {
-        row = was.0;
-        there = was.1;
-        name_is = subst (λ r. column r 2 ≡ Text name) was.2 it.name_is;
-        sql = subst (λ r. column r 5 ≡ Text text) was.2 it.sql;
-      }
-  | inr none ↦ absurd none
-]
-
-module _ (db : Database) (sound : IsDatabase db) where
-  abbrev objects : List Row
-  objects = db.trees catalog_tree
-
-  apart : AreApart objects
-  unfolding AreApart
-  apart = (names_apart [] objects (list_parts objects sound.lists.listed.loads).1).1
-
-  -- the table of this name is what the text defines
-  defined : (name : List ℕ) (tree : ℕ) (n : IsNamed db.schema name tree) (text : List ℕ) (made : Table)
-      → IsListedAs db.trees name text → table_defined_by text ≡ Ok made
-      → (n.table ≡ record made { tree = tree }) × (tree < 65536)
-  defined name tree n text made lists is =
-      let it = object db.trees name text lists in
-      let has = has_got db.schema.tables n.at n.table n.there in
-      let row = zipped_left IsTableRow _ db.schema.tables n.table sound.lists.listed.tables has in
-      let listed = (has_filtered is_table_row objects row.0 row.1).0 in
-      let own : bytes (column row.0 2) ≡ n.table.name = ap bytes row.2.described.name_is in
-      let other : bytes (column it.row 2) ≡ name = ap bytes it.name_is in
-      let alike : map to_ascii_lowercase (name_in row.0) ≡ map to_ascii_lowercase (name_in it.row) =
-      ap (map to_ascii_lowercase) own ∙ (lowered n.table.name name).0
-      (has_name db.schema name n.at n.table n.named n.there) ∙ ap (map to_ascii_lowercase) (sym other) in
-      let same : row.0 ≡ it.row = one_row objects row.0 it.row apart listed it.there alike in (
-        defined_as row.0 n.table text made row.2 (ap (λ r. column r 4) same ∙ it.sql) is
-            ∙ ap (λ t. record made { tree = t }) n.is,
-        subst (λ t. t < 65536) n.is row.2.described.low,
-      )
-
-  -- ---- the object with the name of a table is that table
-
-  module _ (table : Table) (has : Has db.schema.tables table) (name : List ℕ)
-      (named : same_name table.name name ≡ true) where
-    table_row : (row : Row) × Has objects row × (is_table_row row ≡ true) × IsTableRow row table
-    table_row =
-        let it = zipped_left IsTableRow _ db.schema.tables table sound.lists.listed.tables has in
-        let kept = has_filtered is_table_row objects it.0 it.1 in
-        (it.0, kept.0, kept.1, it.2)
-
-    -- no other object has the name
-    one_object : (row : Row) (other : List ℕ) → Has objects row → column row 2 ≡ Text other
-        → same_name other name ≡ true → row ≡ table_row.0
-    one_object row other there is same =
-        let alike : map to_ascii_lowercase (name_in row) ≡ map to_ascii_lowercase (name_in table_row.0) =
-        ap (map to_ascii_lowercase) (ap bytes is) ∙ (lowered other name).0 same
-        ∙ sym ((lowered table.name name).0 named)
-        ∙ sym (ap (map to_ascii_lowercase) (ap bytes table_row.3.described.name_is)) in
-        one_row objects row table_row.0 apart there table_row.1 alike
-
-    pub no_view : AllByRecursion (λ w. same_name w.name name ≡ false) db.schema.views
-    no_view = all_from _ db.schema.views (λ w there. elim (cases_Bool (same_name w.name name)) [
-      | inl same ↦
-          let it = zipped_left IsViewRow _ db.schema.views w sound.lists.listed.views there in
-          let kept = has_filtered is_view_row objects it.0 it.1 in
-          let one = one_object it.0 w.name kept.0 it.2.described.name_is same in
-          absurd (no_view_row table_row.0 table_row.2 table_row.3.described.kind_is
-          (subst (λ r. is_view_row r ≡ true) one kept.1))
-      | inr other ↦ other
-    ])
-
-    pub no_index : AllByRecursion (λ i. same_name i.name name ≡ false) db.schema.indexes
-    no_index = all_from _ db.schema.indexes (λ i there. elim (cases_Bool (same_name i.name name)) [
-      | inl same ↦
-          let it = zipped_left (IsIndexRow db.schema.tables) _ db.schema.indexes i sound.lists.listed.indexes there in
-          let kept = has_filtered is_index_row objects it.0 it.1 in
-          let one = one_object it.0 i.name kept.0 it.2.described.name_is same in
-          absurd (no_index_row table_row.0 table_row.2 (subst (λ r. is_index_row r ≡ true) one kept.1))
-      | inr other ↦ other
-    ])
-
-    pub one_table : (t : Table) → Has db.schema.tables t → same_name t.name name ≡ true → t ≡ table
-    one_table t there same = named_once db.schema.tables t table sound.lists.listed.named there has
-        ((lowered t.name table.name).1 ((lowered t.name name).0 same ∙ sym ((lowered table.name name).0 named)))
-
-find_lone : (tables : List Table) (table : Table) → ((t : Table) → Has tables t → t.tree ≡ table.tree → t ≡ table)
-    → Has tables table → find (λ t. t.tree == table.tree) tables ≡ Some table
-find_lone [] table lone h = absurd h
-find_lone (t ∷ tables) table lone h = elim (cases_Bool (t.tree == table.tree)) [
-  | inl tie ↦ let e : t.tree ≡ table.tree = grind (arith, nat_tests) in rw tie (ap Some (lone t (inl refl) e))
-  | inr apart ↦ rw apart (find_lone tables table (λ u has. lone u (inr has)) (later apart h))
-]
-  where
-    later : (t.tree == table.tree) ≡ false → Has (t ∷ tables) table → Has tables table
-    later apart (inl here) =
-        absurd (let e : t.tree ≡ table.tree = ap (λ (u : Table). u.tree) (sym here) in
-        grind (arith, nat_tests, apart, e))
-    later apart (inr h) = h
-
-pub stands_in : (db : Database) (name : List ℕ) (tree : ℕ) (n : IsNamed db.schema name tree) (table : Table)
-    → IsDatabase db
-    → AllByRecursion (TreeHasName name tree) db.schema.tables → n.table ≡ table → table.tree ≡ tree → tree < 65536
-    → IsTableAt db.schema name table n.at
-stands_in db name tree n table sound keeps is at low =
-    let there = n.there ∙ ap Some is in
-    let has = has_got db.schema.tables n.at table there in
-    let named = has_name db.schema name n.at table n.named there in
-    let lone = λ (t : Table) (h : Has db.schema.tables t) (e : t.tree ≡ table.tree).
-    named_once db.schema.tables t table sound.lists.listed.named h has
-    ((lowered t.name table.name).1
-    ((lowered t.name name).0 (all_has (TreeHasName name tree) db.schema.tables t keeps h (e ∙ at))
-    ∙ sym ((lowered table.name name).0 named))) in
-    let stored : nat_le (2 ^ 31) table.tree ≡ false = grind (arith, nat_tests, at, low) in
-    record {
-      named = n.named;
-      there = there;
-      classes = rw stored (ap (option_map row_classes) (find_lone db.schema.tables table lone has));
-    }
 
 names_differ : (version : Version) → same_name (device_name version) meta_name ≡ true → ⊥
 unfolding same_name

@@ -16,7 +16,7 @@ use Rattle.device_registry.specs.Stored.{IsRegistryOf, Holds}
 use Rattle.device_registry.specs.Ready.{IsReadyWith, KeepsOtherTables}
 use Rattle.device_registry.specs.Opening.{KeepsDatabase}
 use Rattle.device_registry.specs.private.Transaction.{IsListedMidTransaction}
-use Rattle.device_registry.proofs.TransactionSteps.{since, leaves, uncommitted_remains}
+use Rattle.keyed_table.proofs.Transactions.{since, leaves, uncommitted_remains}
 
 -- what it shows is committed
 abbrev pub Commits : State → State → Type 0
@@ -31,7 +31,7 @@ shows_committed d e devices registers sound ends =
       idle = shown.mode;
       settled = shown.now_is ∙ sym shown.committed_is;
       sound = subst IsDatabase (sym shown.now_is) sound;
-      registers = subst (λ db. IsRegistryOf db devices) (sym shown.now_is) registers;
+      holds = subst (λ db. IsRegistryOf db devices) (sym shown.now_is) registers;
     }
 
 on_ok : {V E : Type 0} (r : Result V E) (P Q : Type 0) → (P → Q) → OnOk r P → OnOk r Q
@@ -73,7 +73,7 @@ module _ {S V : Type 0} (g : Ghosts S) (texts : List (List ℕ)) (old start last
               db = (state g last).now;
               same = refl;
               sound = it.1;
-              registers = it.0 devices are;
+              holds = it.0 devices are;
             });
         remains = uncommitted_remains (state g old) (state g last) new was commits r it.inside err;
       }

@@ -12,10 +12,12 @@ use Rattle.sqlite_ast.specs.declared.Expr.TheVariants.{Integer}
 use Rattle.sqlite_ast.specs.declared.Rows.TheVariants.{Values}
 use Rattle.sqlite_ast.specs.declared.Statement.TheVariants as written
 use Rattle.sqlite_tied.specs.Compute.{everything}
-use Rattle.device_registry.proofs.StatementTexts.{column_read, plain_query, program_of, renew_query}
-use Rattle.device_registry.proofs.TextMeaning.{IsRead, Means, draft_of}
-use Rattle.device_registry.proofs.SelectMeaning.{IsPlainSelect, plain_select, select_means}
-use Rattle.device_registry.proofs.WriteMeaning.{insert_means, update_means}
+use Rattle.keyed_table.specs.Queries.{plain_query, program_of}
+use Rattle.keyed_table.proofs.SelectMeaning.{column_read}
+use Rattle.device_registry.proofs.StatementTexts.{renew_query}
+use Rattle.keyed_table.proofs.TextMeaning.{IsRead, Means, draft_of}
+use Rattle.keyed_table.proofs.SelectMeaning.{IsPlainSelect, plain_select, select_means}
+use Rattle.keyed_table.proofs.WriteMeaning.{insert_means, update_means}
 use Rattle.device_registry.specs.Table.{write_version_sql, rewrite_version_sql, read_version_sql, meta_table}
 use Rattle.device_registry.specs.Stored.{IsTableAt}
 

@@ -3,24 +3,21 @@ use Rattle.std.proofs.Common.{◌≢◌, drop, ◌&&◌, ◌==◌, Bool, true, f
 use Rattle.std.proofs.Common.{◌∷◌, Some, None, Option, Ok, Err, Result, OnOk, refl, sym, ap, subst, ◌∙◌, slice_get}
 use Rattle.std.proofs.Common.{unwrap_or}
 use Rattle.sqlite.specs.Schema.{Schema}
-use Rattle.sqlite.specs.Table.{Table}
 use Rattle.sqlite.specs.Command.TheVariants.{Insert, Update}
 use Rattle.sqlite.specs.Source.TheVariants.{Values}
 use Rattle.sqlite.specs.declared.run.Mode.{Mode}
 use Rattle.sqlite.specs.declared.error.Error.{Error}
 use Rattle.sqlite.specs.Effect.{Database, IsDatabase}
-use Rattle.sqlite.specs.Does.{Tally, Does, AtPlace, OnRows}
-use Rattle.sqlite.specs.Rows.{Written, Task, count_of, rowids_for}
-use Rattle.sqlite.specs.Listing.{understood}
-use Rattle.sqlite.specs.State.{State, Survives, Executes, CommitsBy, mode_of}
+use Rattle.sqlite.specs.Does.{Tally, Does}
+use Rattle.sqlite.specs.State.{State, HasCleanDisk, Survives, Executes, CommitsBy, mode_of}
 use Rattle.sqlite_trees.specs.Tree.{Trees}
-use Rattle.sqlite_rules.specs.Edit.{edit_of, taken_by, edited, with_rowid}
-use Rattle.sqlite.proofs.Callers.{one_step, runs_as, statement_of}
+use Rattle.sqlite_rules.specs.Edit.{edit_of, edited, with_rowid}
+use Rattle.sqlite_rules.specs.declared.error.Rowids.TheVariants.{Chosen}
 use Rattle.sqlite.proofs.StateLemmas.{survives_weaker}
-use Rattle.learned_devices.specs.Devices.{Devices}
+use Rattle.learned_devices.specs.Devices.{Devices, DeviceUpdate, apply_update}
 use Rattle.device_registry.specs.Table.{rewrite_version_sql, meta_table}
 use Rattle.device_registry.specs.Stored.{IsRegistryOf, Holds}
-use Rattle.device_registry.specs.Ready.{IsReadyWith, IsReady, KeepsRows}
+use Rattle.device_registry.specs.Ready.{IsReadyWith, IsReady, KeepsRows, CommitsOrFails}
 use Rattle.std.specs.List.{AllByRecursion}
 use Rattle.std.proofs.lemmas.Bool.{cases_Bool}
 use Rattle.std.proofs.lemmas.Bool.Decides.{nat_tests}
@@ -28,96 +25,75 @@ use Rattle.sqlite_rules.specs.Lists.{Has}
 use Rattle.sqlite_rules.proofs.ListLemmas.{has_got, all_has}
 use Rattle.sqlite_schema.specs.Rules.{passes, are_typed, has_computed}
 use Rattle.sqlite_schema.specs.declared.schema.Constraint.TheVariants.{Datatype}
-use Rattle.device_registry.proofs.StatementTexts.{program_of, renew_query}
+use Rattle.keyed_table.specs.Queries.{program_of}
+use Rattle.device_registry.proofs.StatementTexts.{renew_query}
 use Rattle.device_registry.proofs.VersionMeaning.{renew_means, version_terms}
-use Rattle.device_registry.proofs.TablesAlone.{StandsAlone, meta_alone}
-use Rattle.device_registry.proofs.RowWrites.{went, same_value, SparesOthers, spares, spares_as}
+use Rattle.device_registry.proofs.TablesAlone.{meta_alone}
+use Rattle.keyed_table.proofs.TablesAlone.{StandsAlone}
+use Rattle.keyed_table.proofs.TableWrites.{SparesOthers, Did, inserts}
 use Rattle.device_registry.proofs.RewriteVersionEffect.{version_row, cast_version, renews, version_is}
 use Rattle.device_registry.proofs.DevicesHeld.{renewed_registers}
-use Rattle.device_registry.proofs.StatementSteps.{commits_as}
+use Rattle.keyed_table.proofs.TextMeaning.{Means}
+use Rattle.keyed_table.proofs.Writes.{wrote_as, made, left, turned}
+use Rattle.sqlite_schema.specs.declared.command.Command.{Command}
 
 -- the version row is inserted into its table, and no other table changes
-pub numbers : (schema : Schema) (at m : ℕ) (limit : Option ℕ) (mode : Mode) (db : Trees) (text : List ℕ) (tally : Tally)
-    (after : Database)
-    → slice_get schema.tables at ≡ Some (meta_table m) → StandsAlone schema m → db m ≡ []
-    → Does limit mode [] (record { schema = schema; trees = db }) text None (Insert at (Values version_terms 3))
-    (Ok (tally, after))
+pub numbers : (schema : Schema) (at m : ℕ) (limit : Option ℕ) (mode : Mode) (db : Trees) (tally : Tally)
+    (after : Database) → slice_get schema.tables at ≡ Some (meta_table m) → StandsAlone schema m → db m ≡ []
+    → Did schema limit mode [] db at (Insert at (Values version_terms 3)) tally after
     → (after.schema ≡ schema) × (after.trees m ≡ version_row ∷ []) × SparesOthers schema m db after.trees
-numbers schema at m limit mode db text tally after there stands none does =
-    let command = Insert at (Values version_terms 3) in
-    let here = λ (table : Table).
-    let t : Task = record { limit = limit; keys = mode.keys; schema = schema; table = table; params = [] } in t in
-    let h : OnRows (here (meta_table m)) mode None command db (Ok (tally, after)) =
-    subst (λ o. AtPlace (λ table. OnRows (here table) mode None command db) o (Ok (tally, after))) there does in
-    let done = went h in
-    let given = went done.1 in
-    let counted = went given.2 in
-    let edits = went counted.2 in
-    let ended = went edits.2 in
-    let concluded = went done.2 in
-    let shown = went concluded.2 in
-    let now : after ≡ record { schema = schema; trees = done.0.trees } =
-    ap (λ (p : Tally × Database). p.1) (same_value shown.2) in
-    let trees : after.trees ≡ edits.0 = ap (λ (db : Database). db.trees) now
-    ∙ ap (λ (w : Written). w.trees) (same_value ended.2) ∙ same_value ended.1 in
-    let rowids = rowids_for (meta_table m) (count_of counted.0) in
-    let edit = edit_of db (meta_table m) [] rowids 0 given.0 in
-    let step = one_step schema mode.keys db edits.0 edit (stands.free mode.keys (taken_by db edit) edit.news) edits.1 in
-    let rows : after.trees m ≡ version_row ∷ [] =
-    ap (λ (s : Trees). s m) trees ∙ step.rows ∙ ap (λ rs. edited db (edit_of db (meta_table m) [] rowids 0 rs))
-    given.1.1 ∙ rw none (ap (λ r. with_rowid rowids [] r ∷ []) (cast_version m)) in (
-      ap (λ (db : Database). db.schema) now,
-      rows,
-      spares_as schema m db edits.0 after.trees trees (spares schema mode.keys db edits.0 edit step),
+numbers schema at m limit mode db tally after there stands none did =
+    let it = inserts schema at (meta_table m) there stands limit mode [] db tally after (Values version_terms 3) refl
+    did in (
+      it.2.schema_is,
+      it.2.rows ∙ ap (λ rs. edited db (edit_of db (meta_table m) [] Chosen 0 rs)) it.1.1
+          ∙ rw none (ap (λ r. with_rowid Chosen [] r ∷ []) (cast_version m)),
+      it.2.others,
     )
 
-renew_does : (s : State) (after : Database) (text : List ℕ) (tally : Tally) (devices : Devices)
-    (had : IsRegistryOf s.now devices) → IsDatabase s.now
-    → Does s.step_limit (mode_of s) [] s.now text None (Update had.registry.tables.meta_at
-    (program_of (renew_query had.registry.tables.meta))) (Ok (tally, after)) → IsRegistryOf after devices
-renew_does s after text tally devices had sound h =
-    let r = had.registry in
-    let kept = renews s.now.schema r.tables.meta_at r.tables.meta s.step_limit (mode_of s) s.now.trees text tally after
-    r.whole.row r.tables.meta_stands.there (meta_alone s.now.schema r.tables) r.whole.one r.whole.numbered.key h in
-    renewed_registers s.now after devices had sound kept.0 kept.1 kept.2
+-- ---- it is rewritten
 
-renewed : (old new : State) (count : ℕ) (devices : Devices) → IsReadyWith old devices
-    → Executes rewrite_version_sql [] old new (Ok count) → IsReadyWith new devices
-renewed old new count devices shows h =
-    let r = shows.registers.registry in
-    let it = renew_means old.now.schema r.tables.meta_at r.tables.meta r.tables.meta_stands in
-    let w = runs_as rewrite_version_sql [] old new old.now.schema refl
-    (Update r.tables.meta_at (program_of (renew_query r.tables.meta))) it.is it.plain count h in
-    record {
-      is_open = w.shown.is_open;
-      idle = w.shown.mode ∙ shows.idle;
-      settled = sym (rw shows.idle at w.shown.committed_is);
-      sound = w.sound;
-      registers = renew_does old new.now (statement_of rewrite_version_sql
-          (understood old.now.schema rewrite_version_sql)) w.tally
-          devices shows.registers shows.sound w.changed;
-    }
+abbrev renew_command : (db : Database) (devices : Devices) → IsRegistryOf db devices → Command
+renew_command db devices had =
+    Update had.registry.tables.meta_at (program_of (renew_query had.registry.tables.meta))
+
+renew_known : (db : Database) (devices : Devices) (had : IsRegistryOf db devices)
+    → Means db.schema rewrite_version_sql (renew_command db devices had)
+renew_known db devices had =
+    let t = had.registry.tables in renew_means db.schema t.meta_at t.meta t.meta_stands
+
+-- an update that leaves the devices as they are
+module _ (then : Devices → Devices) where
+  renew_does : (s : State) (after : Database) (text : List ℕ) (tally : Tally) (devices : Devices)
+      (had : IsRegistryOf s.now devices) → IsDatabase s.now → then devices ≡ devices
+      → Does s.step_limit (mode_of s) [] s.now text None (renew_command s.now devices had) (Ok (tally, after))
+      → IsRegistryOf after (then devices)
+  renew_does s after text tally devices had sound same h =
+      let r = had.registry in
+      let kept = renews s.now.schema r.tables.meta_at r.tables.meta s.step_limit (mode_of s) s.now.trees tally after
+      r.whole.row r.tables.meta_stands.there (meta_alone s.now.schema r.tables) r.whole.one r.whole.numbered.key h in
+      subst (IsRegistryOf after) (sym same) (renewed_registers s.now after devices had sound kept.0 kept.1 kept.2)
 
 -- the effect of the text on the tables of a registry; it changes one row
 effect : (old new : State) (count : ℕ) (devices : Devices) (shows : IsReadyWith old devices)
     → Executes rewrite_version_sql [] old new (Ok count)
     → (new.now.schema ≡ old.now.schema)
-    × (new.now.trees shows.registers.registry.tables.meta ≡ version_row ∷ [])
-    × SparesOthers old.now.schema shows.registers.registry.tables.meta old.now.trees new.now.trees × (count ≡ 1)
+    × (new.now.trees shows.holds.registry.tables.meta ≡ version_row ∷ [])
+    × SparesOthers old.now.schema shows.holds.registry.tables.meta old.now.trees new.now.trees × (count ≡ 1)
 effect old new count devices shows h =
-    let r = shows.registers.registry in
-    let it = renew_means old.now.schema r.tables.meta_at r.tables.meta r.tables.meta_stands in
-    let w = runs_as rewrite_version_sql [] old new old.now.schema refl
-    (Update r.tables.meta_at (program_of (renew_query r.tables.meta))) it.is it.plain count h in
-    let kept =
-    renews old.now.schema r.tables.meta_at r.tables.meta old.step_limit (mode_of old) old.now.trees
-    (statement_of rewrite_version_sql (understood old.now.schema rewrite_version_sql)) w.tally new.now r.whole.row
-    r.tables.meta_stands.there (meta_alone old.now.schema r.tables) r.whole.one r.whole.numbered.key w.changed in
+    let r = shows.holds.registry in
+    let w = wrote_as rewrite_version_sql [] (λ devices. devices) (λ devices. Unit {0}) renew_command
+    (λ db devices had. tt) renew_known
+    (λ s after text tally devices had sound room. renew_does (λ devices. devices) s after text tally devices had sound
+    refl) old new count devices shows.holds h in
+    let kept = renews old.now.schema r.tables.meta_at r.tables.meta old.step_limit (mode_of old) old.now.trees
+    w.tally new.now r.whole.row r.tables.meta_stands.there (meta_alone old.now.schema r.tables) r.whole.one
+    r.whole.numbered.key w.changed in
     (kept.0, kept.1, kept.2, w.counted ∙ ap (λ rows. unwrap_or rows 0) kept.3)
 
 pub changes_one : (old new : State) (count : ℕ) → IsReady old → Executes rewrite_version_sql [] old new (Ok count)
     → count ≡ 1
-changes_one old new count ready h = (effect old new count ready.devices ready.shows h).3
+changes_one old new count ready h = (effect old new count ready.held ready.shows h).3
 
 pub has_at : {X : Type 0} (xs : List X) (x : X) → Has xs x → (i : ℕ) × (slice_get xs i ≡ Some x)
 has_at [] x h = absurd h
@@ -138,7 +114,7 @@ first false b h = h
 renewed_rows : (old new : State) (count : ℕ) (devices : Devices) → IsReadyWith old devices
     → Executes rewrite_version_sql [] old new (Ok count) → KeepsRows old new
 renewed_rows old new count devices shows h =
-    let r = shows.registers.registry in
+    let r = shows.holds.registry in
     let kept = effect old new count devices shows h in
     let has = has_got old.now.schema.tables r.tables.meta_at (meta_table r.tables.meta) r.tables.meta_stands.there in
     let typed = all_has _ old.now.schema.tables (meta_table r.tables.meta) (shows.sound.obeys.rules Datatype) has in
@@ -163,38 +139,31 @@ renewed_rows old new count devices shows h =
 
 pub rows_if : (old new : State) (r : Result ℕ Error) → Executes rewrite_version_sql [] old new r
     → OnOk r (IsReady old → KeepsRows old new)
-rows_if old new (Ok count) h = λ ready. renewed_rows old new count ready.devices ready.shows h
+rows_if old new (Ok count) h = λ ready. renewed_rows old new count ready.held ready.shows h
 rows_if old new (Err e) h = tt
 
 pub renewed_if : (old new : State) (r : Result ℕ Error) → Executes rewrite_version_sql [] old new r
     → OnOk r ((devices : Devices) → IsReadyWith old devices → IsReadyWith new devices)
-renewed_if old new (Ok count) h = λ devices shows. renewed old new count devices shows h
+renewed_if old new (Ok count) h = λ devices shows. made rewrite_version_sql [] (λ devices. devices)
+    (λ devices. devices ≡ devices) renew_command (λ db devices had. tt) renew_known (renew_does (λ devices. devices))
+    old new count devices refl shows h
 renewed_if old new (Err e) h = tt
-
-renew_leaves : (s : State) (devices : Devices) (trees : Trees) → IsReadyWith s devices
-    → CommitsBy rewrite_version_sql [] s trees
-    → Holds trees devices
-renew_leaves s devices trees shows h =
-    let r = shows.registers.registry in
-    let it = renew_means s.now.schema r.tables.meta_at r.tables.meta r.tables.meta_stands in
-    elim (commits_as rewrite_version_sql [] s (Update r.tables.meta_at (program_of (renew_query r.tables.meta))) it.is
-    it.plain
-    trees h) [
-      | inl named ↦ elim named.0 [ inl commit ↦ absurd (cc) | inr release ↦ absurd (let e = release.2 in cc) ]
-      | inr may ↦
-          record {
-            db = may.2;
-            same = sym may.5;
-            sound = may.4;
-            registers = renew_does s may.2 (statement_of rewrite_version_sql
-                (understood s.now.schema rewrite_version_sql)) may.1 devices
-                shows.registers shows.sound may.3;
-          }
-    ]
 
 pub renew_stop : (old new : State) → Survives old new (CommitsBy rewrite_version_sql [] old)
     → Survives old new (λ trees. (devices : Devices) → IsReadyWith old devices → Holds trees devices)
 renew_stop old new h =
     survives_weaker old new (CommitsBy rewrite_version_sql [] old)
     (λ trees. (devices : Devices) → IsReadyWith old devices
-    → Holds trees devices) (λ clean trees commits devices shows. renew_leaves old devices trees shows commits) h
+    → Holds trees devices) (λ clean trees commits devices shows. left rewrite_version_sql [] (λ devices. devices)
+    (λ devices. devices ≡ devices) renew_command (λ db devices had. tt) renew_known (renew_does (λ devices. devices))
+    old devices trees refl shows commits) h
+
+-- an update that leaves the devices as they are is made by rewriting the version row
+pub renew_turns : (update : DeviceUpdate) (old new : State) (r : Result ℕ Error) → (HasCleanDisk old → IsReady old)
+    → (HasCleanDisk old → (devices : Devices) → IsReadyWith old devices → apply_update devices update ≡ devices)
+    → Survives old new (CommitsBy rewrite_version_sql [] old)
+    → (HasCleanDisk new → Executes rewrite_version_sql [] old new r)
+    → CommitsOrFails old new update r
+renew_turns update = turned rewrite_version_sql [] (λ devices. apply_update devices update)
+    (λ devices. apply_update devices update ≡ devices) renew_command (λ db devices had. tt) renew_known
+    (renew_does (λ devices. apply_update devices update))

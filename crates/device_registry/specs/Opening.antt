@@ -1,5 +1,5 @@
 -- The states that an open finds and leaves.
-use Rattle.std.specs.Prelude.{ℕ, ◌≡◌, ◌≢◌, ◌⊎◌, ◌≤◌, IsTrue, false}
+use Rattle.std.specs.Prelude.{ℕ, ◌≡◌, ◌≢◌, ◌⊎◌, ◌≤◌, IsTrue}
 use Rattle.std.specs.FinMap.{len}
 use Rattle.sqlite.specs.Effect.{Database, IsDatabase}
 use Rattle.sqlite.specs.State.{State, HasCleanDisk, IsUnchanged, Survives}
@@ -12,6 +12,7 @@ use Rattle.sqlite_disk.specs.declared.Files.{Files}
 use Rattle.sqlite_store.specs.declared.store.FileStore.{FileStore}
 use Rattle.sqlite_store.specs.FileStore.{view, state as stored}
 use Rattle.sqlite_trees.specs.Tree.{Trees}
+pub use Rattle.keyed_table.specs.Stores.{IsSettledOpen, KeepsDatabase}
 use Rattle.device_registry.specs.declared.fault.OpenFault.{OpenFault}
 use Rattle.device_registry.specs.declared.fault.OpenFault.TheVariants.{NotARegistry}
 use Rattle.device_registry.specs.declared.table.Version.{Version}
@@ -24,17 +25,6 @@ use Rattle.device_registry.specs.Holding.{Opens}
 -- the maximum size of the cache of looked-up senders. Own choice
 abbrev pub max_cached : ℕ
 max_cached = 1024
-
--- the connection is open, with no open transaction, over a sound database
-pub record IsSettledOpen (s : State) : Type 0 where
-  pub is_open : IsTrue s.is_open
-  pub idle : s.in_transaction ≡ false
-  pub settled : s.now ≡ s.committed
-  pub sound : IsDatabase s.now
-
--- if the connection is still open, it shows the same database as before, with no open transaction
-abbrev pub KeepsDatabase : State → State → Type 0
-KeepsDatabase old new = IsTrue new.is_open → IsSettledOpen old → IsSettledOpen new × (new.now ≡ old.now)
 
 -- the database is prepared: the registry is open with the devices that were found
 pub record IsPrepared (old new : State) (devices : Devices) : Type 0 where

@@ -1,35 +1,20 @@
 -- The devices that a database holds.
-use Rattle.std.specs.Prelude.{◌≡◌, ◌≢◌, ◌≤◌, ℕ, true, false, List, [], ◌∷◌, length, map, slice_get, Some}
+use Rattle.std.specs.Prelude.{◌≡◌, ◌≢◌, ◌≤◌, ℕ, false, [], ◌∷◌, length}
 use Rattle.std.specs.List.{AllByRecursion}
-use Rattle.sqlite.specs.declared.types.Value.TheVariants.{Text}
-use Rattle.sqlite.specs.Order.{Row, column}
-use Rattle.sqlite.specs.Listing.{shown}
+use Rattle.sqlite.specs.Order.{Row}
 use Rattle.sqlite.specs.Schema.{Schema}
 use Rattle.sqlite.specs.Table.{Table}
 use Rattle.sqlite.specs.Does.{lacks_sequence}
 use Rattle.sqlite.specs.Effect.{Database, IsDatabase}
 use Rattle.sqlite_catalog.specs.Change.{is_used}
-use Rattle.sqlite_schema.specs.Names.{table_named, same_name}
-use Rattle.sqlite_rules.specs.Edit.{put_all}
-use Rattle.sqlite_rules.specs.Lists.{Has}
-use Rattle.sqlite_trees.specs.Objects.{catalog_tree}
 use Rattle.sqlite_trees.specs.Tree.{Trees}
-use Rattle.sqlite_typing.specs.Types.{table_classes, row_classes}
+use Rattle.keyed_table.specs.Stores.{HoldsIn}
+pub use Rattle.keyed_table.specs.Tables.{IsTableAt, HasNoReferenceTo, TreeHasName, catalog_rows, IsListedAs}
 use Rattle.device_registry.specs.declared.table.Version.{Version}
 use Rattle.device_registry.specs.declared.table.Version.TheVariants.{First, Second}
 use Rattle.learned_devices.specs.Devices.{Devices, max_devices}
 use Rattle.device_registry.specs.Table.{meta_name, device_name, create_meta_sql, create_device_sql, meta_table, device_table}
 use Rattle.device_registry.specs.Table.Rows.{IsDevice, IsVersion, RowidsDiffer, devices_in, rows_of}
-
--- the schema's table of this name is this one, at this index
-pub record IsTableAt (schema : Schema) (name : List ℕ) (table : Table) (at : ℕ) : Type 0 where
-  pub named : table_named schema name ≡ Some at
-  pub there : slice_get schema.tables at ≡ Some table
-  pub classes : table_classes schema [] table.tree ≡ Some (row_classes table)
-
--- no foreign key of the table refers to this name
-abbrev pub HasNoReferenceTo : List ℕ → Table → Type 0
-HasNoReferenceTo name table = AllByRecursion (λ reference. same_name reference.parent name ≡ false) table.references
 
 -- no foreign key of the table refers to one of ours, of either version
 pub record HasNoReferenceToOurs (table : Table) : Type 0 where
@@ -39,10 +24,6 @@ pub record HasNoReferenceToOurs (table : Table) : Type 0 where
 -- no table refers to ours
 abbrev pub NoneRefersToOurs : Schema → Type 0
 NoneRefersToOurs schema = AllByRecursion HasNoReferenceToOurs schema.tables
-
--- a table in this tree has this name
-abbrev pub TreeHasName : List ℕ → ℕ → Table → Type 0
-TreeHasName name tree table = table.tree ≡ tree → same_name table.name name ≡ true
 
 abbrev pub other : Version → Version
 other First = Second
@@ -83,17 +64,6 @@ pub record HasValidRows (version : Version) (trees : Trees) (meta devices : ℕ)
   pub once : RowidsDiffer (rows_of version (trees devices))
   pub few : length (rows_of version (trees devices)) ≤ max_devices
 
--- the list of the database's objects, as SQLite shows it
-abbrev pub catalog_rows : Trees → List Row
-catalog_rows trees = put_all [] (map shown (trees catalog_tree))
-
--- an object of this name is listed with this text
-pub record IsListedAs (trees : Trees) (name text : List ℕ) : Type 0 where
-  pub row : Row
-  pub listed : Has (catalog_rows trees) row
-  pub name_is : column row 2 ≡ Text name
-  pub sql : column row 5 ≡ Text text
-
 -- the two tables are listed with our texts
 abbrev pub AreListed : Version → Trees → Type 0
 AreListed version trees =
@@ -111,11 +81,8 @@ pub record IsRegistryOfVersion (version : Version) (db : Database) (devices : De
   pub is : devices_in (rows_of version (db.trees registry.tables.devices)) ≡ devices
 
 -- the trees are those of a registry of this version with these devices
-pub record HoldsAs (version : Version) (trees : Trees) (devices : Devices) : Type 0 where
-  pub db : Database
-  pub same : db.trees ≡ trees
-  pub sound : IsDatabase db
-  pub registers : IsRegistryOfVersion version db devices
+abbrev pub HoldsAs : Version → Trees → Devices → Type 0
+HoldsAs version = HoldsIn (IsRegistryOfVersion version)
 
 -- the same for an opened registry, which is of version 2
 abbrev pub IsRegistryOf : Database → Devices → Type 0

@@ -12,6 +12,8 @@ use Rattle.sqlite.specs.Term.{Term, lit, col, op2}
 use Rattle.sqlite_schema.specs.declared.schema.Column.{Column}
 use Rattle.sqlite_sql.specs.declared.ops.BinaryOp.TheVariants.{Compare, And}
 use Rattle.sqlite_sql.specs.declared.ops.CompareOp.TheVariants.{Eq, Le, Ge}
+pub use Rattle.keyed_table.specs.Objects.{list_objects_sql}
+pub use Rattle.keyed_table.specs.Tables.{key_column, not_null_column, keyed_table, between}
 use Rattle.device_registry.specs.declared.table.Version.{Version}
 use Rattle.device_registry.specs.declared.table.Version.TheVariants.{First, Second}
 
@@ -88,39 +90,7 @@ copy_sql =
 abbrev pub drop_sql : List ℕ
 drop_sql = codes "DROP TABLE enogate_device"
 
-abbrev pub list_objects_sql : List ℕ
-list_objects_sql = codes "SELECT name, type, sql FROM sqlite_schema ORDER BY rowid"
-
 -- ---- the tables, as SQLite reads them from the texts
-
-abbrev pub key_column : List ℕ → Column
-key_column name =
-    record { name = name; kind = Integer; is_strict = true; not_null = false; default = Null; collation = Binary }
-
-abbrev pub not_null_column : Kind → List ℕ → Column
-not_null_column kind name =
-    record { name = name; kind = kind; is_strict = true; not_null = true; default = Null; collation = Binary }
-
-abbrev pub keyed_table : List ℕ → ℕ → List Column → List Term → Table
-keyed_table name tree columns checks = record {
-  name = name;
-  tree = tree;
-  columns = columns;
-  key = Some 0;
-  primary = 0 ∷ [];
-  uniques = [];
-  orders = [];
-  checks = checks;
-  references = [];
-  computed = [];
-  stamps = record { places = []; terms = []; formats = [] };
-  is_counted = false;
-}
-
--- the value at this index of the row is between the two
-abbrev pub between : ℕ → Term → Term → Term
-between place low high =
-    op2 And (op2 (Compare Ge Binary) (col 1 place) low) (op2 (Compare Le Binary) (col 1 place) high)
 
 abbrev pub meta_table : ℕ → Table
 meta_table tree = keyed_table meta_name tree (key_column (codes "k") ∷ not_null_column Integer (codes "version") ∷ [])

@@ -1,5 +1,5 @@
 -- The rows of the two tables, and the rows that the queries on them show.
-use Rattle.std.specs.Prelude.{◌≡◌, ◌≢◌, ◌≤◌, ◌≤ℤ◌, ◌==◌, ◌&&◌, nat_le}
+use Rattle.std.specs.Prelude.{◌≡◌, ◌≤◌, ◌≤ℤ◌, ◌==◌, ◌&&◌, nat_le}
 use Rattle.std.specs.Prelude.{◌*◌, ◌+◌, ◌/◌, ◌%◌, ℕ, ℤ, pos, negsuc}
 use Rattle.std.specs.Prelude.{Bool, true, false, List, [], ◌∷◌, map, Option, Some, None}
 use Rattle.std.specs.FinMap.{from_entries}
@@ -7,9 +7,9 @@ use Rattle.erp1_telegrams.specs.declared.eep.Eep.{Eep}
 use Rattle.sqlite.specs.declared.types.Value.{Value}
 use Rattle.sqlite.specs.declared.types.Value.TheVariants.{Null, Int, Real, Text, Blob}
 use Rattle.sqlite.specs.Order.{Row, column}
-use Rattle.sqlite_trees.specs.Tree.{IsAscending, rowid}
 use Rattle.learned_devices.specs.declared.Device.{Device}
 use Rattle.learned_devices.specs.Labels.{is_label}
+pub use Rattle.keyed_table.specs.Rows.{natural_in, RowidsDiffer}
 use Rattle.device_registry.specs.declared.table.Version.{Version}
 use Rattle.device_registry.specs.declared.table.Version.TheVariants.{First, Second}
 use Rattle.learned_devices.specs.Devices.{DeviceData, Devices, device}
@@ -28,14 +28,6 @@ eep_of number = record { rorg = number / 65536 % 256; func = number / 256 % 256;
 abbrev pub maker_number : Option ℕ → ℤ
 maker_number (Some maker) = pos maker
 maker_number None = negsuc 0
-
-abbrev pub natural_in : Value → ℕ
-natural_in (Int (pos n)) = n
-natural_in (Int (negsuc n)) = 0
-natural_in Null = 0
-natural_in (Real x) = 0
-natural_in (Text t) = 0
-natural_in (Blob b) = 0
 
 abbrev pub maker_in : Value → Option ℕ
 maker_in (Int (pos n)) = Some n
@@ -72,10 +64,6 @@ with_label row = column row 0 ∷ Null ∷ column row 2 ∷ column row 3 ∷ Tex
 abbrev pub rows_of : Version → List Row → List Row
 rows_of First rows = map with_label rows
 rows_of Second rows = rows
-
--- no two rows have the same rowid, in any order
-abbrev pub RowidsDiffer : List Row → Type 0
-RowidsDiffer = IsAscending (λ a b. rowid a ≢ rowid b)
 
 -- a row of the device table: a sender, a profile and a manufacturer ID, each in its range, and a label
 pub record IsDevice (row : Row) : Type 0 where

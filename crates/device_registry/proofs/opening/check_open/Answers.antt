@@ -1,6 +1,6 @@
 use Rattle.std.proofs.Common.{rules, codes, [], IsTrue}
 use Rattle.device_registry.specs.Opening.{IsSettledOpen}
-use Rattle.device_registry.proofs.RefusalKeeps.{err_told, not_run_kept}
+use Rattle.keyed_table.proofs.Refusals.{err_told, not_run_kept}
 use Rattle.device_registry.proofs.opening.check_open.Goals as goal
 
 pub returns-in_err-_statement-clause-kept : goal.returns-in_err-_statement-clause-kept

@@ -1,6 +1,6 @@
 use Rattle.std.proofs.Common.{◌≡◌, arith}
 use Rattle.sqlite.specs.State.{HasCleanDisk}
-use Rattle.device_registry.proofs.StatementSteps.{compiled_stays, compiled_text, compiled_same, compiled_ready}
+use Rattle.keyed_table.proofs.Statements.{compiled_stays, compiled_text, compiled_same, compiled_ready}
 use Rattle.device_registry.proofs.queries.compile.Goals as goal
 
 pub returns-clause-stays : goal.returns-clause-stays

@@ -2,7 +2,7 @@ use Rattle.std.proofs.Common.{rules, arith, ◌≡◌, []}
 use Rattle.std.proofs.lemmas.Grind.{common_steps}
 use Rattle.device_registry.proofs.FindAnswer.{unknown_is_removed}
 use Rattle.device_registry.specs.Table.{rewrite_version_sql}
-use Rattle.device_registry.proofs.WritesTurn.{executed_if}
+use Rattle.keyed_table.proofs.Writes.{executed_if}
 use Rattle.learned_devices.specs.Devices.{forget_update}
 use Rattle.device_registry.proofs.queries.delete_or_rewrite_version.Goals as goal
 

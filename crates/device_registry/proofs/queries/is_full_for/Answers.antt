@@ -1,8 +1,8 @@
 use Rattle.std.proofs.Common.{rules, arith, subst}
 use Rattle.sqlite.specs.State.{HasCleanDisk, Shown}
 use Rattle.device_registry.specs.Table.{count_others_sql}
-use Rattle.device_registry.proofs.SenderTests.{asked}
-use Rattle.device_registry.proofs.StatementSteps.{query_ready}
+use Rattle.keyed_table.specs.Queries.{asked}
+use Rattle.keyed_table.proofs.Statements.{query_ready}
 use Rattle.device_registry.proofs.CountOthersAnswer.{others_plain, others_stay, told_full}
 use Rattle.device_registry.proofs.queries.is_full_for.Goals as goal
 

@@ -5,7 +5,7 @@ use Rattle.device_registry.specs.Ready.{IsReadyWith, IsReady}
 use Rattle.device_registry.specs.Table.Rows.{device_in_row}
 use Rattle.device_registry.specs.declared.table.Version.TheVariants.{Second}
 use Rattle.device_registry.specs.Table.{find_all_sql}
-use Rattle.device_registry.proofs.StatementSteps.{compiled_query_stays, query_ready, ok_then}
+use Rattle.keyed_table.proofs.Statements.{compiled_query_stays, query_ready, ok_then}
 use Rattle.device_registry.proofs.ListDevicesAnswer.{all_plain, lists}
 use Rattle.device_registry.proofs.queries.list_devices.Goals as goal
 
@@ -33,6 +33,6 @@ returns-clause-all g c clean =
     let all = subst (λ t. Shown t [] mid new v.items) (c.in_ok-all.ensures.text early) shown in (
       query_ready (find_all_sql Second) [] mid new v.items (all_plain mid ready) ready all,
       λ devices shows. lists mid new v.items devices
-          ((c.compile.ensures.stays.goes_on early ready.shows.is_open).1 devices shows).registers all,
+          ((c.compile.ensures.stays.goes_on early ready.shows.is_open).1 devices shows).holds all,
     ))
     (c.query_all_prepared.ensures.ok clean)

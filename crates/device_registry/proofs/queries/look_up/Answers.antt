@@ -4,8 +4,8 @@ use Rattle.learned_devices.specs.Devices.{Devices, device_of}
 use Rattle.device_registry.specs.Ready.{IsReadyWith, IsReady}
 use Rattle.device_registry.specs.Table.Rows.{IsDeviceOrNone}
 use Rattle.device_registry.specs.Table.{find_sql}
-use Rattle.device_registry.proofs.SenderTests.{asked}
-use Rattle.device_registry.proofs.StatementSteps.{compiled_query_stays, query_survives, answered_same, ok_then}
+use Rattle.keyed_table.specs.Queries.{asked}
+use Rattle.keyed_table.proofs.Statements.{compiled_query_stays, query_survives, answered_same, ok_then}
 use Rattle.device_registry.proofs.FindAnswer.{find_plain, looked_up}
 use Rattle.device_registry.proofs.queries.look_up.Goals as goal
 

@@ -1,8 +1,7 @@
-use Rattle.device_registry.proofs.WritesTurn.{renew_turns}
-use Rattle.device_registry.proofs.VersionWrites.{renewed_if, renew_stop, rows_if}
+use Rattle.device_registry.proofs.VersionWrites.{renewed_if, renew_stop, renew_turns, rows_if}
 use Rattle.std.proofs.Common.{[]}
 use Rattle.device_registry.specs.Table.{rewrite_version_sql}
-use Rattle.device_registry.proofs.RefusalKeeps.{executed_if}
+use Rattle.keyed_table.proofs.Refusals.{executed_if}
 use Rattle.device_registry.proofs.queries.rewrite_version.Goals as goal
 
 pub returns-clause-renewed : goal.returns-clause-renewed

@@ -9,7 +9,7 @@ use Rattle.sqlite.proofs.Callers.{unchanged_then}
 use Rattle.device_registry.specs.Table.{version_number, find_all_sql}
 use Rattle.learned_devices.specs.Devices.{max_devices}
 use Rattle.device_registry.specs.Table.Rows.{ShowsVersion, are_ascending_devices}
-use Rattle.device_registry.proofs.ListDevicesMeaning.{all_means}
+use Rattle.device_registry.proofs.DeviceMeaning.{all_means}
 use Rattle.device_registry.proofs.VersionMeaning.{version_means}
 use Rattle.device_registry.proofs.RowsRecognized.{whole, version_told, devices_told, rise_told}
 use Rattle.device_registry.proofs.recognize.has_valid_rows.Goals as goal

@@ -1,7 +1,7 @@
 use Rattle.std.proofs.Common.{rules, arith, ◌≡◌, true}
 use Rattle.sqlite.specs.State.{HasCleanDisk}
 use Rattle.device_registry.specs.private.CatalogRows.{are_our_tables}
-use Rattle.device_registry.proofs.ListObjectsAnswer.{listing_plain}
+use Rattle.keyed_table.proofs.ObjectsAnswer.{listing_plain}
 use Rattle.device_registry.proofs.TablesRecognized.{ours_told, ours_shown}
 use Rattle.device_registry.proofs.recognize.lists_our_tables.Goals as goal
 

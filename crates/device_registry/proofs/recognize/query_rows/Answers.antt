@@ -3,7 +3,7 @@ use Rattle.sqlite.specs.State.{HasCleanDisk, CommitsShowing}
 use Rattle.sqlite.proofs.Callers.{never_commits}
 use Rattle.sqlite.proofs.StateLemmas.{survives_weaker}
 use Rattle.device_registry.proofs.RowsRecognized.{shown_if}
-use Rattle.device_registry.proofs.RefusalKeeps.{queried_if}
+use Rattle.keyed_table.proofs.Refusals.{queried_if}
 use Rattle.device_registry.proofs.recognize.query_rows.Goals as goal
 
 pub returns-clause-shown : goal.returns-clause-shown

@@ -1,7 +1,7 @@
 use Rattle.std.proofs.Common.{rules, ◌∙◌, ◌<◌, map, take, length, subst, sym}
 use Rattle.std.proofs.lemmas.List.{map_more}
 use Rattle.device_registry.specs.private.Transaction.{IsMidTransaction}
-use Rattle.device_registry.proofs.TransactionSteps.{uncommitted, saturated_increment, if_refused}
+use Rattle.keyed_table.proofs.Transactions.{uncommitted, saturated_increment, if_refused}
 use Rattle.device_registry.proofs.transaction.run_all.Goals as goal
 
 pub loop-text-preserved : goal.loop-text-preserved

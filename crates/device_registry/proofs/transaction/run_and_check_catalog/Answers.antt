@@ -3,7 +3,7 @@ use Rattle.sqlite.specs.State.{HasCleanDisk}
 use Rattle.sqlite.specs.Held.{state}
 use Rattle.device_registry.specs.private.CatalogRows.{are_our_tables}
 use Rattle.device_registry.proofs.ListedInside.{seen_uncommitted, listed_inside}
-use Rattle.device_registry.proofs.TransactionSteps.{if_refused}
+use Rattle.keyed_table.proofs.Transactions.{if_refused}
 use Rattle.device_registry.proofs.transaction.run_and_check_catalog.Goals as goal
 
 pub returns-in_err-rows-clause-inside : goal.returns-in_err-rows-clause-inside

@@ -1,0 +1,99 @@
+-- The example's table is a map: its codec, and what its texts mean.
+use Rattle.std.proofs.Common.{◌≡◌, ℕ, ℤ, pos, negsuc, [], ◌∷◌, codes, Some, None, Ok, true, refl, arith}
+use Rattle.std.proofs.lemmas.Bool.{and_parts}
+use Rattle.std.proofs.lemmas.Int.{ints}
+use Rattle.sqlite.specs.Collation.TheVariants.{Binary}
+use Rattle.sqlite.specs.Compile.{table_defined_by}
+use Rattle.sqlite.specs.Term.{col}
+use Rattle.sqlite_schema.specs.Rules.{passes_checks}
+use Rattle.sqlite_tied.specs.Compute.{everything}
+use Rattle.sqlite_ast.specs.declared.Binary.TheVariants.{Eq, Ne}
+use Rattle.sqlite_ast.specs.declared.Conflict.TheVariants as conflict
+use Rattle.sqlite_ast.specs.declared.Expr.TheVariants.{Parameter, CallStar}
+use Rattle.sqlite_ast.specs.declared.Rows.TheVariants as rows
+use Rattle.sqlite_ast.specs.declared.Shown.TheVariants.{One}
+use Rattle.sqlite_ast.specs.declared.Statement.TheVariants as written
+use Rattle.keyed_table.specs.Example.{height_text, heights, IsHeight}
+use Rattle.keyed_table.specs.KeyedMap.{table_of, IsCodec, AreMeant}
+use Rattle.keyed_table.specs.Queries.{find_query, all_query}
+use Rattle.keyed_table.proofs.Casts.{casts}
+use Rattle.keyed_table.proofs.Checks.{is_between, lies_between}
+use Rattle.keyed_table.proofs.SelectMeaning.{IsPlainSelect, plain_select, select_means, column_read, by_column}
+use Rattle.keyed_table.proofs.SelectMeaning.{parameter_test, count_draft}
+use Rattle.keyed_table.proofs.TextMeaning.{IsRead, draft_of}
+use Rattle.keyed_table.proofs.WriteMeaning.{insert_means, delete_means}
+
+pub table_is : table_defined_by height_text ≡ Ok (table_of heights 0)
+unfolding everything
+table_is = refl
+
+-- the CHECKs say which rows the table holds
+checked : (tree id : ℕ) (metres : ℤ) → passes_checks (table_of heights tree) (heights.row id metres) ≡ true
+    → IsHeight (heights.row id metres)
+checked tree id metres h =
+    let first = and_parts (is_between (pos 0) (pos 255) (pos id)) _ h in
+    let second = and_parts (is_between (negsuc 499) (pos 9000) metres) true first.1 in
+    let low = (lies_between (pos 0) (pos 255) (pos id) first.0).1 in
+    record {
+      id = id;
+      id_is = refl;
+      low = omega (arith, ints, low);
+      metres = metres;
+      metres_are = refl;
+      range = lies_between (negsuc 499) (pos 9000) metres second.0;
+    }
+
+pub codec : IsCodec heights
+codec = record {
+  key_of = λ row it. record { id = it.id; id_is = it.id_is };
+  key_is = λ id metres. record { id = id; id_is = refl };
+  key_back = λ id metres. refl;
+  back = λ id metres fits. refl;
+  stored = λ tree id metres. simp casts;
+  mends = λ tree id metres. refl;
+  sends = λ db tree id metres rows given. given.1;
+  valid = λ tree id metres fits judged. checked tree id metres judged.3;
+}
+
+-- ---- the texts, by computation
+
+find_is : IsPlainSelect heights.find_sql (plain_select (codes "height") (column_read (codes "id")
+    ∷ column_read (codes "metres") ∷ []) (parameter_test Eq (codes "id")) [])
+unfolding everything
+find_is = record { read = record { parsed = _; read = refl; is = refl; timeless = refl } }
+
+all_is : IsPlainSelect heights.all_sql (plain_select (codes "height") (column_read (codes "id")
+    ∷ column_read (codes "metres") ∷ []) None (by_column (codes "id") ∷ []))
+unfolding everything
+all_is = record { read = record { parsed = _; read = refl; is = refl; timeless = refl } }
+
+count_is : IsPlainSelect heights.count_sql (plain_select (codes "height")
+    (One (CallStar (codes "count")) None (codes "count(*)") ∷ []) (parameter_test Ne (codes "id")) [])
+unfolding everything
+count_is = record { read = record { parsed = _; read = refl; is = refl; timeless = refl } }
+
+upsert_read : IsRead heights.upsert_sql (written.Insert conflict.Replace (codes "height")
+    (codes "id" ∷ codes "metres" ∷ []) (rows.Values ((Parameter 1 ∷ Parameter 2 ∷ []) ∷ [])) [] [])
+unfolding everything
+upsert_read = record { parsed = _; read = refl; is = refl; timeless = refl }
+
+delete_read : IsRead heights.delete_sql (written.Delete (codes "height") (parameter_test Eq (codes "id")) [])
+unfolding everything
+delete_read = record { parsed = _; read = refl; is = refl; timeless = refl }
+
+pub meant : AreMeant heights
+unfolding everything
+meant = record {
+  find_names = codes "id" ∷ codes "metres" ∷ [];
+  all_names = codes "id" ∷ codes "metres" ∷ [];
+  count_names = codes "count(*)" ∷ [];
+  find = λ schema at d it. select_means find_is it (draft_of (table_of heights d) (find_query d heights.shown))
+      (None ∷ Some Binary ∷ []) (rw (it.there, it.there)) (record { from = refl; accepted = refl });
+  all = λ schema at d it. select_means all_is it (draft_of (table_of heights d) (all_query d heights.shown))
+      (None ∷ Some Binary ∷ []) (rw (it.there, it.there, it.there, it.there)) (record { from = refl; accepted = refl });
+  count = λ schema at d it. select_means count_is it (count_draft (table_of heights d)) (None ∷ [])
+      (rw (it.there, it.there)) (record { from = refl; accepted = refl });
+  upsert = λ schema at d it. insert_means it _ upsert_read refl (λ base. rw (it.named, it.there));
+  delete = λ schema at d it. delete_means it (draft_of (table_of heights d) (find_query d (col 1 0 ∷ []))) delete_read
+      (rw (it.there, it.there)) (record { from = refl; accepted = refl });
+}

@@ -1,0 +1,162 @@
+-- The effect of a statement that writes rows of one table.
+use Rattle.std.proofs.Common.{◌≡◌, ◌≢◌, ◌⊎◌, inl, inr, ℕ, ℤ, Bool, true, false, List, [], length, Some, None}
+use Rattle.std.proofs.Common.{Ok, Err, Result, Option, if◌then◌else◌, MatchBool, refl, sym, ap, subst, ◌∙◌, slice_get}
+use Rattle.sqlite.specs.Order.{Row}
+use Rattle.sqlite.specs.Schema.{Schema}
+use Rattle.sqlite.specs.Table.{Table}
+use Rattle.sqlite.specs.Source.{Source}
+use Rattle.sqlite.specs.Query.{Query, IsAnswer}
+use Rattle.sqlite.specs.Program.{overlay}
+use Rattle.sqlite.specs.Command.TheVariants.{Insert, Update, Delete}
+use Rattle.sqlite.specs.declared.types.Value.TheVariants.{Null}
+use Rattle.sqlite.specs.declared.run.Mode.{Mode}
+use Rattle.sqlite_schema.specs.declared.command.Command.{Command}
+use Rattle.sqlite_schema.specs.declared.schema.Keys.{Keys}
+use Rattle.sqlite_trees.specs.Objects.{catalog_tree}
+use Rattle.sqlite_trees.specs.Tree.{Trees}
+use Rattle.sqlite_trees.proofs.ListLemmas.{all-slice_get}
+use Rattle.sqlite_rules.specs.Action.{Writes}
+use Rattle.sqlite_rules.specs.declared.error.Rowids.{Rowids}
+use Rattle.sqlite_rules.specs.declared.error.Rowids.TheVariants.{Chosen, Above, Given}
+use Rattle.sqlite_rules.specs.Edit.{Edit, Applies, IsNoIndex, edit_of, edited, taken_by, left_by, are_fresh}
+use Rattle.sqlite_rules.specs.Calls.{ids_of}
+use Rattle.sqlite.specs.Effect.{Database, IsSource}
+use Rattle.sqlite.specs.Does.{Tally, AtPlace, OnRows, WritesRows}
+use Rattle.sqlite.specs.Rows.{Written, Task, stamped, count_of, rowids_for}
+use Rattle.sqlite.proofs.Callers.{one_step}
+use Rattle.keyed_table.specs.Queries.{program_of}
+use Rattle.keyed_table.proofs.TablesAlone.{StandsAlone}
+
+-- the rows of the other tables are unchanged, and so is the list of objects
+pub record SparesOthers (schema : Schema) (tree : ℕ) (before after : Trees) : Type 0 where
+  pub tables : (i : ℕ) (t : Table) → slice_get schema.tables i ≡ Some t → t.tree ≢ tree → after t.tree ≡ before t.tree
+  pub objects : tree ≢ catalog_tree → IsNoIndex schema catalog_tree → after catalog_tree ≡ before catalog_tree
+
+pub spares : (schema : Schema) (keys : Keys) (db next : Trees) (edit : Edit) → Applies schema keys db edit next
+    → SparesOthers schema edit.table.tree db next
+spares schema keys db next edit step = record {
+  tables = λ i t there other.
+      all-slice_get (λ t. t.tree ≢ edit.table.tree → next t.tree ≡ db t.tree) schema.tables i t there step.tables other;
+  objects = λ other none. step.others catalog_tree (λ e. other (sym e)) none;
+}
+
+-- and for two steps
+pub spares_then : (schema : Schema) (tree : ℕ) (db mid next : Trees) → SparesOthers schema tree db mid
+    → SparesOthers schema tree mid next → SparesOthers schema tree db next
+spares_then schema tree db mid next one two = record {
+  tables = λ i t there other. two.tables i t there other ∙ one.tables i t there other;
+  objects = λ other none. two.objects other none ∙ one.objects other none;
+}
+
+-- a part that gave a value did not stop
+pub went : {B E R : Type 0} {b : B} {Stops : E → Type 0} → ((crash : E) × Stops crash × (Ok b ≡ Err crash)) ⊎ R → R
+went (inl stopped) = absurd (let e = stopped.2 in cc)
+went (inr on) = on
+
+pub same_value : {B E : Type 0} {a b : B} → ◌≡◌ {A = Result B E} (Ok a) (Ok b) → a ≡ b
+same_value e = cc
+
+-- a table without AUTOINCREMENT counts no rowids
+pub uncounts : (b c : Bool) (A B : Type 0) → b ≡ false → MatchBool (if b then c else false) A B → B
+uncounts true c A B e h = absurd cc
+uncounts false c A B e h = h
+
+-- the statement was this step on its table
+pub record IsStep (schema : Schema) (db : Trees) (edit : Edit) (after : Database) : Type 0 where
+  pub schema_is : after.schema ≡ schema
+  pub rows : after.trees edit.table.tree ≡ edited db edit
+  pub fresh : are_fresh (left_by db edit) edit.news ≡ true
+  pub others : SparesOthers schema edit.table.tree db after.trees
+
+-- a statement on the rows of a table
+abbrev pub task_of : Schema → Option ℕ → Mode → Row → Table → Task
+task_of schema limit mode params table =
+    record { limit = limit; keys = mode.keys; schema = schema; table = table; params = params }
+
+-- it did this to the database, and counted these rows
+abbrev pub Did : Schema → Option ℕ → Mode → Row → Trees → ℕ → Command → Tally → Database → Type 0
+Did schema limit mode params db at command tally after =
+    AtPlace (λ table. OnRows (task_of schema limit mode params table) mode None command db) (slice_get schema.tables at)
+    (Ok (tally, after))
+
+module _ (schema : Schema) (at : ℕ) (table : Table) (there : slice_get schema.tables at ≡ Some table)
+    (stands : StandsAlone schema table.tree) (limit : Option ℕ) (mode : Mode) (params : Row) (db : Trees)
+    (tally : Tally) (after : Database) where
+  -- the database and the count that a statement on the table leaves
+  pub concludes : (command : Command) → Did schema limit mode params db at command tally after
+      → (w : Written) × WritesRows (task_of schema limit mode params table) db command (Ok w)
+      × (after ≡ record { schema = schema; trees = w.trees }) × (tally.rows ≡ Some (length w.rows))
+  concludes command did =
+      let task = task_of schema limit mode params in
+      let h : OnRows (task table) mode None command db (Ok (tally, after)) =
+      subst (λ o. AtPlace (λ table. OnRows (task table) mode None command db) o (Ok (tally, after))) there did in
+      let done = went h in
+      let shown = same_value (went (went done.2).2).2 in
+      (done.0, done.1, ap (λ (p : Tally × Database). p.1) shown, ap (λ (p : Tally × Database). p.0.rows) shown)
+
+  step : (gone : List ℤ) (rowids : Rowids) (from : ℕ) (sources : List Row) (next : Trees)
+      → Writes schema mode.keys db (edit_of db table gone rowids from sources) (Ok next)
+      → after ≡ record { schema = schema; trees = next }
+      → IsStep schema db (edit_of db table gone rowids from sources) after
+  step gone rowids from sources next writes is =
+      let edit = edit_of db table gone rowids from sources in
+      let it = one_step schema mode.keys db next edit (stands.free mode.keys (taken_by db edit) edit.news) writes in
+      subst (IsStep schema db edit) (sym is) (record {
+        schema_is = refl;
+        rows = it.rows;
+        fresh = it.fresh;
+        others = spares schema mode.keys db next edit it;
+      })
+
+  -- DELETE: the rows that the query shows are deleted
+  pub deletes : (q : Query) → Did schema limit mode params db at (Delete at (program_of q)) tally after
+      → (rows : List Row) × IsAnswer q (overlay db []) params rows
+      × IsStep schema db (edit_of db table (ids_of rows) Given 0 []) after
+  deletes q did =
+      let it = concludes (Delete at (program_of q)) did in
+      let queried = went it.1 in
+      let edited = went queried.2 in (
+        queried.0,
+        queried.1.answer Null,
+        step (ids_of queried.0) Given 0 [] edited.0 edited.1
+            (it.2 ∙ ap (λ (w : Written). record { schema = schema; trees = w.trees }) (same_value edited.2)),
+      )
+
+  -- UPDATE: each row that the query shows is replaced
+  pub updates : (q : Query) → Did schema limit mode params db at (Update at (program_of q)) tally after
+      → (rows : List Row) × IsAnswer q (overlay db []) params rows
+      × IsStep schema db (edit_of db table (ids_of rows) Given 1 rows) after
+      × (tally.rows ≡ Some (length (edit_of db table (ids_of rows) Given 1 rows).news))
+  updates q did =
+      let it = concludes (Update at (program_of q)) did in
+      let queried = went it.1 in
+      let edited = went queried.2 in
+      let is = same_value edited.2 in (
+        queried.0,
+        queried.1.answer Null,
+        step (ids_of queried.0) Given 1 queried.0 edited.0 edited.1
+            (it.2 ∙ ap (λ (w : Written). record { schema = schema; trees = w.trees }) is),
+        it.3 ∙ ap (λ (w : Written). Some (length w.rows)) is,
+      )
+
+  -- INSERT: the rows that the source gives are inserted
+  pub inserts : (source : Source) → table.is_counted ≡ false
+      → Did schema limit mode params db at (Insert at source) tally after
+      → (rows : List Row) × IsSource (record { schema = schema; trees = db }) (stamped table params) source rows
+      × IsStep schema db (edit_of db table [] Chosen 0 rows) after
+  inserts source uncounted did =
+      let it = concludes (Insert at source) did in
+      let given = went it.1 in
+      let counted = went given.2 in
+      let edited = went counted.2 in
+      let ended = went edited.2 in
+      let top = count_of counted.0 in
+      let same : ended.0 ≡ edited.0 = same_value (uncounts table.is_counted _ _ _ uncounted ended.1) in
+      let chosen : rowids_for table top ≡ Chosen = ap (λ b. if b then Above top else Chosen) uncounted in (
+        given.0,
+        given.1,
+        step [] Chosen 0 given.0 edited.0
+            (subst (λ r. Writes schema mode.keys db (edit_of db table [] r 0 given.0) (Ok edited.0)) chosen edited.1)
+            (it.2 ∙ ap (λ t. record { schema = schema; trees = t })
+            (ap (λ (w : Written). w.trees) (same_value ended.2) ∙ same)),
+      )

@@ -1,0 +1,71 @@
+-- A text means the command of its statement.
+use Rattle.std.proofs.Common.{◌≡◌, ℕ, ◌&&◌, List, [], ◌∷◌, true, None, Some, Ok, refl}
+use Rattle.std.proofs.Common.{ap, ◌∙◌, option_map, option_and_then}
+use Rattle.sqlite.specs.Schema.{Schema}
+use Rattle.sqlite.specs.Table.{Table}
+use Rattle.sqlite.specs.Query.{Query, IsAnswer, inner, end}
+use Rattle.sqlite.specs.Order.{Row}
+use Rattle.sqlite.specs.Program.{overlay}
+use Rattle.sqlite.specs.State.{State, Shown}
+use Rattle.sqlite.specs.Command.TheVariants.{Select}
+use Rattle.sqlite.specs.declared.types.Value.TheVariants.{Null}
+use Rattle.sqlite.specs.Listing.{understood}
+use Rattle.sqlite_schema.specs.declared.command.Command.{Command}
+use Rattle.sqlite_ast.specs.declared.Statement.{Statement}
+use Rattle.sqlite_draft.specs.declared.join.Step.TheVariants.{Inner}
+use Rattle.sqlite_draft.specs.declared.query.Draft.{Draft}
+use Rattle.sqlite_draft.specs.Query.{query_of}
+use Rattle.sqlite_typing.specs.Types.{row_classes, accepts_over, accepts_after, filled, is_count}
+use Rattle.sqlite_resolve.specs.Program.{program}
+use Rattle.sqlite_resolve.specs.Write.{simple}
+use Rattle.sqlite_resolve.specs.Compile.{compiled, planned, meaning, timed, returning, command, with_command}
+use Rattle.sqlite.proofs.Callers.{reads_as}
+pub use Rattle.keyed_table.specs.Meaning.{IsRead, Means}
+use Rattle.keyed_table.specs.Queries.{program_of}
+use Rattle.keyed_table.specs.Tables.{IsTableAt}
+
+-- what a query shows is an answer over the trees
+pub answer_of : {schema : Schema} {text : List ℕ} {q : Query} {names : List (List ℕ)} (params : Row) (old new : State)
+    (rows : List Row) → Means schema text (Select (program_of q) names) → old.now.schema ≡ schema
+    → Shown text params old new rows → IsAnswer q (overlay old.now.trees []) params rows
+answer_of {schema} {text} params old new rows it has h =
+    (reads_as text params old new schema has _ it.is it.plain it.unlisted rows h).answer Null
+
+-- a text means the command of its statement
+module _ (schema : Schema) {text : List ℕ} {s : Statement} (c : Command) (it : IsRead text s)
+    (untimed : timed schema [] s ≡ [])
+    (unshown : (base : ℕ) → returning schema base s ≡ Ok None) (is : (base : ℕ) → command schema [] base s ≡ Ok c) where
+  compiled_as : compiled schema text ≡ Ok (with_command it.parsed ([], (c, None)))
+  unfolding compiled planned meaning
+  compiled_as = rw (it.read, it.is, it.timeless, untimed, unshown, is)
+
+  pub understood_as : understood schema text ≡ Ok (with_command it.parsed ([], (c, None)))
+  unfolding understood
+  understood_as = rw compiled_as
+
+  pub means : Means schema text c
+  means = record { is = rw understood_as; plain = rw understood_as (refl, refl); unlisted = rw compiled_as }
+
+-- the draft of a query over this table that has no groups
+abbrev pub draft_of : Table → Query → Draft
+draft_of table q = record (simple (Inner table.tree ∷ []) q.filter q.project) { order = q.order }
+
+-- the query reads only this table, and its terms have types there
+pub record IsTyped (table : Table) (q : Query) : Type 0 where
+  pub from : q.from ≡ inner table.tree end
+  pub accepted : (accepts_after [] q (Some (row_classes table ∷ [])) && (is_count [] q.limit && is_count [] q.offset))
+      ≡ true
+
+module _ {schema : Schema} {name : List ℕ} {table : Table} {at : ℕ} (stands : IsTableAt schema name table at) where
+  accepted_over : (q : Query) → IsTyped table q → accepts_over schema [] q [] ≡ true
+  accepted_over q typed =
+      let counts = is_count [] q.limit && is_count [] q.offset in
+      ap (λ from. accepts_after [] q (filled schema [] [] from []) && counts) typed.from
+      ∙ ap (λ row. accepts_after [] q (option_and_then (filled schema [] [] end) (option_map (λ r. r ∷ []) row)) &&
+      counts) stands.classes
+      ∙ typed.accepted
+
+  -- therefore it is a program if the table exists
+  pub program_is : (d : Draft) → IsTyped table (query_of d) → program schema [] d ≡ Ok (program_of (query_of d))
+  unfolding program
+  program_is d typed = rw (accepted_over (query_of d) typed)

@@ -1,0 +1,10 @@
+pub mod KeyedMap
+pub mod Lone
+pub mod Meaning
+pub mod Objects
+pub mod Queries
+pub mod Rows
+pub mod Stores
+pub mod Tables
+pub mod Transactions
+pub mod Example

@@ -1,0 +1,20 @@
+-- The list of a database's objects, and the query that shows it.
+use Rattle.std.specs.Prelude.{codes, ℕ, List, Bool, false, ◌&&◌}
+use Rattle.std.specs.Str.{bytes_eq}
+use Rattle.sqlite.specs.declared.types.Value.{Value}
+use Rattle.sqlite.specs.declared.types.Value.TheVariants.{Null, Int, Real, Text, Blob}
+use Rattle.sqlite.specs.Order.{Row, column}
+
+-- it shows the name, the kind and the text of each object
+abbrev pub list_objects_sql : List ℕ
+list_objects_sql = codes "SELECT name, type, sql FROM sqlite_schema ORDER BY rowid"
+
+abbrev pub has_text : Value → List ℕ → Bool
+has_text (Text t) text = bytes_eq t text
+has_text (Int n) text = false
+has_text Null text = false
+has_text (Real x) text = false
+has_text (Blob b) text = false
+
+abbrev pub is_catalog_row : List ℕ → List ℕ → Row → Bool
+is_catalog_row name text row = has_text (column row 0) name && has_text (column row 2) text

@@ -1,0 +1,103 @@
+import assert from "node:assert/strict";
+import { beforeEach, test } from "node:test";
+
+import { DEVICE } from "./samples.mjs";
+
+const started = [];
+let outputs = new Map();
+let failure = null;
+
+/** A process that has written the output of its first word, and then ends or fails. */
+class Process {
+    constructor(words, options) {
+        started.push({ words, options });
+        this.output = outputs.get(words[0]) ?? "";
+        this.promise = failure ? Promise.reject(failure) : Promise.resolve(this.output);
+    }
+
+    stream(callback) {
+        callback(this.output);
+        return this;
+    }
+
+    then(done, failed) {
+        return this.promise.then(done, failed);
+    }
+}
+
+globalThis.window = {
+    cockpit: {
+        spawn: (words, options) => new Process(words, options),
+        file: path => ({ read: () => outputs.has(path) ? Promise.resolve(outputs.get(path)) : Promise.reject(path) }),
+    },
+};
+const commands = await import("../../contrib/cockpit/enogate/commands.js");
+
+beforeEach(() => {
+    started.length = 0;
+    outputs = new Map();
+    failure = null;
+});
+
+const last = () => started.at(-1);
+
+test("orders are given with administrative rights only, and their errors are kept", () => {
+    commands.give("hall", ["label", "01800ABC", "a b"]);
+    assert.deepEqual(last(), { words: ["enogatectl", "--json", "hall", "--", "label", "01800ABC", "a b"],
+                               options: { superuser: "require", err: "message" } });
+    commands.openWindow("hall", ["learn", "on"], 120);
+    assert.deepEqual(last(), { words: ["enogatectl", "--for", "120", "hall", "--", "learn", "on"],
+                               options: { superuser: "require", err: "message" } });
+});
+
+test("what only reads needs no administrative rights", async () => {
+    await commands.gateways();
+    await commands.serviceState("hall");
+    await commands.hasStick("/dev/enocean");
+    await commands.recorded("hall");
+    for (const { words, options } of started)
+        assert.equal(options.superuser, "try", words.join(" "));
+    assert.deepEqual(last().words, ["enogatectl", "--json", "hall", "devices"]);
+});
+
+test("the words of each command are an array of texts", async () => {
+    await Promise.all([commands.gateways(), commands.serviceState("hall"), commands.hasStick("/dev/enocean"),
+                       commands.recorded("hall"), commands.give("hall", ["list"]),
+                       commands.openWindow("hall", ["learn", "on"], 120)]);
+    assert.equal(started.length, 6);
+    for (const { words } of started) {
+        assert.ok(Array.isArray(words) && words.every(word => typeof word === "string"), String(words));
+        assert.ok(!["sh", "bash"].includes(words[0]), String(words));
+    }
+});
+
+test("outputs are read, also those of a command that fails in part", async () => {
+    outputs.set("find", "/etc/default/enogate-hall\n/run/enogate/yard\n");
+    outputs.set("systemctl", "ActiveState=active\nSubState=running\n");
+    outputs.set("enogatectl", `${JSON.stringify({ ...DEVICE, seen: 5 })}\n`);
+    outputs.set("/etc/default/enogate", "BASE=\nSERIAL=/dev/enocean\n");
+    outputs.set("/etc/default/enogate-hall", "BASE=FFA1B280\n");
+    for (const ends of [null, { exit_status: 1 }]) {
+        failure = ends;
+        assert.deepEqual(await commands.gateways(), ["hall", "yard"]);
+        assert.deepEqual(await commands.serviceState("hall"), { ActiveState: "active", SubState: "running" });
+        assert.deepEqual(await commands.recorded("hall"), [{ ...DEVICE, seen: 5000 }]);
+    }
+    assert.deepEqual([...await commands.settings("hall")], [["BASE", "FFA1B280"], ["SERIAL", "/dev/enocean"]]);
+    assert.equal((await commands.settings("yard")).get("SERIAL"), "/dev/enocean");
+});
+
+test("a stick is plugged in, is not, or this is not known", async () => {
+    assert.equal(await commands.hasStick("/dev/enocean"), true);
+    assert.deepEqual(last().words, ["test", "-c", "/dev/enocean"]);
+    failure = { exit_status: 1 };
+    assert.equal(await commands.hasStick("/dev/enocean"), false);
+    failure = { problem: "access-denied" };
+    assert.equal(await commands.hasStick("/dev/enocean"), null);
+});
+
+test("systemd that does not answer, and devices that may not be read", async () => {
+    failure = { problem: "not-found" };
+    assert.equal(await commands.serviceState("hall"), null);
+    assert.deepEqual(await commands.recorded("hall"), []);
+});
