@@ -31,12 +31,13 @@ use Rattle.device_registry.proofs.VersionMeaning.{number_means, version_terms}
 use Rattle.device_registry.proofs.TablesAdded.{with_meta, with_both, made_tables, half_free}
 use Rattle.keyed_table.proofs.Creates.{creates_table, still_counted}
 use Rattle.keyed_table.proofs.LoneTables.{is_created}
-use Rattle.device_registry.proofs.TablesAlone.{StandIn, meta_alone}
+use Rattle.device_registry.proofs.TablesAlone.{StandIn, meta_alone, devices_lone}
 use Rattle.device_registry.proofs.RewriteVersionEffect.{version_row}
 use Rattle.device_registry.proofs.SchemaTests.{cleared}
-use Rattle.device_registry.proofs.TransactionEnd.{Commits, Ends, Shown, ends}
+use Rattle.keyed_table.proofs.Transactions.{Commits}
+use Rattle.device_registry.proofs.TransactionEnd.{Ends, Shown, ends}
 use Rattle.keyed_table.proofs.Transactions.{since}
-use Rattle.device_registry.proofs.VersionWrites.{numbers, has_at}
+use Rattle.device_registry.proofs.VersionWrites.{numbers}
 use Rattle.sqlite_catalog.proofs.StepLemmas.{table_below}
 use Rattle.sqlite_rules.specs.Lists.{Has}
 use Rattle.sqlite_rules.proofs.ListLemmas.{all_has, has_left}
@@ -147,8 +148,8 @@ makes a b c d i j k clear sound first second third =
     numbers c.now.schema t.meta_at t.meta c.step_limit (mode_of c) c.now.trees
     three.tally d.now t.meta_stands.there
     (meta_alone c.now.schema t) none three.changed in
-    let kept : d.now.trees t.devices ≡ [] = put.2.tables t.devices_at (device_table Second t.devices)
-    t.devices_stand.there
+    let kept : d.now.trees t.devices ≡ [] = put.2.tables (device_table Second t.devices)
+    (devices_lone c.now.schema t).listed
     (λ e. t.apart (sym e)) ∙ ap c.now.trees it.devices_are ∙ after.1 in
     let now = subst (λ s. StandIn Second s t.meta t.devices) (sym put.0)
     (record { tables = t; meta_is = refl; devices_are = refl }) in (
@@ -156,10 +157,9 @@ makes a b c d i j k clear sound first second third =
       three.sound,
       λ table has.
           let low = table_below a.now.schema table has in
-          let was = kept_all a b c i j clear sound first second table has in
-          let at = has_at c.now.schema.tables table was.0 in (
+          let was = kept_all a b c i j clear sound first second table has in (
             subst (λ (s : Schema). Has s.tables table) (sym put.0) was.0,
-            put.2.tables at.0 table at.1 (λ e. apart_from table.tree (next_tree a.now.schema) low (e ∙ it.meta_is))
+            put.2.tables table was.0 (λ e. apart_from table.tree (next_tree a.now.schema) low (e ∙ it.meta_is))
                 ∙ was.1,
           ),
     )

@@ -1,6 +1,6 @@
 -- A database holds one list of devices; how a write of rows changes it.
 use Rattle.std.proofs.Common.{is_some, ◌<◌}
-use Rattle.std.proofs.Common.{◌≡◌, ◌≢◌, ℕ, ◌≤◌, ◌+◌, ◌-◌, Bool, true, false, cond, nat_le}
+use Rattle.std.proofs.Common.{◌≡◌, ℕ, ◌≤◌, ◌+◌, ◌-◌, Bool, true, false, cond, nat_le}
 use Rattle.std.proofs.Common.{refl, List, [], ◌∷◌}
 use Rattle.std.proofs.Common.{length, map, Some, Option, slice_get, sym, ap, subst, ◌∙◌, arith}
 use Rattle.std.proofs.lemmas.Bool.Decides.{nat_tests}
@@ -14,12 +14,8 @@ use Rattle.sqlite.specs.Effect.{Database, IsDatabase}
 use Rattle.sqlite.specs.Listing.{shown}
 use Rattle.sqlite_trees.specs.Tree.{Trees}
 use Rattle.sqlite_trees.specs.Objects.{catalog_tree}
-use Rattle.sqlite_rules.specs.Edit.{put_all, edit_of, IsNoIndex}
+use Rattle.sqlite_rules.specs.Edit.{put_all, edit_of}
 use Rattle.sqlite_rules.specs.Lists.{Has}
-use Rattle.sqlite_rules.proofs.ListLemmas.{all_from, has_got}
-use Rattle.sqlite_catalog.specs.Listing.{IsSound, IsTableRow, IsIndexRow}
-use Rattle.sqlite_catalog.proofs.LayoutLemmas.{zipped_left}
-use Rattle.sqlite_catalog.proofs.ReadLemmas.{lists_once}
 use Rattle.device_registry.specs.declared.table.Version.{Version}
 use Rattle.device_registry.specs.declared.table.Version.TheVariants.{Second}
 use Rattle.device_registry.specs.Table.{device_name, create_device_sql, device_table, meta_name, create_meta_sql, meta_table}
@@ -32,7 +28,7 @@ use Rattle.device_registry.proofs.RewriteVersionEffect.{version_row}
 use Rattle.device_registry.proofs.DeviceChecks.{checked}
 use Rattle.device_registry.proofs.DeviceCodec.{IsShort, data_in, data_back, keyed}
 use Rattle.device_registry.proofs.StatementTexts.{forget_query}
-use Rattle.device_registry.proofs.TablesAlone.{devices_alone}
+use Rattle.device_registry.proofs.TablesAlone.{devices_alone, devices_lone, meta_lone}
 use Rattle.learned_devices.specs.Labels.{is_label}
 use Rattle.sqlite.specs.Query.{IsAnswer}
 use Rattle.sqlite.specs.Program.{overlay}
@@ -43,7 +39,8 @@ use Rattle.keyed_table.specs.Queries.{asked}
 use Rattle.keyed_table.specs.Rows.{HasKey, AreKeyed}
 use Rattle.keyed_table.proofs.RowsAsMap.{len_is, differ_from, keyed_without_all}
 use Rattle.keyed_table.proofs.MapWrites.{all_without_all, removes, upserts_map, upserts_keyed}
-use Rattle.keyed_table.proofs.TableWrites.{SparesOthers, IsStep}
+use Rattle.keyed_table.proofs.TableWrites.{SparesOthers, IsStep, objects_spared}
+use Rattle.keyed_table.proofs.ListedTables as listed
 use Rattle.keyed_table.proofs.Upserts.{IsUpserted}
 
 -- ---- one database has one list of devices
@@ -73,17 +70,10 @@ registers_by version db a b one other =
 pub registers_once : (db : Database) (a b : Devices) → IsRegistryOf db a → IsRegistryOf db b → a ≡ b
 registers_once = registers_by Second
 
--- the trees of a sound database determine its schema, and so its devices
+-- the trees of a sound database determine its devices
 pub held_by : (version : Version) (trees : Trees) (a b : Devices) → HoldsAs version trees a → HoldsAs version trees b
     → a ≡ b
-held_by version trees a b one other =
-    let trees_are : one.db.trees ≡ other.db.trees = one.same ∙ sym other.same in
-    let schema : one.db.schema ≡ other.db.schema =
-    lists_once (other.db.trees catalog_tree) one.db.schema other.db.schema
-    (subst (λ (t : Trees). Rattle.sqlite_catalog.specs.Listing.Lists (t catalog_tree) one.db.schema) trees_are
-    one.sound.lists) other.sound.lists in
-    let db : one.db ≡ other.db = λ i. record { schema = schema i; trees = trees_are i } in
-    registers_by version other.db a b (subst (λ db. IsRegistryOfVersion version db a) db one.holds) other.holds
+held_by version = listed.held_once (IsRegistryOfVersion version) (registers_by version)
 
 pub held_once : (trees : Trees) (a b : Devices) → Holds trees a → Holds trees b → a ≡ b
 held_once = held_by Second
@@ -103,20 +93,6 @@ listed_still version before after same listed =
       name_is = it.name_is;
       sql = it.sql;
     }
-
--- no table and no index is stored in the tree of the list
-beside : (tree : ℕ) → tree < 65536 → tree ≢ catalog_tree
-beside tree low same = omega (arith, low, same)
-
-no_index_there : (schema : Schema) (trees : Trees) → IsSound schema trees → IsNoIndex schema catalog_tree
-no_index_there schema trees sound = all_from _ schema.indexes (λ i has.
-    beside i.tree (zipped_left (IsIndexRow schema.tables) _ schema.indexes i sound.lists.listed.indexes
-    has).2.described.low)
-
-table_beside : (schema : Schema) (trees : Trees) (t : Table) → IsSound schema trees → Has schema.tables t
-    → t.tree ≢ catalog_tree
-table_beside schema trees t sound has =
-    beside t.tree (zipped_left IsTableRow _ schema.tables t sound.lists.listed.tables has).2.described.low
 
 module _ (before : Database) (registry : IsRegistry Second before) where
   -- the tables are unchanged in the schema
@@ -173,16 +149,6 @@ room_for_known db devices id it had known =
 
 module _ (before after : Database) (devices : Devices) (had : IsRegistryOf before devices) (sound : IsDatabase before)
   where
-    meta_beside : had.registry.tables.meta ≢ catalog_tree
-    meta_beside = table_beside before.schema before.trees (meta_table had.registry.tables.meta) sound (has_got
-        before.schema.tables had.registry.tables.meta_at (meta_table had.registry.tables.meta)
-        had.registry.tables.meta_stands.there)
-
-    devices_beside : had.registry.tables.devices ≢ catalog_tree
-    devices_beside = table_beside before.schema before.trees (device_table Second had.registry.tables.devices) sound
-        (has_got before.schema.tables had.registry.tables.devices_at (device_table Second had.registry.tables.devices)
-        had.registry.tables.devices_stand.there)
-
     -- only the device table has other rows
     rows_register : (now : Devices) → after.schema ≡ before.schema
         → SparesOthers before.schema had.registry.tables.devices before.trees after.trees
@@ -192,8 +158,8 @@ module _ (before after : Database) (devices : Devices) (had : IsRegistryOf befor
     rows_register now schema others all once is few =
         let r = had.registry in
         registers_after before r after now schema
-        (others.objects devices_beside (no_index_there before.schema before.trees sound)) r.whole.row
-        (others.tables r.tables.meta_at (meta_table r.tables.meta) r.tables.meta_stands.there r.tables.apart
+        (objects_spared before sound _ (devices_lone before.schema r.tables).listed after.trees others) r.whole.row
+        (others.tables (meta_table r.tables.meta) (meta_lone before.schema r.tables).listed r.tables.apart
         ∙ r.whole.one)
         r.whole.numbered all (differ_from _ once.apart)
         (subst (λ n. n ≤ max_devices) (sym (ap len is) ∙ len_is data_in (after.trees r.tables.devices) once) few) is
@@ -241,10 +207,10 @@ module _ (before after : Database) (devices : Devices) (had : IsRegistryOf befor
         → SparesOthers before.schema had.registry.tables.meta before.trees after.trees → IsRegistryOf after devices
     renewed_registers schema version others =
         let r = had.registry in
-        let same : after.trees r.tables.devices ≡ before.trees r.tables.devices = others.tables r.tables.devices_at
-        (device_table Second r.tables.devices) r.tables.devices_stand.there (λ e. r.tables.apart (sym e)) in
+        let same : after.trees r.tables.devices ≡ before.trees r.tables.devices = others.tables
+        (device_table Second r.tables.devices) (devices_lone before.schema r.tables).listed (λ e. r.tables.apart (sym e)) in
         registers_after before r after devices schema
-        (others.objects meta_beside (no_index_there before.schema before.trees sound)) version_row version
+        (objects_spared before sound _ (meta_lone before.schema r.tables).listed after.trees others) version_row version
         (record { key = refl; number = refl })
         (subst (AllByRecursion IsDevice) (sym same) r.whole.rows) (subst RowidsDiffer (sym same) r.whole.once)
         (subst (λ rows. length rows ≤ max_devices) (sym same) r.whole.few) (ap devices_in same ∙ had.is)

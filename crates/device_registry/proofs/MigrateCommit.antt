@@ -19,7 +19,8 @@ use Rattle.device_registry.specs.Ready.{KeepsOtherTables}
 use Rattle.device_registry.specs.private.Transaction.{IsUncommitted, IsMidTransaction, IsListedMidTransaction}
 use Rattle.device_registry.proofs.DevicesHeld.{registers_by}
 use Rattle.device_registry.proofs.MigrateEffect.{migrates, others_kept}
-use Rattle.device_registry.proofs.TransactionEnd.{Commits, Ends, Shown, ends}
+use Rattle.keyed_table.proofs.Transactions.{Commits}
+use Rattle.device_registry.proofs.TransactionEnd.{Ends, Shown, ends}
 use Rattle.keyed_table.proofs.Transactions.{since}
 
 abbrev pub migration : List (List ℕ)

@@ -31,7 +31,6 @@ use Rattle.device_registry.proofs.TableTexts.{device_is}
 use Rattle.device_registry.proofs.CreateTablesMeaning.{device_makes}
 use Rattle.device_registry.proofs.MigrationMeaning.{copy_means, drop_means}
 use Rattle.device_registry.proofs.VersionMeaning.{renew_means}
-use Rattle.device_registry.proofs.VersionWrites.{has_at}
 use Rattle.device_registry.proofs.RewriteVersionEffect.{version_row, renews}
 use Rattle.device_registry.proofs.CopyEffect.{copies}
 use Rattle.keyed_table.proofs.Drops.{drops}
@@ -177,9 +176,8 @@ module _ (a b c d e : State) (i j k l : ℕ) (registry : IsRegistry First a.now)
         let was = has_got a.now.schema.tables t.meta_at (meta_table t.meta) t.meta_stands.there in
         let in_b = subst (λ (s : Schema). Has s.tables (meta_table t.meta)) (sym made.0)
         (has_added a.now sound t (meta_table t.meta) was) in
-        let at = has_at b.now.schema.tables (meta_table t.meta) in_b in
         kept_in_d (meta_table t.meta) meta_in_d.listed
-        ∙ filled.1.tables at.0 (meta_table t.meta) at.1 (meta_apart a.now sound t)
+        ∙ filled.1.tables (meta_table t.meta) in_b (meta_apart a.now sound t)
         ∙ kept_in_b (meta_table t.meta) was ∙ registry.whole.one
 
     -- ---- the version is written
@@ -204,9 +202,8 @@ module _ (a b c d e : State) (i j k l : ℕ) (registry : IsRegistry First a.now)
         × IsDatabase e.now
     migrates =
         let to = migrated a.now sound t c.now e.now filled.3 schema_c written.3 (written.0 ∙ left.0) in
-        let at = has_at d.now.schema.tables (device_table Second tree) new_in_d.listed in
         let put : e.now.trees tree ≡ c.now.trees tree =
-        written.2.tables at.0 (device_table Second tree) at.1 (λ same. meta_apart a.now sound t (sym same))
+        written.2.tables (device_table Second tree) new_in_d.listed (λ same. meta_apart a.now sound t (sym same))
         ∙ kept_in_d (device_table Second tree) new_in_d.listed in
         let devices = rows_of First (a.now.trees t.devices) in (
           registers e.now to.tables devices (ap e.now.trees to.meta_is ∙ written.1)
@@ -224,10 +221,8 @@ module _ (a b c d e : State) (i j k l : ℕ) (registry : IsRegistry First a.now)
         let in_b : Has b.now.schema.tables table = subst (λ (s : Schema). Has s.tables table) (sym made.0) in_added in
         let in_d : Has d.now.schema.tables table = subst (λ (s : Schema). Has s.tables table) (sym left.0)
         (has_kept (λ (x : Table). not (x.tree == t.devices)) schema_b.tables table in_added
-        (apart_trees table.tree t.devices not_first)) in
-        let at_b = has_at b.now.schema.tables table in_b in
-        let at_d = has_at d.now.schema.tables table in_d in (
+        (apart_trees table.tree t.devices not_first)) in (
           subst (λ (s : Schema). Has s.tables table) (sym written.0) in_d,
-          written.2.tables at_d.0 table at_d.1 not_meta ∙ kept_in_d table in_d
-              ∙ filled.1.tables at_b.0 table at_b.1 (λ same. below_is table.tree tree low same) ∙ kept_in_b table has,
+          written.2.tables table in_d not_meta ∙ kept_in_d table in_d
+              ∙ filled.1.tables table in_b (λ same. below_is table.tree tree low same) ∙ kept_in_b table has,
         )

@@ -35,7 +35,9 @@ use Rattle.device_registry.specs.SchemaChecks.{admits_tables}
 use Rattle.sqlite_catalog.specs.Listing.{IsSound}
 use Rattle.sqlite.specs.Schema.{Schema}
 use Rattle.sqlite_schema.specs.Names.{table_named}
-use Rattle.device_registry.proofs.TablesRecognized.{same_schema, free_found}
+use Rattle.keyed_table.proofs.Transactions.{survives_itself}
+use Rattle.keyed_table.proofs.ListedTables.{same_schema}
+use Rattle.device_registry.proofs.TablesRecognized.{free_found}
 use Rattle.keyed_table.proofs.Creates.{unused}
 use Rattle.device_registry.proofs.SchemaTests.{cleared}
 use Rattle.keyed_table.proofs.Statements.{unchanged}
@@ -363,16 +365,6 @@ leaves old mid new was first second clean trees may =
 pub nothing : (old new : State) → Survives old new (λ _. ⊥) → HasCleanDisk new → (trees : Trees) → new.may_leave trees
     → old.may_leave trees ⊎ (IsTrue old.is_open × KeepsFoundDevices old.committed.trees trees)
 nothing old new h clean trees may = elim (h.crash clean trees may) [ inl before ↦ inl before | inr none ↦ absurd none ]
-
-survives_itself : (s : State) (P : Trees → Type 0) → Survives s s P
-survives_itself s P = record {
-  clean = omega arith;
-  shield = λ shielded. shielded;
-  counts = omega arith;
-  limit = refl;
-  closes = λ clean is_open. inl is_open;
-  crash = λ clean trees may. inl may;
-}
 
 -- the database failed before anything was queried
 pub not_asked : (s : State) (fault : StoreFault) → RefusesToOpen s s (Failed fault)

@@ -22,6 +22,8 @@ use Rattle.device_registry.specs.SchemaChecks.{admits_tables, is_alone_in_tree}
 use Rattle.device_registry.specs.SchemaChecks.{can_count_rowids}
 use Rattle.device_registry.specs.SchemaChecks.{is_unaffected, trees_if_unaffected, tree_of_table, trees_of_tables}
 use Rattle.device_registry.proofs.TablesAlone.{meta_lone, devices_lone, spares_meta, spares_devices}
+use Rattle.sqlite_rules.specs.Lists.{Has}
+use Rattle.sqlite_rules.proofs.ListLemmas.{all_has, all_from}
 use Rattle.sqlite_keyed.proofs.ListLemmas.{none_from_any, any_from_none, all_from_test, test_from_all}
 use Rattle.keyed_table.proofs.ListedTables.{IsNamed, placed}
 
@@ -47,16 +49,13 @@ spared : (schema : Schema) → are_ours_referenced schema ≡ false → NoneRefe
 spared schema h =
     let a = or_parts _ _ h in
     let b = or_parts _ _ a.0 in
-    all_both (λ t. HasNoReferenceTo meta_name t × HasNoReferenceTo (device_name First) t)
-    (HasNoReferenceTo (device_name Second))
-    HasNoReferenceToOurs (λ t both second. record {
-      meta = both.0;
-      devices = by_version (λ version. HasNoReferenceTo (device_name version) t) both.1 second;
-    }) schema.tables
-    (all_both (HasNoReferenceTo meta_name) (HasNoReferenceTo (device_name First))
-    (λ t. HasNoReferenceTo meta_name t × HasNoReferenceTo (device_name First) t) (λ t p q. (p, q)) schema.tables
-    (spares schema meta_name b.0) (spares schema (device_name First) b.1))
-    (spares schema (device_name Second) a.1)
+    let free = λ (name : List ℕ) (none : is_referenced schema name ≡ false) (t : Table) (has : Has schema.tables t).
+    all_has (HasNoReferenceTo name) schema.tables t (spares schema name none) has in
+    all_from HasNoReferenceToOurs schema.tables (λ t has. record {
+      meta = free meta_name b.0 t has;
+      devices = by_version (λ version. HasNoReferenceTo (device_name version) t) (free (device_name First) b.1 t has)
+          (free (device_name Second) a.1 t has);
+    })
 
 unspared : (schema : Schema) → NoneRefersToOurs schema → are_ours_referenced schema ≡ false
 unspared schema all =

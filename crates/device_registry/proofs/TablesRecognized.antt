@@ -4,12 +4,9 @@ use Rattle.std.proofs.Common.{List, []}
 use Rattle.std.proofs.Common.{◌&&◌, Some, refl, sym, ap, subst, ◌∙◌, IsTrue}
 use Rattle.std.specs.List.{list_any}
 use Rattle.sqlite.specs.Order.{Row}
-use Rattle.sqlite.specs.Schema.{Schema}
 use Rattle.sqlite.specs.State.{State, Shown}
 use Rattle.sqlite.specs.Effect.{Database, IsDatabase}
 use Rattle.sqlite_schema.specs.Names.{same_name}
-use Rattle.sqlite_trees.specs.Objects.{catalog_tree}
-use Rattle.sqlite_trees.specs.Tree.{Trees}
 use Rattle.sqlite_trees.proofs.ListLemmas.{all_weaker}
 use Rattle.sqlite_rules.proofs.ListLemmas.{all_has, has_got}
 use Rattle.sqlite_catalog.specs.Listing.{IsSound}
@@ -23,9 +20,8 @@ use Rattle.device_registry.specs.Stored.{AdmitsRegistry, AdmitsTables}
 use Rattle.device_registry.specs.Opening.{IsOwnRegistry, IsSettledOpen}
 use Rattle.device_registry.specs.private.CatalogRows.{is_catalog_row, are_our_tables}
 use Rattle.device_registry.specs.SchemaChecks.{admits_tables, trees_of_tables}
-use Rattle.sqlite_catalog.proofs.ReadLemmas.{lists_once}
 use Rattle.device_registry.proofs.TableTexts.{meta_is, device_is}
-use Rattle.keyed_table.proofs.ListedTables.{defined, stands_in}
+use Rattle.keyed_table.proofs.ListedTables.{same_schema, defined, stands_in}
 use Rattle.device_registry.proofs.SchemaTests.{IsPlaced, found, is_cleared}
 use Rattle.std.proofs.lemmas.Bool.{and_parts}
 use Rattle.keyed_table.proofs.ObjectsListed.{told, shows_line}
@@ -89,10 +85,6 @@ pub tables_taken : (version : Version) (s : State) (meta devices : ℕ) → IsSe
     → HasTables version s.now.schema
 tables_taken version s meta devices rest is listed =
     tables_told version s.now meta devices rest.sound (found version s.now.schema meta devices is) listed
-
--- the trees of a sound database determine its schema
-pub same_schema : (db : Trees) (s t : Schema) → IsSound s db → IsSound t db → s ≡ t
-same_schema db s t a b = lists_once (db catalog_tree) s t a.lists b.lists
 
 -- so a registry as this program leaves it is recognized
 pub own_found : (version : Version) (s : State) → IsSettledOpen s → IsOwnRegistry version s.now.trees

@@ -1,11 +1,10 @@
 -- The result of the commit of a transaction of the registry.
-use Rattle.std.proofs.Common.{◌≡◌, ℕ, List, [], Ok, Err, Result, OnOk, IfErr, OnErr, IsTrue, false, true, refl, sym}
-use Rattle.std.proofs.Common.{subst, ◌∙◌, arith}
+use Rattle.std.proofs.Common.{◌≡◌, ℕ, List, Result, OnOk, IfErr, OnErr, true, refl, sym}
+use Rattle.std.proofs.Common.{subst, arith}
 use Rattle.std.specs.FinMap.{empty}
 use Rattle.sqlite.specs.declared.error.Error.{Error}
 use Rattle.sqlite.specs.Effect.{Database, IsDatabase}
 use Rattle.sqlite.specs.State.{State, HasCleanDisk, Survives}
-use Rattle.sqlite.specs.State.{Shows as IsShowing, KeepsCounts}
 use Rattle.sqlite.specs.Steps.{FailsToCommit}
 use Rattle.sqlite.specs.Held.{Held, state}
 use Rattle.sqlite.proofs.StateLemmas.{survives_weaker}
@@ -16,27 +15,7 @@ use Rattle.device_registry.specs.Stored.{IsRegistryOf, Holds}
 use Rattle.device_registry.specs.Ready.{IsReadyWith, KeepsOtherTables}
 use Rattle.device_registry.specs.Opening.{KeepsDatabase}
 use Rattle.device_registry.specs.private.Transaction.{IsListedMidTransaction}
-use Rattle.keyed_table.proofs.Transactions.{since, leaves, uncommitted_remains}
-
--- what it shows is committed
-abbrev pub Commits : State → State → Type 0
-Commits d e = IsTrue d.in_transaction × IsShowing d e d.now d.now false × KeepsCounts d e × (e.marks ≡ [])
-
-shows_committed : (d e : State) (devices : Devices) → IsRegistryOf d.now devices → IsDatabase d.now → Commits d e
-    → IsReadyWith e devices
-shows_committed d e devices registers sound ends =
-    let shown = ends.1 in
-    record {
-      is_open = shown.is_open;
-      idle = shown.mode;
-      settled = shown.now_is ∙ sym shown.committed_is;
-      sound = subst IsDatabase (sym shown.now_is) sound;
-      holds = subst (λ db. IsRegistryOf db devices) (sym shown.now_is) registers;
-    }
-
-on_ok : {V E : Type 0} (r : Result V E) (P Q : Type 0) → (P → Q) → OnOk r P → OnOk r Q
-on_ok (Ok v) P Q so p = so p
-on_ok (Err e) P Q so p = tt
+use Rattle.keyed_table.proofs.Transactions.{Commits, shows_committed, on_ok, since, leaves, uncommitted_remains}
 
 -- the end of a transaction that was to create a registry of such devices
 pub record Ends {V : Type 0} (Are : Devices → Type 0) (old new : State) (r : Result V Error) : Type 0 where

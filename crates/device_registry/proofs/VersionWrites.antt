@@ -1,5 +1,5 @@
 -- The version row, when it is inserted and when it is rewritten.
-use Rattle.std.proofs.Common.{◌≢◌, drop, ◌&&◌, ◌==◌, Bool, true, false, suc, arith, ◌≡◌, inl, inr, ℕ, List, []}
+use Rattle.std.proofs.Common.{◌≢◌, drop, ◌==◌, true, false, arith, ◌≡◌, inl, inr, ℕ, List, []}
 use Rattle.std.proofs.Common.{◌∷◌, Some, None, Option, Ok, Err, Result, OnOk, refl, sym, ap, subst, ◌∙◌, slice_get}
 use Rattle.std.proofs.Common.{unwrap_or}
 use Rattle.sqlite.specs.Schema.{Schema}
@@ -21,7 +21,7 @@ use Rattle.device_registry.specs.Ready.{IsReadyWith, IsReady, KeepsRows, Commits
 use Rattle.std.specs.List.{AllByRecursion}
 use Rattle.std.proofs.lemmas.Bool.{cases_Bool}
 use Rattle.std.proofs.lemmas.Bool.Decides.{nat_tests}
-use Rattle.sqlite_rules.specs.Lists.{Has}
+use Rattle.sqlite_keyed.proofs.RuleLemmas.{first_of_both}
 use Rattle.sqlite_rules.proofs.ListLemmas.{has_got, all_has}
 use Rattle.sqlite_schema.specs.Rules.{passes, are_typed, has_computed}
 use Rattle.sqlite_schema.specs.declared.schema.Constraint.TheVariants.{Datatype}
@@ -95,20 +95,11 @@ pub changes_one : (old new : State) (count : ℕ) → IsReady old → Executes r
     → count ≡ 1
 changes_one old new count ready h = (effect old new count ready.held ready.shows h).3
 
-pub has_at : {X : Type 0} (xs : List X) (x : X) → Has xs x → (i : ℕ) × (slice_get xs i ≡ Some x)
-has_at [] x h = absurd h
-has_at (y ∷ xs) x (inl here) = (0, ap Some (sym here))
-has_at (y ∷ xs) x (inr later) = let it = has_at xs x later in (suc it.0, it.1)
-
 same_tree : (a b : ℕ) → (a == b) ≡ true → a ≡ b
 same_tree a b h = grind (arith, nat_tests)
 
 other_tree : (a b : ℕ) → (a == b) ≡ false → a ≢ b
 other_tree a b h = grind (arith, nat_tests, h)
-
-first : (a b : Bool) → (a && b) ≡ true → a ≡ true
-first true b h = refl
-first false b h = h
 
 -- the version row is rewritten unchanged, so no table has other rows
 renewed_rows : (old new : State) (count : ℕ) (devices : Devices) → IsReadyWith old devices
@@ -123,17 +114,16 @@ renewed_rows old new count devices shows h =
     r.whole.one typed in
     let same : r.whole.row ≡ version_row =
     version_is r.tables.meta r.whole.row r.whole.numbered
-    (first (are_typed (meta_table r.tables.meta).key 0 (meta_table r.tables.meta).columns (drop 1 r.whole.row))
+    (first_of_both (are_typed (meta_table r.tables.meta).key 0 (meta_table r.tables.meta).columns (drop 1 r.whole.row))
     (has_computed (meta_table r.tables.meta) r.whole.row) row_typed.0) in
     record {
       schema = kept.0;
       rows = λ t h.
-          let at = has_at old.now.schema.tables t h in
           elim (cases_Bool (t.tree == r.tables.meta)) [
             | inl tie ↦
                 let e = same_tree t.tree r.tables.meta tie in
                 ap new.now.trees e ∙ kept.1 ∙ ap (λ x. x ∷ []) (sym same) ∙ sym r.whole.one ∙ sym (ap old.now.trees e)
-            | inr apart ↦ kept.2.tables at.0 t at.1 (other_tree t.tree r.tables.meta apart)
+            | inr apart ↦ kept.2.tables t h (other_tree t.tree r.tables.meta apart)
           ];
     }
 

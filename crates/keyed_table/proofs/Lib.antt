@@ -24,3 +24,4 @@ pub mod Writes
 pub mod KeyedMap
 pub mod Checks
 pub mod Example
+pub mod Between

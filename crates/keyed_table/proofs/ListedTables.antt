@@ -10,7 +10,7 @@ use Rattle.sqlite.specs.declared.types.Value.{Value}
 use Rattle.sqlite_catalog.proofs.LayoutLemmas.{zipped_left}
 use Rattle.sqlite_catalog.proofs.SoundLemmas.{names_agree, lowered, list_parts}
 use Rattle.sqlite_catalog.proofs.StepLemmas.{named_once}
-use Rattle.sqlite_catalog.specs.Listing.{IsTableRow, IsViewRow, IsIndexRow, is_table_row, is_view_row}
+use Rattle.sqlite_catalog.specs.Listing.{IsSound, IsTableRow, IsViewRow, IsIndexRow, is_table_row, is_view_row}
 use Rattle.sqlite_catalog.specs.Listing.{is_index_row, is_foreign_row}
 use Rattle.sqlite_rules.proofs.ListLemmas.{all_from, all_has, has_got, has_filtered}
 use Rattle.sqlite_rules.proofs.ProbeLemmas.{has_mapped}
@@ -40,6 +40,8 @@ use Rattle.std.proofs.lemmas.List.Folds.{list_any-append}
 use Rattle.std.specs.Char.{to_ascii_lowercase}
 use Rattle.std.specs.List.{AllByRecursion, find, list_any}
 use Rattle.std.specs.List.{AllByRecursion, list_any, position_from}
+use Rattle.sqlite_catalog.proofs.ReadLemmas.{lists_once}
+use Rattle.keyed_table.specs.Stores.{HoldsIn}
 use Rattle.keyed_table.specs.Tables.{IsTableAt, TreeHasName, IsListedAs}
 
 -- the table of this name
@@ -291,3 +293,17 @@ stands_in db name tree n table sound keeps is at low =
       there = there;
       classes = rw stored (ap (option_map row_classes) (find_lone db.schema.tables table lone has));
     }
+
+-- the trees of a sound database determine its schema
+pub same_schema : (db : Trees) (s t : Schema) → IsSound s db → IsSound t db → s ≡ t
+same_schema db s t a b = lists_once (db catalog_tree) s t a.lists b.lists
+
+-- so they determine the value that it holds, if the database does
+pub held_once : {M : Type 0} (Holds : Database → M → Type 0) → ((db : Database) (a b : M) → Holds db a → Holds db b
+    → a ≡ b) → (trees : Trees) (a b : M) → HoldsIn Holds trees a → HoldsIn Holds trees b → a ≡ b
+held_once Holds once trees a b one other =
+    let trees_are : one.db.trees ≡ other.db.trees = one.same ∙ sym other.same in
+    let schema : one.db.schema ≡ other.db.schema = same_schema other.db.trees one.db.schema other.db.schema
+    (subst (IsSound one.db.schema) trees_are one.sound) other.sound in
+    let db : one.db ≡ other.db = λ i. record { schema = schema i; trees = trees_are i } in
+    once other.db a b (subst (λ db. Holds db a) db one.holds) other.holds

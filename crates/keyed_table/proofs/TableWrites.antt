@@ -1,6 +1,6 @@
 -- The effect of a statement that writes rows of one table.
 use Rattle.std.proofs.Common.{◌≡◌, ◌≢◌, ◌⊎◌, inl, inr, ℕ, ℤ, Bool, true, false, List, [], length, Some, None}
-use Rattle.std.proofs.Common.{Ok, Err, Result, Option, if◌then◌else◌, MatchBool, refl, sym, ap, subst, ◌∙◌, slice_get}
+use Rattle.std.proofs.Common.{Ok, Err, Result, Option, if◌then◌else◌, MatchBool, refl, sym, ap, subst, ◌∙◌, slice_get, arith}
 use Rattle.sqlite.specs.Order.{Row}
 use Rattle.sqlite.specs.Schema.{Schema}
 use Rattle.sqlite.specs.Table.{Table}
@@ -14,13 +14,16 @@ use Rattle.sqlite_schema.specs.declared.command.Command.{Command}
 use Rattle.sqlite_schema.specs.declared.schema.Keys.{Keys}
 use Rattle.sqlite_trees.specs.Objects.{catalog_tree}
 use Rattle.sqlite_trees.specs.Tree.{Trees}
-use Rattle.sqlite_trees.proofs.ListLemmas.{all-slice_get}
+use Rattle.sqlite_rules.specs.Lists.{Has}
+use Rattle.sqlite_rules.proofs.ListLemmas.{all_has, all_from}
+use Rattle.sqlite_catalog.specs.Listing.{IsTableRow, IsIndexRow}
+use Rattle.sqlite_catalog.proofs.LayoutLemmas.{zipped_left}
 use Rattle.sqlite_rules.specs.Action.{Writes}
 use Rattle.sqlite_rules.specs.declared.error.Rowids.{Rowids}
 use Rattle.sqlite_rules.specs.declared.error.Rowids.TheVariants.{Chosen, Above, Given}
 use Rattle.sqlite_rules.specs.Edit.{Edit, Applies, IsNoIndex, edit_of, edited, taken_by, left_by, are_fresh}
 use Rattle.sqlite_rules.specs.Calls.{ids_of}
-use Rattle.sqlite.specs.Effect.{Database, IsSource}
+use Rattle.sqlite.specs.Effect.{Database, IsSource, IsDatabase}
 use Rattle.sqlite.specs.Does.{Tally, AtPlace, OnRows, WritesRows}
 use Rattle.sqlite.specs.Rows.{Written, Task, stamped, count_of, rowids_for}
 use Rattle.sqlite.proofs.Callers.{one_step}
@@ -29,14 +32,14 @@ use Rattle.keyed_table.proofs.TablesAlone.{StandsAlone}
 
 -- the rows of the other tables are unchanged, and so is the list of objects
 pub record SparesOthers (schema : Schema) (tree : ℕ) (before after : Trees) : Type 0 where
-  pub tables : (i : ℕ) (t : Table) → slice_get schema.tables i ≡ Some t → t.tree ≢ tree → after t.tree ≡ before t.tree
+  pub tables : (t : Table) → Has schema.tables t → t.tree ≢ tree → after t.tree ≡ before t.tree
   pub objects : tree ≢ catalog_tree → IsNoIndex schema catalog_tree → after catalog_tree ≡ before catalog_tree
 
 pub spares : (schema : Schema) (keys : Keys) (db next : Trees) (edit : Edit) → Applies schema keys db edit next
     → SparesOthers schema edit.table.tree db next
 spares schema keys db next edit step = record {
-  tables = λ i t there other.
-      all-slice_get (λ t. t.tree ≢ edit.table.tree → next t.tree ≡ db t.tree) schema.tables i t there step.tables other;
+  tables = λ t has other.
+      all_has (λ t. t.tree ≢ edit.table.tree → next t.tree ≡ db t.tree) schema.tables t step.tables has other;
   objects = λ other none. step.others catalog_tree (λ e. other (sym e)) none;
 }
 
@@ -44,9 +47,18 @@ spares schema keys db next edit step = record {
 pub spares_then : (schema : Schema) (tree : ℕ) (db mid next : Trees) → SparesOthers schema tree db mid
     → SparesOthers schema tree mid next → SparesOthers schema tree db next
 spares_then schema tree db mid next one two = record {
-  tables = λ i t there other. two.tables i t there other ∙ one.tables i t there other;
+  tables = λ t has other. two.tables t has other ∙ one.tables t has other;
   objects = λ other none. two.objects other none ∙ one.objects other none;
 }
+
+-- neither a table nor an index of a sound database is in the tree of the list of objects
+pub objects_spared : (db : Database) → IsDatabase db → (t : Table) → Has db.schema.tables t → (after : Trees)
+    → SparesOthers db.schema t.tree db.trees after → after catalog_tree ≡ db.trees catalog_tree
+objects_spared db sound t has after spared =
+    let low = (zipped_left IsTableRow _ db.schema.tables t sound.lists.listed.tables has).2.described.low in
+    spared.objects (λ e. omega (arith, low, e)) (all_from _ db.schema.indexes (λ i has e.
+    let low = (zipped_left (IsIndexRow db.schema.tables) _ db.schema.indexes i sound.lists.listed.indexes
+    has).2.described.low in omega (arith, low, e)))
 
 -- a part that gave a value did not stop
 pub went : {B E R : Type 0} {b : B} {Stops : E → Type 0} → ((crash : E) × Stops crash × (Ok b ≡ Err crash)) ⊎ R → R

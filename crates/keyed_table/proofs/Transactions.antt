@@ -1,16 +1,17 @@
 -- A transaction, from its begin to its end.
 use Rattle.std.proofs.Common.{◌≡◌, inl, inr, ℕ, List, [], ◌∷◌, ◌++◌, Ok, Err, Result, IsTrue, IfErr, OnErr}
-use Rattle.std.proofs.Common.{true, MatchResult, refl, sym, subst, ◌∙◌, arith}
+use Rattle.std.proofs.Common.{false, OnOk, true, MatchResult, refl, sym, subst, ◌∙◌, arith}
 use Rattle.std.specs.Result.{IsErr}
 use Rattle.sqlite.specs.declared.error.Error.{Error}
-use Rattle.sqlite.specs.State.{State, HasCleanDisk, Survives, ExecutesInside, IsRolledBack}
+use Rattle.sqlite.specs.State.{Shows as IsShowing, KeepsCounts, State, HasCleanDisk, Survives, ExecutesInside, IsRolledBack}
 use Rattle.sqlite.specs.Steps.{FailsToCommit}
 use Rattle.sqlite.specs.Held.{Held, state}
 use Rattle.sqlite.proofs.StateLemmas.{survives_then}
 use Rattle.sqlite.proofs.Callers.{survives_begin}
 use Rattle.sqlite_trees.specs.Tree.{Trees}
 use Rattle.sqlite_trees.specs.declared.store.Store.{Ghosts}
-use Rattle.keyed_table.specs.Stores.{KeepsDatabase}
+use Rattle.sqlite.specs.Effect.{Database, IsDatabase}
+use Rattle.keyed_table.specs.Stores.{KeepsDatabase, IsReadyWith}
 use Rattle.keyed_table.specs.Transactions.{IsUncommitted, IsMidTransaction, HasRunStatements}
 use Rattle.keyed_table.proofs.Refusals.{back_at, inside_commit, made_commit, then_commit}
 
@@ -110,3 +111,36 @@ module _ (old last new : State) (it : IsUncommitted old last) where
 pub if_refused : {T E : Type 0} (r : Result T E) (P : T → Type 0) (Q : Type 0) → IsErr r → Q → MatchResult r P (λ _. Q)
 if_refused (Ok v) P Q is q = absurd cc
 if_refused (Err e) P Q is q = q
+
+-- ---- a commit
+
+-- what it shows is committed
+abbrev pub Commits : State → State → Type 0
+Commits d e = IsTrue d.in_transaction × IsShowing d e d.now d.now false × KeepsCounts d e × (e.marks ≡ [])
+
+pub shows_committed : {M : Type 0} {Holds : Database → M → Type 0} (d e : State) (m : M) → Holds d.now m
+    → IsDatabase d.now → Commits d e → IsReadyWith Holds e m
+shows_committed {M} {Holds} d e m held sound ends =
+    let shown = ends.1 in
+    record {
+      is_open = shown.is_open;
+      idle = shown.mode;
+      settled = shown.now_is ∙ sym shown.committed_is;
+      sound = subst IsDatabase (sym shown.now_is) sound;
+      holds = subst (λ db. Holds db m) (sym shown.now_is) held;
+    }
+
+pub on_ok : {V E : Type 0} (r : Result V E) (P Q : Type 0) → (P → Q) → OnOk r P → OnOk r Q
+on_ok (Ok v) P Q so p = so p
+on_ok (Err e) P Q so p = tt
+
+-- nothing was done
+pub survives_itself : (s : State) (P : Trees → Type 0) → Survives s s P
+survives_itself s P = record {
+  clean = omega arith;
+  shield = λ shielded. shielded;
+  counts = omega arith;
+  limit = refl;
+  closes = λ clean is_open. inl is_open;
+  crash = λ clean trees may. inl may;
+}
