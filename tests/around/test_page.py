@@ -544,6 +544,9 @@ class Rights(PageTest):
         self.wait_for_text("#devices-note", "Devices and labels are those of the last list.")
         quiet = browser.run("return document.querySelector(arguments[0]).className", self.row("01800D02"))
         self.assertEqual(quiet, "quiet")
+        shown = str(len(self.ids("devices")))
+        self.tab("gateway")
+        self.wait(lambda: browser.text("#gateway-devices"), lambda text: text == shown, f"{shown} devices")
         self.assertEqual(gateway.desk.read_bytes(), before)
 
     def record(self, device: str, time: datetime) -> None:

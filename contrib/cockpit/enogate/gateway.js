@@ -25,7 +25,8 @@ export class GatewaySection {
         setText(byId("gateway-stick"), serial ? `${stick} (${serial})` : stick);
         setText(byId("gateway-base"), baseText(model.base, settings));
         setText(byId("gateway-window"), model.mode ?? "not known yet");
-        setText(byId("gateway-devices"), model.isListed ? String(model.devices.size) : "not known yet");
+        const isKnown = model.isListed || model.isRecorded;
+        setText(byId("gateway-devices"), isKnown ? String(model.devices.size) : "not known yet");
         for (const name of ["readings", "teach", "responses", "ignored", "refused"])
             setText(byId(`counter-${name}`), model.counters ? String(model.counters[name]) : "–");
         setText(byId("counters-time"), model.counters ? `(counted at ${words.clock(model.counters.time)})` : "");
