@@ -59,7 +59,7 @@ impl Known {
         }
     }
 
-    pub fn device_table(self) -> Device {
+    pub fn device(self) -> Device {
         Device {
             id: self.id,
             eep: self.eep,
