@@ -52,7 +52,8 @@ use Rattle.gateway_core.specs.Profiles.{read_by}
 use Rattle.gateway_core.specs.private.Failures.{cause_of}
 use Rattle.gateway_core.specs.Step.{Cause, Memory, Need, NeedsMemory, NeedsStore, MayFailFor}
 use Rattle.gateway_core.specs.Run.{failure_answer, Applied, Failed, FailedAtCommit, state_after_failure}
-use Rattle.gateway_core.specs.CrashStates.{no_crash_states, after_committed_update, with_pending_update, IsCrashConsistent}
+use Rattle.gateway_core.specs.CrashStates.{no_crash_states, after_committed_update, with_pending_update}
+use Rattle.gateway_core.specs.CrashStates.{IsCrashConsistent}
 use Rattle.gateway_core.specs.Handling.{HandlerValue, HandlesFrom, Handles}
 use Rattle.gateway_core.specs.private.Attempts.{HandlerEffect, state_of, MatchesEffect, IsUpdateCommitted, IsPending}
 use Rattle.gateway_core.specs.private.Attempts.{AppliesOrFails, Attempts, counts_from}
@@ -470,7 +471,8 @@ module _ {S : Type 0} (stored : S → DeviceStoreState) where
         refused-comes old.registry new.registry devices (effect (state_of old devices)) (forget_update line.id) failure
         all.needs all.forgets)
 
-    pub tries-forgotten : (committed : Verdict × List ℕ) (made : HandlerEffect) → Forgets stored old line (Ok committed) new
+    pub tries-forgotten : (committed : Verdict × List ℕ) (made : HandlerEffect)
+        → Forgets stored old line (Ok committed) new
         → ((devices : Devices) → MatchesEffect made (effect (state_of new devices)))
         → Attempts stored old effect (Ok made) new
     tries-forgotten committed made forgets gives =
@@ -583,7 +585,8 @@ module _ {S : Type 0} (stored : S → DeviceStoreState) where
     crash = λ left may. inr (refl, keeps.crash left may);
   }
   comes-went old new start input (Err (AtCommit fault)) base mode counts with_pending_update =
-      at_write-went old new start input (cause_of fault) (update_of start input) refl base mode counts with_pending_update
+      at_write-went old new start input (cause_of fault)
+      (update_of start input) refl base mode counts with_pending_update
 
   -- the input that was tried is finished: it is counted
   pub record Settles (mid : HandlerValue S) (input : Input) (r : Result HandlerEffect Failure) (answer : Answer)

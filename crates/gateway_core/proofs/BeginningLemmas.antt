@@ -31,11 +31,13 @@ module _ {S : Type 0} (stored : S → DeviceStoreState) where
       let is = asks went.last went.at in
       let Before = λ (d : Devices). d ≡ found in
       let so_far = crash_states no_crash_states (initial_state old.base found) inputs went.results in
-      let safe : IsCrashConsistent Before (with_pending_update so_far went.last.devices (update_of went.last input)) left =
+      let safe : IsCrashConsistent Before (with_pending_update so_far went.last.devices (update_of went.last input))
+      left =
       elim (leaves left may) [
         | inl before ↦ safe-pending Before so_far went.last.devices (update_of went.last input) left
             (safe-weaker (stored old.registry).may_recover Before begins.crash so_far left (went.crash left before))
-        | inr made ↦ subst (λ o. IsCrashConsistent Before (with_pending_update so_far went.last.devices o) left) (sym is)
+        | inr made ↦ subst (λ o. IsCrashConsistent Before (with_pending_update so_far went.last.devices o) left)
+            (sym is)
             (inl (inl made))
       ] in
       record { results = went.results; last = went.last; is = record { run = went.run; safe = safe } }
@@ -51,7 +53,8 @@ module _ {S : Type 0} (stored : S → DeviceStoreState) where
             last = went.last;
             is = record {
               run = went.run;
-              safe = safe-last (λ d. d ≡ found) no_crash_states (initial_state old.base found) went.last inputs went.results
+              safe = safe-last (λ d. d ≡ found) no_crash_states
+                  (initial_state old.base found) went.last inputs went.results
                   answers
                   went.run (inr (refl, refl));
             };

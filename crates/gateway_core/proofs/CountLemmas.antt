@@ -18,7 +18,8 @@ use Rattle.gateway_core.specs.Counting.{disposition_for_result}
 use Rattle.gateway_core.specs.Step.{State, Input, Received, Ordered, count_in, count_of, packet_effect}
 use Rattle.gateway_core.specs.Step.{device_teach_line}
 use Rattle.gateway_core.specs.Step.{Answer, Cause, Effect, query_teach_line}
-use Rattle.gateway_core.specs.Run.{InputResult, Applied, Failed, FailedAtCommit, answer_for_result, state_after_result, failure_count}
+use Rattle.gateway_core.specs.Run.{InputResult, Applied, Failed, FailedAtCommit, answer_for_result, state_after_result}
+use Rattle.gateway_core.specs.Run.{failure_count}
 use Rattle.gateway_core.specs.Run.{FailuresAreCounted, failure_answer, state_after_failure}
 use Rattle.gateway_core.proofs.EffectLemmas.{of_packet, of_line, of_effect}
 use Rattle.gateway_core.proofs.ReportingLemmas.{no_line, other-line}
@@ -222,14 +223,17 @@ failures_are_counted old new [] [] [] run fits =
 failures_are_counted old new (input ∷ inputs) (Applied ∷ results) (answer ∷ answers) run fits =
     let same = unrefused old input in
     let rest =
-    failures_are_counted (state_after_result old input Applied) new inputs results answers run.2 (omega (arith, same, fits)) in
+    failures_are_counted (state_after_result old input Applied) new inputs results answers run.2
+    (omega (arith, same, fits)) in
     rest ∙ ap (λ count. saturated_sum count (failure_count results)) same
 failures_are_counted old new (input ∷ inputs) (Failed cause ∷ results) (answer ∷ answers) run fits =
-    count_on old.counts.refused (saturated_increment old.counts.refused) new.counts.refused 1 (failure_count results) refl
+    count_on old.counts.refused (saturated_increment old.counts.refused) new.counts.refused 1
+    (failure_count results) refl
     (failures_are_counted (state_after_result old input (Failed cause)) new inputs results answers run.2
     (capped old.counts.refused))
 failures_are_counted old new (input ∷ inputs) (FailedAtCommit cause ∷ results) (answer ∷ answers) run fits =
-    count_on old.counts.refused (saturated_increment old.counts.refused) new.counts.refused 1 (failure_count results) refl
+    count_on old.counts.refused (saturated_increment old.counts.refused) new.counts.refused 1
+    (failure_count results) refl
     (failures_are_counted (state_after_result old input (FailedAtCommit cause)) new inputs results answers run.2
     (capped old.counts.refused))
 failures_are_counted old new [] [] (answer ∷ answers) run fits = absurd run

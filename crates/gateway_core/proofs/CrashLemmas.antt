@@ -5,7 +5,8 @@ use Rattle.learned_devices.specs.Devices.{Devices, apply_update}
 use Rattle.learned_devices.specs.Devices.{DeviceUpdate}
 use Rattle.gateway_core.specs.Step.{State, Input, Answer, update_of, with_update}
 use Rattle.gateway_core.specs.Run.{InputResult, Applied, Failed, FailedAtCommit, state_after_result, Run}
-use Rattle.gateway_core.specs.CrashStates.{CrashStates, no_crash_states, after_committed_update, with_pending_update, crash_states_after_result}
+use Rattle.gateway_core.specs.CrashStates.{CrashStates, no_crash_states, after_committed_update, with_pending_update}
+use Rattle.gateway_core.specs.CrashStates.{crash_states_after_result}
 use Rattle.gateway_core.specs.CrashStates.{crash_states, IsOneOf, IsCrashConsistent, CrashConsistencyComposes}
 
 -- the crash states of a first list of inputs and then a second
@@ -48,8 +49,10 @@ over-by : (first second : CrashStates) (state : State) (inputs : List Input) (re
 over-by first second state [] results = refl
 over-by first second state (input ∷ inputs) [] = refl
 over-by first second state (input ∷ inputs) (result ∷ results) =
-    ap (λ l. crash_states l (state_after_result state input result) inputs results) (over-with first second state input result)
-    ∙ over-by first (crash_states_after_result second state input result) (state_after_result state input result) inputs results
+    ap (λ l. crash_states l (state_after_result state input result) inputs results)
+    (over-with first second state input result)
+    ∙ over-by first (crash_states_after_result second state input result)
+    (state_after_result state input result) inputs results
 
 -- the inputs of a run, and then others
 pub left_by-append : (left : CrashStates) (old mid : State) (inputs others : List Input)
@@ -59,7 +62,8 @@ pub left_by-append : (left : CrashStates) (old mid : State) (inputs others : Lis
     ≡ crash_states (crash_states left old inputs results) mid others more
 left_by-append left old mid [] others [] more [] run = ap (λ s. crash_states left s others more) (sym run)
 left_by-append left old mid (input ∷ inputs) others (result ∷ results) more (answer ∷ answers) run =
-    left_by-append (crash_states_after_result left old input result) (state_after_result old input result) mid inputs others results
+    left_by-append (crash_states_after_result left old input result)
+    (state_after_result old input result) mid inputs others results
     more answers run.2
 left_by-append left old mid [] others [] more (answer ∷ answers) run = absurd run
 left_by-append left old mid [] others (result ∷ results) more answers run = absurd run
@@ -107,13 +111,15 @@ safe-pending Before left known (Some update) devices (inl one) = inl (inr one)
 safe-pending Before left known (Some update) devices (inr non) = inr non
 
 safe-told : (Before : Devices → Type 0) (left : CrashStates) (known : Devices) (o : Option DeviceUpdate)
-    → IsCrashConsistent Before left known → IsCrashConsistent Before (after_committed_update left known o) (with_update known o)
+    → IsCrashConsistent Before left known
+    → IsCrashConsistent Before (after_committed_update left known o) (with_update known o)
 safe-told Before left known None safe = safe
 safe-told Before left known (Some update) safe = inl (inl refl)
 
 safe-step : (Before : Devices → Type 0) (left : CrashStates) (state : State) (input : Input) (result : InputResult)
     → IsCrashConsistent Before left state.devices
-    → IsCrashConsistent Before (crash_states_after_result left state input result) (state_after_result state input result).devices
+    → IsCrashConsistent Before (crash_states_after_result left state input result)
+    (state_after_result state input result).devices
 safe-step Before left state input Applied safe = safe-told Before left state.devices (update_of state input) safe
 safe-step Before left state input (Failed cause) safe = safe
 safe-step Before left state input (FailedAtCommit cause) safe =
@@ -127,7 +133,8 @@ pub safe-last : (Before : Devices → Type 0) (left : CrashStates) (start last :
 safe-last Before left start last [] [] [] run safe =
     subst (λ (s : State). IsCrashConsistent Before left s.devices) (sym run) safe
 safe-last Before left start last (input ∷ inputs) (result ∷ results) (answer ∷ answers) run safe =
-    safe-last Before (crash_states_after_result left start input result) (state_after_result start input result) last inputs results
+    safe-last Before (crash_states_after_result left start input result)
+    (state_after_result start input result) last inputs results
     answers run.2
     (safe-step Before left start input result safe)
 safe-last Before left start last [] [] (answer ∷ answers) run safe = absurd run

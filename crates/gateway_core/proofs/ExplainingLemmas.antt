@@ -41,7 +41,8 @@ use Rattle.gateway_core.specs.Dispositions.{shown_packet}
 use Rattle.gateway_core.specs.Dispositions.{why_filtered, why_other, why_silent}
 use Rattle.gateway_core.specs.Profiles.{read_by}
 use Rattle.gateway_core.specs.Responses.{response_from, response_in}
-use Rattle.gateway_core.specs.Explaining.{DoesNotFitRole, ExplanationsAreTrue, IsNotFilteredOut, IsDataOf, Means, IsTeachIn}
+use Rattle.gateway_core.specs.Explaining.{DoesNotFitRole, ExplanationsAreTrue, IsNotFilteredOut, IsDataOf, Means}
+use Rattle.gateway_core.specs.Explaining.{IsTeachIn}
 use Rattle.gateway_core.specs.Explaining.{IsPlanned, Shows}
 use Rattle.gateway_core.specs.Step.{State, Effect, case_effect, case_of, data_case, teach_case}
 use Rattle.gateway_core.specs.Step.{FilteredOut, non_telegram_effect, packet_effect_from, packet_effect, plan_effect}
@@ -208,7 +209,8 @@ module _ (t : Telegram) where
       by true is e = absurd cc
       by false is e = eqb-false a b is
 
-  does-not-fit : (known : Bool) (kind : Teach) (eep : Eep) → IsTeachIn kind → (plan_row_of t known kind).given eep ≡ Silent
+  does-not-fit : (known : Bool) (kind : Teach) (eep : Eep) → IsTeachIn kind → (plan_row_of t known kind).given eep
+      ≡ Silent
       → DoesNotFitRole eep kind
   does-not-fit known teach.Contact eep is e = given-silent eep.rorg 0xD5 _ e
   does-not-fit known teach.Bare eep is e = given-silent eep.rorg 0xA5 _ e
@@ -244,7 +246,8 @@ module _ (state : State) (packet : Packet) (t : Telegram) (carried : telegram_of
           (ap (λ b. why_filtered (if b then reason.FromBroadcast else reason.ForOthers)) is)
           (t, carried, eqb-true t.sender 0xFFFF_FFFF is, (refl, refl))
       by false is =
-          let both = others (t.sender == 0xFFFF_FFFF) (t.dest == 0xFFFF_FFFF) (is_gateway_id state.base t.dest) over is in
+          let both = others (t.sender == 0xFFFF_FFFF) (t.dest == 0xFFFF_FFFF)
+          (is_gateway_id state.base t.dest) over is in
           of-word state packet (why_filtered (filter_reason t)) why.ForOthers
           (ap (λ b. why_filtered (if b then reason.FromBroadcast else reason.ForOthers)) is)
           (t, carried, eqb-false t.sender 0xFFFF_FFFF is, eqb-false t.dest 0xFFFF_FFFF both.0, both.1, (refl, refl))

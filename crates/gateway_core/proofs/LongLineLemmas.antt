@@ -11,7 +11,8 @@ use Rattle.gateway_core.specs.Step.{State, Input, Ordered, Answer, text_answer, 
 use Rattle.gateway_core.specs.Step.{MayFailFor, line_effect, effect, answer_from_effect, count_in, with_update}
 use Rattle.gateway_core.specs.Step.{with_mode}
 use Rattle.gateway_core.specs.Run.{InputResult, Applied, Failed, FailedAtCommit, Run, cause_text, state_after_failure}
-use Rattle.gateway_core.specs.CrashStates.{CrashStates, no_crash_states, after_committed_update, with_pending_update, crash_states}
+use Rattle.gateway_core.specs.CrashStates.{CrashStates, no_crash_states, after_committed_update, with_pending_update}
+use Rattle.gateway_core.specs.CrashStates.{crash_states}
 use Rattle.gateway_core.specs.CrashStates.{IsCrashConsistent}
 use Rattle.gateway_core.specs.Handling.{HandlerValue, HandlesFrom, Handles}
 
@@ -47,7 +48,8 @@ run_alike old new line other (result ∷ results) [] e run = absurd run
 left_alike : (old : State) (input other : Input) (results : List InputResult) → effect old input ≡ effect old other
     → crash_states no_crash_states old (input ∷ []) results ≡ crash_states no_crash_states old (other ∷ []) results
 left_alike old input other [] e = refl
-left_alike old input other (Applied ∷ results) e = ap (λ (d : Effect). after_committed_update no_crash_states old.devices d.update) e
+left_alike old input other (Applied ∷ results) e = ap
+    (λ (d : Effect). after_committed_update no_crash_states old.devices d.update) e
 left_alike old input other (Failed cause ∷ results) e = refl
 left_alike old input other (FailedAtCommit cause ∷ results) e =
     ap (λ (d : Effect). with_pending_update no_crash_states old.devices d.update) e

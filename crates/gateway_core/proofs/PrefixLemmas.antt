@@ -5,7 +5,8 @@ use Rattle.std.proofs.Common.{sym, ap, subst, ◌∙◌, arith}
 use Rattle.learned_devices.specs.Devices.{Devices, DeviceUpdate}
 use Rattle.gateway_core.specs.Step.{State, Input, Answer, update_of, with_update}
 use Rattle.gateway_core.specs.Run.{InputResult, Applied, Failed, FailedAtCommit, state_after_result, Run}
-use Rattle.gateway_core.specs.CrashStates.{CrashStates, no_crash_states, after_committed_update, with_pending_update, crash_states_after_result}
+use Rattle.gateway_core.specs.CrashStates.{CrashStates, no_crash_states, after_committed_update, with_pending_update}
+use Rattle.gateway_core.specs.CrashStates.{crash_states_after_result}
 use Rattle.gateway_core.specs.CrashStates.{crash_states, IsCrashConsistent}
 use Rattle.gateway_core.specs.Sessions.{initial_state, with_interrupted}
 use Rattle.gateway_core.specs.Prefixes.{IsAcknowledged, NoneAcknowledged, state_after_run, AfterPrefix}
@@ -62,7 +63,8 @@ module _ (Before : Devices → Type 0) where
   prefixes left state [] (result ∷ results) devices same safe = absurd (omega (arith, same))
   prefixes left state (input ∷ inputs) [] devices same safe = absurd (omega (arith, same))
   prefixes left state (input ∷ inputs) (result ∷ results) devices same safe =
-      elim (prefixes (crash_states_after_result left state input result) (state_after_result state input result) inputs results devices
+      elim (prefixes (crash_states_after_result left state input result)
+      (state_after_result state input result) inputs results devices
       (omega (arith, same)) safe) [
         | inr p ↦ inr (record {
           before = input ∷ p.before;
@@ -151,7 +153,8 @@ unacknowledged-at : (state : State) (ahead behind : List Input) (input : Input) 
     → ¬ IsAcknowledged (state_after_run state ahead earlier) input result
 unacknowledged-at state [] behind input [] later result none same = none.0
 unacknowledged-at state (first ∷ ahead) behind input (its ∷ earlier) later result none same =
-    unacknowledged-at (state_after_result state first its) ahead behind input earlier later result none.1 (omega (arith, same))
+    unacknowledged-at (state_after_result state first its) ahead behind input earlier later result none.1
+    (omega (arith, same))
 unacknowledged-at state [] behind input (its ∷ earlier) later result none same = absurd (omega (arith, same))
 unacknowledged-at state (first ∷ ahead) behind input [] later result none same = absurd (omega (arith, same))
 
@@ -174,10 +177,12 @@ told-before state (b ∷ before) after (a ∷ ahead) behind input (d ∷ done) m
     let its : e ≡ d = cc in
     let on : IsAcknowledged (state_after_run (state_after_result state b d) ahead earlier) input result =
     subst (λ f. IsAcknowledged (state_after_run (state_after_result state b f) ahead earlier) input result) its
-    (subst (λ i. IsAcknowledged (state_after_run (state_after_result state i e) ahead earlier) input result) first is) in
+    (subst (λ i. IsAcknowledged (state_after_run (state_after_result state i e) ahead earlier) input result) first is)
+    in
     omega (
       arith,
-      told-before (state_after_result state b d) before after ahead behind input done more earlier later result (cc) (cc)
+      told-before (state_after_result state b d) before after ahead behind input done more earlier later result (cc)
+          (cc)
           (omega (arith, many)) (omega (arith, same)) none on,
     )
 told-before state [] after ahead behind input (d ∷ done) more earlier later result inputs results many same none is =
@@ -208,7 +213,8 @@ pub sessions_leave_prefixes : SessionsLeavePrefixes
 sessions_leave_prefixes session is =
     let start = initial_state session.base session.found in
     let same = run-length start session.last session.inputs session.results session.answers is.run in
-    elim (stop_steps (λ devices. devices ≡ session.found) (crash_states no_crash_states start session.inputs session.results)
+    elim (stop_steps (λ devices. devices ≡ session.found)
+    (crash_states no_crash_states start session.inputs session.results)
     session.last
     session.interrupted session.left is.safe) [
       | inl safe ↦ inl (crash_states_are_prefixes start session.inputs session.results session.left same safe)

@@ -81,8 +81,10 @@ IsRoleInRange kind = Unit {0}
 role-in : (t : Telegram) → IsRoleInRange (teach_in_of t)
 role-in t =
     let p = t.payload in
-    of-role IsRoleInRange t tt tt tt tt
-    ((omega arith, omega (arith, field-below p 0 6), omega (arith, field-below p 6 7)), omega (arith, field-below p 13 11)) (
+    of-role IsRoleInRange t tt tt tt tt (
+      (omega arith, omega (arith, field-below p 0 6), omega (arith, field-below p 6 7)),
+      omega (arith, field-below p 13 11),
+    ) (
       (omega (arith, field-below p 48 8), omega (arith, field-below p 40 8), omega (arith, field-below p 32 8)),
       omega (arith, field-below p 29 3, field-below p 16 8),
     )
@@ -190,7 +192,8 @@ after-one mode.Learn = tt
 after-one LearnAnswer = tt
 after-one (LearnAs eep) = tt
 
-input-keeps : (state : State) (input : Input) → IsStateInRange state → ConsistsOfBytes input → KeepsRange (effect state input)
+input-keeps : (state : State) (input : Input) → IsStateInRange state → ConsistsOfBytes input
+    → KeepsRange (effect state input)
 input-keeps state (Received packet) in_range bytes =
     of_packet KeepsRange state packet (record {
       telegrams = λ t carried. record {
@@ -245,7 +248,8 @@ with_mode-in : (mode : Mode) (set : Option Mode) → IfSome set IsModeInRange �
 with_mode-in mode None is old = old
 with_mode-in mode (Some set) is old = is
 
-state_after_result-in : (state : State) (input : Input) (result : InputResult) → ConsistsOfBytes input → IsStateInRange state
+state_after_result-in : (state : State) (input : Input) (result : InputResult) → ConsistsOfBytes input
+    → IsStateInRange state
     → IsStateInRange (state_after_result state input result)
 state_after_result-in state input Applied bytes old =
     let keeps = input-keeps state input old bytes in (
@@ -309,7 +313,8 @@ leaves_in_range session is found bytes interrupted =
     let start = initial_state session.base session.found in
     elim (sessions_leave_prefixes session is) [
       | inl prefix ↦
-          let parts = parts-in prefix.before prefix.after (subst (AllByRecursion ConsistsOfBytes) prefix.inputs_are bytes) in
+          let parts = parts-in prefix.before prefix.after
+          (subst (AllByRecursion ConsistsOfBytes) prefix.inputs_are bytes) in
           let at = subst IsStateInRange (sym prefix.at_is) (state_after_run-in start prefix.before prefix.done parts.0
           (found, tt)) in
           elim prefix.is [

@@ -296,7 +296,8 @@ labels_are_acknowledged state line id label is = record {
     done (Failed cause) e = absurd (cause-not-done cause e)
     done (FailedAtCommit cause) e = absurd (cause-not-done cause e)
 
-    unknown : (result : InputResult) → (answer_for_result state (Ordered line) result).desk ≡ text (Error error.UnknownDevice)
+    unknown : (result : InputResult) → (answer_for_result state (Ordered line) result).desk
+        ≡ text (Error error.UnknownDevice)
         → (result ≡ Applied) × (device_of state.devices id ≡ None) × (update_of state (Ordered line) ≡ None)
     unknown Applied e =
         let At = λ (order : Result Order OrderFault).

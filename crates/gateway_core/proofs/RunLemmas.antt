@@ -17,8 +17,12 @@ pub run-append : (old mid new : State) (inputs more : List Input) (results other
 run-append old mid new [] more [] others [] after first second =
     let P : State → Type 0 = λ s. Run s more others after new in subst P first second
 run-append old mid new (input ∷ inputs) more (result ∷ results) others (answer ∷ answers) after (allows, is, first)
-    second =
-    (allows, is, run-append (state_after_result old input result) mid new inputs more results others answers after first second)
+    second = (
+      allows,
+      is,
+      run-append (state_after_result old input result) mid new inputs more results others answers after
+          first second,
+    )
 run-append old mid new [] more [] others (answer ∷ answers) after first second = absurd first
 run-append old mid new [] more (result ∷ results) others answers after first second = absurd first
 run-append old mid new (input ∷ inputs) more [] others answers after first second = absurd first
@@ -95,7 +99,8 @@ same_failures old left right (input ∷ inputs) (result ∷ results) (other ∷ 
     (_, f, y) =
     let cause : failure_cause result ≡ failure_cause other = cc in
     let from = subst (λ s. Run s inputs others more right) (state-alike old input result other cause) y in
-    let rest = same_failures (state_after_result old input result) left right inputs results others answers more (cc) x from in
+    let rest = same_failures (state_after_result old input result) left right inputs results others answers more
+    (cc) x from in
     (ap (λ c. c ∷ answers) (e ∙ answer-alike old input result other cause ∙ sym f) ∙ ap (λ cs. b ∷ cs) rest.0, rest.1)
 same_failures old left right [] [] [] [] (b ∷ more) alike x y = absurd y
 same_failures old left right [] [] [] (a ∷ answers) more alike x y = absurd x

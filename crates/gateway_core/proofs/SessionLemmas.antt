@@ -14,7 +14,8 @@ use Rattle.learned_devices.proofs.ForCallers.{get-entered}
 use Rattle.gateway_core.specs.Step.{State, Input, Answer, update_of, with_update, state_after}
 use Rattle.gateway_core.specs.Run.{InputResult, Applied, Failed, FailedAtCommit, state_after_result, Run}
 use Rattle.gateway_core.specs.Promises.{Promises, Preserves}
-use Rattle.gateway_core.specs.CrashStates.{CrashStates, no_crash_states, after_committed_update, with_pending_update, crash_states_after_result}
+use Rattle.gateway_core.specs.CrashStates.{CrashStates, no_crash_states, after_committed_update, with_pending_update}
+use Rattle.gateway_core.specs.CrashStates.{crash_states_after_result}
 use Rattle.gateway_core.specs.CrashStates.{crash_states, IsCrashConsistent}
 use Rattle.gateway_core.specs.Sessions.{Session, initial_state, with_interrupted, IsSession, AreSessions}
 use Rattle.gateway_core.specs.Sessions.{possible_update, DoesNotOverride, NoneOverrides, InterruptedDoesNotOverride}
@@ -193,7 +194,8 @@ module _ (Before : Devices → Type 0) (it : DeviceUpdate) where
       → Kept left state.devices → Kept (crash_states left state inputs results) last.devices
   after_all left state last [] [] [] run spares kept = subst (λ (s : State). Kept left s.devices) (sym run) kept
   after_all left state last (input ∷ inputs) (result ∷ results) (answer ∷ answers) run spares kept =
-      after_all (crash_states_after_result left state input result) (state_after_result state input result) last inputs results answers
+      after_all (crash_states_after_result left state input result)
+      (state_after_result state input result) last inputs results answers
       run.2 spares.1
       (after_one left state input result spares.0 kept)
   after_all left state last [] [] (answer ∷ answers) run spares kept = absurd run
@@ -222,9 +224,11 @@ life_keeps it session is spares found =
       ];
     } in
     let all =
-    after_all Before it no_crash_states start session.last session.inputs session.results session.answers is.run spares.0
+    after_all Before it no_crash_states start session.last session.inputs session.results session.answers is.run
+    spares.0
     first in
-    (after_stop Before it (crash_states no_crash_states start session.inputs session.results) session.last session.interrupted
+    (after_stop Before it (crash_states no_crash_states start session.inputs session.results) session.last
+    session.interrupted
     spares.1
     all).safe session.left is.safe
 
@@ -294,7 +298,8 @@ updates_survive_restarts session update sessions last is tells spares are =
     after_all Before update _ (state_after tells.at tells.input) session.last tells.after tells.more
     behind.0 behind.1 tells.spared one in
     let same : crash_states no_crash_states start session.inputs session.results
-    ≡ crash_states (crash_states_after_result early tells.at tells.input Applied) (state_after tells.at tells.input) tells.after
+    ≡ crash_states (crash_states_after_result early tells.at tells.input Applied)
+    (state_after tells.at tells.input) tells.after
     tells.more =
     ap (λ inputs. crash_states no_crash_states start inputs session.results) tells.inputs_are
     ∙ ap (λ results. crash_states no_crash_states start (tells.before ++ tells.input ∷ tells.after) results)

@@ -47,7 +47,8 @@ pub record IsExplained (state : State) (packet : Packet) (result : InputResult) 
       ≡ packet_text (packet_line_of packet disposition)
   pub says : result ≡ Applied → MatchesDeskLines disposition.why (effect state (Received packet)).desk
   pub taken : (result ≡ Applied) ↔ (¬ (disposition.why ≡ why.Refused))
-  pub counts : (state_after_result state (Received packet) result).counts ≡ increment state.counts (count_for disposition.why)
+  pub counts : (state_after_result state (Received packet) result).counts
+      ≡ increment state.counts (count_for disposition.why)
 
 -- this explains each packet, applied or failed, and no line of the desk
 pub record ExplanationsAreCounted : Type 0 where

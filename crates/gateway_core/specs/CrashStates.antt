@@ -14,7 +14,8 @@ no_crash_states = record { has_commit = false; maps = [] }
 
 -- a committed update leaves only the devices with it
 abbrev pub after_committed_update : CrashStates → Devices → Option DeviceUpdate → CrashStates
-after_committed_update left devices (Some update) = record { has_commit = true; maps = apply_update devices update ∷ [] }
+after_committed_update left devices (Some update) =
+    record { has_commit = true; maps = apply_update devices update ∷ [] }
 after_committed_update left devices None = left
 
 -- an update that is not committed also leaves the devices with it
@@ -26,12 +27,14 @@ with_pending_update left devices None = left
 abbrev pub crash_states_after_result : CrashStates → State → Input → InputResult → CrashStates
 crash_states_after_result left state input Applied = after_committed_update left state.devices (update_of state input)
 crash_states_after_result left state input (Failed cause) = left
-crash_states_after_result left state input (FailedAtCommit cause) = with_pending_update left state.devices (update_of state input)
+crash_states_after_result left state input (FailedAtCommit cause) =
+    with_pending_update left state.devices (update_of state input)
 
 -- the inputs one after another, from this state on
 abbrev pub crash_states : CrashStates → State → List Input → List InputResult → CrashStates
 crash_states left state (input ∷ inputs) (result ∷ results) =
-    crash_states (crash_states_after_result left state input result) (state_after_result state input result) inputs results
+    crash_states (crash_states_after_result left state input result) (state_after_result state input result) inputs
+    results
 crash_states left state inputs results = left
 
 abbrev pub IsOneOf : List Devices → Devices → Type 0

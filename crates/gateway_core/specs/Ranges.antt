@@ -34,7 +34,8 @@ InputsAreOfBytes = (stream : List ℕ) (events : List Event) → All (λ byte. b
 -- Inputs of bytes keep the state in range, whatever their results.
 abbrev pub StaysInRange : Type 0
 StaysInRange = (old new : State) (inputs : List Input) (results : List InputResult) (answers : List Answer)
-    → Run old inputs results answers new → AllByRecursion ConsistsOfBytes inputs → IsStateInRange old → IsStateInRange new
+    → Run old inputs results answers new → AllByRecursion ConsistsOfBytes inputs → IsStateInRange old
+    → IsStateInRange new
 
 -- A session with inputs of bytes leaves devices in range, if those that it found were in range.
 abbrev pub LeavesInRange : Type 0
@@ -54,6 +55,7 @@ pub record IsOfDevice (state : State) (input : Input) (line : TeachLine) : Type 
 -- in a state in range, an input of bytes gets `accepted` or `deleted` only for such a device
 abbrev pub ReportsInRange : Type 0
 ReportsInRange =
-    (state : State) (input : Input) (result : InputResult) (line : TeachLine) → IsStateInRange state → ConsistsOfBytes input
+    (state : State) (input : Input) (result : InputResult) (line : TeachLine) → IsStateInRange state
+    → ConsistsOfBytes input
     → (answer_for_result state input result).desk ≡ text (Teach line)
     → (line.outcome ≡ Accepted) ⊎ (line.outcome ≡ Deleted) → IsOfDevice state input line

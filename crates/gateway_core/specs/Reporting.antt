@@ -82,7 +82,8 @@ pub record LabelIsAcknowledged (state : State) (line : List ℕ) (id : ℕ) (lab
   pub done : (result : InputResult) → (answer_for_result state (Ordered line) result).desk ≡ text Done
       → (result ≡ Applied) × IsSome (device_of state.devices id)
       × (update_of state (Ordered line) ≡ Some (relabel_update id label))
-  pub unknown : (result : InputResult) → (answer_for_result state (Ordered line) result).desk ≡ text (Error UnknownDevice)
+  pub unknown : (result : InputResult) → (answer_for_result state (Ordered line) result).desk
+      ≡ text (Error UnknownDevice)
       → (result ≡ Applied) × (device_of state.devices id ≡ None) × (update_of state (Ordered line) ≡ None)
   pub answers : length line ≤ max_line
       → ((answer_to state (Ordered line)).desk ≡ text Done)

@@ -44,8 +44,8 @@ module _ {S : Type 0} (stored : S → DeviceStoreState) where
       → (left : Devices) → (stored new.registry).may_recover left
       → SessionMayLeave old.base found inputs answers None left
 
-  -- the same holds within the next input, from its write on: during the write, if it fails, and after its commit,
-  -- before its answer
+  -- The same holds within the next input, from its write on: during the write, if it fails, and after its commit,
+  -- before its answer. The premise is that a crash at this moment leaves earlier devices, or those with the update.
   abbrev pub CrashesEndSessions : Type 0
   CrashesEndSessions =
       (old new : HandlerValue S) (within : S) (found : Devices) (inputs : List Input) (answers : List Answer)

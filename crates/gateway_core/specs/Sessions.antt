@@ -8,7 +8,8 @@ use Rattle.json_lines.specs.Counts.{zero_counts}
 use Rattle.gateway_core.specs.Step.{State, Input, Answer, update_of, state_after}
 use Rattle.gateway_core.specs.Run.{InputResult, Applied, Failed, FailedAtCommit, state_after_result, Run}
 use Rattle.gateway_core.specs.Promises.{Promises, Preserves}
-use Rattle.gateway_core.specs.CrashStates.{CrashStates, no_crash_states, with_pending_update, crash_states, IsCrashConsistent}
+use Rattle.gateway_core.specs.CrashStates.{CrashStates, no_crash_states, with_pending_update, crash_states}
+use Rattle.gateway_core.specs.CrashStates.{IsCrashConsistent}
 
 -- the base ID, the devices found, the inputs with their results and answers, the state after them, the input in
 -- progress at the crash, and the devices that the crash left

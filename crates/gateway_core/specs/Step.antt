@@ -134,7 +134,7 @@ pub data TelegramCase : Type 0 where
   TeachInTelegram : TelegramCase
   -- it is data of a learned sender
   LearnedData : (known : Device) → TelegramCase
-  -- it is data of another sender
+  -- it is data of a sender that is not learned
   UnknownData : TelegramCase
 
 abbrev pub data_case : Option Device → TelegramCase
@@ -292,7 +292,8 @@ order_error_name WrongProfile = error.WrongProfile
 -- of no order to devices, since each of these has a telegram or a fault.
 abbrev pub send_result_effect : Bool → Option (Result Telegram OrderFault) → Effect
 send_result_effect asked (Some (Ok t)) = send_effect asked (spelling (radio_packet t))
-send_result_effect asked (Some (Err fault)) = record (error_effect (order_error_name fault)) { need = needs_store_if asked }
+send_result_effect asked (Some (Err fault)) =
+    record (error_effect (order_error_name fault)) { need = needs_store_if asked }
 send_result_effect asked None = record no_effect { need = needs_store_if asked }
 
 -- the stored device of an order

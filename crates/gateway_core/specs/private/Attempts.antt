@@ -87,7 +87,8 @@ IsCommittedAs line committed =
     × (committed.1 ≡ text (TeachOf line))
 
 -- only the registry has changed, and this holds for the devices that it had
-pub record ChangesOnlyRegistry {S : Type 0} (stored : S → DeviceStoreState) (old : HandlerValue S) (IsSo : Devices → Type 0)
+pub record ChangesOnlyRegistry {S : Type 0} (stored : S → DeviceStoreState) (old : HandlerValue S)
+    (IsSo : Devices → Type 0)
     (new : HandlerValue S) : Type 0 where
   pub same : new ≡ record old { registry = new.registry }
   pub clean : (stored new.registry).honest → (stored old.registry).honest

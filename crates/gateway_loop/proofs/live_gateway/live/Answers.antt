@@ -171,7 +171,8 @@ returns-in_default-read-clause-whole g c =
     λ room. (
       λ ok. absurd cc,
       λ all. absurd (not_failed (counts c.args.desk_in.now) (counts c.read-in-loop-turn.new.self) c.args.turns
-          room.desk_in (ap (λ t. t.failed) c.in_default-read.ensures.counted ∙ ap saturated_increment desk.well) all.desk_well),
+          room.desk_in (ap (λ t. t.failed) c.in_default-read.ensures.counted ∙ ap saturated_increment desk.well)
+          all.desk_well),
     )
 
 -- ---- an answer to an order is not written completely

@@ -15,7 +15,8 @@ invariant-loop-turn g l = record {
   desk : l.dispatcher.driver.reply_sink.desk.ghost_name ≡ l.initial.dispatcher.driver.reply_sink.desk.ghost_name;
   idle : IsDrained l.dispatcher.driver.gateway.now;
   progress : (read : List Turn) × (length read ≡ l._turn)
-      × AllReadsSucceed (source_value g.P.Source l.fn.serial_in) (source_value g.P.Source l.serial_in) (serial_reads read)
+      × AllReadsSucceed (source_value g.P.Source l.fn.serial_in) (source_value g.P.Source l.serial_in)
+      (serial_reads read)
       × AllReadsSucceed (source_value g.Q.Source l.fn.desk_in) (source_value g.Q.Source l.desk_in) (desk_reads read)
       × TakesTurns g.S.DeviceStore.store_state (live_output_of g.R.Sink g.D.Sink) l.initial.dispatcher l.dispatcher
       read;

@@ -91,7 +91,8 @@ pub returns-then-length-eq0-clause-ended : goal.returns-then-length-eq0-clause-e
 returns-then-length-eq0-clause-ended g c =
     let (input, read, taken) = c.loop-turn.invariant.progress in
     let done =
-    script_taken g.S.DeviceStore.store_state g.W.Sink _ c.loop-turn.dispatcher input c.process_last_line.new.self.driver taken
+    script_taken g.S.DeviceStore.store_state g.W.Sink _ c.loop-turn.dispatcher input
+    c.process_last_line.new.self.driver taken
     (c.in-Ok-process_last_line.ensures.taken taken.rest taken.keeps) in
     let went = done.processed.answered.out.1.went in
     let reads = c.loop-turn.invariant.reads in search rules
@@ -112,7 +113,8 @@ returns-in_default-clause-err g c =
         reads = search rules;
         at_end = c.in-Ok.ensures.bytes.1 c.if-length-eq0.true (omega arith);
         broken =
-            part_at_end stored g.W.Sink entry.driver c.process_last_line.new.self.driver _ _ (search rules) (search rules)
+            part_at_end stored g.W.Sink entry.driver c.process_last_line.new.self.driver _ _ (search rules)
+            (search rules)
             c.loop-turn.dispatcher.driver input _ _ (script_of_bytes stored g.W.Sink _ c.loop-turn.dispatcher input
             taken)
             taken.taken.processed (c.in_default.ensures.taken taken.rest taken.keeps);
@@ -141,7 +143,8 @@ returns-in_default-process_bytes-clause-err g c =
     let entry = first_player g.S.DeviceStore.store_state (replay_output g.W.Sink) ScriptLines taken in
     let chunk = take c.in-Ok.length c.read.new.buffer in
     let crash =
-    stops_behind stored (replay_output g.W.Sink) ScriptLines _ c.loop-turn.dispatcher c.process_bytes.new.self input chunk
+    stops_behind stored (replay_output g.W.Sink) ScriptLines _ c.loop-turn.dispatcher c.process_bytes.new.self input
+    chunk
     taken
     (c.in_default-process_bytes.ensures.stopped taken.rest taken.keeps) in
     record {
@@ -154,7 +157,8 @@ returns-in_default-process_bytes-clause-err g c =
             went_well Failed (reads c.args.reader.now) (reads c.loop-turn.reader) (reads c.read.new.self)
             c.in-Ok.length c.loop-turn.invariant.reads c.in-Ok.ensures.counted c.if-length-eq0.false;
         broken =
-            part_at_line stored g.W.Sink entry c.process_bytes.new.self (input ++ chunk) _ _ (search rules) (search rules)
+            part_at_line stored g.W.Sink entry c.process_bytes.new.self (input ++ chunk) _ _ (search rules)
+            (search rules)
             crash;
       });
     }
@@ -180,7 +184,8 @@ returns-in_default-process_bytes-clause-too_many g c =
     stops_behind g.S.DeviceStore.store_state (replay_output g.W.Sink) ScriptLines _ c.loop-turn.dispatcher
     c.process_bytes.new.self input
     _ taken (c.in_default-process_bytes.ensures.stopped taken.rest taken.keeps) in
-    let wrong : OneFailedOrEmpty (counts c.args.writer.now) (counts c.process_bytes.new.self.driver.reply_sink.sink.now) =
+    let wrong : OneFailedOrEmpty (counts c.args.writer.now)
+    (counts c.process_bytes.new.self.driver.reply_sink.sink.now) =
     crash.broken.answered.out.1.went in search rules
 
 pub loop-turn-preserved : goal.loop-turn-preserved

@@ -41,4 +41,5 @@ returns-in-Status g c = rw c.in-Status.is c.try_status.ensures
 
 pub returns-in-Base : goal.returns-in-Base
 returns-in-Base g c =
-    rw c.in-Base.is (tries-alone g.S.DeviceStore.store_state _ _ _ (λ devices keeps. (c.request_base_id.ensures false, keeps)))
+    rw c.in-Base.is (tries-alone g.S.DeviceStore.store_state _ _ _
+    (λ devices keeps. (c.request_base_id.ensures false, keeps)))

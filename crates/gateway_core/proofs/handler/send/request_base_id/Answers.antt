@@ -8,4 +8,5 @@ pub returns : goal.returns
 returns c =
     λ asked.
     subst (λ bytes. MatchesEffect c.send_effect.result (send_effect asked bytes))
-    (c.in-Ok.ensures.ok ∙ ap (λ held. held ++ spelling base_id_request) c.new-packet.ensures) (c.send_effect.ensures asked)
+    (c.in-Ok.ensures.ok ∙ ap (λ held. held ++ spelling base_id_request) c.new-packet.ensures)
+    (c.send_effect.ensures asked)

@@ -45,7 +45,8 @@ returns-in_err-process_ended_lines-clause-stopped g c =
     subst (λ s. StopsAtLine stored output lines old new s) (append_assoc tail done _ ∙ ap (λ s. tail ++ s) whole)
     (stops_behind stored output lines old mid new (tail ++ done) (take end rest ++ 10 ∷ behind) p
     (line_stops stored output lines mid new p.rest (take end rest) behind p.keeps.one
-    (one_line_before rest end (omega arith) found.0.before) (c.in_err-process_ended_lines.ensures.taken p.rest p.keeps))))
+    (one_line_before rest end (omega arith) found.0.before)
+    (c.in_err-process_ended_lines.ensures.taken p.rest p.keeps))))
 
 pub loop-end-preserved : goal.loop-end-preserved
 loop-end-preserved g c =

@@ -23,4 +23,5 @@ returns-clause-taken g c = λ tail keeps.
     let tested = rw c.as_slice-line.ensures at c.is_empty.ensures in
     let there = eqb-false (length kept) 0 (sym tested ∙ c.if-is_empty.false) in
     last_line g.S.DeviceStore.store_state g.O.ReplySink.output c.process_script_line.result c.args.self.now.driver
-    c.process_script_line.new.self tail kept keeps there (rw c.as_slice-line.ensures at c.process_script_line.ensures.taken)
+    c.process_script_line.new.self tail kept keeps there
+    (rw c.as_slice-line.ensures at c.process_script_line.ensures.taken)

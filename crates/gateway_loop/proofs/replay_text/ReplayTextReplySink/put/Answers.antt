@@ -64,5 +64,6 @@ returns-clause-put g c =
           (puts_one r (text_of explains) old new answer
           (subst (λ o. Writes old.held new.held r (radio_text o ++ desk_text explains answer)) (sym radio)
           (subst (λ (sink : SinkValue). Writes sink.held new.held r (desk_text explains answer)) kept desk))
-          (subst (λ (sink : SinkValue). CallsMatchResult r sink.counts new.counts) kept c.write_desk_text.ensures.counted))
+          (subst (λ (sink : SinkValue). CallsMatchResult r sink.counts new.counts) kept
+          c.write_desk_text.ensures.counted))
     ]
