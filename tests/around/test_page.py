@@ -553,8 +553,8 @@ class Rights(PageTest):
         """A bridge runs, and has heard a device at this time."""
         store = Store(str(gateway.state), "")
         self.addCleanup(store.connection.close)
-        told = {"last_seen": time.isoformat(timespec="seconds")}
-        known = {device: Device(device, "D5-00-01", "", None, told)}
+        state = {"last_seen": time.isoformat(timespec="seconds")}
+        known = {device: Device(device, "D5-00-01", "", None, state)}
         store.save(end_of(str(gateway.lines_path)), [device], known, set())
         gateway.state.parent.chmod(0o755)
         for file in gateway.state.parent.iterdir():

@@ -90,8 +90,8 @@ class Recorded(Site):
         """A bridge that runs, and has heard these devices."""
         store = Store(str(self.state), "")
         self.addCleanup(store.connection.close)
-        told = {"last_seen": SEEN.isoformat(timespec="seconds")}
-        store.save(end_of(str(self.lines)), names, {name: Device(name, "D5-00-01", "", None, told) for name in names},
+        state = {"last_seen": SEEN.isoformat(timespec="seconds")}
+        store.save(end_of(str(self.lines)), names, {name: Device(name, "D5-00-01", "", None, state) for name in names},
                    set())
 
     def test_json(self):
