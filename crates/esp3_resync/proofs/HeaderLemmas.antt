@@ -1,25 +1,43 @@
 -- A header at the front of some bytes, and what it implies about them.
-use Rattle.std.proofs.Common.{◌≡◌, ◌≢◌, ℕ, ◌+◌, ◌<◌, ◌≤◌, List, ◌++◌, length, take, refl, subst}
+use Rattle.std.proofs.Common.{◌≡◌, ◌≢◌, ℕ, ◌+◌, ◌<◌, ◌≤◌, List, [], ◌++◌, length, take, refl, subst}
 use Rattle.std.proofs.Common.{drop, get_or, sym, ap, ◌∙◌, arith, length-append, length-take, length-drop, inl, inr}
 use Rattle.std.proofs.lemmas.List.{get_or-drop, take-append-le}
 use Rattle.std.proofs.lemmas.Bool.{cases_eq, cases_lt}
 use Rattle.esp3_frames.specs.Check.{check}
 use Rattle.esp3_frames.specs.Packet.{max_packet}
-use Rattle.esp3_frames.specs.Frames.{front_of, front_after_header}
+use Rattle.esp3_frames.specs.Frames.{front_of, front_after_header, frames_of, Frames}
 use Rattle.esp3_frames.specs.Frames.Front.{Never, Partial, Whole}
 use Rattle.esp3_frames.specs.Outcome.{header_of}
 use Rattle.esp3_frames.specs.declared.packet.Header.{Header}
-use Rattle.esp3_frames.proofs.ForCallers.{front-good, front_after_header-partial, front_after_header-whole}
+use Rattle.esp3_frames.proofs.ForCallers.{front-empty, front-good, front_after_header-partial, front_after_header-whole}
 use Rattle.esp3_frames.proofs.ForCallers.{front_after_header-never, whole_length}
+use Rattle.esp3_resync.proofs.FramesLemmas.{held}
 use Rattle.esp3_resync.specs.private.WindowFronts.{HasHeader, IsWindowFront, packet_at}
 use Rattle.esp3_resync.specs.declared.front.WindowFront.{WindowFront}
 use Rattle.esp3_resync.specs.declared.front.WindowFront.TheVariants as found
 
 -- a window's bytes do not begin with a byte to skip
 pub not_never : (x : WindowFront) (w : List ℕ) → IsWindowFront x w → front_of w ≢ Never
+not_never found.Empty w is n = let z = sym (ap front_of is ∙ front-empty) ∙ n in cc
 not_never found.PartialHeader w is n = let z = sym is.0 ∙ n in cc
 not_never (found.PartialPacket h) w is n = let z = sym is.0 ∙ n in cc
 not_never (found.WholePacket h) w is n = let z = sym is ∙ n in cc
+
+-- no byte is held
+pub is_empty : (x : WindowFront) (w : List ℕ) → x ≡ found.Empty → IsWindowFront x w → w ≡ []
+is_empty x w e is = subst (λ y. IsWindowFront y w) e is
+
+-- a byte is held
+pub not_empty : (x : WindowFront) (w : List ℕ) → IsWindowFront x w → (x ≡ found.Empty → ⊥) → 0 < length w
+not_empty found.Empty w is n = absurd (n refl)
+not_empty found.PartialHeader w is n = is.1
+not_empty (found.PartialPacket h) w is n = omega (arith, is.1.0)
+not_empty (found.WholePacket h) w is n = omega (arith, (whole_length w (packet_at h w) is).0)
+
+-- if no packet is ready, a framer's bytes are its rest, and a part of a packet
+pub held_bytes : (x : WindowFront) (w : List ℕ) (f : Frames) → IsWindowFront x w → frames_of w ≡ f
+    → length f.ready ≡ 0 → (front_of w ≡ Partial) × (w ≡ f.rest)
+held_bytes x w f is e none = held w f (not_never x w is) e none
 
 pub is_whole : (x : WindowFront) (w : List ℕ) (h : Header) → x ≡ found.WholePacket h → IsWindowFront x w
     → front_of w ≡ Whole (packet_at h w)
@@ -28,6 +46,7 @@ is_whole x w h e is = subst (λ y. IsWindowFront y w) e is
 -- no whole packet is at the front
 pub not_whole : (x : WindowFront) (w : List ℕ) → IsWindowFront x w → ((h : Header) → x ≡ found.WholePacket h → ⊥)
     → front_of w ≡ Partial
+not_whole found.Empty w is n = ap front_of is ∙ front-empty
 not_whole found.PartialHeader w is n = is.0
 not_whole (found.PartialPacket h) w is n = is.0
 not_whole (found.WholePacket h) w is n = absurd (n h refl)
@@ -35,7 +54,8 @@ not_whole (found.WholePacket h) w is n = absurd (n h refl)
 -- a part of a packet whose header is not complete has less than six bytes
 pub no_header : (x : WindowFront) (w : List ℕ) → IsWindowFront x w → front_of w ≡ Partial
     → ((h : Header) → x ≡ found.PartialPacket h → ⊥) → length w < 6
-no_header found.PartialHeader w is partial n = is.1
+no_header found.Empty w is partial n = omega (arith, ap length is)
+no_header found.PartialHeader w is partial n = is.2
 no_header (found.PartialPacket h) w is partial n = absurd (n h refl)
 no_header (found.WholePacket h) w is partial n = let z = sym partial ∙ is in absurd cc
 

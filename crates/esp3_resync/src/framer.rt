@@ -103,7 +103,7 @@ impl Framer {
     {
         Ok(Framer {
             window: Window::new(alloc)?,
-            front: WindowFront::PartialHeader,
+            front: WindowFront::Empty,
         })
     }
 
@@ -160,7 +160,7 @@ impl Framer {
             self.front = resync_with_header(&mut self.window, header);
             return count;
         }
-        if self.window.is_empty() {
+        if let WindowFront::Empty = self.front {
             let count = len_before_sync(bytes);
             if count > 0 {
                 return count;
@@ -184,14 +184,14 @@ impl Framer {
             length (frames_of (self.now.rest ++ take k bytes.now)).ready ≡ 0) }
         ensures none { IfNone result (self.now.rest ≡ [] → (p : Packet) → front_of bytes.now ≢ Whole p) }
     {
-        if !self.window.is_empty() {
+        let WindowFront::Empty = self.front else {
             return None;
-        }
+        };
         first_packet(bytes)
     }
 
-    // Moves the data and the optional data of the first packet that is ready into `to`, and returns its header. If there
-    // is none, nothing changes.
+    // Moves the data and the optional data of the first packet that is ready into `to`, and returns its header. If
+    // there is none, nothing changes.
     fn move_ready(&mut self, to: &mut Vec<u8>) -> Option<Header>
         requires { max_packet ≤ vec_capacity to.old }
         ensures ready { IsSome result ↔ (0 < length self.old.ready) }

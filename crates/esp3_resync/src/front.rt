@@ -11,7 +11,9 @@ use esp3_frames::{Header, SYNC_BYTE, lengths_fit, read_header};
 /// The front of a window at which a packet may begin.
 #[derive(Clone, Copy)]
 pub enum WindowFront {
-    /// Less than six bytes of a packet. They are all that is held.
+    /// No byte is held.
+    Empty,
+    /// One to five bytes of a packet. They are all that is held.
     PartialHeader,
     /// A part of the packet with this header. It is all that is held.
     PartialPacket(Header),
@@ -58,7 +60,9 @@ fn front(window: &Window) -> Option<WindowFront>
     ensures { MatchOption result (front_of window.now ≡ Never) (λ front. IsWindowFront front window.now) }
 {
     let Some(first_six) = window.as_slice().first_chunk::<6>() else {
-        return if may_begin(window) {
+        return if window.is_empty() {
+            Some(WindowFront::Empty)
+        } else if may_begin(window) {
             Some(WindowFront::PartialHeader)
         } else {
             None

@@ -19,7 +19,8 @@ packet_at h w = packet_with h (take (h.data_len + h.opt_len) (drop 6 w))
 
 -- the code's result agrees with the beginning of the bytes w
 abbrev pub IsWindowFront : WindowFront → List ℕ → Type 0
-IsWindowFront found.PartialHeader w = (front_of w ≡ Partial) × (length w < 6)
+IsWindowFront found.Empty w = w ≡ []
+IsWindowFront found.PartialHeader w = (front_of w ≡ Partial) × (0 < length w) × (length w < 6)
 IsWindowFront (found.PartialPacket h) w = (front_of w ≡ Partial) × HasHeader w h
 IsWindowFront (found.WholePacket h) w = front_of w ≡ Whole (packet_at h w)
 

@@ -1,4 +1,6 @@
 use Rattle.std.proofs.Common.{◌<◌, ◌∙◌, length, take, sym, ap, cond, arith}
+use Rattle.std.proofs.lemmas.Bool.{eqb-true, eqb-false}
+use Rattle.std.proofs.lemmas.List.{nil_from_length}
 use Rattle.esp3_frames.specs.Frames.Front.{Never, Partial}
 use Rattle.esp3_frames.specs.Outcome.{header_of}
 use Rattle.esp3_frames.proofs.ForCallers.{front-short, front-bad}
@@ -10,6 +12,7 @@ returns-then-may_begin c =
     omega (arith, c.in_default.ensures.cases, ap length c.as_slice.ensures) in (
       front-short c.args.window.now short
           ∙ ap (λ b. cond b Partial Never) (sym c.may_begin.ensures ∙ c.if-may_begin.true),
+      omega (arith, eqb-false _ _ (sym c.is_empty.ensures ∙ c.if-is_empty.false)),
       short,
     )
 
@@ -24,3 +27,6 @@ returns-in_default-read_header c =
     front-bad c.args.window.now c.in_default-read_header.field-0
     (omega (arith, first.enough, ap length c.as_slice.ensures))
     (ap header_of (sym (ap (take 6) c.as_slice.ensures) ∙ sym first.same) ∙ sym c.in_default-read_header.ensures)
+
+pub returns-then-is_empty : goal.returns-then-is_empty
+returns-then-is_empty c = nil_from_length _ (eqb-true _ _ (sym c.is_empty.ensures ∙ c.if-is_empty.true))

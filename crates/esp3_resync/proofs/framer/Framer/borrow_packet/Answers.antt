@@ -1,13 +1,12 @@
 use Rattle.std.proofs.Common.{◌≡◌, ℕ, ◌+◌, List, [], ◌++◌, length, take, sym, ap, ◌∙◌, subst, arith, length-take}
 use Rattle.std.specs.Prelude.{Option, Some, None, IfSome}
-use Rattle.std.proofs.lemmas.Bool.{eqb-true, eqb-false}
-use Rattle.std.proofs.lemmas.List.{nil_from_length, take-take}
+use Rattle.std.proofs.lemmas.List.{take-take}
 use Rattle.esp3_frames.specs.Frames.{frames_of}
 use Rattle.esp3_frames.specs.Outcome.{packet_of}
 use Rattle.esp3_frames.specs.Packet.{IsPacket}
 use Rattle.esp3_frames.proofs.ForCallers.{whole_length}
-use Rattle.esp3_resync.proofs.FramesLemmas.{held, lent, quiet_part_of_packet}
-use Rattle.esp3_resync.proofs.HeaderLemmas.{not_never}
+use Rattle.esp3_resync.proofs.FramesLemmas.{lent, quiet_part_of_packet}
+use Rattle.esp3_resync.proofs.HeaderLemmas.{held_bytes, is_empty, not_empty}
 use Rattle.esp3_resync.proofs.framer.Framer.borrow_packet.Goals as goal
 
 carry : {A : Type 0} (P Q : A → Type 0) → ((x : A) → P x → Q x) → (r : Option A) → IfSome r P → IfSome r Q
@@ -31,8 +30,8 @@ returns-clause-taken c =
     let w = c.self.inside.window in
     let f = c.args.self.now in
     let b = c.args.bytes.now in
-    let h = held w f (not_never c.self.inside.front c.self.inside.window c.self.invariant) c.self.view_is c.requires in
-    let nil : w ≡ [] = nil_from_length w (eqb-true _ _ (sym c.if-not-is_empty.ensures)) in
+    let h = held_bytes c.self.inside.front c.self.inside.window f c.self.invariant c.self.view_is c.requires in
+    let nil : w ≡ [] = is_empty c.self.inside.front w c.in-Empty.is c.self.invariant in
     carry _ _ (λ r is. lent (packet_of r.0) w f (take r.1 b) nil h.1
     (subst (λ n. IsPacket (packet_of r.0) (take n b)) (sym is.1) (whole_length b (packet_of r.0) is.0).2))
     c.first_packet.result c.first_packet.ensures.some
@@ -42,8 +41,8 @@ returns-clause-before c =
     let w = c.self.inside.window in
     let f = c.args.self.now in
     let b = c.args.bytes.now in
-    let h = held w f (not_never c.self.inside.front c.self.inside.window c.self.invariant) c.self.view_is c.requires in
-    let nil : w ≡ [] = nil_from_length w (eqb-true _ _ (sym c.if-not-is_empty.ensures)) in
+    let h = held_bytes c.self.inside.front c.self.inside.window f c.self.invariant c.self.view_is c.requires in
+    let nil : w ≡ [] = is_empty c.self.inside.front w c.in-Empty.is c.self.invariant in
     carry _ _ (λ r is k below.
     let packet = packet_of r.0 in
     let whole = whole_length b packet is.0 in
@@ -53,8 +52,9 @@ returns-clause-before c =
     ∙ quiet_part_of_packet packet (take n b) k whole.2 (omega (arith, below, is.1, whole.0, length-take n b)))
     c.first_packet.result c.first_packet.ensures.some
 
-pub returns-then-not-is_empty-clause-none : goal.returns-then-not-is_empty-clause-none
-returns-then-not-is_empty-clause-none c = λ nil p.
+pub returns-in_default-clause-none : goal.returns-in_default-clause-none
+returns-in_default-clause-none c = λ nil p.
     let w = c.self.inside.window in
-    let h = held w c.args.self.now (not_never c.self.inside.front c.self.inside.window c.self.invariant) c.self.view_is c.requires in
-    let none = ap length (h.1 ∙ nil) in absurd (eqb-false _ _ (sym c.if-not-is_empty.ensures) none)
+    let front = c.self.inside.front in
+    let h = held_bytes front w c.args.self.now c.self.invariant c.self.view_is c.requires in
+    absurd (omega (arith, ap length (h.1 ∙ nil), not_empty front w c.self.invariant c.in_default.not-Empty))

@@ -12,7 +12,8 @@ rest_of_framer w f is = subst (λ (x : Frames). MayBecomePacket x.rest) is (rest
 pub returns-in-WholePacket-clause-ready : goal.returns-in-WholePacket-clause-ready
 returns-in-WholePacket-clause-ready c =
     let s = c.self.inside.window in
-    let r = ready_whole s _ (is_whole c.self.inside.front s c.in-WholePacket.field-0 c.in-WholePacket.is c.self.invariant) in
+    let found = c.in-WholePacket in
+    let r = ready_whole s _ (is_whole c.self.inside.front s found.field-0 found.is c.self.invariant) in
     let e = ap (λ (x : Frames). length x.ready) c.self.view_is in
     (λ _. omega (arith, r, e), λ _. refl)
 

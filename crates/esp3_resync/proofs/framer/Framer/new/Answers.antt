@@ -5,8 +5,7 @@ use Rattle.esp3_resync.proofs.FramesLemmas.{frames_of-empty}
 use Rattle.esp3_resync.proofs.framer.Framer.new.Goals as goal
 
 pub invariant_of-result : goal.invariant_of-result
-invariant_of-result c =
-    (ap front_of c.in_ok-new.ensures ∙ front-empty, omega (arith, ap length c.in_ok-new.ensures))
+invariant_of-result c = c.in_ok-new.ensures
 
 pub returns : goal.returns
 returns c = ap frames_of c.in_ok-new.ensures ∙ frames_of-empty

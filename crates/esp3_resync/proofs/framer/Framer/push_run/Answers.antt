@@ -5,11 +5,14 @@ use Rattle.esp3_resync.proofs.HeaderLemmas.{not_never}
 use Rattle.esp3_resync.proofs.framer.Framer.push_run.Goals as goal
 
 pub loop-count-init : goal.loop-count-init
-loop-count-init c = record {
-  within = omega arith;
-  taken = idle c.self.inside.window c.args.self.now (not_never c.self.inside.front c.self.inside.window c.self.invariant) c.self.view_is c.requires;
-  none = c.requires;
-}
+loop-count-init c =
+    let w = c.self.inside.window in
+    record {
+      within = omega arith;
+      taken =
+          idle w c.args.self.now (not_never c.self.inside.front w c.self.invariant) c.self.view_is c.requires;
+      none = c.requires;
+    }
 
 pub returns-then-is_ready-clause-taken : goal.returns-then-is_ready-clause-taken
 returns-then-is_ready-clause-taken c =

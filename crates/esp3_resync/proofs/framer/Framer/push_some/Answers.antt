@@ -1,19 +1,19 @@
 use Rattle.std.proofs.Common.{◌≡◌, List, ℕ, [], ◌++◌, length, take, sym, ap, ◌∙◌, arith, length-append, length-take}
-use Rattle.std.proofs.lemmas.Bool.{eqb-true}
-use Rattle.std.proofs.lemmas.List.{nil_from_length}
 use Rattle.esp3_frames.specs.Frames.{Frames, frames_of}
-use Rattle.esp3_resync.proofs.FramesLemmas.{held, few, frames_of-noise, noise_taken, unready_partial}
-use Rattle.esp3_resync.proofs.HeaderLemmas.{not_never, no_header}
+use Rattle.esp3_resync.proofs.FramesLemmas.{few, frames_of-noise, noise_taken, unready_partial}
+use Rattle.esp3_resync.proofs.HeaderLemmas.{held_bytes, is_empty, no_header}
 use Rattle.esp3_resync.proofs.framer.Framer.push_some.Goals as goal
 
 pub push_announced-count-requires-clause-partial : goal.push_announced-count-requires-clause-partial
 push_announced-count-requires-clause-partial c =
-    (held c.self.inside.window c.args.self.now (not_never c.self.inside.front c.self.inside.window c.self.invariant) c.self.view_is c.requires.none).0
+    let w = c.self.inside.window in
+    (held_bytes c.self.inside.front w c.args.self.now c.self.invariant c.self.view_is c.requires.none).0
 
 pub returns-in-PartialPacket-clause-taken : goal.returns-in-PartialPacket-clause-taken
 returns-in-PartialPacket-clause-taken c =
+    let w = c.self.inside.window in
     let t = take c.push_announced-count.result c.args.bytes.now in
-    let h = held c.self.inside.window c.args.self.now (not_never c.self.inside.front c.self.inside.window c.self.invariant) c.self.view_is c.requires.none in
+    let h = held_bytes c.self.inside.front w c.args.self.now c.self.invariant c.self.view_is c.requires.none in
     c.resync_with_header-self-inside.ensures.frames
     ∙ ap frames_of (c.push_announced-count.ensures.taken ∙ ap (λ (y : List ℕ). y ++ t) h.1)
 
@@ -21,7 +21,7 @@ pub returns-in-PartialPacket-clause-before : goal.returns-in-PartialPacket-claus
 returns-in-PartialPacket-clause-before c = λ k below.
     let w = c.self.inside.window in
     let t = take k c.args.bytes.now in
-    let h = held w c.args.self.now (not_never c.self.inside.front w c.self.invariant) c.self.view_is c.requires.none in
+    let h = held_bytes c.self.inside.front w c.args.self.now c.self.invariant c.self.view_is c.requires.none in
     ap (λ (y : List ℕ). length (frames_of (y ++ t)).ready) (sym h.1)
     ∙ unready_partial (w ++ t) (c.push_announced-count.ensures.before k below)
 
@@ -29,7 +29,7 @@ pub push_header_bytes-count-requires : goal.push_header_bytes-count-requires
 push_header_bytes-count-requires c =
     let x = c.self.inside.front in
     let w = c.self.inside.window in
-    let h = held w c.args.self.now (not_never x w c.self.invariant) c.self.view_is c.requires.none in
+    let h = held_bytes x w c.args.self.now c.self.invariant c.self.view_is c.requires.none in
     no_header x w c.self.invariant h.0 c.in_default.not-PartialPacket
 
 pub returns-then-count-gt0-clause-taken : goal.returns-then-count-gt0-clause-taken
@@ -38,24 +38,25 @@ returns-then-count-gt0-clause-taken c =
     let f = c.args.self.now in
     let b = c.args.bytes.now in
     let n = c.len_before_sync-count.result in
-    let h = held w f (not_never c.self.inside.front c.self.inside.window c.self.invariant) c.self.view_is c.requires.none in
-    let nil : w ≡ [] = nil_from_length w (eqb-true _ _ (sym c.is_empty.ensures ∙ c.if-is_empty.true)) in
+    let h = held_bytes c.self.inside.front c.self.inside.window f c.self.invariant c.self.view_is c.requires.none in
+    let nil : w ≡ [] = is_empty c.self.inside.front w c.in-Empty.is c.self.invariant in
     noise_taken w (take n b) f nil h.1 c.self.view_is (frames_of-noise b n c.len_before_sync-count.ensures.none)
 
 pub returns-then-count-gt0-clause-before : goal.returns-then-count-gt0-clause-before
 returns-then-count-gt0-clause-before c = λ k below.
     let w = c.self.inside.window in
     let b = c.args.bytes.now in
-    let h = held c.self.inside.window c.args.self.now (not_never c.self.inside.front c.self.inside.window c.self.invariant) c.self.view_is c.requires.none in
-    let nil : w ≡ [] = nil_from_length w (eqb-true _ _ (sym c.is_empty.ensures ∙ c.if-is_empty.true)) in
+    let h = held_bytes c.self.inside.front w c.args.self.now c.self.invariant c.self.view_is c.requires.none in
+    let nil : w ≡ [] = is_empty c.self.inside.front w c.in-Empty.is c.self.invariant in
     ap (λ (y : List ℕ). length (frames_of (y ++ take k b)).ready) (sym h.1 ∙ nil)
     ∙ ap (λ (y : Frames). length y.ready)
     (frames_of-noise b k (λ i less. c.len_before_sync-count.ensures.none i (omega (arith, less, below))))
 
 pub returns-clause-taken : goal.returns-clause-taken
 returns-clause-taken c =
+    let w = c.self.inside.window in
     let t = take c.push_header_bytes-count.result c.args.bytes.now in
-    let h = held c.self.inside.window c.args.self.now (not_never c.self.inside.front c.self.inside.window c.self.invariant) c.self.view_is c.requires.none in
+    let h = held_bytes c.self.inside.front w c.args.self.now c.self.invariant c.self.view_is c.requires.none in
     c.resync-self-inside.ensures.frames
     ∙ ap frames_of (c.push_header_bytes-count.ensures.taken ∙ ap (λ (y : List ℕ). y ++ t) h.1)
 
@@ -64,7 +65,7 @@ returns-clause-before c = λ k below.
     let w = c.self.inside.window in
     let b = c.args.bytes.now in
     let n = c.push_header_bytes-count.result in
-    let h = held c.self.inside.window c.args.self.now (not_never c.self.inside.front c.self.inside.window c.self.invariant) c.self.view_is c.requires.none in
+    let h = held_bytes c.self.inside.front w c.args.self.now c.self.invariant c.self.view_is c.requires.none in
     let first = c.push_header_bytes-count.ensures in
     ap (λ (y : List ℕ). length (frames_of (y ++ take k b)).ready) (sym h.1)
     ∙ few 6 (w ++ take k b)
