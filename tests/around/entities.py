@@ -50,10 +50,10 @@ def said(kind, length):
     """The units and the words of a row, and whether it has numbers without a unit."""
     units, words, is_plain = set(), set(), False
     for number in range(2 ** length) if length <= 10 else [0, 1]:
-        told = kind(number, "0" * 64)
-        units |= {told["unit"]} if "unit" in told else set()
-        words |= {told["word"]} if "word" in told else set()
-        is_plain |= "raw" in told or "out_of_range" in told and not units
+        reading = kind(number, "0" * 64)
+        units |= {reading["unit"]} if "unit" in reading else set()
+        words |= {reading["word"]} if "word" in reading else set()
+        is_plain |= "raw" in reading or "out_of_range" in reading and not units
     return units, words, is_plain
 
 

@@ -1,8 +1,8 @@
 """A stand-in for a gateway with very many devices, which are actuators with two channels (D2-01-12). It answers `list`,
 `status` and `base` at a desk as a gateway does, any other order with ok, and reads the desk as fast as one: 256 bytes,
-ten times a second. Existing lines are kept; with --told it first writes two readings of each device.
+ten times a second. Existing lines are kept; with --readings it first writes two readings of each device.
 
-    tests/around/gateway.py DESK LINES COUNT [--told]
+    tests/around/gateway.py DESK LINES COUNT [--readings]
 """
 import json
 import sys
@@ -36,7 +36,7 @@ def main():
         def write(found):
             lines.write("".join(json.dumps(line, separators=(",", ":")) + "\n" for line in found))
             lines.flush()
-        if "--told" in sys.argv:
+        if "--readings" in sys.argv:
             write(reading(name, channel) for name in devices for channel in (0, 1))
         rest = ""
         while True:
