@@ -8,39 +8,42 @@ use Rattle.std.specs.Borrow.{Bor}
 use Rattle.std.specs.List.{AllZip, join_with_byte}
 use Rattle.std.specs.Result.{result_ok}
 use Rattle.std.specs.Str.{IsUtf8}
-use Rattle.learned_devices.specs.Labels.{max_label, is_label, has_label_form}
+use Rattle.learned_devices.specs.Labels.{max_label, is_label, is_label_of_any_length}
 use Rattle.learned_devices.proofs.LabelLemmas.{name-utf8}
-use Rattle.actuator_commands.specs.Words.{Literal, Id, Text, SpellsWord, id_in, is_label_word, label_in, map_two}
-use Rattle.actuator_commands.specs.Words.{label_text_in}
+use Rattle.actuator_commands.specs.Words.{Literal, Id, Text, SpellsWord, id_in, is_nonempty_label, label_in, map_two}
+use Rattle.actuator_commands.specs.Words.{label_if_well_formed}
 use Rattle.actuator_commands.specs.declared.orders.Order.TheVariants.{Label}
 use Rattle.actuator_commands.specs.declared.orders.OrderFault.TheVariants.{Range}
-use Rattle.actuator_commands.specs.Orders.{HasShape, is_in_range, label_order, label_words, order_or_fault}
+use Rattle.actuator_commands.specs.Orders.{SpellsButForRange, is_in_range, label_order_of_arguments, label_word_if_any}
+use Rattle.actuator_commands.specs.Orders.{order_or_fault}
 use Rattle.actuator_commands.proofs.SpellingLemmas.{id_spelled, text_spelled}
 
 -- ---- its text
 
 -- a text that may be a label consists of bytes that may be in one
-text-named : (text : List ℕ) → is_label_word text ≡ true → has_label_form text ≡ true
+text-named : (text : List ℕ) → is_nonempty_label text ≡ true → is_label_of_any_length text ≡ true
 text-named [] may = absurd cc
 text-named (first ∷ more) may = may
 
-named-text : (text : List ℕ) → (length text == 0) ≡ false → has_label_form text ≡ true → is_label_word text ≡ true
+named-text : (text : List ℕ) → (length text == 0) ≡ false → is_label_of_any_length text ≡ true
+    → is_nonempty_label text ≡ true
 named-text [] some is = absurd cc
 named-text (first ∷ more) some is = is
 
 -- as UTF-8 it is read whole
 module _ {E : Type 0} (Bad : E → Type 0) where
   pub text-given : (text : List ℕ) (r : Result (Bor (List ℕ)) E) → (length text == 0) ≡ false
-      → has_label_form text ≡ true
+      → is_label_of_any_length text ≡ true
       → MatchResult r (λ s. (s.now ≡ text) × IsUtf8 text) Bad → ((e : E) → Bad e → ¬ (IsUtf8 text))
-      → option_map (λ name. name.now) (result_ok r) ≡ label_text_in text
+      → option_map (λ name. name.now) (result_ok r) ≡ label_if_well_formed text
   text-given text (Ok s) some is cases bad =
       ap (λ t. Some t) cases.0 ∙ ap (λ b. cond b (Some text) None) (sym (named-text text some is))
   text-given text (Err e) some is cases bad = absurd (bad e cases (name-utf8 text is))
 
 -- and the text after the ID is a label of any length
-pub label_named : (more : List (List ℕ)) (text : List ℕ) → label_in more ≡ Some text → has_label_form text ≡ true
-label_named [] text e = let none : [] ≡ text = cc in subst (λ t. has_label_form t ≡ true) none refl
+pub label_named : (more : List (List ℕ)) (text : List ℕ) → label_in more ≡ Some text
+    → is_label_of_any_length text ≡ true
+label_named [] text e = let none : [] ≡ text = cc in subst (λ t. is_label_of_any_length t ≡ true) none refl
 label_named (first ∷ more) text e =
     text-named text (text_spelled (join_with_byte 32 (first ∷ more)) text e).1
 
@@ -65,25 +68,26 @@ not_taken id more text e none = by_test (nat_le (length text) max_label) refl
 -- and so is one that is no label
 pub label-not_taken : (left : List (List ℕ)) (digits : List ℕ) (more : List (List ℕ)) (id : ℕ) (text : List ℕ)
     → left ≡ digits ∷ more → id_in digits ≡ Some id → label_in more ≡ Some text → (is_label text ≡ true → ⊥)
-    → order_or_fault (label_order left) ≡ Err Range
+    → order_or_fault (label_order_of_arguments left) ≡ Err Range
 label-not_taken left digits more id text whole i t none =
-    ap (λ ws. order_or_fault (label_order ws)) whole
+    ap (λ ws. order_or_fault (label_order_of_arguments ws)) whole
     ∙ ap (λ o. order_or_fault (map_two (λ id label. Label id label) o (label_in more))) i
     ∙ ap (λ o. order_or_fault (map_two (λ id label. Label id label) (Some id) o)) t ∙ not_taken id more text t none
 
 -- ---- its line
 
 -- a text that has bytes is a word
-one_word_order : (text : List ℕ) → is_label_word text ≡ true → label_words text ≡ Text text ∷ []
+one_word_order : (text : List ℕ) → is_nonempty_label text ≡ true → label_word_if_any text ≡ Text text ∷ []
 one_word_order [] may = absurd cc
 one_word_order (first ∷ more) may = refl
 
 -- what is read after the name has the shape of the order
 pub label_shaped : (digits : List ℕ) (more : List (List ℕ)) (id : ℕ) (label : List ℕ) → id_in digits ≡ Some id
-    → label_in more ≡ Some label → HasShape (join_with_byte 32 (codes "label" ∷ digits ∷ more)) (Label id label)
+    → label_in more ≡ Some label
+    → SpellsButForRange (join_with_byte 32 (codes "label" ∷ digits ∷ more)) (Label id label)
 label_shaped digits [] id label i t =
     let none : [] ≡ label = cc in
-    subst (λ l. HasShape (join_with_byte 32 (codes "label" ∷ digits ∷ [])) (Label id l)) none
+    subst (λ l. SpellsButForRange (join_with_byte 32 (codes "label" ∷ digits ∷ [])) (Label id l)) none
     (codes "label" ∷ digits ∷ [], refl, (refl, (id_spelled digits id i, tt)))
 label_shaped digits (first ∷ more) id label i t =
     let text = join_with_byte 32 (first ∷ more) in
@@ -91,6 +95,7 @@ label_shaped digits (first ∷ more) id label i t =
     let texts : List (List ℕ) = codes "label" ∷ digits ∷ text ∷ [] in (
       texts,
       refl,
-      subst (λ ws. AllZip SpellsWord texts (Literal (codes "label") ∷ Id id ∷ ws)) (sym (one_word_order label spelled.1))
+      subst (λ ws. AllZip SpellsWord texts (Literal (codes "label") ∷ Id id ∷ ws))
+          (sym (one_word_order label spelled.1))
           (refl, (id_spelled digits id i, (spelled, tt))),
     )

@@ -14,7 +14,7 @@ use Rattle.std.proofs.lemmas.Fmt.{first_decimal, length-decimal-le}
 use Rattle.std.proofs.lemmas.Str.{IsUtf8-from_ascii}
 use Rattle.std.proofs.lemmas.Str.Parse.{IsNumeralModel, digits_value_short, numerals_by_value, parse_gives}
 use Rattle.std.proofs.lemmas.Str.Parse.{tells_all_ascii_digits}
-use Rattle.actuator_commands.specs.Words.{SpellsNumber, has_no_leading_zero, is_number, number_in}
+use Rattle.actuator_commands.specs.Words.{SpellsNumber, has_no_leading_zero, is_short_decimal, number_in}
 
 abbrev AreDigits : List ℕ → Type 0
 AreDigits ds = all_ascii_digits ds ≡ true
@@ -42,7 +42,7 @@ begins (b ∷ c ∷ more) is = (omega arith, λ zero. absurd (no (subst (λ n. n
     no : false ≡ true → ⊥
     no e = cc
 
-numeral : (text : List ℕ) → is_number text ≡ true → Numeral text
+numeral : (text : List ℕ) → is_short_decimal text ≡ true → Numeral text
 numeral text is =
     let parts = and_parts (has_no_leading_zero text && nat_le (length text) 5) (list_all is_ascii_digit text) is in
     let more = and_parts (has_no_leading_zero text) (nat_le (length text) 5) parts.0 in
@@ -59,10 +59,11 @@ small : (text : List ℕ) → Numeral text → digits_value 10 text < 100000
 small text n = let le = digits_value_short model text 5 n.digits n.short in omega (arith, le)
 
 -- the text is UTF-8, and std reads its number
-pub number-utf8 : (text : List ℕ) → is_number text ≡ true → IsUtf8 text
+pub number-utf8 : (text : List ℕ) → is_short_decimal text ≡ true → IsUtf8 text
 number-utf8 text is = IsUtf8-from_ascii text (IsAscii-from_digits text (model.to text (numeral text is).digits))
 
-pub number-parsed : {E : Type 0} (text : List ℕ) (r : Result ℕ E) → is_number text ≡ true → ParsesUnsigned 32 10 text r
+pub number-parsed : {E : Type 0} (text : List ℕ) (r : Result ℕ E) → is_short_decimal text ≡ true
+    → ParsesUnsigned 32 10 text r
     → r ≡ Ok (digits_value 10 text)
 number-parsed text r is parses =
     let n = numeral text is in
@@ -71,9 +72,10 @@ number-parsed text r is parses =
 
 -- the computed number is spelled
 pub number_spelled : (text : List ℕ) (n : ℕ) → number_in text ≡ Some n → SpellsNumber text n
-number_spelled text n e = by_test (is_number text) refl e
+number_spelled text n e = by_test (is_short_decimal text) refl e
   where
-    by_test : (b : Bool) → is_number text ≡ b → cond b (Some (digits_value 10 text)) None ≡ Some n → SpellsNumber text n
+    by_test : (b : Bool) → is_short_decimal text ≡ b → cond b (Some (digits_value 10 text)) None ≡ Some n
+        → SpellsNumber text n
     by_test true is e =
         let m = numeral text is in
         let below = small text m in

@@ -17,8 +17,9 @@ use Rattle.actuator_commands.specs.declared.orders.Order.TheVariants.{Switch, Di
 use Rattle.actuator_commands.specs.declared.orders.Order.TheVariants.{Central, Level, Teach}
 use Rattle.actuator_commands.specs.declared.orders.OrderFault.{OrderFault}
 use Rattle.actuator_commands.specs.declared.orders.OrderFault.TheVariants.{Syntax, Range}
-use Rattle.actuator_commands.specs.Orders.{words_of, HasShape, IsInRange, Spells, is_in_range}
-use Rattle.actuator_commands.specs.Orders.{one_word_order, two_word_order, three_word_order, four_word_order, order_without_label, label_order}
+use Rattle.actuator_commands.specs.Orders.{words_of, SpellsButForRange, IsInRange, Spells, is_in_range}
+use Rattle.actuator_commands.specs.Orders.{one_word_order, two_word_order, three_word_order, four_word_order}
+use Rattle.actuator_commands.specs.Orders.{order_except_label, label_order_of_arguments}
 use Rattle.actuator_commands.specs.Orders.{order_of_words, order_or_fault, order_of, OrdersAreSpelled}
 use Rattle.actuator_commands.proofs.LabelLemmas.{label_shaped}
 use Rattle.actuator_commands.proofs.NumberLemmas.{number_spelled, number_read}
@@ -137,7 +138,7 @@ fits_four_words name second third fourth =
     (λ n v r k o p. (is, (number_spelled second n k, (number_spelled third v o, (number_spelled fourth r p, tt))))))
     tt)))
 
-fits : (ws : List (List ℕ)) → Fits ws (order_without_label ws)
+fits : (ws : List (List ℕ)) → Fits ws (order_except_label ws)
 unfolding Fits
 fits [] = tt
 fits (name ∷ []) = fits_one_word name
@@ -149,7 +150,7 @@ fits (a ∷ b ∷ c ∷ d ∷ e ∷ more) = tt
 -- the line of the joined words has the shape of the order, if there is one
 Shaped : List (List ℕ) → Option Order → Type 0
 Shaped ws None = Unit {0}
-Shaped ws (Some order) = HasShape (join_with_byte 32 ws) order
+Shaped ws (Some order) = SpellsButForRange (join_with_byte 32 ws) order
 
 shaped_words : (ws : List (List ℕ)) (o : Option Order) → Fits ws o → Shaped ws o
 unfolding Fits Shaped
@@ -164,7 +165,7 @@ shaped_by digits more None t is may = tt
 shaped_by digits more (Some id) None is may = tt
 shaped_by digits more (Some id) (Some label) is may = label_shaped digits more id label is may
 
-shaped_label : (more : List (List ℕ)) → Shaped (codes "label" ∷ more) (label_order more)
+shaped_label : (more : List (List ℕ)) → Shaped (codes "label" ∷ more) (label_order_of_arguments more)
 unfolding Shaped
 shaped_label [] = tt
 shaped_label (digits ∷ more) = shaped_by digits more (id_in digits) (label_in more) refl refl
@@ -175,10 +176,11 @@ shaped [] = tt
 shaped (name ∷ more) = by_name (bytes_eq name (codes "label")) refl
   where
     by_name : (b : Bool) → bytes_eq name (codes "label") ≡ b
-        → Shaped (name ∷ more) (cond b (label_order more) (order_without_label (name ∷ more)))
+        → Shaped (name ∷ more) (cond b (label_order_of_arguments more) (order_except_label (name ∷ more)))
     by_name true is =
-        subst (λ n. Shaped (n ∷ more) (label_order more)) (sym (named name (codes "label") is)) (shaped_label more)
-    by_name false is = shaped_words (name ∷ more) (order_without_label (name ∷ more)) (fits (name ∷ more))
+        subst (λ n. Shaped (n ∷ more) (label_order_of_arguments more)) (sym (named name (codes "label") is))
+        (shaped_label more)
+    by_name false is = shaped_words (name ∷ more) (order_except_label (name ∷ more)) (fits (name ∷ more))
 
 -- words that spell those of an order are read as this order
 read : (order : Order) (ws : List (List ℕ)) → AllZip SpellsWord ws (words_of order) → order_of_words ws ≡ Some order
@@ -214,22 +216,22 @@ read order ws h = absurd (omega (arith, AllZip-long SpellsWord ws (words_of orde
 
 -- ---- the range
 
-in_range : (some : List Word) → list_all is_word_in_range some ≡ true → AllByRecursion IsWordInRange some
-in_range [] is = tt
-in_range (Literal name ∷ some) is = (tt, in_range some is)
-in_range (Id id ∷ some) is =
+words-in_range : (some : List Word) → list_all is_word_in_range some ≡ true → AllByRecursion IsWordInRange some
+words-in_range [] is = tt
+words-in_range (Literal name ∷ some) is = (tt, words-in_range some is)
+words-in_range (Id id ∷ some) is =
     let parts = and_parts (not (id == 0xFFFF_FFFF)) (list_all is_word_in_range some) is in
-    (λ e. no (subst (λ n. not (n == 0xFFFF_FFFF) ≡ true) e parts.0), in_range some parts.1)
+    (λ e. no (subst (λ n. not (n == 0xFFFF_FFFF) ≡ true) e parts.0), words-in_range some parts.1)
   where
     no : false ≡ true → ⊥
     no e = cc
-in_range (Profile eep ∷ some) is = (tt, in_range some is)
-in_range (Number most n ∷ some) is =
+words-in_range (Profile eep ∷ some) is = (tt, words-in_range some is)
+words-in_range (Number most n ∷ some) is =
     let parts = and_parts (nat_le n most) (list_all is_word_in_range some) is in
-    (leb-true n most parts.0, in_range some parts.1)
-in_range (Text name ∷ some) is =
+    (leb-true n most parts.0, words-in_range some parts.1)
+words-in_range (Text name ∷ some) is =
     let parts = and_parts (nat_le (length name) max_label) (list_all is_word_in_range some) is in
-    (leb-true (length name) max_label parts.0, in_range some parts.1)
+    (leb-true (length name) max_label parts.0, words-in_range some parts.1)
 
 all_tested : (some : List Word) → AllByRecursion IsWordInRange some → list_all is_word_in_range some ≡ true
 all_tested [] is = refl
@@ -244,13 +246,13 @@ all_tested (Text name ∷ some) is = rw (le-leb (length name) max_label is.0) (a
 -- the meaning of a result for its line
 Speaks : List ℕ → Result Order OrderFault → Type 0
 Speaks line (Ok order) = Spells line order
-Speaks line (Err Range) = (order : Order) × HasShape line order × (¬ IsInRange order)
+Speaks line (Err Range) = (order : Order) × SpellsButForRange line order × (¬ IsInRange order)
 Speaks line (Err fault) = Unit {0}
 
-speaks_by_range : (line : List ℕ) (order : Order) (b : Bool) → is_in_range order ≡ b → HasShape line order
+speaks_by_range : (line : List ℕ) (order : Order) (b : Bool) → is_in_range order ≡ b → SpellsButForRange line order
     → Speaks line (cond b (Ok order) (Err Range))
 unfolding Speaks
-speaks_by_range line order true e shape = (shape, in_range (words_of order) e)
+speaks_by_range line order true e shape = (shape, words-in_range (words_of order) e)
 speaks_by_range line order false e shape =
     (order, shape, λ h. let tested = all_tested (words_of order) h in cc)
 
@@ -259,7 +261,7 @@ unfolding Speaks Shaped
 speaks_by_shape line None shape = tt
 speaks_by_shape line (Some order) shape =
     speaks_by_range line order (is_in_range order) refl
-    (subst (λ l. HasShape l order) (join_with_byte-slice_split 32 line) shape)
+    (subst (λ l. SpellsButForRange l order) (join_with_byte-slice_split 32 line) shape)
 
 speaks : (line : List ℕ) → Speaks line (order_of line)
 speaks line = speaks_by_shape line (order_of_words (words line)) (shaped (words line))
@@ -287,7 +289,7 @@ read_joined order texts spell =
     ]
 
 -- a line with the shape of an order is read as its range requires
-in_shape : (line : List ℕ) (order : Order) → HasShape line order → order_of line ≡ order_or_fault (Some order)
+in_shape : (line : List ℕ) (order : Order) → SpellsButForRange line order → order_of line ≡ order_or_fault (Some order)
 in_shape line order (texts, is, spell) =
     ap order_of is ∙ ap order_or_fault (read_joined order texts spell) ∙ ap order_or_fault (read order texts spell)
 

@@ -12,9 +12,10 @@ use Rattle.hex.proofs.HexLemmas.{decode_of-ok, decode_sized-ok, decode_sized-twi
 use Rattle.erp1_telegrams.specs.declared.eep.Eep.{Eep}
 use Rattle.actuator_commands.specs.declared.orders.Quantity.{Quantity}
 use Rattle.actuator_commands.specs.declared.orders.Quantity.TheVariants.{Energy, Power}
-use Rattle.actuator_commands.specs.Words.{SpellsId, SpellsEep, byte_of_decoded, byte_in, id_of_decoded, id_in, eep_of_bytes, eep_in}
-use Rattle.actuator_commands.specs.Words.{state_name, state_in, quantity_name, quantity_in, is_label_word}
-use Rattle.actuator_commands.specs.Words.{label_text_in}
+use Rattle.actuator_commands.specs.Words.{SpellsId, SpellsEep, byte_of_decoded, byte_in, id_of_decoded, id_in}
+use Rattle.actuator_commands.specs.Words.{eep_of_bytes, eep_in}
+use Rattle.actuator_commands.specs.Words.{state_name, state_in, quantity_name, quantity_in, is_nonempty_label}
+use Rattle.actuator_commands.specs.Words.{label_if_well_formed}
 
 -- ---- an ID
 
@@ -39,7 +40,8 @@ id_read digits id (bytes, four, decoded, is) =
 
 -- ---- a profile
 
-byte_of_decoded-some : (r : Result (List ℕ) FromHexError) (byte : ℕ) → byte_of_decoded r ≡ Some byte → r ≡ Ok (byte ∷ [])
+byte_of_decoded-some : (r : Result (List ℕ) FromHexError) (byte : ℕ) → byte_of_decoded r ≡ Some byte
+    → r ≡ Ok (byte ∷ [])
 byte_of_decoded-some (Ok (x ∷ [])) byte e = let same : x ≡ byte = cc in ap (λ n. Ok (n ∷ [])) same
 byte_of_decoded-some decoded byte e = absurd cc
 
@@ -138,10 +140,12 @@ quantity_read Power = refl
 
 -- ---- the text of a label
 
-pub text_spelled : (text name : List ℕ) → label_text_in text ≡ Some name → (text ≡ name) × (is_label_word name ≡ true)
+pub text_spelled : (text name : List ℕ) → label_if_well_formed text ≡ Some name → (text ≡ name)
+    × (is_nonempty_label name ≡ true)
 text_spelled text name e =
-    let test = chosen (is_label_word text) (Some text) name e in
-    let same : text ≡ name = cc (test.1) in (same, subst (λ n. is_label_word n ≡ true) same test.0)
+    let test = chosen (is_nonempty_label text) (Some text) name e in
+    let same : text ≡ name = cc (test.1) in (same, subst (λ n. is_nonempty_label n ≡ true) same test.0)
 
-pub text_read : (text name : List ℕ) → (text ≡ name) × (is_label_word name ≡ true) → label_text_in text ≡ Some name
-text_read text name (same, may) = ap label_text_in same ∙ ap (λ b. cond b (Some name) None) may
+pub text_read : (text name : List ℕ) → (text ≡ name) × (is_nonempty_label name ≡ true)
+    → label_if_well_formed text ≡ Some name
+text_read text name (same, may) = ap label_if_well_formed same ∙ ap (λ b. cond b (Some name) None) may

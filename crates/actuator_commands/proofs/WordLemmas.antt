@@ -6,7 +6,7 @@ use Rattle.std.specs.List.{join_with_byte, onto_first, position_or_len, position
 use Rattle.std.proofs.lemmas.List.Splits.{slice_split_first, slice_split-cons_no, join_with_byte-slice_split}
 use Rattle.std.proofs.lemmas.List.Splits.{length-slice_split}
 use Rattle.std.proofs.lemmas.Bool.Decides.{nat_tests}
-use Rattle.actuator_commands.specs.Words.{label_text_in, label_in, words}
+use Rattle.actuator_commands.specs.Words.{label_if_well_formed, label_in, words}
 
 abbrev is_space : ℕ → Bool
 is_space b = eqb b 32
@@ -42,15 +42,17 @@ words-found xs at e =
 -- if none is found, the line is one word
 pub words-none : (xs : List ℕ) → None ≡ position is_space xs → words xs ≡ xs ∷ []
 words-none xs e =
-    one_word_order xs (λ k. let t : ltb (position_or_len is_space xs) (length xs) ≡ true = grind (arith, nat_tests, k) in
+    one_word_order xs (λ k. let t : ltb (position_or_len is_space xs) (length xs) ≡ true = grind
+    (arith, nat_tests, k) in
     let s : None ≡ Some (position_or_len is_space xs) = rw t at e in cc)
 
 -- the text of a label is read from its words as from the whole text
-pub label_whole : (text : List ℕ) → label_in (words text) ≡ label_text_in text
+pub label_whole : (text : List ℕ) → label_in (words text) ≡ label_if_well_formed text
 label_whole text = by_words (words text) refl
   where
-    by_words : (ws : List (List ℕ)) → words text ≡ ws → label_in ws ≡ label_text_in text
+    by_words : (ws : List (List ℕ)) → words text ≡ ws → label_in ws ≡ label_if_well_formed text
     by_words [] e =
         let none : 0 ≡ length (words text) = ap length (sym e) in
         absurd (omega (arith, none, length-slice_split (λ b. b == 32) text))
-    by_words (first ∷ more) e = ap label_text_in (ap (join_with_byte 32) (sym e) ∙ join_with_byte-slice_split 32 text)
+    by_words (first ∷ more) e =
+        ap label_if_well_formed (ap (join_with_byte 32) (sym e) ∙ join_with_byte-slice_split 32 text)

@@ -15,9 +15,9 @@ use Rattle.actuator_commands.specs.declared.orders.OrderFault.{OrderFault}
 use Rattle.actuator_commands.specs.declared.orders.OrderFault.TheVariants.{Syntax, Range}
 
 -- the words of a label: one, or none if it is empty. Own choice.
-abbrev pub label_words : List ℕ → List Word
-label_words [] = []
-label_words (first ∷ more) = Text (first ∷ more) ∷ []
+abbrev pub label_word_if_any : List ℕ → List Word
+label_word_if_any [] = []
+label_word_if_any (first ∷ more) = Text (first ∷ more) ∷ []
 
 -- The table of the orders: the words of each, as written in its lines. Own choice.
 abbrev pub words_of : Order → List Word
@@ -27,7 +27,7 @@ words_of (LearnAs eep) = Literal (codes "learn") ∷ Literal (codes "as") ∷ Pr
 words_of LearnOff = Literal (codes "learn") ∷ Literal (codes "off") ∷ []
 words_of (Add id eep) = Literal (codes "add") ∷ Id id ∷ Profile eep ∷ []
 words_of (Remove id) = Literal (codes "remove") ∷ Id id ∷ []
-words_of (Label id label) = Literal (codes "label") ∷ Id id ∷ label_words label
+words_of (Label id label) = Literal (codes "label") ∷ Id id ∷ label_word_if_any label
 words_of ListAll = Literal (codes "list") ∷ []
 words_of Status = Literal (codes "status") ∷ []
 words_of Base = Literal (codes "base") ∷ []
@@ -47,8 +47,8 @@ words_of (Teach offset) = Literal (codes "teach") ∷ Number max_offset offset �
 
 -- The line has the shape of the order, whatever its numbers: texts that spell the order's words, one by one, with one
 -- space between each two and none before or after. Own choice.
-abbrev pub HasShape : List ℕ → Order → Type 0
-HasShape line order =
+abbrev pub SpellsButForRange : (line : List ℕ) → Order → Type 0
+SpellsButForRange line order =
     (texts : List (List ℕ)) × (line ≡ join_with_byte 32 texts) × AllZip SpellsWord texts (words_of order)
 
 -- the order's numbers are in range, and the length of its label
@@ -56,8 +56,8 @@ abbrev pub IsInRange : Order → Type 0
 IsInRange order = AllByRecursion IsWordInRange (words_of order)
 
 -- the line spells the order
-abbrev pub Spells : List ℕ → Order → Type 0
-Spells line order = HasShape line order × IsInRange order
+abbrev pub Spells : (line : List ℕ) → Order → Type 0
+Spells line order = SpellsButForRange line order × IsInRange order
 
 -- ---- the same as functions; theorem `orders_are_spelled`: the two agree
 
@@ -66,36 +66,36 @@ abbrev pub is_in_range : Order → Bool
 is_in_range order = list_all is_word_in_range (words_of order)
 
 -- the order, except `label`, whose shape the words have
-abbrev pub one_word_order : List ℕ → Option Order
+abbrev pub one_word_order : (name : List ℕ) → Option Order
 one_word_order name =
     if bytes_eq name (codes "list") then Some ListAll
     else if bytes_eq name (codes "status") then Some Status
     else if bytes_eq name (codes "base") then Some Base
     else None
 
-abbrev pub short_learn_order : List ℕ → Option Order
-short_learn_order second =
+abbrev pub two_word_learn_order : (second : List ℕ) → Option Order
+two_word_learn_order second =
     if bytes_eq second (codes "on") then Some LearnOn
     else if bytes_eq second (codes "off") then Some LearnOff
     else None
 
-abbrev pub long_learn_order : List ℕ → List ℕ → Option Order
-long_learn_order second third =
+abbrev pub three_word_learn_order : (second third : List ℕ) → Option Order
+three_word_learn_order second third =
     if bytes_eq second (codes "on") && bytes_eq third (codes "answer") then Some LearnOnAnswer
     else if bytes_eq second (codes "as") then option_map (λ eep. LearnAs eep) (eep_in third)
     else None
 
-abbrev pub two_word_order : List ℕ → List ℕ → Option Order
+abbrev pub two_word_order : (name second : List ℕ) → Option Order
 two_word_order name second =
-    if bytes_eq name (codes "learn") then short_learn_order second
+    if bytes_eq name (codes "learn") then two_word_learn_order second
     else if bytes_eq name (codes "remove") then option_map (λ id. Remove id) (id_in second)
     else if bytes_eq name (codes "stop") then option_map (λ id. Stop id) (id_in second)
     else if bytes_eq name (codes "teach") then option_map (λ offset. Teach offset) (number_in second)
     else None
 
-abbrev pub three_word_order : List ℕ → List ℕ → List ℕ → Option Order
+abbrev pub three_word_order : (name second third : List ℕ) → Option Order
 three_word_order name second third =
-    if bytes_eq name (codes "learn") then long_learn_order second third
+    if bytes_eq name (codes "learn") then three_word_learn_order second third
     else if bytes_eq name (codes "add") then map_two (λ id eep. Add id eep) (id_in second) (eep_in third)
     else if bytes_eq name (codes "query") then map_two (λ id channel. Query id channel) (id_in second) (number_in third)
     else if bytes_eq name (codes "blind") then map_two (λ id value. Blind id value) (id_in second) (number_in third)
@@ -103,7 +103,7 @@ three_word_order name second third =
     then map_two (λ offset on. Central offset on) (number_in second) (state_in third)
     else None
 
-abbrev pub four_word_order : List ℕ → List ℕ → List ℕ → List ℕ → Option Order
+abbrev pub four_word_order : (name second third fourth : List ℕ) → Option Order
 four_word_order name second third fourth =
     if bytes_eq name (codes "switch")
     then map_three (λ id channel on. Switch id channel on) (id_in second) (number_in third) (state_in fourth)
@@ -117,21 +117,22 @@ four_word_order name second third fourth =
     (number_in fourth)
     else None
 
-abbrev pub order_without_label : List (List ℕ) → Option Order
-order_without_label (name ∷ []) = one_word_order name
-order_without_label (name ∷ second ∷ []) = two_word_order name second
-order_without_label (name ∷ second ∷ third ∷ []) = three_word_order name second third
-order_without_label (name ∷ second ∷ third ∷ fourth ∷ []) = four_word_order name second third fourth
-order_without_label texts = None
+abbrev pub order_except_label : (texts : List (List ℕ)) → Option Order
+order_except_label (name ∷ []) = one_word_order name
+order_except_label (name ∷ second ∷ []) = two_word_order name second
+order_except_label (name ∷ second ∷ third ∷ []) = three_word_order name second third
+order_except_label (name ∷ second ∷ third ∷ fourth ∷ []) = four_word_order name second third fourth
+order_except_label texts = None
 
 -- the order that begins with `label`, by the words after it: those of its text are joined again
-abbrev pub label_order : List (List ℕ) → Option Order
-label_order [] = None
-label_order (digits ∷ more) = map_two (λ id label. Label id label) (id_in digits) (label_in more)
+abbrev pub label_order_of_arguments : List (List ℕ) → Option Order
+label_order_of_arguments [] = None
+label_order_of_arguments (digits ∷ more) = map_two (λ id label. Label id label) (id_in digits) (label_in more)
 
 abbrev pub order_of_words : List (List ℕ) → Option Order
 order_of_words [] = None
-order_of_words (name ∷ more) = if bytes_eq name (codes "label") then label_order more else order_without_label (name ∷ more)
+order_of_words (name ∷ more) =
+    if bytes_eq name (codes "label") then label_order_of_arguments more else order_except_label (name ∷ more)
 
 -- an order of this shape is accepted if it is in range
 abbrev pub order_or_fault : Option Order → Result Order OrderFault
@@ -139,7 +140,7 @@ order_or_fault (Some order) = if is_in_range order then Ok order else Err Range
 order_or_fault None = Err Syntax
 
 -- the order that a line spells, or why it spells none
-abbrev pub order_of : List ℕ → Result Order OrderFault
+abbrev pub order_of : (line : List ℕ) → Result Order OrderFault
 order_of line = order_or_fault (order_of_words (words line))
 
 -- A line spells at most one order, by `only`. A line that spells none is out of range if it has the shape of one, and
@@ -148,5 +149,5 @@ pub record OrdersAreSpelled : Type 0 where
   pub spelled : (line : List ℕ) (order : Order) → order_of line ≡ Ok order → Spells line order
   pub only : (line : List ℕ) (order : Order) → Spells line order → order_of line ≡ Ok order
   pub out_of_range : (line : List ℕ) → order_of line ≡ Err Range
-      → (order : Order) × HasShape line order × (¬ IsInRange order)
-  pub no_shape : (line : List ℕ) → order_of line ≡ Err Syntax → (order : Order) → ¬ HasShape line order
+      → (order : Order) × SpellsButForRange line order × (¬ IsInRange order)
+  pub no_shape : (line : List ℕ) → order_of line ≡ Err Syntax → (order : Order) → ¬ SpellsButForRange line order

@@ -11,13 +11,13 @@ use Rattle.actuator_commands.specs.declared.orders.OrderFault.{OrderFault}
 use Rattle.actuator_commands.specs.declared.orders.OrderFault.TheVariants.{Range, UnknownDevice, WrongProfile}
 use Rattle.actuator_commands.specs.declared.orders.Quantity.{Quantity}
 use Rattle.actuator_commands.specs.declared.orders.Quantity.TheVariants.{Energy, Power}
-use Rattle.actuator_commands.specs.declared.packets.Actuator.{Actuator}
-use Rattle.actuator_commands.specs.declared.packets.Actuator.TheVariants as actuator
+use Rattle.actuator_commands.specs.declared.packets.ActuatorKind.{ActuatorKind}
+use Rattle.actuator_commands.specs.declared.packets.ActuatorKind.TheVariants as actuator
 
 -- the profiles of an actuator: of switches and dimmers ("D2-01", with any TYPE), and of blinds ("D2-05-00")
-abbrev pub accepts_profile : Actuator → Eep → Bool
-accepts_profile actuator.Switch eep = eep.rorg == 0xD2 && eep.func == 0x01
-accepts_profile actuator.Blind eep = eep.rorg == 0xD2 && eep.func == 0x05 && eep.typ == 0x00
+abbrev pub is_profile_of_actuator : ActuatorKind → Eep → Bool
+is_profile_of_actuator actuator.Switch eep = eep.rorg == 0xD2 && eep.func == 0x01
+is_profile_of_actuator actuator.Blind eep = eep.rorg == 0xD2 && eep.func == 0x05 && eep.typ == 0x00
 
 -- The message of an order: to the device with an ID, a payload by the device's profile, or none if that has no such
 -- order; or to all, from the sender with this offset from the base ID.
@@ -26,19 +26,19 @@ pub data Message : Type 0 where
   ToAll : (offset : ℕ) → (payload : List ℕ) → Message
 
 -- a payload to these actuators, and none to other devices
-abbrev pub payload_for : Actuator → List ℕ → Eep → Option (List ℕ)
-payload_for actuator payload eep = if accepts_profile actuator eep then Some payload else None
+abbrev pub payload_for : ActuatorKind → (payload : List ℕ) → Eep → Option (List ℕ)
+payload_for actuator payload eep = if is_profile_of_actuator actuator eep then Some payload else None
 
 -- "D2-01", command 3, is followed by the channel; in "D2-05-00", command 3, the high bits of the command's own byte are
 -- the channel, which is 0
-abbrev pub query_payload : ℕ → Eep → Option (List ℕ)
+abbrev pub query_payload : (channel : ℕ) → Eep → Option (List ℕ)
 query_payload channel eep =
-    if accepts_profile actuator.Switch eep then Some (0x03 ∷ channel ∷ [])
-    else if accepts_profile actuator.Blind eep && channel == 0 then Some (0x03 ∷ [])
+    if is_profile_of_actuator actuator.Switch eep then Some (0x03 ∷ channel ∷ [])
+    else if is_profile_of_actuator actuator.Blind eep && channel == 0 then Some (0x03 ∷ [])
     else None
 
 -- "D2-01", command 6, has the channel in the low bits; its highest bit asks for power
-abbrev pub meter_query_byte : ℕ → Quantity → ℕ
+abbrev pub meter_query_byte : (channel : ℕ) → Quantity → ℕ
 meter_query_byte channel Energy = channel
 meter_query_byte channel Power = channel + 128
 
@@ -73,8 +73,8 @@ recipient_of (Some (ToOne id payload_of)) = Some id
 recipient_of message = None
 
 -- the device of an order, if it is for one
-abbrev pub recipient : Order → Option ℕ
-recipient order = recipient_of (message_of order)
+abbrev pub recipient_id : Order → Option ℕ
+recipient_id order = recipient_of (message_of order)
 
 -- whether the order is for devices
 abbrev pub sends : Order → Bool
@@ -82,13 +82,13 @@ sends order = is_some (message_of order)
 
 -- A message to one is a VLD telegram from the base ID, and one to all a 4BS telegram from the base ID and its offset.
 -- No sender has the broadcast ID (EnOcean Serial Protocol 3, "Packet type 1: RADIO_ERP1").
-abbrev pub telegram_to_one : ℕ → ℕ → Option (List ℕ) → Result Telegram OrderFault
+abbrev pub telegram_to_one : (base id : ℕ) → Option (List ℕ) → Result Telegram OrderFault
 telegram_to_one base id (Some payload) =
     Ok (record { rorg = 0xD2; payload = payload; sender = base; status = 0; dest = id; dbm = None })
 telegram_to_one base id None = Err WrongProfile
 
-abbrev pub telegram_to_all : ℕ → ℕ → List ℕ → Result Telegram OrderFault
-telegram_to_all base offset payload =
+abbrev pub four_bs_to_all : (base offset : ℕ) (payload : List ℕ) → Result Telegram OrderFault
+four_bs_to_all base offset payload =
     if base + offset == 0xFFFF_FFFF then Err Range
     else Ok (record {
       rorg = 0xA5;
@@ -99,11 +99,11 @@ telegram_to_all base offset payload =
       dbm = None;
     })
 
-abbrev pub telegram_for : Message → Option Device → ℕ → Result Telegram OrderFault
+abbrev pub telegram_for : Message → Option Device → (base : ℕ) → Result Telegram OrderFault
 telegram_for (ToOne id payload_of) None base = Err UnknownDevice
 telegram_for (ToOne id payload_of) (Some device) base = telegram_to_one base id (payload_of device.eep)
-telegram_for (ToAll offset payload) device base = telegram_to_all base offset payload
+telegram_for (ToAll offset payload) device base = four_bs_to_all base offset payload
 
 -- the telegram of an order to devices, or why there is none, given its device, if learned, and this base ID
-abbrev pub order_telegram : Order → Option Device → ℕ → Option (Result Telegram OrderFault)
+abbrev pub order_telegram : Order → Option Device → (base : ℕ) → Option (Result Telegram OrderFault)
 order_telegram order device base = option_map (λ message. telegram_for message device base) (message_of order)

@@ -12,7 +12,7 @@ use Rattle.std.specs.Str.Parse.{digits_value}
 use Rattle.hex.specs.Hex.{decode_of, decode_sized}
 use Rattle.hex.specs.declared.error.FromHexError.{FromHexError}
 use Rattle.erp1_telegrams.specs.declared.eep.Eep.{Eep}
-use Rattle.learned_devices.specs.Labels.{max_label, has_label_form}
+use Rattle.learned_devices.specs.Labels.{max_label, is_label_of_any_length}
 use Rattle.actuator_commands.specs.declared.orders.Quantity.{Quantity}
 use Rattle.actuator_commands.specs.declared.orders.Quantity.TheVariants.{Energy, Power}
 
@@ -26,7 +26,7 @@ pub data Word : Type 0 where
   Text : (name : List ℕ) → Word
 
 -- the words for on and off, and for the quantities that are measured. Own choice.
-abbrev pub state_name : Bool → List ℕ
+abbrev pub state_name : (is_on : Bool) → List ℕ
 state_name true = codes "on"
 state_name false = codes "off"
 
@@ -36,7 +36,7 @@ quantity_name Power = codes "power"
 
 -- an ID (EnOcean Serial Protocol 3, "Packet type 1: RADIO_ERP1"): its four bytes as eight hexadecimal digits, the high
 -- byte first. Own choice: in upper or lower case
-abbrev pub SpellsId : List ℕ → ℕ → Type 0
+abbrev pub SpellsId : (digits : List ℕ) (id : ℕ) → Type 0
 SpellsId digits id =
     (bytes : List ℕ) × (length bytes ≡ 4) × (decode_of digits ≡ Ok bytes) × (id ≡ from_be_bytes w32 bytes)
 
@@ -52,21 +52,21 @@ pub record SpellsEep (text : List ℕ) (eep : Eep) : Type 0 where
   pub is_typ : decode_of typ ≡ Ok (eep.typ ∷ [])
 
 -- a number in decimal digits, without a sign or leading zeros. Own choice: at most five digits
-abbrev pub SpellsNumber : List ℕ → ℕ → Type 0
+abbrev pub SpellsNumber : (text : List ℕ) → ℕ → Type 0
 SpellsNumber text n = (text ≡ decimal n) × (n < 100000)
 
 -- whether a text is a non-empty label, ignoring its length. Own choice.
-abbrev pub is_label_word : List ℕ → Bool
-is_label_word [] = false
-is_label_word (first ∷ more) = has_label_form (first ∷ more)
+abbrev pub is_nonempty_label : List ℕ → Bool
+is_nonempty_label [] = false
+is_nonempty_label (first ∷ more) = is_label_of_any_length (first ∷ more)
 
 -- the text spells the word
-abbrev pub SpellsWord : List ℕ → Word → Type 0
+abbrev pub SpellsWord : (text : List ℕ) → Word → Type 0
 SpellsWord text (Literal name) = text ≡ name
 SpellsWord text (Id id) = SpellsId text id
 SpellsWord text (Profile eep) = SpellsEep text eep
 SpellsWord text (Number most n) = SpellsNumber text n
-SpellsWord text (Text name) = (text ≡ name) × (is_label_word name ≡ true)
+SpellsWord text (Text name) = (text ≡ name) × (is_nonempty_label name ≡ true)
 
 -- the word's number is in range, or its length; no device has the broadcast ID (EnOcean Serial Protocol 3, "Packet type
 -- 1: RADIO_ERP1")
@@ -101,7 +101,7 @@ abbrev pub byte_of_decoded : Result (List ℕ) FromHexError → Option ℕ
 byte_of_decoded (Ok (byte ∷ [])) = Some byte
 byte_of_decoded decoded = None
 
-abbrev pub byte_in : List ℕ → Option ℕ
+abbrev pub byte_in : (digits : List ℕ) → Option ℕ
 byte_in digits = byte_of_decoded (decode_sized digits 1)
 
 abbrev pub id_of_decoded : Result (List ℕ) FromHexError → Option ℕ
@@ -109,25 +109,26 @@ id_of_decoded (Ok bytes) = Some (from_be_bytes w32 bytes)
 id_of_decoded (Err fault) = None
 
 -- the ID that a text spells
-abbrev pub id_in : List ℕ → Option ℕ
+abbrev pub id_in : (digits : List ℕ) → Option ℕ
 id_in digits = id_of_decoded (decode_sized digits 4)
 
-abbrev pub eep_of_bytes : Option ℕ → Option ℕ → Option ℕ → Option Eep
+abbrev pub eep_of_bytes : (rorg func typ : Option ℕ) → Option Eep
 eep_of_bytes (Some rorg) (Some func) (Some typ) = Some (record { rorg = rorg; func = func; typ = typ })
 eep_of_bytes rorg func typ = None
 
 -- the profile that a text spells
-abbrev pub eep_in : List ℕ → Option Eep
+abbrev pub eep_in : (text : List ℕ) → Option Eep
 eep_in (a ∷ b ∷ x ∷ c ∷ d ∷ y ∷ e ∷ f ∷ []) =
-    if x == 45 && y == 45 then eep_of_bytes (byte_in (a ∷ b ∷ [])) (byte_in (c ∷ d ∷ [])) (byte_in (e ∷ f ∷ [])) else None
+    if x == 45 && y == 45 then eep_of_bytes (byte_in (a ∷ b ∷ [])) (byte_in (c ∷ d ∷ []))
+    (byte_in (e ∷ f ∷ [])) else None
 eep_in text = None
 
 -- the state and the quantity that a text spells
-abbrev pub state_in : List ℕ → Option Bool
+abbrev pub state_in : (text : List ℕ) → Option Bool
 state_in text =
     if bytes_eq text (codes "on") then Some true else if bytes_eq text (codes "off") then Some false else None
 
-abbrev pub quantity_in : List ℕ → Option Quantity
+abbrev pub quantity_in : (text : List ℕ) → Option Quantity
 quantity_in text =
     if bytes_eq text (codes "energy") then Some Energy
     else if bytes_eq text (codes "power") then Some Power
@@ -140,21 +141,21 @@ has_no_leading_zero (first ∷ []) = true
 has_no_leading_zero (first ∷ second ∷ more) = not (first == 48)
 
 -- whether a text is `0`, or up to five digits that do not begin with 0
-abbrev pub is_number : List ℕ → Bool
-is_number text = has_no_leading_zero text && nat_le (length text) 5 && list_all is_ascii_digit text
+abbrev pub is_short_decimal : (text : List ℕ) → Bool
+is_short_decimal text = has_no_leading_zero text && nat_le (length text) 5 && list_all is_ascii_digit text
 
 -- the number that a text spells
-abbrev pub number_in : List ℕ → Option ℕ
-number_in text = if is_number text then Some (digits_value 10 text) else None
+abbrev pub number_in : (text : List ℕ) → Option ℕ
+number_in text = if is_short_decimal text then Some (digits_value 10 text) else None
 
 -- the text of a label that a text spells
-abbrev pub label_text_in : List ℕ → Option (List ℕ)
-label_text_in text = if is_label_word text then Some text else None
+abbrev pub label_if_well_formed : (text : List ℕ) → Option (List ℕ)
+label_if_well_formed text = if is_nonempty_label text then Some text else None
 
 -- the label in the remaining words of a line, with the spaces between them: the empty one if there are none
 abbrev pub label_in : List (List ℕ) → Option (List ℕ)
 label_in [] = Some []
-label_in (first ∷ more) = label_text_in (join_with_byte 32 (first ∷ more))
+label_in (first ∷ more) = label_if_well_formed (join_with_byte 32 (first ∷ more))
 
 -- a value made of two words or of three, if each can be read
 abbrev pub map_two : {A B C : Type 0} → (A → B → C) → Option A → Option B → Option C

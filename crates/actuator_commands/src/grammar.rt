@@ -1,11 +1,13 @@
 //! The parser of orders.
 ghost use Rattle.std.specs.Prelude.{◌≡◌, ◌∷◌, Some};
-ghost use Rattle.actuator_commands.specs.Orders.{one_word_order, two_word_order, three_word_order, four_word_order, order_without_label};
-ghost use Rattle.actuator_commands.specs.Orders.{label_order, long_learn_order, order_of, order_or_fault, short_learn_order};
+ghost use Rattle.actuator_commands.specs.Orders.{one_word_order, two_word_order, three_word_order, four_word_order};
+ghost use Rattle.actuator_commands.specs.Orders.{order_except_label};
+ghost use Rattle.actuator_commands.specs.Orders.{label_order_of_arguments, three_word_learn_order, order_of};
+ghost use Rattle.actuator_commands.specs.Orders.{order_or_fault, two_word_learn_order};
 ghost use Rattle.actuator_commands.specs.Words.{remaining_words};
 
 use crate::orders::{Order, OrderFault, is_in_range};
-use crate::words::{eep_of, id_of, label_of, next_word, number_of, quantity_of, state_of};
+use crate::words::{eep_of, id_of, next_word, number_of, parse_label_rest, quantity_of, state_of};
 use learned_devices::Label;
 
 fn one_word_order(name: &[u8]) -> Option<Order>
@@ -23,8 +25,8 @@ fn one_word_order(name: &[u8]) -> Option<Order>
 }
 
 // `learn` with one more word.
-fn short_learn_order(second: &[u8]) -> Option<Order>
-    ensures { result ≡ short_learn_order second.now }
+fn two_word_learn_order(second: &[u8]) -> Option<Order>
+    ensures { result ≡ two_word_learn_order second.now }
 {
     if second == b"on".as_slice() {
         Some(Order::LearnOn)
@@ -36,8 +38,8 @@ fn short_learn_order(second: &[u8]) -> Option<Order>
 }
 
 // `learn` with two more words.
-fn long_learn_order(second: &[u8], third: &[u8]) -> Option<Order>
-    ensures { result ≡ long_learn_order second.now third.now }
+fn three_word_learn_order(second: &[u8], third: &[u8]) -> Option<Order>
+    ensures { result ≡ three_word_learn_order second.now third.now }
 {
     if second == b"on".as_slice() && third == b"answer".as_slice() {
         Some(Order::LearnOnAnswer)
@@ -52,7 +54,7 @@ fn two_word_order(name: &[u8], second: &[u8]) -> Option<Order>
     ensures { result ≡ two_word_order name.now second.now }
 {
     if name == b"learn".as_slice() {
-        short_learn_order(second)
+        two_word_learn_order(second)
     } else if name == b"remove".as_slice() {
         Some(Order::Remove(id_of(second)?))
     } else if name == b"stop".as_slice() {
@@ -70,7 +72,7 @@ fn three_word_order(name: &[u8], second: &[u8], third: &[u8]) -> Option<Order>
     ensures { result ≡ three_word_order name.now second.now third.now }
 {
     if name == b"learn".as_slice() {
-        long_learn_order(second, third)
+        three_word_learn_order(second, third)
     } else if name == b"add".as_slice() {
         Some(Order::Add(id_of(second)?, eep_of(third)?))
     } else if name == b"query".as_slice() {
@@ -127,8 +129,8 @@ fn four_word_order(name: &[u8], second: &[u8], third: &[u8], fourth: &[u8]) -> O
 
 // The order, except `label`, whose shape a line has, whatever its numbers. `name` is the line's first word, and `left`
 // the rest after it.
-fn order_without_label(name: &[u8], mut left: Option<&[u8]>) -> Option<Order>
-    ensures { result ≡ order_without_label (name.now ∷ remaining_words left.entry) }
+fn order_except_label(name: &[u8], mut left: Option<&[u8]>) -> Option<Order>
+    ensures { result ≡ order_except_label (name.now ∷ remaining_words left.entry) }
 {
     let words = (
         next_word(&mut left),
@@ -148,7 +150,7 @@ fn order_without_label(name: &[u8], mut left: Option<&[u8]>) -> Option<Order>
 }
 
 // The order whose shape a line has, if it is in range.
-fn in_range(order: Order) -> Result<Order, OrderFault>
+fn order_if_in_range(order: Order) -> Result<Order, OrderFault>
     ensures { result ≡ order_or_fault (Some order) }
 {
     if !is_in_range(&order) {
@@ -158,14 +160,14 @@ fn in_range(order: Order) -> Result<Order, OrderFault>
 }
 
 // The order of a line that begins with the word `label`; `left` is the rest after it.
-fn label_order(mut left: Option<&[u8]>) -> Result<Order, OrderFault>
-    ensures { result ≡ order_or_fault (label_order (remaining_words left.entry)) }
+fn label_order_of_arguments(mut left: Option<&[u8]>) -> Result<Order, OrderFault>
+    ensures { result ≡ order_or_fault (label_order_of_arguments (remaining_words left.entry)) }
 {
     let digits = next_word(&mut left).ok_or(OrderFault::Syntax)?;
     let id = id_of(digits).ok_or(OrderFault::Syntax)?;
-    let text = label_of(left).ok_or(OrderFault::Syntax)?;
+    let text = parse_label_rest(left).ok_or(OrderFault::Syntax)?;
     match Label::of_name(text) {
-        Some(label) => in_range(Order::Label { id, label }),
+        Some(label) => order_if_in_range(Order::Label { id, label }),
         None => Err(OrderFault::Range),
     }
 }
@@ -183,8 +185,8 @@ pub fn parse(line: &[u8]) -> Result<Order, OrderFault>
     let mut left = Some(line);
     let name = next_word(&mut left).ok_or(OrderFault::Syntax)?;
     if name == b"label".as_slice() {
-        return label_order(left);
+        return label_order_of_arguments(left);
     }
-    let order = order_without_label(name, left).ok_or(OrderFault::Syntax)?;
-    in_range(order)
+    let order = order_except_label(name, left).ok_or(OrderFault::Syntax)?;
+    order_if_in_range(order)
 }

@@ -23,6 +23,6 @@ pub fn ids_are_spelled()
 {}
 
 /// The limit of a line in the code is that of the definitions.
-pub fn lines_have_a_limit()
+pub fn line_limits_agree()
     ensures { MAX_LINE ≡ max_line }
 {}

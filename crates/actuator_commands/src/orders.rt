@@ -1,7 +1,7 @@
 //! The orders, and the ranges of their numbers.
 ghost use Rattle.std.specs.Prelude.{◌≡◌};
 ghost use Rattle.actuator_commands.specs.Orders.{is_in_range};
-ghost use Rattle.actuator_commands.specs.Packets.{recipient, sends};
+ghost use Rattle.actuator_commands.specs.Packets.{recipient_id, sends};
 ghost use Rattle.actuator_commands.specs.private.Targets.{target};
 
 use crate::limits::{MAX_CHANNEL, MAX_OFFSET, MAX_RAMP, MAX_VALUE};
@@ -151,8 +151,8 @@ impl Order {
     }
 
     /// The device of the order, which `packet_of` needs. `None` if the order is for no device, or for all.
-    pub fn recipient(&self) -> Option<u32>
-        ensures { result ≡ recipient self.now }
+    pub fn recipient_id(&self) -> Option<u32>
+        ensures { result ≡ recipient_id self.now }
     {
         match self.target() {
             Some(Target::One(id)) => Some(id),

@@ -5,8 +5,9 @@ ghost use Rattle.erp1_telegrams.specs.Address.{is_base_id};
 ghost use Rattle.erp1_telegrams.specs.Telegram.{payload_length_fits};
 ghost use Rattle.actuator_commands.specs.Limits.{max_channel};
 ghost use Rattle.actuator_commands.specs.Orders.{IsInRange};
-ghost use Rattle.actuator_commands.specs.Packets.{ToOne, accepts_profile, meter_query_byte, order_telegram, payload_for};
-ghost use Rattle.actuator_commands.specs.Packets.{query_payload, sends, telegram_for, telegram_to_all, telegram_to_one};
+ghost use Rattle.actuator_commands.specs.Packets.{ToOne, is_profile_of_actuator, meter_query_byte, order_telegram};
+ghost use Rattle.actuator_commands.specs.Packets.{payload_for};
+ghost use Rattle.actuator_commands.specs.Packets.{query_payload, sends, telegram_for, four_bs_to_all, telegram_to_one};
 
 use crate::orders::{Order, OrderFault, Quantity};
 use erp1_telegrams::{BROADCAST, Eep, Telegram, rorg};
@@ -14,21 +15,21 @@ use learned_devices::Device;
 
 // The actuators of orders to one device.
 #[derive(Clone, Copy)]
-enum Actuator {
+enum ActuatorKind {
     // A switch or a dimmer.
     Switch,
     // A blind.
     Blind,
 }
 
-impl Actuator {
+impl ActuatorKind {
     // Whether devices with this profile are such actuators.
-    fn accepts_profile(self, eep: Eep) -> bool
-        ensures { result ≡ accepts_profile self eep }
+    fn is_profile_of_actuator(self, eep: Eep) -> bool
+        ensures { result ≡ is_profile_of_actuator self eep }
     {
         match self {
-            Actuator::Switch => eep.rorg == rorg::VLD && eep.func == 0x01,
-            Actuator::Blind => eep.rorg == rorg::VLD && eep.func == 0x05 && eep.typ == 0x00,
+            ActuatorKind::Switch => eep.rorg == rorg::VLD && eep.func == 0x01,
+            ActuatorKind::Blind => eep.rorg == rorg::VLD && eep.func == 0x05 && eep.typ == 0x00,
         }
     }
 
@@ -44,7 +45,7 @@ impl Actuator {
         ensures { result ≡ telegram_for (ToOne id (payload_for self payload.now)) (option_copied device.entry) base }
     {
         let known = device.ok_or(OrderFault::UnknownDevice)?;
-        if !self.accepts_profile(known.eep) {
+        if !self.is_profile_of_actuator(known.eep) {
             return Err(OrderFault::WrongProfile);
         }
         Ok(to_one(id, payload, base))
@@ -63,14 +64,19 @@ fn to_one(id: u32, payload: &[u8], base: u32) -> Telegram
 }
 
 // A query for a channel, of a switch or of a blind.
-fn query(id: u32, channel: u32, device: Option<&Device>, base: u32) -> Result<Telegram, OrderFault>
+fn query_telegram(
+    id: u32,
+    channel: u32,
+    device: Option<&Device>,
+    base: u32,
+) -> Result<Telegram, OrderFault>
     requires { channel ≤ max_channel }
     ensures { result ≡ telegram_for (ToOne id (query_payload channel)) (option_copied device.entry) base }
 {
     let device = device.ok_or(OrderFault::UnknownDevice)?;
-    if Actuator::Switch.accepts_profile(device.eep) {
+    if ActuatorKind::Switch.is_profile_of_actuator(device.eep) {
         Ok(to_one(id, &[0x03, channel as u8], base))
-    } else if Actuator::Blind.accepts_profile(device.eep) && channel == 0 {
+    } else if ActuatorKind::Blind.is_profile_of_actuator(device.eep) && channel == 0 {
         Ok(to_one(id, &[0x03], base))
     } else {
         Err(OrderFault::WrongProfile)
@@ -91,7 +97,7 @@ fn meter_query_byte(channel: u32, quantity: Quantity) -> u8
 // A 4BS telegram to all.
 fn to_all(offset: u32, payload: [u8; 4], base: u32) -> Result<Telegram, OrderFault>
     requires { base + offset < 2 ^ 32 }
-    ensures { result ≡ telegram_to_all base offset payload }
+    ensures { result ≡ four_bs_to_all base offset payload }
 {
     let sender = base + offset;
     if sender == BROADCAST {
@@ -122,17 +128,17 @@ pub fn packet_of(order: &Order, device: Option<&Device>, base: u32) -> Result<Te
     match *order {
         Order::Switch { id, channel, on } => {
             let value = if on { 0x64 } else { 0x00 };
-            Actuator::Switch.telegram(id, &[0x01, channel as u8, value], device, base)
+            ActuatorKind::Switch.telegram(id, &[0x01, channel as u8, value], device, base)
         }
         Order::Dim { id, channel, value } => {
-            Actuator::Switch.telegram(id, &[0x01, channel as u8, value as u8], device, base)
+            ActuatorKind::Switch.telegram(id, &[0x01, channel as u8, value as u8], device, base)
         }
-        Order::Query { id, channel } => query(id, channel, device, base),
+        Order::Query { id, channel } => query_telegram(id, channel, device, base),
         Order::Meter {
             id,
             channel,
             quantity,
-        } => Actuator::Switch.telegram(
+        } => ActuatorKind::Switch.telegram(
             id,
             &[0x06, meter_query_byte(channel, quantity)],
             device,
@@ -140,9 +146,9 @@ pub fn packet_of(order: &Order, device: Option<&Device>, base: u32) -> Result<Te
         ),
         Order::Blind { id, value } => {
             let payload = [value as u8, 0x7F, 0x00, 0x01];
-            Actuator::Blind.telegram(id, &payload, device, base)
+            ActuatorKind::Blind.telegram(id, &payload, device, base)
         }
-        Order::Stop { id } => Actuator::Blind.telegram(id, &[0x02], device, base),
+        Order::Stop { id } => ActuatorKind::Blind.telegram(id, &[0x02], device, base),
         Order::Central { offset, on } => {
             let bits = if on { 0x09 } else { 0x08 };
             to_all(offset, [0x01, 0x00, 0x00, bits], base)

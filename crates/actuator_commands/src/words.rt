@@ -2,13 +2,20 @@
 ghost use Rattle.std.specs.Prelude.{◌≡◌, ◌==◌, [], ◌∷◌, MatchOption, option_map, position};
 ghost use Rattle.std.specs.Char.{is_ascii_digit};
 ghost use Rattle.std.specs.List.{list_all};
-ghost use Rattle.actuator_commands.specs.Words.{has_no_leading_zero, byte_in, eep_in, id_in, is_number, number_in};
-ghost use Rattle.actuator_commands.specs.Words.{label_text_in, quantity_in, state_in, label_in, remaining_words};
+ghost use Rattle.actuator_commands.specs.Words.{
+  has_no_leading_zero,
+  byte_in,
+  eep_in,
+  id_in,
+  is_short_decimal,
+  number_in,
+};
+ghost use Rattle.actuator_commands.specs.Words.{label_if_well_formed, quantity_in, state_in, label_in, remaining_words};
 
 use crate::orders::Quantity;
 use erp1_telegrams::Eep;
 use hex::FromHex;
-use learned_devices::has_label_form;
+use learned_devices::is_label_of_any_length;
 
 // The index of the first space.
 fn find_space(line: &[u8]) -> Option<usize>
@@ -83,8 +90,8 @@ fn are_digits(text: &[u8]) -> bool
 }
 
 // Whether a text is `0`, or up to five decimal digits that do not begin with 0.
-fn is_number(text: &[u8]) -> bool
-    ensures { result ≡ is_number text.now }
+fn is_short_decimal(text: &[u8]) -> bool
+    ensures { result ≡ is_short_decimal text.now }
 {
     has_no_leading_zero(text) && text.len() <= 5 && are_digits(text)
 }
@@ -93,7 +100,7 @@ fn is_number(text: &[u8]) -> bool
 pub(crate) fn number_of(text: &[u8]) -> Option<u32>
     ensures { result ≡ number_in text.now }
 {
-    if !is_number(text) {
+    if !is_short_decimal(text) {
         return None;
     }
     str::from_utf8(text).ok()?.parse().ok()
@@ -125,10 +132,10 @@ pub(crate) fn quantity_of(text: &[u8]) -> Option<Quantity>
 }
 
 // Reads the text of a label, of any length but 0.
-fn text_of(text: &[u8]) -> Option<&str>
-    ensures { option_map (λ text. text.now) result ≡ label_text_in text.now }
+fn label_if_well_formed(text: &[u8]) -> Option<&str>
+    ensures { option_map (λ text. text.now) result ≡ label_if_well_formed text.now }
 {
-    if text.is_empty() || !has_label_form(text) {
+    if text.is_empty() || !is_label_of_any_length(text) {
         return None;
     }
     str::from_utf8(text).ok()
@@ -136,11 +143,11 @@ fn text_of(text: &[u8]) -> Option<&str>
 
 /// Reads the rest of a line as the text of a label, of any length and with its spaces. The text is empty if there is no
 /// rest, and there is none if nothing follows a last space.
-pub(crate) fn label_of(left: Option<&[u8]>) -> Option<&str>
+pub(crate) fn parse_label_rest(left: Option<&[u8]>) -> Option<&str>
     ensures { option_map (λ label. label.now) result ≡ label_in (remaining_words left.entry) }
 {
     match left {
-        Some(text) => text_of(text),
+        Some(text) => label_if_well_formed(text),
         None => Some(""),
     }
 }

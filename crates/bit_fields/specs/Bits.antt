@@ -20,7 +20,7 @@ number [] = 0
 number (bit ∷ lower) = bit * 2 ^ length lower + number lower
 
 -- the field of len bits at a bit offset (EnOcean Equipment Profiles 2.6: "Offset" and "Size" of a row)
-unfoldable pub field : List ℕ → ℕ → ℕ → ℕ
+unfoldable pub field : (bytes : List ℕ) (offset len : ℕ) → ℕ
 field bytes offset len = number (take len (drop offset (bits bytes)))
 
 -- changed is bytes with the field set to value: it is as long, the field is value, and the bits before and after the

@@ -4,10 +4,10 @@ use Rattle.std.specs.Prelude.{◌==◌, ◌<◌, ◌⊎◌, if◌then◌else◌,
 use Rattle.std.specs.Prelude.{MatchResult}
 
 -- a 64-bit counter incremented by n; it stays at its maximum
-abbrev pub saturated_sum : ℕ → ℕ → ℕ
+abbrev pub saturated_sum : (count n : ℕ) → ℕ
 saturated_sum count n = min (count + n) (2 ^ 64 - 1)
 
-abbrev pub saturated_increment : ℕ → ℕ
+abbrev pub saturated_increment : (count : ℕ) → ℕ
 saturated_increment count = saturated_sum count 1
 
 -- the number of calls, of those that failed, and of those that returned 0 bytes; each counter stays at its maximum
@@ -33,32 +33,32 @@ count_call counts (Err e) = record {
 }
 
 -- no call failed, and none returned 0 bytes
-abbrev pub NoneFailedOrEmpty : Counts → Counts → Type 0
+abbrev pub NoneFailedOrEmpty : (old new : Counts) → Type 0
 NoneFailedOrEmpty old new = (new.failed ≡ old.failed) × (new.empty ≡ old.empty)
 
 -- no call failed
-abbrev pub NoneFailed : Counts → Counts → Type 0
+abbrev pub NoneFailed : (old new : Counts) → Type 0
 NoneFailed old new = new.failed ≡ old.failed
 
 -- one call failed
-abbrev pub FailedOnceMore : Counts → Counts → Type 0
+abbrev pub FailedOnceMore : (old new : Counts) → Type 0
 FailedOnceMore old new = new.failed ≡ saturated_increment old.failed
 
 -- one call failed, and none returned 0 bytes
-abbrev pub OnlyFailedOnce : Counts → Counts → Type 0
+abbrev pub OnlyFailedOnce : (old new : Counts) → Type 0
 OnlyFailedOnce old new = (new.failed ≡ saturated_increment old.failed) × (new.empty ≡ old.empty)
 
 -- one call returned 0 bytes, and none failed
-abbrev pub OnlyEmptyOnce : Counts → Counts → Type 0
+abbrev pub OnlyEmptyOnce : (old new : Counts) → Type 0
 OnlyEmptyOnce old new = (new.failed ≡ old.failed) × (new.empty ≡ saturated_increment old.empty)
 
 -- all calls succeeded for `Ok`, and all but one for `Err`
-abbrev pub CallsMatchResult : {A E : Type 0} → Result A E → Counts → Counts → Type 0
+abbrev pub CallsMatchResult : {A E : Type 0} → Result A E → (old new : Counts) → Type 0
 CallsMatchResult result old new =
     MatchResult result (λ _. NoneFailedOrEmpty old new) (λ _. OnlyFailedOnce old new ⊎ OnlyEmptyOnce old new)
 
 -- n calls were made
-abbrev pub CallsMade : Counts → Counts → ℕ → Type 0
+abbrev pub CallsMade : (old new : Counts) → ℕ → Type 0
 CallsMade old new n = old.calls < 2 ^ 64 → new.calls ≡ saturated_sum old.calls n
 
 -- n more calls can be counted, and one more of each other kind

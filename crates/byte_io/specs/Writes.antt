@@ -11,5 +11,5 @@ pub record AppendsPart (old new : Option (List ℕ)) (front text : List ℕ) : T
   pub grown : Appends old new (front ++ part)
 
 -- all of the text for `Ok`, and a proper prefix of it for `Err`
-abbrev pub Writes : {A E : Type 0} → Option (List ℕ) → Option (List ℕ) → Result A E → List ℕ → Type 0
+abbrev pub Writes : {A E : Type 0} → (old new : Option (List ℕ)) → Result A E → (text : List ℕ) → Type 0
 Writes old new result text = MatchResult result (λ _. Appends old new text) (λ _. AppendsPart old new [] text)

@@ -15,9 +15,9 @@ pub trait Source {
     /// The counters of the reads so far.
     ghost counts: { Self → Counts };
 
-    /// Reads some bytes into the front of the buffer, which is 1 to `MAX_READ` bytes long, and returns their number. 0 means
-    /// that none is left, or, for a terminal, which may receive more later, that none came in time. After `Failed`
-    /// nothing is lost: no byte was read from the source.
+    /// Reads some bytes into the front of the buffer, which is 1 to `MAX_READ` bytes long, and returns their number. 0
+    /// means that none is left, or, for a terminal, which may receive more later, that none came in time. After
+    /// `Failed` nothing is lost: no byte was read from the source.
     fn read(&mut self, buffer: &mut [u8]) -> Result<usize, Failed>
         requires { (0 < length buffer.old) × (length buffer.old ≤ max_read) }
         ensures within { IfOk result (λ n. n ≤ length buffer.new) }

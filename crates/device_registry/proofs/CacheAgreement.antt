@@ -13,47 +13,48 @@ use Rattle.learned_devices.specs.declared.Device.{Device}
 use Rattle.learned_devices.specs.Devices.{Devices, DeviceData, DeviceUpdate, apply_update, data_after, with_entry}
 use Rattle.learned_devices.specs.Devices.{device, device_of}
 use Rattle.learned_devices.specs.DeviceStoreState.{Keeps, Commits}
-use Rattle.device_registry.specs.Holding.{HasDevices, registry_state}
+use Rattle.device_registry.specs.Holding.{HasDevicesIfOpen, registry_state}
 use Rattle.device_registry.specs.Ready.{IsReady}
-use Rattle.device_registry.specs.private.Cached.{EntryAgrees, CacheAgrees}
+use Rattle.device_registry.specs.private.Cached.{EntryAgrees, CacheAgreesIfClean}
 use Rattle.device_registry.proofs.DevicesHeld.{registers_once}
 use Rattle.device_registry.proofs.RegistryCalls.{shows_them}
 
 abbrev Entry : Type 0
 Entry = ℕ × Option Device
 
-pub none_recalled : (s : State) (entries : List Entry) → entries ≡ [] → CacheAgrees s entries
+pub none_recalled : (s : State) (entries : List Entry) → entries ≡ [] → CacheAgreesIfClean s entries
 none_recalled s entries none entry has clean = absurd (Contains-nil entry (subst (λ es. Contains es entry) none has))
 
 pub cleared_recalled : (s : State) (cap : ℕ) (cache : LruCache ℕ (Option Device)) → cache ≡ lru_cache [] cap
-    → CacheAgrees s cache.entries
+    → CacheAgreesIfClean s cache.entries
 cleared_recalled s cap cache is = none_recalled s cache.entries (ap (λ (c : LruCache ℕ (Option Device)). c.entries) is)
 
-pub fewer_recalled : (s : State) (old new : List Entry) → CacheAgrees s old
-    → ((e : Entry) → Contains new e → Contains old e) → CacheAgrees s new
+pub fewer_recalled : (s : State) (old new : List Entry) → CacheAgreesIfClean s old
+    → ((e : Entry) → Contains new e → Contains old e) → CacheAgreesIfClean s new
 fewer_recalled s old new recalls fewer entry has clean = recalls entry (fewer entry has) clean
 
 -- a cached entry agrees with every list of devices that the registry may hold
 pub recalled : (s : State) (id : ℕ) (known : Option Device) → HasCleanDisk s → EntryAgrees s (id, known)
-    → (devices : Devices) → HasDevices s devices → known ≡ device_of devices id
+    → (devices : Devices) → HasDevicesIfOpen s devices → known ≡ device_of devices id
 recalled s id known clean right devices has = right.is ∙ ap (λ (m : Devices). device_of m id)
     (registers_once s.now right.devices devices right.shows.holds (has clean right.shows.is_open))
 
-pub unmoved : (s : State) (devices : Devices) → HasDevices s devices
+pub unmoved : (s : State) (devices : Devices) → HasDevicesIfOpen s devices
     → Keeps (registry_state s) (registry_state s) devices
 unmoved s devices has = record { now = has; crash = λ left may. may }
 
-held : {s : State} (ready : IsReady s) → HasDevices s ready.held
+held : {s : State} (ready : IsReady s) → HasDevicesIfOpen s ready.held
 held ready = λ _ _. ready.shows.holds
 
 -- and it implies that the registry is ready
-pub told_ready : (s : State) (entry : Entry) → EntryAgrees s entry → IsReady s × IsReady s
-told_ready s entry right =
+pub reported_ready : (s : State) (entry : Entry) → EntryAgrees s entry → IsReady s × IsReady s
+reported_ready s entry right =
     let it : IsReady s = record { held = right.devices; shows = right.shows } in (it, it)
 
 -- a correct entry stays correct after a call that keeps each list of devices
 still : (old new : State) → HasCleanDisk new → IsReady new
-    → ((devices : Devices) → HasDevices old devices → HasDevices new devices) → (entry : Entry) → EntryAgrees old entry
+    → ((devices : Devices) → HasDevicesIfOpen old devices → HasDevicesIfOpen new devices) → (entry : Entry)
+    → EntryAgrees old entry
     → EntryAgrees new entry
 still old new clean ready keeps entry right = record {
   devices = right.devices;
@@ -64,10 +65,10 @@ still old new clean ready keeps entry right = record {
 -- a look-up was answered, and its result is cached
 pub found_recalled : (old new : State) (id : ℕ) (known : Option Device) (before later : List Entry)
     → (HasCleanDisk new → HasCleanDisk old) → (HasCleanDisk new → IsReady old × IsReady new)
-    → (HasCleanDisk new → (devices : Devices) → HasDevices old devices
+    → (HasCleanDisk new → (devices : Devices) → HasDevicesIfOpen old devices
     → (known ≡ device_of devices id) × Keeps (registry_state old) (registry_state new) devices)
-    → CacheAgrees old before → ((e : Entry) → Contains later e → Contains before e ⊎ (e ≡ (id, known)))
-    → CacheAgrees new later
+    → CacheAgreesIfClean old before → ((e : Entry) → Contains later e → Contains before e ⊎ (e ≡ (id, known)))
+    → CacheAgreesIfClean new later
 found_recalled old new id known before later early sure found recalls fewer entry has clean =
     let it = sure clean in
     let was_devices = it.0.held in
@@ -76,20 +77,20 @@ found_recalled old new id known before later early sure found recalls fewer entr
       | inl was ↦ still old new clean it.1 (λ devices had. (found clean devices had).1.now) entry
           (recalls entry was (early clean))
       | inr same ↦
-          let told = found clean was_devices had in
+          let reported = found clean was_devices had in
           subst (EntryAgrees new) (sym same)
           (record {
             devices = was_devices;
-            shows = shows_them new was_devices clean it.1 told.1.now;
-            is = told.0;
+            shows = shows_them new was_devices clean it.1 reported.1.now;
+            is = reported.0;
           })
     ]
 
 pub listed_recalled : (old new : State) (entries : List Entry) → (HasCleanDisk new → HasCleanDisk old)
     → (HasCleanDisk new → IsReady old × IsReady new)
-    → (HasCleanDisk new → (devices : Devices) → HasDevices old devices
+    → (HasCleanDisk new → (devices : Devices) → HasDevicesIfOpen old devices
     → Keeps (registry_state old) (registry_state new) devices)
-    → CacheAgrees old entries → CacheAgrees new entries
+    → CacheAgreesIfClean old entries → CacheAgreesIfClean new entries
 listed_recalled old new entries early sure keeps recalls entry has clean =
     still old new clean (sure clean).1 (λ devices had. (keeps clean devices had).now) entry
     (recalls entry has (early clean))
@@ -119,11 +120,13 @@ known_after devices update = data_after (get devices update.sender) update.opera
 pub changed_recalled : (old new : State) (update : DeviceUpdate) (known : Option Device)
     (before between later : List Entry)
     → (HasCleanDisk new → HasCleanDisk old) → (HasCleanDisk new → IsReady old × IsReady new)
-    → (HasCleanDisk new → (devices : Devices) → HasDevices old devices → Commits (registry_state new) update devices)
-    → (HasCleanDisk old → (devices : Devices) → HasDevices old devices
+    → (HasCleanDisk new → (devices : Devices) → HasDevicesIfOpen old devices
+    → Commits (registry_state new) update devices)
+    → (HasCleanDisk old → (devices : Devices) → HasDevicesIfOpen old devices
     → known ≡ option_map (device update.sender) (known_after devices update))
-    → CacheAgrees old before → ((e : Entry) → Contains between e → Contains before e × (e.0 ≢ update.sender))
-    → ((e : Entry) → Contains later e → Contains between e ⊎ (e ≡ (update.sender, known))) → CacheAgrees new later
+    → CacheAgreesIfClean old before → ((e : Entry) → Contains between e → Contains before e × (e.0 ≢ update.sender))
+    → ((e : Entry) → Contains later e → Contains between e ⊎ (e ≡ (update.sender, known)))
+    → CacheAgreesIfClean new later
 changed_recalled old new update known before between later early sure commits is recalls taken fewer entry has
     clean =
     let it = sure clean in
@@ -152,9 +155,9 @@ changed_recalled old new update known before between later early sure commits is
 -- nothing is learned, and the other entries stay
 pub full_recalled : (old new : State) (before later : List Entry) → (HasCleanDisk new → HasCleanDisk old)
     → (HasCleanDisk new → IsReady old × IsReady new)
-    → (HasCleanDisk new → (devices : Devices) → HasDevices old devices
+    → (HasCleanDisk new → (devices : Devices) → HasDevicesIfOpen old devices
     → Keeps (registry_state old) (registry_state new) devices)
-    → CacheAgrees old before
-    → ((e : Entry) → Contains later e → Contains before e) → CacheAgrees new later
+    → CacheAgreesIfClean old before
+    → ((e : Entry) → Contains later e → Contains before e) → CacheAgreesIfClean new later
 full_recalled old new before later early sure keeps recalls fewer =
     listed_recalled old new later early sure keeps (fewer_recalled old before later recalls fewer)

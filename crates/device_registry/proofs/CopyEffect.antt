@@ -19,35 +19,35 @@ use Rattle.keyed_table.proofs.TablesAlone.{StandsAlone}
 use Rattle.keyed_table.proofs.TableWrites.{SparesOthers, Did, inserts}
 use Rattle.device_registry.specs.declared.table.Version.TheVariants.{First, Second}
 use Rattle.device_registry.specs.Table.{device_table}
-use Rattle.device_registry.specs.Table.Rows.{RowidsDiffer, IsDevice, with_label, rows_of}
+use Rattle.device_registry.specs.Table.Rows.{RowidsDiffer, IsDeviceRow, with_empty_label, upgraded_rows}
 use Rattle.device_registry.proofs.DeviceCodec.{keyed}
 use Rattle.device_registry.proofs.StatementTexts.{copy_query}
 
 -- a row of a device with the empty label is stored as it is given
-stored : (n : ℕ) (row : Row) → IsDevice (with_label row)
-    → cast_row (device_table Second n) (with_label row) ≡ with_label row
+stored : (n : ℕ) (row : Row) → IsDeviceRow (with_empty_label row)
+    → cast_row (device_table Second n) (with_empty_label row) ≡ with_empty_label row
 stored n row it =
-    let is : with_label row ≡ Int (pos it.id) ∷ Null ∷ Int (pos it.eep) ∷ Int it.maker ∷ Text [] ∷ [] =
+    let is : with_empty_label row ≡ Int (pos it.id) ∷ Null ∷ Int (pos it.eep) ∷ Int it.maker ∷ Text [] ∷ [] =
     λ i. it.id_is i ∷ Null ∷ it.eep_is i ∷ it.maker_is i ∷ Text [] ∷ [] in
     subst (λ r. cast_row (device_table Second n) r ≡ r) (sym is) (simp casts)
 
-all_stored : (n : ℕ) (rows : List Row) → AllByRecursion IsDevice (rows_of First rows)
-    → AllByRecursion (λ r. cast_row (device_table Second n) r ≡ r) (rows_of First rows)
+all_stored : (n : ℕ) (rows : List Row) → AllByRecursion IsDeviceRow (upgraded_rows First rows)
+    → AllByRecursion (λ r. cast_row (device_table Second n) r ≡ r) (upgraded_rows First rows)
 all_stored n [] all = tt
 all_stored n (row ∷ rows) all = (stored n row all.0, all_stored n rows all.1)
 
 -- the empty table has the devices, in some order, and no other table changes
 pub copies : (schema : Schema) (to n d : ℕ) (limit : Option ℕ) (mode : Mode) (db : Trees) (tally : Tally)
     (after : Database) → slice_get schema.tables to ≡ Some (device_table Second n) → StandsAlone schema n → db n ≡ []
-    → AllByRecursion IsDevice (rows_of First (db d)) → RowidsDiffer (rows_of First (db d))
+    → AllByRecursion IsDeviceRow (upgraded_rows First (db d)) → RowidsDiffer (upgraded_rows First (db d))
     → Did schema limit mode [] db to (Insert to (source.Query (program_of (copy_query d)))) tally after
     → (after.schema ≡ schema) × SparesOthers schema n db after.trees
-    × IsPermutation (rows_of First (db d)) (after.trees n)
+    × IsPermutation (upgraded_rows First (db d)) (after.trees n)
 copies schema to n d limit mode db tally after there stands none all differ did =
     let it = inserts schema to (device_table Second n) there stands limit mode [] db tally after
     (source.Query (program_of (copy_query d))) refl did in (
       it.2.schema_is,
       it.2.others,
       writes.copies schema (device_table Second n) d db it.0 after (it.1.answer Null) it.2 none
-          (keyed (rows_of First (db d)) all differ) (all_stored n (db d) all),
+          (keyed (upgraded_rows First (db d)) all differ) (all_stored n (db d) all),
     )

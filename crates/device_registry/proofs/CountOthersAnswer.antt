@@ -16,13 +16,13 @@ use Rattle.keyed_table.proofs.TextMeaning.{answer_of}
 use Rattle.learned_devices.specs.Devices.{Devices, is_full, max_devices}
 use Rattle.device_registry.specs.Table.{count_others_sql}
 use Rattle.device_registry.specs.Ready.{IsReady, IsReadyWith, WritesNothing}
-use Rattle.device_registry.specs.Stored.{IsRegistryOf}
+use Rattle.device_registry.specs.Stored.{IsVersion2RegistryOf}
 use Rattle.device_registry.proofs.DeviceCodec.{data_in, keyed}
 use Rattle.device_registry.proofs.DeviceMeaning.{count_means}
 use Rattle.device_registry.proofs.DevicesHeld.{few_devices, fewer}
 use Rattle.keyed_table.proofs.Statements.{compiled_query_stays}
 
-pub counts : (old new : State) (id : ℕ) (rows : List Row) (devices : Devices) → IsRegistryOf old.now devices
+pub counts : (old new : State) (id : ℕ) (rows : List Row) (devices : Devices) → IsVersion2RegistryOf old.now devices
     → Shown count_others_sql (asked id) old new rows → rows ≡ (count (len (remove devices id)) ∷ []) ∷ []
 counts old new id rows devices had h =
     let r = had.registry in
@@ -56,16 +56,17 @@ same_number : (m n : ℕ) → ◌≡◌ {A = Value} (Int (pos m)) (Int (pos n)) 
 same_number m n e = cc
 
 -- the count is exactly that of the other senders, since they are few
-full_told : (others n : ℕ) → count others ≡ Int (pos n) → others ≤ max_devices
+full_reported : (others n : ℕ) → count others ≡ Int (pos n) → others ≤ max_devices
     → nat_le max_devices n ≡ nat_le max_devices others
-full_told others n is few =
+full_reported others n is few =
     let same : min others 9223372036854775807 ≡ n = same_number _ n is in
     ap (nat_le max_devices) (omega (arith, same, few))
 
-pub told_full : (old new : State) (id : ℕ) (rows : List Row) (n : ℕ) (row : Row) (more : List Row) (devices : Devices)
+pub reported_full : (old new : State) (id : ℕ) (rows : List Row) (n : ℕ) (row : Row) (more : List Row)
+    (devices : Devices)
     → IsReadyWith old devices → Shown count_others_sql (asked id) old new rows → rows ≡ row ∷ more
     → column row 0 ≡ Int (pos n) → nat_le max_devices n ≡ is_full devices id
-told_full old new id rows n row more devices shows h are number =
-    full_told (len (remove devices id)) n (shown_number (count (len (remove devices id))) n row more
+reported_full old new id rows n row more devices shows h are number =
+    full_reported (len (remove devices id)) n (shown_number (count (len (remove devices id))) n row more
     (sym (counts old new id rows devices shows.holds h) ∙ are) number)
     (omega (arith, few_devices old.now devices shows.holds, fewer devices id))

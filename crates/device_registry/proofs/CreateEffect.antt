@@ -18,13 +18,13 @@ use Rattle.sqlite_trees.specs.declared.store.Store.{Ghosts}
 use Rattle.sqlite.proofs.Callers.{runs_as}
 use Rattle.device_registry.specs.declared.table.Version.TheVariants.{Second}
 use Rattle.device_registry.specs.Table.{meta_name, create_meta_sql, create_device_sql, write_version_sql}
-use Rattle.device_registry.specs.Table.{device_name, meta_table, device_table}
-use Rattle.device_registry.specs.Stored.{HasTables, AreListed, IsRegistryOf}
-use Rattle.device_registry.specs.Table.Rows.{RowidsDiffer, IsDevice, devices_in}
+use Rattle.device_registry.specs.Table.{device_table_name, meta_table, device_table}
+use Rattle.device_registry.specs.Stored.{HasTables, AreTablesListed, IsVersion2RegistryOf}
+use Rattle.device_registry.specs.Table.Rows.{RowidsDiffer, IsDeviceRow, devices_in}
 use Rattle.learned_devices.specs.Devices.{max_devices}
 use Rattle.device_registry.specs.Stored.{AdmitsTables}
 use Rattle.device_registry.specs.SchemaChecks.{admits_tables}
-use Rattle.device_registry.specs.private.Transaction.{IsMidTransaction, IsListedMidTransaction}
+use Rattle.device_registry.specs.private.Transaction.{IsMidTransaction, IsMidTransactionWithTables}
 use Rattle.device_registry.proofs.TableTexts.{meta_is, device_is}
 use Rattle.device_registry.proofs.CreateTablesMeaning.{meta_makes, device_makes}
 use Rattle.device_registry.proofs.VersionMeaning.{number_means, version_terms}
@@ -44,8 +44,8 @@ use Rattle.sqlite_rules.proofs.ListLemmas.{all_has, has_left}
 
 -- the two tables hold the version row and nothing else
 registers : (db : Database) (t : HasTables Second db.schema) → db.trees t.meta ≡ version_row ∷ []
-    → db.trees t.devices ≡ [] → AreListed Second db.trees
-    → IsRegistryOf db empty
+    → db.trees t.devices ≡ [] → AreTablesListed Second db.trees
+    → IsVersion2RegistryOf db empty
 registers db t one none listed = record {
   registry = record {
     tables = t;
@@ -53,7 +53,7 @@ registers db t one none listed = record {
       row = version_row;
       one = one;
       numbered = record { key = refl; number = refl };
-      rows = subst (AllByRecursion IsDevice) (sym none) tt;
+      rows = subst (AllByRecursion IsDeviceRow) (sym none) tt;
       once = subst RowidsDiffer (sym none) tt;
       few = subst (λ rows. length rows ≤ max_devices) (sym none) (omega arith);
     };
@@ -73,8 +73,10 @@ module _ (a b c : State) (i j : ℕ) (clear : AdmitsTables a.now.schema) (sound 
       × KeepsRows a.now.schema.tables a.now.trees b.now.trees
   half =
       let makes = meta_makes a.now.schema clear.free_meta in
-      let one = runs_as create_meta_sql [] a b a.now.schema refl CreateTable makes.means.is makes.means.plain i first.0 in
-      let made = creates_table a.step_limit (mode_of a) a.now b.now create_meta_sql one.tally (meta_table 0) meta_is half_counted
+      let one = runs_as create_meta_sql [] a b a.now.schema refl CreateTable makes.means.is makes.means.plain i first.0
+      in
+      let made = creates_table a.step_limit (mode_of a) a.now b.now create_meta_sql one.tally
+      (meta_table 0) meta_is half_counted
       (subst (λ t. Does a.step_limit (mode_of a) [] a.now t None CreateTable (Ok (one.tally, b.now))) makes.alone
       one.changed) in
       (made.0, made.1, one.sound, made.2)
@@ -86,9 +88,11 @@ module _ (a b c : State) (i j : ℕ) (clear : AdmitsTables a.now.schema) (sound 
       let before = half in
       let makes =
       device_makes b.now.schema
-      (subst (λ s. is_used s (device_name Second) ≡ false) (sym before.0) (half_free a.now.schema clear Second)) in
+      (subst (λ s. is_used s (device_table_name Second) ≡ false) (sym before.0)
+      (half_free a.now.schema clear Second)) in
       let two =
-      runs_as (create_device_sql Second) [] b c b.now.schema refl CreateTable makes.means.is makes.means.plain j second.0 in
+      runs_as (create_device_sql Second) [] b c b.now.schema refl CreateTable makes.means.is makes.means.plain j
+      second.0 in
       let made =
       creates_table b.step_limit (mode_of b) b.now c.now (create_device_sql Second) two.tally (device_table Second 0)
       (device_is Second)
@@ -135,7 +139,7 @@ apart_from a b low same = omega (arith, low, same)
 makes : (a b c d : State) (i j k : ℕ) → AdmitsTables a.now.schema → IsDatabase a.now
     → ExecutesInside 0 create_meta_sql [] a b (Ok i) → ExecutesInside 0 (create_device_sql Second) [] b c (Ok j)
     → ExecutesInside 0 write_version_sql [] c d (Ok k)
-    → (AreListed Second d.now.trees → IsRegistryOf d.now empty) × IsDatabase d.now × KeepsAll a.now d.now
+    → (AreTablesListed Second d.now.trees → IsVersion2RegistryOf d.now empty) × IsDatabase d.now × KeepsAll a.now d.now
 makes a b c d i j k clear sound first second third =
     let after = whole a b c i j clear sound first second in
     let it = stand a b c i j clear sound first second in
@@ -171,7 +175,7 @@ making = create_meta_sql ∷ create_device_sql Second ∷ write_version_sql ∷ 
 
 -- if the two tables are listed with our texts, it is a registry without devices
 abbrev IsMade : Database → Database → Type 0
-IsMade old db = (AreListed Second db.trees → IsRegistryOf db empty) × IsDatabase db × KeepsAll old db
+IsMade old db = (AreTablesListed Second db.trees → IsVersion2RegistryOf db empty) × IsDatabase db × KeepsAll old db
 
 module _ {S : Type 0} (g : Ghosts S) (old start : Held S) (is : start ≡ record old { in_transaction = true })
     (free : HasCleanDisk (state g old) → IsTrue (admits_tables (state g old).now.schema)
@@ -194,7 +198,7 @@ module _ {S : Type 0} (g : Ghosts S) (old start : Held S) (is : start ≡ record
   sound_inside mid clean it = (ran mid it clean).1
 
 module _ {S : Type 0} (g : Ghosts S) (old start last : Held S) (is : start ≡ record old { in_transaction = true })
-    (it : IsListedMidTransaction g Second making start last)
+    (it : IsMidTransactionWithTables g Second making start last)
     (free : HasCleanDisk (state g old) → IsTrue (admits_tables (state g old).now.schema)
     × IsDatabase (state g old).now) where
   -- what it shows before the commit
@@ -202,7 +206,7 @@ module _ {S : Type 0} (g : Ghosts S) (old start last : Held S) (is : start ≡ r
   shows clean =
       let done = ran g old start is free it.mid it.made (it.clean clean) in
       let here = subst (IsMade (state g old).now) (sym (it.same clean)) done in (
-        λ devices are. subst (IsRegistryOf (state g last).now) (sym are) (here.0 (it.listed clean here.1)),
+        λ devices are. subst (IsVersion2RegistryOf (state g last).now) (sym are) (here.0 (it.listed clean here.1)),
         here.1,
         λ table has _ _. here.2 table has,
       )

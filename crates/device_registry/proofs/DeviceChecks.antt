@@ -8,12 +8,12 @@ use Rattle.keyed_table.proofs.Checks.{is_between, lies_between}
 use Rattle.device_registry.specs.declared.table.Version.TheVariants.{Second}
 use Rattle.device_registry.specs.Table.{device_table, max_sender, max_profile, max_maker}
 use Rattle.learned_devices.specs.Devices.{DeviceData}
-use Rattle.device_registry.specs.Table.Rows.{IsDevice, device_row, eep_number, maker_number}
+use Rattle.device_registry.specs.Table.Rows.{IsDeviceRow, device_row, eep_number, maker_number}
 use Rattle.std.proofs.lemmas.Bool.{and_parts}
 
 -- an inserted row passes them, so it is that of a device, if its label is valid
 pub checked : (d id : ℕ) (it : DeviceData) → is_label it.label ≡ true
-    → passes_checks (device_table Second d) (device_row id it) ≡ true → IsDevice (device_row id it)
+    → passes_checks (device_table Second d) (device_row id it) ≡ true → IsDeviceRow (device_row id it)
 checked d id it label h =
     let sender = and_parts (is_between (pos 0) (pos max_sender) (pos id)) _ h in
     let profile = and_parts (is_between (pos 0) (pos max_profile) (pos (eep_number it.eep))) _ sender.1 in

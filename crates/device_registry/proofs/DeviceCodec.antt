@@ -10,7 +10,8 @@ use Rattle.keyed_table.specs.Rows.{HasKey, AreKeyed}
 use Rattle.keyed_table.proofs.RowsAsMap.{apart_from}
 use Rattle.device_registry.specs.declared.table.Version.{Version}
 use Rattle.device_registry.specs.declared.table.Version.TheVariants.{First, Second}
-use Rattle.device_registry.specs.Table.Rows.{RowidsDiffer, IsDevice, entry_of, device_row, with_label, rows_of}
+use Rattle.device_registry.specs.Table.Rows.{RowidsDiffer, IsDeviceRow, entry_of, device_row, with_empty_label}
+use Rattle.device_registry.specs.Table.Rows.{upgraded_rows}
 use Rattle.device_registry.specs.Table.Rows.{maker_number, maker_in, eep_number, eep_of}
 
 -- the device that a row encodes, without its sender, which is the key
@@ -42,19 +43,20 @@ data_back id it short =
     ap₂ (λ (e : Eep) (o : Option ℕ). let it : DeviceData = record { eep = e; maker = o; label = it.label } in it)
     (eep_back it.eep short) (maker_back it.maker)
 
-pub key_of : (row : Row) → IsDevice row → HasKey row
+pub key_of : (row : Row) → IsDeviceRow row → HasKey row
 key_of row it = record { id = it.id; id_is = it.id_is }
 
-pub keyed : (rows : List Row) → AllByRecursion IsDevice rows → RowidsDiffer rows → AreKeyed rows
+pub keyed : (rows : List Row) → AllByRecursion IsDeviceRow rows → RowidsDiffer rows → AreKeyed rows
 keyed rows all differ =
-    let keys = all_weaker IsDevice HasKey key_of rows all in
+    let keys = all_weaker IsDeviceRow HasKey key_of rows all in
     record { keys = keys; apart = apart_from rows keys differ }
 
 -- the same for the rows of either version, as they are stored
-pub stored_keyed : (version : Version) (rows : List Row) → AllByRecursion IsDevice (rows_of version rows)
-    → RowidsDiffer (rows_of version rows) → AreKeyed rows
+pub stored_keyed : (version : Version) (rows : List Row) → AllByRecursion IsDeviceRow (upgraded_rows version rows)
+    → RowidsDiffer (upgraded_rows version rows) → AreKeyed rows
 stored_keyed First rows all differ =
-    let keys = all_weaker (λ r. IsDevice (with_label r)) HasKey (λ r it. record { id = it.id; id_is = it.id_is }) rows
-    (all_from_map IsDevice with_label rows all) in
-    record { keys = keys; apart = apart_from rows keys (ascending_from_map _ with_label rows differ) }
+    let keys = all_weaker (λ r. IsDeviceRow (with_empty_label r)) HasKey
+    (λ r it. record { id = it.id; id_is = it.id_is }) rows
+    (all_from_map IsDeviceRow with_empty_label rows all) in
+    record { keys = keys; apart = apart_from rows keys (ascending_from_map _ with_empty_label rows differ) }
 stored_keyed Second rows all differ = keyed rows all differ

@@ -18,11 +18,14 @@ use Rattle.sqlite_rules.specs.Edit.{put_all, edit_of}
 use Rattle.sqlite_rules.specs.Lists.{Has}
 use Rattle.device_registry.specs.declared.table.Version.{Version}
 use Rattle.device_registry.specs.declared.table.Version.TheVariants.{Second}
-use Rattle.device_registry.specs.Table.{device_name, create_device_sql, device_table, meta_name, create_meta_sql, meta_table}
+use Rattle.device_registry.specs.Table.{device_table_name, create_device_sql, device_table, meta_name, create_meta_sql}
+use Rattle.device_registry.specs.Table.{meta_table}
 use Rattle.learned_devices.specs.Devices.{Devices, DeviceData, is_full, max_devices}
-use Rattle.device_registry.specs.Stored.{IsRegistry, IsRegistryOfVersion, HoldsAs, IsRegistryOf, Holds, IsTableAt}
-use Rattle.device_registry.specs.Stored.{AreListed, IsListedAs}
-use Rattle.device_registry.specs.Table.Rows.{RowidsDiffer, IsDevice, IsVersion, devices_in, rows_of, device_row}
+use Rattle.device_registry.specs.Stored.{IsRegistry, IsRegistryOfVersion, HoldsAs, IsVersion2RegistryOf, HoldsVersion2}
+use Rattle.device_registry.specs.Stored.{IsTableAt}
+use Rattle.device_registry.specs.Stored.{AreTablesListed, IsListedAs}
+use Rattle.device_registry.specs.Table.Rows.{RowidsDiffer, IsDeviceRow, IsVersionRow, devices_in, upgraded_rows}
+use Rattle.device_registry.specs.Table.Rows.{device_row}
 use Rattle.device_registry.specs.Opening.{DevicesAreLimited}
 use Rattle.device_registry.proofs.RewriteVersionEffect.{version_row}
 use Rattle.device_registry.proofs.DeviceChecks.{checked}
@@ -52,8 +55,8 @@ same_table : {a b : Table} → ◌≡◌ {A = Option Table} (Some a) (Some b) �
 same_table e = cc
 
 tree_once : (version : Version) (schema : Schema) (d e at to : ℕ)
-    → IsTableAt schema (device_name version) (device_table version d) at
-    → IsTableAt schema (device_name version) (device_table version e) to → d ≡ e
+    → IsTableAt schema (device_table_name version) (device_table version d) at
+    → IsTableAt schema (device_table_name version) (device_table version e) to → d ≡ e
 tree_once version schema d e at to one other =
     let place : at ≡ to = same_place (sym one.named ∙ other.named) in
     ap (λ (t : Table). t.tree) (same_table (sym one.there ∙ ap (slice_get schema.tables) place ∙ other.there))
@@ -65,9 +68,9 @@ registers_by version db a b one other =
     let y = other.registry.tables in
     let tree =
     tree_once version db.schema x.devices y.devices x.devices_at y.devices_at x.devices_stand y.devices_stand in
-    sym one.is ∙ ap (λ t. devices_in (rows_of version (db.trees t))) tree ∙ other.is
+    sym one.is ∙ ap (λ t. devices_in (upgraded_rows version (db.trees t))) tree ∙ other.is
 
-pub registers_once : (db : Database) (a b : Devices) → IsRegistryOf db a → IsRegistryOf db b → a ≡ b
+pub registers_once : (db : Database) (a b : Devices) → IsVersion2RegistryOf db a → IsVersion2RegistryOf db b → a ≡ b
 registers_once = registers_by Second
 
 -- the trees of a sound database determine its devices
@@ -75,16 +78,16 @@ pub held_by : (version : Version) (trees : Trees) (a b : Devices) → HoldsAs ve
     → a ≡ b
 held_by version = listed.held_once (IsRegistryOfVersion version) (registers_by version)
 
-pub held_once : (trees : Trees) (a b : Devices) → Holds trees a → Holds trees b → a ≡ b
+pub held_once : (trees : Trees) (a b : Devices) → HoldsVersion2 trees a → HoldsVersion2 trees b → a ≡ b
 held_once = held_by Second
 
 -- ---- after a write
 
 -- if the list of objects is unchanged, the tables are still listed
 pub listed_still : (version : Version) (before after : Trees) → after catalog_tree ≡ before catalog_tree
-    → AreListed version before → AreListed version after
+    → AreTablesListed version before → AreTablesListed version after
 listed_still version before after same listed =
-    (still meta_name create_meta_sql listed.0, still (device_name version) (create_device_sql version) listed.1)
+    (still meta_name create_meta_sql listed.0, still (device_table_name version) (create_device_sql version) listed.1)
   where
     still : (name text : List ℕ) → IsListedAs before name text → IsListedAs after name text
     still name text it = record {
@@ -98,15 +101,15 @@ module _ (before : Database) (registry : IsRegistry Second before) where
   -- the tables are unchanged in the schema
   pub registers_after : (after : Database) (devices : Devices) → after.schema ≡ before.schema
       → after.trees catalog_tree ≡ before.trees catalog_tree → (row : Row)
-      → after.trees registry.tables.meta ≡ row ∷ [] → IsVersion Second row
-      → AllByRecursion IsDevice (after.trees registry.tables.devices)
+      → after.trees registry.tables.meta ≡ row ∷ [] → IsVersionRow Second row
+      → AllByRecursion IsDeviceRow (after.trees registry.tables.devices)
       → RowidsDiffer (after.trees registry.tables.devices) → length (after.trees registry.tables.devices) ≤ max_devices
       → devices_in (after.trees registry.tables.devices) ≡ devices
-      → IsRegistryOf after devices
+      → IsVersion2RegistryOf after devices
   registers_after after devices schema objects row one version rows once few is =
       let then : Database = record { schema = before.schema; trees = after.trees } in
       let same : then ≡ after = λ i. record { schema = sym schema i; trees = after.trees } in
-      subst (λ db. IsRegistryOf db devices) same (record {
+      subst (λ db. IsVersion2RegistryOf db devices) same (record {
         registry = record {
           tables = registry.tables;
           whole = record { row = row; one = one; numbered = version; rows = rows; once = once; few = few };
@@ -124,7 +127,7 @@ not_more : (b : Bool) (n without : ℕ) → without ≡ cond b (n - 1) n → wit
 not_more true n without less = omega arith
 not_more false n without less = omega arith
 
-pub few_devices : (db : Database) (devices : Devices) → IsRegistryOf db devices → len devices ≤ max_devices
+pub few_devices : (db : Database) (devices : Devices) → IsVersion2RegistryOf db devices → len devices ≤ max_devices
 few_devices db devices had =
     let r = had.registry in subst (λ m. len m ≤ max_devices) had.is
     (subst (λ n. n ≤ max_devices)
@@ -140,21 +143,23 @@ one_less : (n without : ℕ) → without ≡ n - 1 → n ≤ max_devices → nat
 one_less n without less few = let low : without < max_devices = omega (arith, less, few) in grind (arith, nat_tests)
 
 -- the registry is not full for a known sender
-pub room_for_known : (db : Database) (devices : Devices) (id : ℕ) (it : DeviceData) → IsRegistryOf db devices
+pub room_for_known : (db : Database) (devices : Devices) (id : ℕ) (it : DeviceData) → IsVersion2RegistryOf db devices
     → get devices id ≡ Some it → is_full devices id ≡ false
 room_for_known db devices id it had known =
     one_less (len devices) (len (remove devices id)) (len-remove nat_cmp_total devices id
     ∙ ap (λ (o : Option DeviceData). cond (is_some o) (len devices - 1) (len devices)) known)
     (few_devices db devices had)
 
-module _ (before after : Database) (devices : Devices) (had : IsRegistryOf before devices) (sound : IsDatabase before)
+module _ (before after : Database) (devices : Devices) (had : IsVersion2RegistryOf before devices)
+    (sound : IsDatabase before)
   where
     -- only the device table has other rows
     rows_register : (now : Devices) → after.schema ≡ before.schema
         → SparesOthers before.schema had.registry.tables.devices before.trees after.trees
-        → AllByRecursion IsDevice (after.trees had.registry.tables.devices)
+        → AllByRecursion IsDeviceRow (after.trees had.registry.tables.devices)
         → AreKeyed (after.trees had.registry.tables.devices)
-        → devices_in (after.trees had.registry.tables.devices) ≡ now → len now ≤ max_devices → IsRegistryOf after now
+        → devices_in (after.trees had.registry.tables.devices) ≡ now → len now ≤ max_devices
+        → IsVersion2RegistryOf after now
     rows_register now schema others all once is few =
         let r = had.registry in
         registers_after before r after now schema
@@ -171,15 +176,15 @@ module _ (before after : Database) (devices : Devices) (had : IsRegistryOf befor
         → is_full devices id ≡ false → after.schema ≡ before.schema
         → IsUpserted before.schema (device_table Second had.registry.tables.devices) (device_row id it) before.trees
         after.trees
-        → IsRegistryOf after (insert devices id it)
+        → IsVersion2RegistryOf after (insert devices id it)
     put_registers id it short label room schema put =
         let r = had.registry in
         let d = r.tables.devices in
         let key : HasKey (device_row id it) = record { id = id; id_is = refl } in
         let alone = (devices_alone before.schema r.tables).unindexed in
-        let all = subst (AllByRecursion IsDevice) (sym put.rows) (all-put_row IsDevice (device_row id it) _
+        let all = subst (AllByRecursion IsDeviceRow) (sym put.rows) (all-put_row IsDeviceRow (device_row id it) _
         (checked d id it label put.judged.3)
-        (all_without_all IsDevice (before.trees d) (ids_of put.found) r.whole.rows)) in
+        (all_without_all IsDeviceRow (before.trees d) (ids_of put.found) r.whole.rows)) in
         rows_register (insert devices id it) schema put.others all
         (upserts_keyed data_in before.schema (device_table Second d) (device_row id it) before.trees after.trees put key
         there alone)
@@ -192,25 +197,27 @@ module _ (before after : Database) (devices : Devices) (had : IsRegistryOf befor
         → IsAnswer (forget_query had.registry.tables.devices) (overlay before.trees []) (asked id) rows
         → IsStep before.schema before.trees (edit_of before.trees (device_table Second had.registry.tables.devices)
         (ids_of rows) Given 0 []) after
-        → IsRegistryOf after (remove devices id)
+        → IsVersion2RegistryOf after (remove devices id)
     forgotten_registers id rows a step =
         let r = had.registry in
         let d = r.tables.devices in
         rows_register (remove devices id) step.schema_is step.others
-        (subst (AllByRecursion IsDevice) (sym step.rows)
-        (all_without_all IsDevice (before.trees d) (ids_of rows) r.whole.rows))
+        (subst (AllByRecursion IsDeviceRow) (sym step.rows)
+        (all_without_all IsDeviceRow (before.trees d) (ids_of rows) r.whole.rows))
         (subst AreKeyed (sym step.rows) (keyed_without_all (before.trees d) (ids_of rows) there))
         (ap devices_in step.rows ∙ removes data_in d id before.trees rows there a ∙ ap (λ m. remove m id) had.is)
         (omega (arith, fewer devices id, few_devices before devices had))
 
     pub renewed_registers : after.schema ≡ before.schema → after.trees had.registry.tables.meta ≡ version_row ∷ []
-        → SparesOthers before.schema had.registry.tables.meta before.trees after.trees → IsRegistryOf after devices
+        → SparesOthers before.schema had.registry.tables.meta before.trees after.trees
+        → IsVersion2RegistryOf after devices
     renewed_registers schema version others =
         let r = had.registry in
         let same : after.trees r.tables.devices ≡ before.trees r.tables.devices = others.tables
-        (device_table Second r.tables.devices) (devices_lone before.schema r.tables).listed (λ e. r.tables.apart (sym e)) in
+        (device_table Second r.tables.devices) (devices_lone before.schema r.tables).listed
+        (λ e. r.tables.apart (sym e)) in
         registers_after before r after devices schema
         (objects_spared before sound _ (meta_lone before.schema r.tables).listed after.trees others) version_row version
         (record { key = refl; number = refl })
-        (subst (AllByRecursion IsDevice) (sym same) r.whole.rows) (subst RowidsDiffer (sym same) r.whole.once)
+        (subst (AllByRecursion IsDeviceRow) (sym same) r.whole.rows) (subst RowidsDiffer (sym same) r.whole.once)
         (subst (λ rows. length rows ≤ max_devices) (sym same) r.whole.few) (ap devices_in same ∙ had.is)

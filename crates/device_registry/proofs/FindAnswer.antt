@@ -11,14 +11,14 @@ use Rattle.keyed_table.proofs.MapWrites.{remove_absent}
 use Rattle.keyed_table.proofs.TextMeaning.{answer_of}
 use Rattle.learned_devices.specs.Devices.{Devices, DeviceData, device, device_of}
 use Rattle.device_registry.specs.Table.{find_sql}
-use Rattle.device_registry.specs.Stored.{IsRegistryOf}
+use Rattle.device_registry.specs.Stored.{IsVersion2RegistryOf}
 use Rattle.device_registry.specs.Table.Rows.{natural_in, IsDeviceOrNone}
 use Rattle.device_registry.specs.Ready.{IsReady, IsReadyWith}
 use Rattle.device_registry.proofs.DeviceCodec.{data_in, keyed}
 use Rattle.device_registry.proofs.DeviceMeaning.{find_means}
 use Rattle.keyed_table.proofs.Statements.{query_ready}
 
-pub finds : (old new : State) (id : ℕ) (rows : List Row) (devices : Devices) → IsRegistryOf old.now devices
+pub finds : (old new : State) (id : ℕ) (rows : List Row) (devices : Devices) → IsVersion2RegistryOf old.now devices
     → Shown find_sql (asked id) old new rows → IsDeviceOrNone (device_of devices id) rows
 finds old new id rows devices had h =
     let r = had.registry in

@@ -1,4 +1,4 @@
 -- The facts about the definitions that proofs of the crates above cite: the theorems.
 pub use Rattle.device_registry.proofs.DevicesHeld.{devices_are_limited}
-pub use Rattle.device_registry.proofs.OpenCalls.{opens_agree, returned_is_found, failed_opens_keep}
+pub use Rattle.device_registry.proofs.OpenCalls.{found_devices_are_unique, returned_is_found, failed_opens_keep}
 pub use Rattle.device_registry.proofs.OpenCalls.{closed_files_are_found}

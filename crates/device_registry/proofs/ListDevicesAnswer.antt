@@ -21,8 +21,9 @@ use Rattle.learned_devices.specs.Devices.{Devices, device, all_of}
 use Rattle.device_registry.specs.declared.table.Version.{Version}
 use Rattle.device_registry.specs.declared.table.Version.TheVariants.{First, Second}
 use Rattle.device_registry.specs.Table.{find_all_sql}
-use Rattle.device_registry.specs.Stored.{IsRegistryOf}
-use Rattle.device_registry.specs.Table.Rows.{RowidsDiffer, IsDevice, entry_of, device_in_row, with_label, rows_of}
+use Rattle.device_registry.specs.Stored.{IsVersion2RegistryOf}
+use Rattle.device_registry.specs.Table.Rows.{RowidsDiffer, IsDeviceRow, entry_of, shown_device, with_empty_label}
+use Rattle.device_registry.specs.Table.Rows.{upgraded_rows}
 use Rattle.device_registry.specs.Ready.{IsReady}
 use Rattle.device_registry.proofs.StatementTexts.{device_terms, all_query}
 use Rattle.device_registry.proofs.DeviceCodec.{data_in, keyed, stored_keyed}
@@ -32,33 +33,34 @@ abbrev pub shown : Row → Row
 shown row = column row 0 ∷ column row 2 ∷ column row 3 ∷ column row 4 ∷ []
 
 shown_are : (version : Version) (rows : List Row)
-    → map (λ r. eval_all (device_terms version) (env_of [] r)) rows ≡ map shown (rows_of version rows)
-shown_are First rows = sym (map-map shown with_label rows)
+    → map (λ r. eval_all (device_terms version) (env_of [] r)) rows ≡ map shown (upgraded_rows version rows)
+shown_are First rows = sym (map-map shown with_empty_label rows)
 shown_are Second rows = refl
 
 -- the query shows all devices, in some order
 pub shows_devices : (version : Version) (d : ℕ) (db : Trees) (rows : List Row)
-    → IsAnswer (all_query version d) (overlay db []) [] rows → IsPermutation (map shown (rows_of version (db d))) rows
+    → IsAnswer (all_query version d) (overlay db []) [] rows
+    → IsPermutation (map shown (upgraded_rows version (db d))) rows
 shows_devices version d db rows a =
     subst (λ rs. IsPermutation rs rows) (shown_are version (db d)) (shows_all db a)
 
 -- by ascending sender
 pub shows_ranked : (version : Version) (d : ℕ) (db : Trees) (rows : List Row)
-    → AllByRecursion IsDevice (rows_of version (db d)) → RowidsDiffer (rows_of version (db d))
-    → IsAnswer (all_query version d) (overlay db []) [] rows → rows ≡ map shown (rows_of version (ranked (db d)))
+    → AllByRecursion IsDeviceRow (upgraded_rows version (db d)) → RowidsDiffer (upgraded_rows version (db d))
+    → IsAnswer (all_query version d) (overlay db []) [] rows → rows ≡ map shown (upgraded_rows version (ranked (db d)))
 shows_ranked version d db rows all differ a =
     answers.lists data_in d db (stored_keyed version (db d) all differ) rows a ∙ shown_are version (ranked (db d))
 
-pub lists : (old new : State) (rows : List Row) (devices : Devices) → IsRegistryOf old.now devices
-    → Shown (find_all_sql Second) [] old new rows → map device_in_row rows ≡ all_of devices
+pub lists : (old new : State) (rows : List Row) (devices : Devices) → IsVersion2RegistryOf old.now devices
+    → Shown (find_all_sql Second) [] old new rows → map shown_device rows ≡ all_of devices
 lists old new rows devices had h =
     let r = had.registry in
     let d = r.tables.devices in
     let table = old.now.trees d in
     let means = all_means Second old.now.schema r.tables.devices_at d r.tables.devices_stand in
-    ap (map device_in_row) (shows_ranked Second d old.now.trees rows r.whole.rows r.whole.once
+    ap (map shown_device) (shows_ranked Second d old.now.trees rows r.whole.rows r.whole.once
     (answer_of [] old new rows means refl h))
-    ∙ map-map device_in_row shown (ranked table)
+    ∙ map-map shown_device shown (ranked table)
     ∙ sym (map-map (λ entry. device entry.0 entry.1) entry_of (ranked table))
     ∙ ap (map (λ entry. device entry.0 entry.1))
     (sym (entries_ranked data_in table (keyed table r.whole.rows r.whole.once)) ∙ ap entries had.is)

@@ -10,12 +10,12 @@ use Rattle.sqlite_trees.specs.declared.store.Store.{Ghosts}
 use Rattle.device_registry.specs.declared.table.Version.{Version}
 use Rattle.device_registry.specs.Table.{list_objects_sql}
 use Rattle.device_registry.specs.private.CatalogRows.{are_our_tables}
-use Rattle.device_registry.specs.Stored.{AreListed}
-use Rattle.device_registry.specs.private.Transaction.{IsUncommitted, IsMidTransaction, IsListedMidTransaction}
+use Rattle.device_registry.specs.Stored.{AreTablesListed}
+use Rattle.device_registry.specs.private.Transaction.{IsUncommitted, IsMidTransaction, IsMidTransactionWithTables}
 use Rattle.keyed_table.proofs.ObjectsAnswer.{listing_plain}
 use Rattle.keyed_table.proofs.Refusals.{spared_commit}
 use Rattle.keyed_table.proofs.Statements.{not_shown, shown_same}
-use Rattle.device_registry.proofs.TablesRecognized.{ours_told}
+use Rattle.device_registry.proofs.TablesRecognized.{ours_reported}
 use Rattle.keyed_table.proofs.Transactions.{uncommitted_then}
 
 -- the query commits nothing
@@ -48,7 +48,7 @@ module _ {S : Type 0} (g : Ghosts S) (texts : List (List ℕ)) (a b c : Held S) 
   -- if it shows our lines, the tables are listed
   pub listed_inside : (version : Version) (rows : List Row) → IsUncommitted (state g a) (state g c)
       → (HasCleanDisk (state g c) → Shown list_objects_sql [] (state g b) (state g c) rows)
-      → are_our_tables version rows ≡ true → IsListedMidTransaction g version texts a c
+      → are_our_tables version rows ≡ true → IsMidTransactionWithTables g version texts a c
   listed_inside version rows uncommitted shown ours =
       let same = λ (clean : HasCleanDisk (state g c)).
       let it : IsUnchanged (state g b) (state g c) = shown_same list_objects_sql [] (state g b) (state g c)
@@ -60,6 +60,6 @@ module _ {S : Type 0} (g : Ghosts S) (texts : List (List ℕ)) (a b c : Held S) 
         inside = λ clean. (same clean).0.mode ∙ made.inside (early clean);
         clean = early;
         same = λ clean. (same clean).0.now_is;
-        listed = λ clean _. subst (λ (db : Database). AreListed version db.trees) (sym (same clean).0.now_is)
-            (ours_told version (state g b) (state g c) rows (sound (early clean)) (shown clean) ours);
+        listed = λ clean _. subst (λ (db : Database). AreTablesListed version db.trees) (sym (same clean).0.now_is)
+            (ours_reported version (state g b) (state g c) rows (sound (early clean)) (shown clean) ours);
       }

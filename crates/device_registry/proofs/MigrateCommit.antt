@@ -9,14 +9,16 @@ use Rattle.sqlite.specs.Steps.{FailsToCommit}
 use Rattle.sqlite.specs.Held.{Held, state}
 use Rattle.sqlite_trees.specs.declared.store.Store.{Ghosts}
 use Rattle.device_registry.specs.declared.table.Version.TheVariants.{First, Second}
-use Rattle.device_registry.specs.Table.{meta_name, device_name, create_device_sql, copy_sql, drop_sql, rewrite_version_sql}
-use Rattle.device_registry.specs.Table.Rows.{devices_in, rows_of}
-use Rattle.device_registry.specs.Stored.{TreeHasName, IsRegistry, AreListed, IsRegistryOfVersion, IsRegistryOf}
+use Rattle.device_registry.specs.Table.{meta_name, device_table_name, create_device_sql, copy_sql, drop_sql}
+use Rattle.device_registry.specs.Table.{rewrite_version_sql}
+use Rattle.device_registry.specs.Table.Rows.{devices_in, upgraded_rows}
+use Rattle.device_registry.specs.Stored.{TreeHasName, IsRegistry, AreTablesListed, IsRegistryOfVersion}
+use Rattle.device_registry.specs.Stored.{IsVersion2RegistryOf}
 use Rattle.sqlite.specs.Table.{Table}
 use Rattle.sqlite_schema.specs.Names.{same_name}
 use Rattle.sqlite_rules.proofs.ListLemmas.{all_has}
 use Rattle.device_registry.specs.Ready.{KeepsOtherTables}
-use Rattle.device_registry.specs.private.Transaction.{IsUncommitted, IsMidTransaction, IsListedMidTransaction}
+use Rattle.device_registry.specs.private.Transaction.{IsUncommitted, IsMidTransaction, IsMidTransactionWithTables}
 use Rattle.device_registry.proofs.DevicesHeld.{registers_by}
 use Rattle.device_registry.proofs.MigrateEffect.{migrates, others_kept}
 use Rattle.keyed_table.proofs.Transactions.{Commits}
@@ -29,7 +31,8 @@ migration = create_device_sql Second ∷ copy_sql ∷ drop_sql ∷ rewrite_versi
 -- if the tables are listed with our texts, the database is a registry of those devices
 abbrev IsMade : (old : Database) → IsRegistry First old → Database → Type 0
 IsMade old was db =
-    (AreListed Second db.trees → IsRegistryOf db (devices_in (rows_of First (old.trees was.tables.devices))))
+    (AreTablesListed Second db.trees
+    → IsVersion2RegistryOf db (devices_in (upgraded_rows First (old.trees was.tables.devices))))
     × IsDatabase db × KeepsOtherTables old db
 
 -- a table with none of our names is stored in none of our trees
@@ -59,7 +62,7 @@ module _ {S : Type 0} (g : Ghosts S) (old start mid : Held S) (is : start ≡ re
             (state g three.0)
             (state g four.0) one.1 two.1 three.1 four.1 was was_sound one.2 two.2 three.2 four.2 table has
             (apart_by_name meta_name was.tables.meta table alone.0 not_meta)
-            (apart_by_name (device_name First) was.tables.devices table alone.1 (not_devices First)),
+            (apart_by_name (device_table_name First) was.tables.devices table alone.1 (not_devices First)),
       )
 
 module _ {S : Type 0} (g : Ghosts S) (old start : Held S) (is : start ≡ record old { in_transaction = true })
@@ -74,7 +77,7 @@ module _ {S : Type 0} (g : Ghosts S) (old start : Held S) (is : start ≡ record
       let was = before (state g mid) it.uncommitted clean in (ran g old start mid is it was.0 was.1 clean).1
 
 module _ {S : Type 0} (g : Ghosts S) (old start last : Held S) (is : start ≡ record old { in_transaction = true })
-    (it : IsListedMidTransaction g Second migration start last)
+    (it : IsMidTransactionWithTables g Second migration start last)
     (first : HasCleanDisk (state g old) → IsRegistry First (state g old).now × IsDatabase (state g old).now) where
   -- what it shows before the commit
   shows : HasCleanDisk (state g last)
@@ -83,7 +86,7 @@ module _ {S : Type 0} (g : Ghosts S) (old start last : Held S) (is : start ≡ r
       let was = before g old start is first (state g last) it.uncommitted clean in
       let done = ran g old start it.mid is it.made was.0 was.1 (it.clean clean) in
       let here = subst (IsMade (state g old).now was.0) (sym (it.same clean)) done in (
-        λ devices were. subst (IsRegistryOf (state g last).now)
+        λ devices were. subst (IsVersion2RegistryOf (state g last).now)
             (registers_by First (state g old).now _ devices (record { registry = was.0; is = refl }) were)
             (here.0 (it.listed clean here.1)),
         here.1,

@@ -21,10 +21,11 @@ use Rattle.sqlite.specs.State.{State, ExecutesInside, mode_of}
 use Rattle.sqlite.proofs.Callers.{runs_as, statement_of}
 use Rattle.device_registry.specs.declared.table.Version.TheVariants.{First, Second}
 use Rattle.learned_devices.specs.Devices.{max_devices}
-use Rattle.device_registry.specs.Table.{create_device_sql, copy_sql, drop_sql, rewrite_version_sql, device_name, meta_name}
+use Rattle.device_registry.specs.Table.{create_device_sql, copy_sql, drop_sql, rewrite_version_sql, device_table_name}
+use Rattle.device_registry.specs.Table.{meta_name}
 use Rattle.device_registry.specs.Table.{device_table, meta_table}
-use Rattle.device_registry.specs.Table.Rows.{IsDevice, RowidsDiffer, devices_in, rows_of}
-use Rattle.device_registry.specs.Stored.{HasTables, IsRegistry, AreListed, IsRegistryOf}
+use Rattle.device_registry.specs.Table.Rows.{IsDeviceRow, RowidsDiffer, devices_in, upgraded_rows}
+use Rattle.device_registry.specs.Stored.{HasTables, IsRegistry, AreTablesListed, IsVersion2RegistryOf}
 use Rattle.device_registry.proofs.StatementTexts.{copy_query, renew_query}
 use Rattle.keyed_table.specs.Queries.{program_of}
 use Rattle.device_registry.proofs.TableTexts.{device_is}
@@ -46,8 +47,8 @@ use Rattle.keyed_table.proofs.TableWrites.{SparesOthers}
 
 -- the rows of devices in any order, with the version row, are a registry of the devices
 registers : (db : Database) (t : HasTables Second db.schema) (rows : List Row) → db.trees t.meta ≡ version_row ∷ []
-    → IsPermutation rows (db.trees t.devices) → AllByRecursion IsDevice rows → RowidsDiffer rows
-    → length rows ≤ max_devices → AreListed Second db.trees → IsRegistryOf db (devices_in rows)
+    → IsPermutation rows (db.trees t.devices) → AllByRecursion IsDeviceRow rows → RowidsDiffer rows
+    → length rows ≤ max_devices → AreTablesListed Second db.trees → IsVersion2RegistryOf db (devices_in rows)
 registers db t rows version here all differ few listed =
     let were = keyed rows all differ in
     record {
@@ -57,7 +58,7 @@ registers db t rows version here all differ few listed =
           row = version_row;
           one = version;
           numbered = record { key = refl; number = refl };
-          rows = all-permutation IsDevice rows (db.trees t.devices) here all;
+          rows = all-permutation IsDeviceRow rows (db.trees t.devices) here all;
           once = differ_from _ (keyed_turned rows (db.trees t.devices) here were).apart;
           few = omega (arith, few, length_permutation rows (db.trees t.devices) here);
         };
@@ -92,8 +93,10 @@ module _ (a b c d e : State) (i j k l : ℕ) (registry : IsRegistry First a.now)
     made =
         let makes = device_makes a.now.schema t.free in
         let ran =
-        runs_as (create_device_sql Second) [] a b a.now.schema refl CreateTable makes.means.is makes.means.plain i one.0 in
-        let it = creates_table a.step_limit (mode_of a) a.now b.now (create_device_sql Second) ran.tally (device_table Second 0)
+        runs_as (create_device_sql Second) [] a b a.now.schema refl CreateTable makes.means.is makes.means.plain i one.0
+        in
+        let it = creates_table a.step_limit (mode_of a) a.now b.now (create_device_sql Second) ran.tally
+        (device_table Second 0)
         (device_is Second) (still_counted a.now.schema (device_table Second 0) refl t.counted)
         (subst (λ text. Does a.step_limit (mode_of a) [] a.now text None CreateTable (Ok (ran.tally, b.now)))
         makes.alone
@@ -104,22 +107,22 @@ module _ (a b c d e : State) (i j k l : ℕ) (registry : IsRegistry First a.now)
     kept_in_b table has =
         all_has (λ (x : Table). b.now.trees x.tree ≡ a.now.trees x.tree) a.now.schema.tables table made.2 has
 
-    first_in_b : IsLone b.now.schema (device_name First) (device_table First t.devices)
-    first_in_b = subst (λ s. IsLone s (device_name First) (device_table First t.devices)) (sym made.0)
+    first_in_b : IsLone b.now.schema (device_table_name First) (device_table First t.devices)
+    first_in_b = subst (λ s. IsLone s (device_table_name First) (device_table First t.devices)) (sym made.0)
         (first_lone a.now sound t)
 
-    new_in_b : IsLone b.now.schema (device_name Second) (device_table Second tree)
-    new_in_b = subst (λ s. IsLone s (device_name Second) (device_table Second tree)) (sym made.0)
+    new_in_b : IsLone b.now.schema (device_table_name Second) (device_table Second tree)
+    new_in_b = subst (λ s. IsLone s (device_table_name Second) (device_table Second tree)) (sym made.0)
         (new_lone a.now sound t)
 
     -- ---- the devices are copied
 
-    devices_in_b : rows_of First (b.now.trees t.devices) ≡ rows_of First (a.now.trees t.devices)
-    devices_in_b = ap (rows_of First) (kept_in_b (device_table First t.devices)
+    devices_in_b : upgraded_rows First (b.now.trees t.devices) ≡ upgraded_rows First (a.now.trees t.devices)
+    devices_in_b = ap (upgraded_rows First) (kept_in_b (device_table First t.devices)
         (has_got a.now.schema.tables t.devices_at (device_table First t.devices) t.devices_stand.there))
 
     filled : (c.now.schema ≡ b.now.schema) × SparesOthers b.now.schema tree b.now.trees c.now.trees
-        × IsPermutation (rows_of First (a.now.trees t.devices)) (c.now.trees tree) × IsDatabase c.now
+        × IsPermutation (upgraded_rows First (a.now.trees t.devices)) (c.now.trees tree) × IsDatabase c.now
     filled =
         let from = lone_stands b.now made.3 first_in_b in
         let to = lone_stands b.now made.3 new_in_b in
@@ -129,7 +132,7 @@ module _ (a b c d e : State) (i j k l : ℕ) (registry : IsRegistry First a.now)
         let it = copies b.now.schema to.0 tree t.devices b.step_limit (mode_of b) b.now.trees
         ran.tally c.now to.1.there
         (lone_alone new_in_b) made.1
-        (subst (AllByRecursion IsDevice) (sym devices_in_b) registry.whole.rows)
+        (subst (AllByRecursion IsDeviceRow) (sym devices_in_b) registry.whole.rows)
         (subst RowidsDiffer (sym devices_in_b) registry.whole.once) ran.changed in
         (it.0, it.1, subst (λ rows. IsPermutation rows (c.now.trees tree)) devices_in_b it.2, ran.sound)
 
@@ -138,13 +141,14 @@ module _ (a b c d e : State) (i j k l : ℕ) (registry : IsRegistry First a.now)
     schema_c : c.now.schema ≡ schema_b
     schema_c = filled.0 ∙ made.0
 
-    first_in_c : IsLone c.now.schema (device_name First) (device_table First t.devices)
-    first_in_c = subst (λ s. IsLone s (device_name First) (device_table First t.devices)) (sym schema_c)
+    first_in_c : IsLone c.now.schema (device_table_name First) (device_table First t.devices)
+    first_in_c = subst (λ s. IsLone s (device_table_name First) (device_table First t.devices)) (sym schema_c)
         (first_lone a.now sound t)
 
-    no_view_in_c : view_named c.now.schema (device_name First) ≡ None
-    no_view_in_c = none_at (λ w. same_name w.name (device_name First)) 0 c.now.schema.views
-        (no_view c.now filled.3 (device_table First t.devices) first_in_c.listed (device_name First) first_in_c.named)
+    no_view_in_c : view_named c.now.schema (device_table_name First) ≡ None
+    no_view_in_c = none_at (λ w. same_name w.name (device_table_name First)) 0 c.now.schema.views
+        (no_view c.now filled.3 (device_table First t.devices) first_in_c.listed
+        (device_table_name First) first_in_c.named)
 
     left : (d.now.schema ≡ schema_d) × KeepsRows d.now.schema.tables c.now.trees d.now.trees × IsDatabase d.now
     left =
@@ -162,8 +166,8 @@ module _ (a b c d e : State) (i j k l : ℕ) (registry : IsRegistry First a.now)
     meta_in_d : IsLone d.now.schema meta_name (meta_table t.meta)
     meta_in_d = subst (λ s. IsLone s meta_name (meta_table t.meta)) (sym left.0) (meta_left a.now sound t)
 
-    new_in_d : IsLone d.now.schema (device_name Second) (device_table Second tree)
-    new_in_d = subst (λ s. IsLone s (device_name Second) (device_table Second tree)) (sym left.0)
+    new_in_d : IsLone d.now.schema (device_table_name Second) (device_table Second tree)
+    new_in_d = subst (λ s. IsLone s (device_table_name Second) (device_table Second tree)) (sym left.0)
         (new_left a.now sound t)
 
     kept_in_d : (table : Table) → Has d.now.schema.tables table → d.now.trees table.tree ≡ c.now.trees table.tree
@@ -197,15 +201,15 @@ module _ (a b c d e : State) (i j k l : ℕ) (registry : IsRegistry First a.now)
         (it.0, it.1, it.2, ran.sound)
 
     -- therefore it is a registry of version 2 with the devices of version 1, if it is listed
-    pub migrates : (AreListed Second e.now.trees
-        → IsRegistryOf e.now (devices_in (rows_of First (a.now.trees t.devices))))
+    pub migrates : (AreTablesListed Second e.now.trees
+        → IsVersion2RegistryOf e.now (devices_in (upgraded_rows First (a.now.trees t.devices))))
         × IsDatabase e.now
     migrates =
         let to = migrated a.now sound t c.now e.now filled.3 schema_c written.3 (written.0 ∙ left.0) in
         let put : e.now.trees tree ≡ c.now.trees tree =
         written.2.tables (device_table Second tree) new_in_d.listed (λ same. meta_apart a.now sound t (sym same))
         ∙ kept_in_d (device_table Second tree) new_in_d.listed in
-        let devices = rows_of First (a.now.trees t.devices) in (
+        let devices = upgraded_rows First (a.now.trees t.devices) in (
           registers e.now to.tables devices (ap e.now.trees to.meta_is ∙ written.1)
               (subst (IsPermutation devices) (sym (ap e.now.trees to.devices_are ∙ put)) filled.2)
               registry.whole.rows registry.whole.once registry.whole.few,

@@ -21,10 +21,10 @@ use Rattle.device_registry.specs.declared.table.Version.TheVariants.{First, Seco
 use Rattle.keyed_table.specs.Queries.{program_of, plain_query}
 use Rattle.keyed_table.proofs.SelectMeaning.{column_read}
 use Rattle.device_registry.proofs.StatementTexts.{copy_query}
-use Rattle.keyed_table.proofs.TextMeaning.{IsRead, Means, means, draft_of, program_is}
+use Rattle.keyed_table.proofs.TextMeaning.{ParsesAs, CompilesTo, means, draft_of, program_is}
 use Rattle.keyed_table.proofs.SelectMeaning.{PlainSelect, plain_select, select_of, asked, query_is}
 use Rattle.keyed_table.proofs.WriteMeaning.{insert_means}
-use Rattle.device_registry.specs.Table.{copy_sql, drop_sql, device_name, device_table}
+use Rattle.device_registry.specs.Table.{copy_sql, drop_sql, device_table_name, device_table}
 use Rattle.device_registry.specs.Stored.{IsTableAt}
 
 -- the columns that are filled, and their indexes in a row
@@ -36,11 +36,11 @@ filled_places = 0 ∷ 2 ∷ 3 ∷ 4 ∷ []
 
 -- the devices of version 1, each with the empty label
 abbrev copied : PlainSelect
-copied = plain_select (device_name First) (column_read (codes "id") ∷ column_read (codes "eep")
+copied = plain_select (device_table_name First) (column_read (codes "id") ∷ column_read (codes "eep")
     ∷ column_read (codes "maker") ∷ One (Text []) None (codes "''") ∷ []) None []
 
-copy_read : IsRead copy_sql
-    (written.Insert Abort (device_name Second) filled (rows.Select (select_of copied)) [] [])
+copy_read : ParsesAs copy_sql
+    (written.Insert Abort (device_table_name Second) filled (rows.Select (select_of copied)) [] [])
 unfolding everything
 copy_read = record { parsed = _; read = refl; is = refl; timeless = refl }
 
@@ -61,7 +61,7 @@ row_is : (base d e : ℕ) → as_row (device_table Second e) base filled_places 
 unfolding everything
 row_is base d e = refl
 
-module _ (schema : Schema) (at d : ℕ) (it : IsTableAt schema (device_name First) (device_table First d) at) where
+module _ (schema : Schema) (at d : ℕ) (it : IsTableAt schema (device_table_name First) (device_table First d) at) where
   asks : asked schema at (device_table First d) copied
       ≡ Ok (
         copy_draft d,
@@ -71,8 +71,8 @@ module _ (schema : Schema) (at d : ℕ) (it : IsTableAt schema (device_name Firs
   unfolding everything
   asks = rw (it.there, it.there)
 
-  pub copy_means : (to e : ℕ) → IsTableAt schema (device_name Second) (device_table Second e) to
-      → Means schema copy_sql (Insert to (source.Query (program_of (copy_query d))))
+  pub copy_means : (to e : ℕ) → IsTableAt schema (device_table_name Second) (device_table Second e) to
+      → CompilesTo schema copy_sql (Insert to (source.Query (program_of (copy_query d))))
   unfolding command insert_or_abort insert new_rows inserted selected source_of queried
   copy_means to e target =
       insert_means target _ copy_read refl
@@ -85,11 +85,11 @@ module _ (schema : Schema) (at d : ℕ) (it : IsTableAt schema (device_name Firs
         program_is it (laid_out d) (record { from = refl; accepted = refl }),
       ))
 
-  drop_read : IsRead drop_sql (written.DropTable false (device_name First))
+  drop_read : ParsesAs drop_sql (written.DropTable false (device_table_name First))
   unfolding everything
   drop_read = record { parsed = _; read = refl; is = refl; timeless = refl }
 
   -- no view has its name
-  pub drop_means : view_named schema (device_name First) ≡ None → Means schema drop_sql (DropTable at)
+  pub drop_means : view_named schema (device_table_name First) ≡ None → CompilesTo schema drop_sql (DropTable at)
   unfolding timed returning command drop_table is_reserved same_name
   drop_means none = means schema _ drop_read refl (λ base. refl) (λ base. rw (none, it.named))

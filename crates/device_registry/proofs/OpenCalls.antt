@@ -18,18 +18,19 @@ use Rattle.learned_devices.specs.declared.fault.StoreFault.{StoreFault}
 use Rattle.device_registry.specs.declared.table.Version.{Version}
 use Rattle.device_registry.specs.declared.table.Version.TheVariants.{First, Second}
 use Rattle.learned_devices.specs.Devices.{Devices}
-use Rattle.device_registry.specs.Table.{meta_name, device_name}
-use Rattle.device_registry.specs.Stored.{HasTables, HasValidRows, IsRegistry, AreListed, IsRegistryOfVersion, HoldsAs}
-use Rattle.device_registry.specs.Stored.{Holds}
-use Rattle.device_registry.specs.Stored.{AreRegistryTrees, AdmitsRegistry}
-use Rattle.device_registry.specs.Table.Rows.{devices_in, rows_of}
+use Rattle.device_registry.specs.Table.{meta_name, device_table_name}
+use Rattle.device_registry.specs.Stored.{HasTables, HasValidRows, IsRegistry, AreTablesListed, IsRegistryOfVersion}
+use Rattle.device_registry.specs.Stored.{HoldsAs}
+use Rattle.device_registry.specs.Stored.{HoldsVersion2}
+use Rattle.device_registry.specs.Stored.{AreVersion2Trees, AdmitsRegistry}
+use Rattle.device_registry.specs.Table.Rows.{devices_in, upgraded_rows}
 use Rattle.sqlite_rules.specs.Lists.{Has}
-use Rattle.device_registry.specs.Holding.{AreRegistries, Finds, RewritesVersion, Opens}
+use Rattle.device_registry.specs.Holding.{AreVersion2Registries, OpenFinds, RewritesVersion, Opens}
 use Rattle.device_registry.specs.Ready.{IsReadyWith, IsReady, KeepsOtherTables, KeepsRows}
-use Rattle.device_registry.specs.Opening.{IsSettledOpen, IsPrepared, IsOwnRegistry, KeepsFoundDevices, IsNoRegistry}
+use Rattle.device_registry.specs.Opening.{IsSettledOpen, IsPrepared, IsRegistryIn, KeepsFoundDevices, IsForeignDatabase}
 use Rattle.device_registry.specs.Opening.{RegistriesAreRecognized}
 use Rattle.device_registry.specs.Opening.{IsOpened, OnlyNonRegistriesAreRefused, CrashedFilesAreFound}
-use Rattle.device_registry.specs.Opening.{RefusesToOpen, OpensAgree, ReturnedIsFound, FailedOpensKeep}
+use Rattle.device_registry.specs.Opening.{FailsToOpen, FoundDevicesAreUnique, ReturnedIsFound, FailedOpensKeep}
 use Rattle.device_registry.specs.Opening.{ClosedFilesAreFound}
 use Rattle.device_registry.specs.SchemaChecks.{admits_tables}
 use Rattle.sqlite_catalog.specs.Listing.{IsSound}
@@ -49,7 +50,7 @@ before survives clean = omega (arith, clean, survives.clean)
 
 -- a property that a query established in an unchanged state also holds of the state before it
 pub taken_if : (version : Version) (r : Result Bool Error) (old mid new : State) → IsUnchanged old mid
-    → HasTables version old.now.schema → AreListed version old.now.trees
+    → HasTables version old.now.schema → AreTablesListed version old.now.trees
     → IfOk r (λ yes. IsUnchanged mid new × (IsTrue yes → (t : HasTables version mid.now.schema)
     → HasValidRows version mid.now.trees t.meta t.devices))
     → IfOk r (λ yes. IsUnchanged old new × (IsTrue yes → IsRegistry version old.now))
@@ -60,7 +61,7 @@ taken_if version (Ok is_so) old mid new same tables listed h = (
       (sym same.0.now_is) tables in record {
         tables = t;
         whole = h.1 is t;
-        listed = subst (λ (db : Database). AreListed version db.trees) (sym same.0.now_is) listed;
+        listed = subst (λ (db : Database). AreTablesListed version db.trees) (sym same.0.now_is) listed;
       }),
 )
 taken_if version (Err e) old mid new same tables listed h = tt
@@ -79,8 +80,8 @@ no_place o at some none = let e = sym some ∙ none in cc
 
 -- the name of one version's table is free in a registry of the other
 other_version : (schema : Schema) → HasTables First schema → HasTables Second schema → ⊥
-other_version schema one two = no_place (table_named schema (device_name First)) one.devices_at
-    one.devices_stand.named (unused schema (device_name First) two.free).0
+other_version schema one two = no_place (table_named schema (device_table_name First)) one.devices_at
+    one.devices_stand.named (unused schema (device_table_name First) two.free).0
 
 one_version : (v w : Version) (schema : Schema) → HasTables v schema → HasTables w schema → v ≡ w
 one_version First First schema one two = refl
@@ -116,13 +117,14 @@ module _ {old new : State} {P : Trees → Type 0} (rest : HasCleanDisk old → I
       → (devices : Devices) × IsPrepared old new devices
   begun shows clean = (empty, record { found = inr (it_was_bare clean, refl); shows = shows clean })
 
-  pub begun_bare : {A : Type 0} → HasCleanDisk new → AreRegistryTrees old.now.trees → A
+  pub begun_bare : {A : Type 0} → HasCleanDisk new → AreVersion2Trees old.now.trees → A
   begun_bare clean is_held = let it = is_held.holds in absurd (
       not_bare Second old.now.trees it.db it.same it.sound it.holds.registry (it_was_bare clean))
 
 pub begun_stop : {old new : State} → (HasCleanDisk old → IsSettledOpen old) → IsTrue (admits_tables old.now.schema)
-    → Survives old new (λ trees. Holds trees empty) → Survives old new (KeepsFoundDevices old.now.trees)
-begun_stop {old} {new} rest clear h = survives_weaker old new (λ trees. Holds trees empty) (KeepsFoundDevices old.now.trees)
+    → Survives old new (λ trees. HoldsVersion2 trees empty) → Survives old new (KeepsFoundDevices old.now.trees)
+begun_stop {old} {new} rest clear h =
+    survives_weaker old new (λ trees. HoldsVersion2 trees empty) (KeepsFoundDevices old.now.trees)
     (λ clean trees holds.
     let none = bare old (rest (before h clean)) clear in
     record {
@@ -141,13 +143,13 @@ Took version old mid = HasCleanDisk mid → IsSettledOpen old × IsUnchanged old
 pub took : (version : Version) {old mid : State} {o : Option Version} {found : Version} → o ≡ Some found
     → found ≡ version → (HasCleanDisk old → IsSettledOpen old) → Survives old mid (λ _. ⊥)
     → (HasCleanDisk mid → IsUnchanged old mid
-    × MatchOption o ((version : Version) → ¬ IsOwnRegistry version old.now.trees)
+    × MatchOption o ((version : Version) → ¬ IsRegistryIn version old.now.trees)
     (λ version. IsRegistry version old.now)) → Took version old mid
 took version {old} {mid} {o} some is rest survives asked clean =
     let it = asked clean in (
       rest (before survives clean),
       it.0,
-      subst (λ o. MatchOption o ((version : Version) → ¬ IsOwnRegistry version old.now.trees)
+      subst (λ o. MatchOption o ((version : Version) → ¬ IsRegistryIn version old.now.trees)
           (λ version. IsRegistry version old.now)) (some ∙ ap (λ v. Some v) is) it.1,
     )
 
@@ -166,7 +168,7 @@ shown s rest it = (
   },
 )
 
-held : (s : State) (devices : Devices) → IsReadyWith s devices → Holds s.now.trees devices
+held : (s : State) (devices : Devices) → IsReadyWith s devices → HoldsVersion2 s.now.trees devices
 held s devices shows = record { db = s.now; same = refl; sound = shows.sound; holds = shows.holds }
 
 pub ready : (old mid : State) → IsSettledOpen old → IsUnchanged old mid → IsRegistry Second old.now → IsReady mid
@@ -202,17 +204,18 @@ module _ {old mid new : State} {P : Trees → Type 0} (asked : Took Second old m
       )
 
   pub taken_rows : (HasCleanDisk new → IsReady mid → KeepsRows mid new) → HasCleanDisk new
-      → AreRegistryTrees old.now.trees
+      → AreVersion2Trees old.now.trees
       → KeepsRows old new
   taken_rows kept clean is_held =
       let early = before survives clean in
       same_rows old mid new (asked early).1 (kept clean (taken_ready asked early))
 
 pub taken_stop : {old mid new : State} → Took Second old mid → Survives old mid (λ _. ⊥)
-    → Survives mid new (λ trees. (devices : Devices) → IsReadyWith mid devices → Holds trees devices)
+    → Survives mid new (λ trees. (devices : Devices) → IsReadyWith mid devices → HoldsVersion2 trees devices)
     → Survives old new (KeepsFoundDevices old.now.trees)
 taken_stop {old} {mid} {new} asked first second =
-    survives_then old mid new (λ _. ⊥) (λ trees. (devices : Devices) → IsReadyWith mid devices → Holds trees devices)
+    survives_then old mid new (λ _. ⊥)
+    (λ trees. (devices : Devices) → IsReadyWith mid devices → HoldsVersion2 trees devices)
     (KeepsFoundDevices old.now.trees) (λ clean trees no. absurd no)
     (λ clean trees leaves.
     let it = asked (before second clean) in
@@ -230,7 +233,7 @@ taken_stop {old} {mid} {new} asked first second =
 first_shown : (s : State) → IsSettledOpen s → IsRegistry First s.now
     → (devices : Devices) × IsRegistryOfVersion First s.now devices × HoldsAs First s.now.trees devices
 first_shown s rest it =
-    let devices = devices_in (rows_of First (s.now.trees it.tables.devices)) in
+    let devices = devices_in (upgraded_rows First (s.now.trees it.tables.devices)) in
     let registers : IsRegistryOfVersion First s.now devices = record { registry = it; is = refl } in (
       devices,
       registers,
@@ -265,7 +268,7 @@ module _ {old mid new : State} {P : Trees → Type 0} (asked : Took First old mi
       )
 
   -- it was not a registry of version 2
-  pub migrated_other : {A : Type 0} → HasCleanDisk new → AreRegistryTrees old.now.trees → A
+  pub migrated_other : {A : Type 0} → HasCleanDisk new → AreVersion2Trees old.now.trees → A
   migrated_other clean is_held =
       let it = asked (before survives clean) in
       let holds = is_held.holds in
@@ -274,11 +277,12 @@ module _ {old mid new : State} {P : Trees → Type 0} (asked : Took First old mi
       holds.holds.registry.tables))
 
 pub migrated_stop : {old mid new : State} → Took First old mid → Survives old mid (λ _. ⊥)
-    → Survives mid new (λ trees. (devices : Devices) → IsRegistryOfVersion First mid.now devices → Holds trees devices)
+    → Survives mid new (λ trees. (devices : Devices) → IsRegistryOfVersion First mid.now devices
+    → HoldsVersion2 trees devices)
     → Survives old new (KeepsFoundDevices old.now.trees)
 migrated_stop {old} {mid} {new} asked first second =
     survives_then old mid new (λ _. ⊥)
-    (λ trees. (devices : Devices) → IsRegistryOfVersion First mid.now devices → Holds trees devices)
+    (λ trees. (devices : Devices) → IsRegistryOfVersion First mid.now devices → HoldsVersion2 trees devices)
     (KeepsFoundDevices old.now.trees) (λ clean trees no. absurd no)
     (λ clean trees left.
     let it = asked (before second clean) in
@@ -291,8 +295,8 @@ migrated_stop {old} {mid} {new} asked first second =
     first second
 
 -- it is a registry of neither version as this program leaves it, and the tables cannot be created
-pub is_other : (s : State) → IsSettledOpen s → ((version : Version) → ¬ IsOwnRegistry version s.now.trees)
-    → (IsTrue (admits_tables s.now.schema) → ⊥) → IsNoRegistry s.now.trees
+pub is_other : (s : State) → IsSettledOpen s → ((version : Version) → ¬ IsRegistryIn version s.now.trees)
+    → (IsTrue (admits_tables s.now.schema) → ⊥) → IsForeignDatabase s.now.trees
 is_other s rest none unclear devices (inl (version, holds)) = none version (record {
   db = holds.db;
   same = holds.same;
@@ -308,29 +312,31 @@ abbrev pub LeavesLast : State → Type 0
 LeavesLast s = (trees : Trees) → s.may_leave trees → trees ≡ s.committed.trees
 
 left : (s : State) (devices : Devices) → IsReadyWith s devices → LeavesLast s → (trees : Trees) → s.may_leave trees
-    → Holds trees devices
-left s devices shows leaves trees may = subst (λ t. Holds t devices)
+    → HoldsVersion2 trees devices
+left s devices shows leaves trees may = subst (λ t. HoldsVersion2 t devices)
     (ap (λ (db : Database). db.trees) shows.settled ∙ sym (leaves trees may)) (held s devices shows)
 
-pub registries : (s : State) (devices : Devices) → IsReadyWith s devices → LeavesLast s → AreRegistries s.may_leave
+pub registries : (s : State) (devices : Devices) → IsReadyWith s devices → LeavesLast s
+    → AreVersion2Registries s.may_leave
 registries s devices shows leaves trees may =
     record { devices = devices; holds = left s devices shows leaves trees may }
 
 pub last : (old mid : State) → IsUnchanged old mid → IsSettledOpen old → mid.now.trees ≡ old.committed.trees
 last old mid same rest = ap (λ (db : Database). db.trees) (same.0.now_is ∙ rest.settled)
 
-pub opened : (old mid new : State) (devices : Devices) → IsUnchanged old mid → IsSettledOpen old → IsPrepared mid new devices
+pub opened : (old mid new : State) (devices : Devices) → IsUnchanged old mid → IsSettledOpen old
+    → IsPrepared mid new devices
     → LeavesLast new → Opens old new devices
 opened old mid new devices same rest it leaves = record {
   was_open = same.0.was_open;
-  found = subst (λ trees. Finds trees devices) (last old mid same rest) it.found;
+  found = subst (λ trees. OpenFinds trees devices) (last old mid same rest) it.found;
   now = λ clean is_open. it.shows.holds;
   crash = λ other may. held_once may.0 other devices may.2 (left new devices it.shows leaves may.0 may.1);
 }
 
-pub another : (old mid : State) → IsUnchanged old mid → IsSettledOpen old → IsNoRegistry mid.now.trees
-    → IsNoRegistry old.committed.trees
-another old mid same rest other = subst IsNoRegistry (last old mid same rest) other
+pub another : (old mid : State) → IsUnchanged old mid → IsSettledOpen old → IsForeignDatabase mid.now.trees
+    → IsForeignDatabase old.committed.trees
+another old mid same rest other = subst IsForeignDatabase (last old mid same rest) other
 
 -- while it is open, a crash leaves the last commit
 abbrev pub Settles : State → Type 0
@@ -338,7 +344,7 @@ Settles s = (trees : Trees) → IsTrue s.is_open → s.may_leave trees → trees
 
 pub opened_if : {T : Type 0} (old mid new : State) → Settles new → (r : Result T OpenFault)
     → IsUnchanged old mid × IsSettledOpen old → OnOk r ((devices : Devices) × IsPrepared mid new devices)
-    → OnOk r (AreRegistryTrees old.committed.trees → RewritesVersion old new) → OnOk r (IsOpened old new)
+    → OnOk r (AreVersion2Trees old.committed.trees → RewritesVersion old new) → OnOk r (IsOpened old new)
 opened_if old mid new law (Ok v) was it written =
     let leaves : LeavesLast new = λ trees. law trees it.1.shows.is_open in
     record {
@@ -350,7 +356,8 @@ opened_if old mid new law (Ok v) was it written =
 opened_if old mid new law (Err e) was it written = tt
 
 -- the crash states after a failure
-pub leaves : (old mid new : State) → (HasCleanDisk mid → IsUnchanged old mid × IsSettledOpen old) → Survives old mid (λ _. ⊥)
+pub leaves : (old mid new : State) → (HasCleanDisk mid → IsUnchanged old mid × IsSettledOpen old)
+    → Survives old mid (λ _. ⊥)
     → Survives mid new (KeepsFoundDevices mid.now.trees) → HasCleanDisk new
     → (trees : Trees) → new.may_leave trees → old.may_leave trees
     ⊎ (IsTrue old.is_open × KeepsFoundDevices old.committed.trees trees)
@@ -367,7 +374,7 @@ pub nothing : (old new : State) → Survives old new (λ _. ⊥) → HasCleanDis
 nothing old new h clean trees may = elim (h.crash clean trees may) [ inl before ↦ inl before | inr none ↦ absurd none ]
 
 -- the database failed before anything was queried
-pub not_asked : (s : State) (fault : StoreFault) → RefusesToOpen s s (Failed fault)
+pub not_asked : (s : State) (fault : StoreFault) → FailsToOpen s s (Failed fault)
 not_asked s fault = record {
   survives = survives_itself s (KeepsFoundDevices s.committed.trees);
   clean = λ clean. clean;
@@ -377,9 +384,10 @@ not_asked s fault = record {
 
 -- the connection is closed, or the call fails
 pub refused_first : (old new : State) (fault : OpenFault) → fault ≢ NotARegistry → Survives old new (λ _. ⊥)
-    → RefusesToOpen old new fault
+    → FailsToOpen old new fault
 refused_first old new fault other survives = record {
-  survives = survives_weaker old new (λ _. ⊥) (KeepsFoundDevices old.committed.trees) (λ clean trees no. absurd no) survives;
+  survives = survives_weaker old new (λ _. ⊥) (KeepsFoundDevices old.committed.trees)
+      (λ clean trees no. absurd no) survives;
   clean = λ clean. let early : HasCleanDisk old = omega (arith, clean, survives.clean) in early;
   other = λ clean is. absurd (other is);
   crash = λ clean. nothing old new survives clean;
@@ -389,13 +397,14 @@ refused_first old new fault other survives = record {
 pub refused_then : {T : Type 0} (r : Result T OpenFault) (old mid new : State)
     → (HasCleanDisk mid → IsUnchanged old mid × IsSettledOpen old) → Survives old mid (λ _. ⊥)
     → Survives mid new (KeepsFoundDevices mid.now.trees)
-    → (HasCleanDisk new → r ≡ Err NotARegistry → IsNoRegistry mid.now.trees)
+    → (HasCleanDisk new → r ≡ Err NotARegistry → IsForeignDatabase mid.now.trees)
     → (HasCleanDisk new → r
     ≡ Err NotARegistry → IsUnchanged mid new × ((trees : Trees) → new.may_leave trees → mid.may_leave trees))
-    → IfErr r (RefusesToOpen old new)
+    → IfErr r (FailsToOpen old new)
 refused_then (Ok v) old mid new was first second other same = tt
 refused_then (Err fault) old mid new was first second other same = record {
-  survives = survives_then old mid new (λ _. ⊥) (KeepsFoundDevices mid.now.trees) (KeepsFoundDevices old.committed.trees)
+  survives =
+      survives_then old mid new (λ _. ⊥) (KeepsFoundDevices mid.now.trees) (KeepsFoundDevices old.committed.trees)
       (λ clean trees no. absurd no)
       (λ clean trees kept.
       let between : HasCleanDisk mid = omega (arith, clean, second.clean) in
@@ -417,10 +426,10 @@ refused_then (Err fault) old mid new was first second other same = record {
 -- ---- what a crash left, found again
 
 pub rows_on : {T : Type 0} (r : Result T OpenFault) (old mid new : State) → IsUnchanged old mid → IsSettledOpen old
-    → OnOk r (AreRegistryTrees mid.now.trees → KeepsRows mid new)
-    → OnOk r (AreRegistryTrees old.committed.trees → KeepsRows old new)
+    → OnOk r (AreVersion2Trees mid.now.trees → KeepsRows mid new)
+    → OnOk r (AreVersion2Trees old.committed.trees → KeepsRows old new)
 rows_on (Ok v) old mid new same rest kept =
-    λ held. same_rows old mid new same (kept (subst AreRegistryTrees (sym (last old mid same rest)) held))
+    λ held. same_rows old mid new same (kept (subst AreVersion2Trees (sym (last old mid same rest)) held))
 rows_on (Err e) old mid new same rest kept = tt
 
 holds_same : (trees : Trees) (v w : Version) (left found : Devices) → HoldsAs v trees left → HoldsAs w trees found
@@ -436,11 +445,11 @@ holds_none : (trees : Trees) (version : Version) (devices : Devices) → HoldsAs
 holds_none trees version devices holds =
     not_bare version trees holds.db holds.same holds.sound holds.holds.registry
 
-pub opens_agree : OpensAgree
-opens_agree trees left found (inl one) (inl two) = holds_same trees one.0 two.0 left found one.1 two.1
-opens_agree trees left found (inl one) (inr none) = absurd (holds_none trees one.0 left one.1 none.0)
-opens_agree trees left found (inr none) (inl two) = absurd (holds_none trees two.0 found two.1 none.0)
-opens_agree trees left found (inr none) (inr again) = none.1 ∙ sym again.1
+pub found_devices_are_unique : FoundDevicesAreUnique
+found_devices_are_unique trees left found (inl one) (inl two) = holds_same trees one.0 two.0 left found one.1 two.1
+found_devices_are_unique trees left found (inl one) (inr none) = absurd (holds_none trees one.0 left one.1 none.0)
+found_devices_are_unique trees left found (inr none) (inl two) = absurd (holds_none trees two.0 found two.1 none.0)
+found_devices_are_unique trees left found (inr none) (inr again) = none.1 ∙ sym again.1
 
 pub failed_opens_keep : {C : Type 0} (state : C → State) → FailedOpensKeep state
 failed_opens_keep state old new fault clean refused = (
@@ -451,8 +460,8 @@ failed_opens_keep state old new fault clean refused = (
   λ devices next. elim (refused.crash clean next.0 next.1) [
     | inl early ↦ inl (next.0, early, next.2)
     | inr kept ↦
-        let same = opens_agree next.0 kept.1.devices devices (inl (Second, kept.1.holds)) next.2 in
-        inr (kept.0, subst (Finds (state old).committed.trees) same kept.1.finds)
+        let same = found_devices_are_unique next.0 kept.1.devices devices (inl (Second, kept.1.holds)) next.2 in
+        inr (kept.0, subst (OpenFinds (state old).committed.trees) same kept.1.finds)
   ],
 )
 
@@ -469,16 +478,16 @@ pub returned_is_found : {C : Type 0} (state : C → State) → ReturnedIsFound s
 returned_is_found state closed opened devices found clean committed has opens =
     let last = state closed in
     let holds = committed clean opens.was_open devices has in
-    sym (opens_agree last.committed.trees devices found (inl (Second, holds)) opens.found)
+    sym (found_devices_are_unique last.committed.trees devices found (inl (Second, holds)) opens.found)
 
 pub closed_files_are_found : {D : Type 0} (g : Ghosts D) → ClosedFilesAreFound g
 closed_files_are_found g closed opened files devices copied finds committed has =
     let trees = (file_state opened).committed.trees in
     let same : trees ≡ (file_state closed).committed.trees = finds_again closed opened files (λ _. copied) finds in
     let last = committed copied.was_clean copied.was_open devices has in
-    let holds : Holds trees devices = subst (λ t. Holds t devices) (sym same) last in (
+    let holds : HoldsVersion2 trees devices = subst (λ t. HoldsVersion2 t devices) (sym same) last in (
       inl (Second, holds),
-      λ found other. sym (opens_agree trees devices found (inl (Second, holds)) other),
+      λ found other. sym (found_devices_are_unique trees devices found (inl (Second, holds)) other),
     )
 
 pub crashed_files_are_found : {D : Type 0} (g : Ghosts D) → CrashedFilesAreFound g
@@ -495,7 +504,8 @@ crashed_files_are_found g stopped opened image numbered registries may found =
 -- ---- other tables
 
 -- earlier queries changed nothing
-others_from : (old mid new : State) → IsUnchanged old mid → KeepsOtherTables mid.now new.now → KeepsOtherTables old.now new.now
+others_from : (old mid new : State) → IsUnchanged old mid → KeepsOtherTables mid.now new.now
+    → KeepsOtherTables old.now new.now
 others_from old mid new same = subst (λ db. KeepsOtherTables db new.now) same.0.now_is
 
 pub others_then : {T E : Type 0} (r : Result T E) (old mid new : State) → IsUnchanged old mid

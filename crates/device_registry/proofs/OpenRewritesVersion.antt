@@ -9,7 +9,7 @@ use Rattle.sqlite_catalog.specs.Listing.{IsSound}
 use Rattle.device_registry.specs.declared.fault.OpenFault.{OpenFault}
 use Rattle.device_registry.specs.declared.table.Version.TheVariants.{Second}
 use Rattle.device_registry.specs.Table.{rewrite_version_sql}
-use Rattle.device_registry.specs.Stored.{HasTables, AreRegistryTrees}
+use Rattle.device_registry.specs.Stored.{HasTables, AreVersion2Trees}
 use Rattle.learned_devices.specs.Devices.{Devices}
 use Rattle.device_registry.specs.Holding.{RewritesVersion}
 use Rattle.device_registry.specs.Ready.{IsReadyWith, IsReady}
@@ -34,7 +34,7 @@ renewed_between old mid new tables same survives renewed =
 pub renewed_by : {old mid new : State} {P : Trees → Type 0} (count : ℕ) → Took Second old mid
     → Survives old mid (λ _. ⊥) → Survives mid new P
     → (HasCleanDisk new → Executes rewrite_version_sql [] mid new (Ok count)) → HasCleanDisk new
-    → AreRegistryTrees old.now.trees
+    → AreVersion2Trees old.now.trees
     → RewritesVersion old new
 renewed_by {old} {mid} {new} count asked first second runs clean is_held =
     let early : HasCleanDisk mid = omega (arith, clean, second.clean) in
@@ -53,7 +53,7 @@ written_by old mid new count devices shows same survives ready runs =
     (subst (λ n. Executes rewrite_version_sql [] mid new (Ok n)) one runs)
 
 -- a sound database with the trees of a registry has its tables
-has_tables : (db : Database) → IsDatabase db → AreRegistryTrees db.trees → HasTables Second db.schema
+has_tables : (db : Database) → IsDatabase db → AreVersion2Trees db.trees → HasTables Second db.schema
 has_tables db sound held =
     let its = held.holds.db in
     let same : its.schema ≡ db.schema = same_schema db.trees its.schema db.schema
@@ -61,11 +61,11 @@ has_tables db sound held =
     subst (HasTables Second) same held.holds.holds.registry.tables
 
 pub renewed_if : {T : Type 0} (r : Result T OpenFault) (old mid new : State) → IsUnchanged old mid → IsSettledOpen old
-    → Survives old mid (λ _. ⊥) → OnOk r (AreRegistryTrees mid.now.trees → RewritesVersion mid new)
-    → OnOk r (AreRegistryTrees old.committed.trees → RewritesVersion old new)
+    → Survives old mid (λ _. ⊥) → OnOk r (AreVersion2Trees mid.now.trees → RewritesVersion mid new)
+    → OnOk r (AreVersion2Trees old.committed.trees → RewritesVersion old new)
 renewed_if (Ok v) old mid new same rest survives renewed = λ held.
-    let seen : AreRegistryTrees mid.now.trees = subst AreRegistryTrees (sym (last old mid same rest)) held in
-    let here : AreRegistryTrees old.now.trees = subst AreRegistryTrees (ap (λ (db : Database). db.trees) same.0.now_is)
+    let seen : AreVersion2Trees mid.now.trees = subst AreVersion2Trees (sym (last old mid same rest)) held in
+    let here : AreVersion2Trees old.now.trees = subst AreVersion2Trees (ap (λ (db : Database). db.trees) same.0.now_is)
     seen in
     renewed_between old mid new (has_tables old.now rest.sound here) same survives (renewed seen)
 renewed_if (Err e) old mid new same rest survives renewed = tt

@@ -20,18 +20,20 @@ use Rattle.learned_devices.specs.Devices.{with_entry, apply_update, data_after, 
 use Rattle.learned_devices.specs.Devices.{relabel_update, kept_label, device_data, device, device_of, all_of, is_full}
 use Rattle.learned_devices.specs.DeviceStoreState.{Keeps, Commits, LeavesPending}
 use Rattle.learned_devices.specs.StoreCalls.{RefusesToLearn, LooksUp, Updates, Learns, Relabels, ListsAll}
-use Rattle.device_registry.specs.Holding.{HasDevices, HoldsSomeDevices, AreRegistries, IsReturnedByClose, WritesRow, registry_state}
-use Rattle.device_registry.specs.private.TableCalls.{Adds}
-use Rattle.device_registry.specs.Ready.{IsReadyWith, IsReady, StaysReady, KeepsDevices, WritesNothing, CommitsOrFails}
-use Rattle.device_registry.specs.Table.Rows.{device_in_row}
+use Rattle.device_registry.specs.Holding.{HasDevicesIfOpen, HasSomeDevicesIfOpen, AreVersion2Registries}
+use Rattle.device_registry.specs.Holding.{IsReturnedByClose, WritesRow, registry_state}
+use Rattle.device_registry.specs.private.TableCalls.{LearnsUnlessFull}
+use Rattle.device_registry.specs.Ready.{IsReadyWith, IsReady, IsReadyIfOpen, KeepsDevicesIfOpen, WritesNothing}
+use Rattle.device_registry.specs.Ready.{CommitsOrMayBeLeft}
+use Rattle.device_registry.specs.Table.Rows.{shown_device}
 use Rattle.device_registry.proofs.DevicesHeld.{held_once, registers_once, room_for_known}
 use Rattle.keyed_table.proofs.Statements.{ready_on}
 
 -- the invariant of a registry, about its connection between two calls
 abbrev pub IsWell : State → Type 0
-IsWell s = (HasCleanDisk s → AreRegistries s.may_leave) × StaysReady s
+IsWell s = (HasCleanDisk s → AreVersion2Registries s.may_leave) × IsReadyIfOpen s
 
-pub shows_them : (s : State) (devices : Devices) → HasCleanDisk s → IsReady s → HasDevices s devices
+pub shows_them : (s : State) (devices : Devices) → HasCleanDisk s → IsReady s → HasDevicesIfOpen s devices
     → IsReadyWith s devices
 shows_them s devices clean ready has =
     let it = ready.shows in
@@ -46,7 +48,7 @@ shows_them s devices clean ready has =
 -- ---- nothing was written
 
 module _ (old new : State) (stays : WritesNothing old new) (well : IsWell old) where
-  pub keeps : HasCleanDisk new → (devices : Devices) → HasDevices old devices
+  pub keeps : HasCleanDisk new → (devices : Devices) → HasDevicesIfOpen old devices
       → Keeps (registry_state old) (registry_state new) devices
   keeps clean devices has = record {
     now = λ _ is_open. let on = stays.goes_on clean is_open in let early = stays.clean clean in
@@ -55,7 +57,8 @@ module _ (old new : State) (stays : WritesNothing old new) (well : IsWell old) w
   }
 
   -- the devices that the registry had before the call
-  pub had : HasCleanDisk new → IsReady new → (devices : Devices) → HasDevices old devices → IsReadyWith old devices
+  pub had : HasCleanDisk new → IsReady new → (devices : Devices) → HasDevicesIfOpen old devices
+      → IsReadyWith old devices
   had clean now devices has =
       let early = stays.clean clean in
       shows_them old devices early (well.1 early (stays.goes_on clean now.shows.is_open).0) has
@@ -96,8 +99,8 @@ ready_if (Err e) old new stays well clean ready = tt
 
 module _ {T E : Type 0} (old mid new : State) (update : DeviceUpdate) (result : Result T E)
     (stays : WritesNothing old mid)
-    (well : IsWell old) (turns : CommitsOrFails mid new update result) where
-  tried_registries : HasCleanDisk new → AreRegistries new.may_leave
+    (well : IsWell old) (turns : CommitsOrMayBeLeft mid new update result) where
+  tried_registries : HasCleanDisk new → AreVersion2Registries new.may_leave
   tried_registries clean trees may = elim (turns.crash clean trees may) [
     | inl before ↦ (keeps_well old mid stays well).0 (turns.clean clean) trees before
     | inr written ↦
@@ -106,7 +109,7 @@ module _ {T E : Type 0} (old mid new : State) (update : DeviceUpdate) (result : 
   ]
 
   -- and failed
-  pub refused_well : (HasCleanDisk new → KeepsDevices mid new) → IsWell new
+  pub refused_well : (HasCleanDisk new → KeepsDevicesIfOpen mid new) → IsWell new
   refused_well goes_on = (
     tried_registries,
     λ clean is_open.
@@ -114,7 +117,7 @@ module _ {T E : Type 0} (old mid new : State) (update : DeviceUpdate) (result : 
         ready_on mid new on is_open ((keeps_well old mid stays well).1 (turns.clean clean) (on is_open).0),
   )
 
-  pub pends : KeepsDevices mid new → HasCleanDisk new → (devices : Devices) → HasDevices old devices
+  pub pends : KeepsDevicesIfOpen mid new → HasCleanDisk new → (devices : Devices) → HasDevicesIfOpen old devices
       → LeavesPending (registry_state old) (registry_state new) update devices
   pends goes_on clean devices has =
       let middle = turns.clean clean in
@@ -141,7 +144,7 @@ module _ {T E : Type 0} (old mid new : State) (update : DeviceUpdate) (result : 
   -- or was made
   made_shows : ((devices : Devices) → IsReadyWith mid devices → IsReadyWith new (apply_update devices update))
       → HasCleanDisk new
-      → IsReady mid → (devices : Devices) → HasDevices old devices → IsReadyWith new (apply_update devices update)
+      → IsReady mid → (devices : Devices) → HasDevicesIfOpen old devices → IsReadyWith new (apply_update devices update)
   made_shows made clean was devices has =
       let middle = turns.clean clean in
       made devices (shows_them mid devices middle was (keeps old mid stays well middle devices has).now)
@@ -159,7 +162,7 @@ module _ {T E : Type 0} (old mid new : State) (update : DeviceUpdate) (result : 
       → HasCleanDisk new
       → IsReady mid
       → ((trees : Trees) → IsTrue new.is_open → new.may_leave trees → trees ≡ new.committed.trees) → (devices : Devices)
-      → HasDevices old devices → Commits (registry_state new) update devices
+      → HasDevicesIfOpen old devices → Commits (registry_state new) update devices
   commits made clean was last devices has =
       let shows = made_shows made clean was devices has in
       record {
@@ -182,11 +185,11 @@ pub if_err : {T E : Type 0} (P : T → Type 0) (r : Result T E) → IsErr r → 
 if_err P (Ok x) is = absurd (cc)
 if_err P (Err e) is = tt
 
-pub told_all : {E : Type 0} (r : Result (Vec Device Global) E) (rows shown : List Row) (devices : Devices)
-    → IfOk r (λ all. all.items ≡ map device_in_row rows) → rows ≡ shown → map device_in_row shown ≡ all_of devices
+pub reported_all : {E : Type 0} (r : Result (Vec Device Global) E) (rows shown : List Row) (devices : Devices)
+    → IfOk r (λ all. all.items ≡ map shown_device rows) → rows ≡ shown → map shown_device shown ≡ all_of devices
     → IfOk r (λ all. all.items ≡ all_of devices)
-told_all (Ok all) rows shown devices read same told = read ∙ ap (map device_in_row) same ∙ told
-told_all (Err e) rows shown devices read same told = tt
+reported_all (Ok all) rows shown devices read same reported = read ∙ ap (map shown_device) same ∙ reported
+reported_all (Err e) rows shown devices read same reported = tt
 
 -- ---- the postconditions of the calls
 
@@ -196,34 +199,35 @@ by_case false a b = b
 
 module _ (old new : State) (stays : WritesNothing old new) (well : IsWell old) where
   pub looks_up : {E : Type 0} (id : ℕ) (r : Result (Option Device) E)
-      → (HasCleanDisk new → (devices : Devices) → HasDevices old devices
+      → (HasCleanDisk new → (devices : Devices) → HasDevicesIfOpen old devices
       → IfOk r (λ found. found ≡ device_of devices id)) → LooksUp (registry_state old) (registry_state new) id r
-  looks_up id r told = record {
+  looks_up id r reported = record {
     clean = stays.clean;
-    registries = (keeps_well old new stays well).0;
+    recoverable = (keeps_well old new stays well).0;
     devices = λ clean devices has. on_both (λ found. found ≡ device_of devices id)
-        (Keeps (registry_state old) (registry_state new) devices) r (told clean devices has)
+        (Keeps (registry_state old) (registry_state new) devices) r (reported clean devices has)
         (keeps old new stays well clean devices has);
   }
 
   pub lists_all : {E : Type 0} (r : Result (Vec Device Global) E)
-      → (HasCleanDisk new → (devices : Devices) → HasDevices old devices → IfOk r (λ all. all.items ≡ all_of devices))
+      → (HasCleanDisk new → (devices : Devices) → HasDevicesIfOpen old devices
+      → IfOk r (λ all. all.items ≡ all_of devices))
       → ListsAll (registry_state old) (registry_state new) r
-  lists_all r told = record {
+  lists_all r reported = record {
     clean = stays.clean;
-    registries = (keeps_well old new stays well).0;
+    recoverable = (keeps_well old new stays well).0;
     devices = λ clean devices has. on_both (λ all. all.items ≡ all_of devices)
         (Keeps (registry_state old) (registry_state new) devices) r
-        (told clean devices has) (keeps old new stays well clean devices has);
+        (reported clean devices has) (keeps old new stays well clean devices has);
   }
 
   -- the database failed before the write
   pub adds_not : {E : Type 0} (it : Device) (r : Result Bool E) → IsErr r
-      → Adds (registry_state old) (registry_state new) it r
+      → LearnsUnlessFull (registry_state old) (registry_state new) it r
   adds_not it (Ok room) is = absurd (cc)
   adds_not it (Err error) is = record {
     clean = stays.clean;
-    registries = (keeps_well old new stays well).0;
+    recoverable = (keeps_well old new stays well).0;
     devices = λ clean devices has.
         let same = keeps old new stays well clean devices has in
         by_case (is_full devices it.id) same (kept_pends old new (learn_update it) devices same);
@@ -234,15 +238,16 @@ module _ (old new : State) (stays : WritesNothing old new) (well : IsWell old) w
   updates_not update (Ok done) is = absurd (cc)
   updates_not update (Err error) is = record {
     clean = stays.clean;
-    registries = (keeps_well old new stays well).0;
+    recoverable = (keeps_well old new stays well).0;
     devices = λ clean devices has. kept_pends old new update devices (keeps old new stays well clean devices has);
   }
 
-  pub is_full_then : {E : Type 0} (it : Device) → (HasCleanDisk new → (devices : Devices) → HasDevices old devices
-      → IsTrue (is_full devices it.id)) → Adds {E = E} (registry_state old) (registry_state new) it (Ok false)
+  pub is_full_then : {E : Type 0} (it : Device) → (HasCleanDisk new → (devices : Devices) → HasDevicesIfOpen old devices
+      → IsTrue (is_full devices it.id))
+      → LearnsUnlessFull {E = E} (registry_state old) (registry_state new) it (Ok false)
   is_full_then it full = record {
     clean = stays.clean;
-    registries = (keeps_well old new stays well).0;
+    recoverable = (keeps_well old new stays well).0;
     devices = λ clean devices has. (full clean devices has, keeps old new stays well clean devices has);
   }
 
@@ -250,40 +255,40 @@ module _ {T F : Type 0} (old mid new : State) (result : Result T F) (stays : Wri
   where
     -- or at the write
     pub add_refused : {E : Type 0} (it : Device) (r : Result Bool E) → IsErr r
-        → CommitsOrFails mid new (learn_update it) result
-        → (HasCleanDisk new → KeepsDevices mid new)
-        → (HasCleanDisk mid → (devices : Devices) → HasDevices old devices → is_full devices it.id ≡ false)
-        → Adds (registry_state old) (registry_state new) it r
+        → CommitsOrMayBeLeft mid new (learn_update it) result
+        → (HasCleanDisk new → KeepsDevicesIfOpen mid new)
+        → (HasCleanDisk mid → (devices : Devices) → HasDevicesIfOpen old devices → is_full devices it.id ≡ false)
+        → LearnsUnlessFull (registry_state old) (registry_state new) it r
     add_refused it (Ok room) is turns goes_on unless = absurd (cc)
     add_refused it (Err error) is turns goes_on unless = record {
       clean = λ clean. stays.clean (turns.clean clean);
-      registries = (refused_well old mid new (learn_update it) result stays well turns goes_on).0;
+      recoverable = (refused_well old mid new (learn_update it) result stays well turns goes_on).0;
       devices = λ clean devices has.
           rw (unless (turns.clean clean) devices has) (pends old mid new (learn_update it) result stays well turns
           (goes_on clean) clean devices has);
     }
 
     pub update_refused : {A E : Type 0} (update : DeviceUpdate) (r : Result A E) → IsErr r
-        → CommitsOrFails mid new update result
-        → (HasCleanDisk new → KeepsDevices mid new) → Updates (registry_state old) (registry_state new) update r
+        → CommitsOrMayBeLeft mid new update result
+        → (HasCleanDisk new → KeepsDevicesIfOpen mid new) → Updates (registry_state old) (registry_state new) update r
     update_refused update (Ok done) is turns goes_on = absurd (cc)
     update_refused update (Err error) is turns goes_on = record {
       clean = λ clean. stays.clean (turns.clean clean);
-      registries = (refused_well old mid new update result stays well turns goes_on).0;
+      recoverable = (refused_well old mid new update result stays well turns goes_on).0;
       devices = λ clean. pends old mid new update result stays well turns (goes_on clean) clean;
     }
 
     -- or the update is made
-    pub add_made : {E : Type 0} (it : Device) → CommitsOrFails mid new (learn_update it) result
+    pub add_made : {E : Type 0} (it : Device) → CommitsOrMayBeLeft mid new (learn_update it) result
         → (HasCleanDisk new → (devices : Devices) → IsReadyWith mid devices
         → IsReadyWith new (apply_update devices (learn_update it)))
         → (HasCleanDisk mid → IsReady mid)
         → ((trees : Trees) → IsTrue new.is_open → new.may_leave trees → trees ≡ new.committed.trees)
-        → (HasCleanDisk mid → (devices : Devices) → HasDevices old devices → is_full devices it.id ≡ false)
-        → Adds {E = E} (registry_state old) (registry_state new) it (Ok true)
+        → (HasCleanDisk mid → (devices : Devices) → HasDevicesIfOpen old devices → is_full devices it.id ≡ false)
+        → LearnsUnlessFull {E = E} (registry_state old) (registry_state new) it (Ok true)
     add_made it turns made was last room = record {
       clean = λ clean. stays.clean (turns.clean clean);
-      registries = (made_well old mid new (learn_update it) result stays well turns made was).0;
+      recoverable = (made_well old mid new (learn_update it) result stays well turns made was).0;
       devices =
           λ clean devices has. (
             room (turns.clean clean) devices has,
@@ -292,7 +297,7 @@ module _ {T F : Type 0} (old mid new : State) (result : Result T F) (stays : Wri
           );
     }
 
-    pub update_made : {A E : Type 0} (done : A) (update : DeviceUpdate) → CommitsOrFails mid new update result
+    pub update_made : {A E : Type 0} (done : A) (update : DeviceUpdate) → CommitsOrMayBeLeft mid new update result
         → (HasCleanDisk new → (devices : Devices) → IsReadyWith mid devices
         → IsReadyWith new (apply_update devices update))
         → (HasCleanDisk mid → IsReady mid)
@@ -300,7 +305,7 @@ module _ {T F : Type 0} (old mid new : State) (result : Result T F) (stays : Wri
         → Updates {A = A} {E = E} (registry_state old) (registry_state new) update (Ok done)
     update_made done update turns made was last = record {
       clean = λ clean. stays.clean (turns.clean clean);
-      registries = (made_well old mid new update result stays well turns made was).0;
+      recoverable = (made_well old mid new update result stays well turns made was).0;
       devices = λ clean devices has. commits old mid new update result stays well turns (made clean) clean
           (was (turns.clean clean)) last devices has;
     }
@@ -315,7 +320,7 @@ becomes devices update it makes = ap (with_entry devices update.sender) makes
 
 -- the same if the registry shows the devices that it had before the call
 pub puts_it : (old mid : State) → WritesNothing old mid → IsWell old → (update : DeviceUpdate) (it : DeviceData)
-    → (HasCleanDisk old → (devices : Devices) → HasDevices old devices
+    → (HasCleanDisk old → (devices : Devices) → HasDevicesIfOpen old devices
     → data_after (get devices update.sender) update.operation ≡ Some it)
     → HasCleanDisk mid → (devices : Devices) → IsReadyWith mid devices
     → apply_update devices update ≡ insert devices update.sender it
@@ -327,7 +332,7 @@ puts_it old mid stays well update it makes clean devices shows =
 
 -- the registry is not full for a known sender
 pub room_if_known : (s : State) (id : ℕ) (label : List ℕ) (it : DeviceData)
-    → (HasCleanDisk s → (devices : Devices) → HasDevices s devices
+    → (HasCleanDisk s → (devices : Devices) → HasDevicesIfOpen s devices
     → data_after (get devices id) (Relabel label) ≡ Some it)
     → HasCleanDisk s → (devices : Devices) → IsReadyWith s devices → is_full devices id ≡ false
 room_if_known s id label it known clean devices shows =
@@ -387,7 +392,7 @@ module _ (old mid : State) (id : ℕ) where
       → Learns {A = A} (registry_state old) (registry_state mid) it (Err (Failed fault))
   learns_unlooked it fault looks = record {
     clean = looks.clean;
-    registries = looks.registries;
+    recoverable = looks.recoverable;
     devices = λ clean devices has.
         let same = looks.devices clean devices has in
         by_case (is_full devices it.id) same (kept_pends old mid (learn_update it) devices same);
@@ -398,7 +403,7 @@ module _ (old mid : State) (id : ℕ) where
       → Relabels (registry_state old) (registry_state mid) id label (Err fault)
   relabels_unlooked label fault looks = record {
     clean = looks.clean;
-    registries = looks.registries;
+    recoverable = looks.recoverable;
     devices = λ clean devices has.
         let same = looks.devices clean devices has in
         by_case (is_some (get devices id)) (kept_pends old mid (relabel_update id label) devices same) same;
@@ -414,7 +419,7 @@ module _ (old mid : State) (id : ℕ) where
       → Relabels {E = StoreFault} (registry_state old) (registry_state mid) id label (Ok false)
   relabels_unknown label looks = record {
     clean = looks.clean;
-    registries = looks.registries;
+    recoverable = looks.recoverable;
     devices = λ clean devices has. let it = looks.devices clean devices has in
         (unknown (get devices id) it.0, it.1);
   }
@@ -428,7 +433,7 @@ module _ (old mid : State) (id : ℕ) where
   module _ (known : Option Device) (looks : LooksUp {E = StoreFault} (registry_state old) (registry_state mid) id
       (Ok known))
       (new : State) where
-    kept_here : HasCleanDisk mid → (devices : Devices) → HasDevices old devices
+    kept_here : HasCleanDisk mid → (devices : Devices) → HasDevicesIfOpen old devices
         → Keeps (registry_state old) (registry_state mid) devices
     kept_here clean devices has = (looks.devices clean devices has).1
 
@@ -451,8 +456,9 @@ module _ (old mid : State) (id : ℕ) where
 
     -- the answer about the sender holds of whatever the registry holds now
     module _ (ready : HasCleanDisk mid → IsReady old × IsReady mid) where
-      told_now : HasCleanDisk mid → (devices : Devices) → HasDevices mid devices → known ≡ device_of devices id
-      told_now clean devices has =
+      reported_now : HasCleanDisk mid → (devices : Devices) → HasDevicesIfOpen mid devices
+          → known ≡ device_of devices id
+      reported_now clean devices has =
           let was = (ready clean).0 in
           let is_open = (ready clean).1.shows.is_open in
           let it = looks.devices clean was.held (λ _ _. was.shows.holds) in
@@ -462,33 +468,34 @@ module _ (old mid : State) (id : ℕ) where
       -- a device with the label that its sender keeps
       pub keeps_label : (it : Device) (eep : Eep) (maker : Option ℕ) → it.id ≡ id
           → device_data it ≡ record { eep = eep; maker = maker; label = kept_label (option_map device_data known) }
-          → HasCleanDisk mid → (devices : Devices) → HasDevices mid devices
+          → HasCleanDisk mid → (devices : Devices) → HasDevicesIfOpen mid devices
           → data_after (get devices it.id) (Learn it.eep it.maker) ≡ Some (device_data it)
       keeps_label it eep maker at is clean devices has =
           let label : it.label ≡ kept_label (get devices it.id) =
           ap (λ (l : DeviceData). l.label) is
-          ∙ ap (λ o. kept_label (option_map device_data o)) (told_now clean devices has)
+          ∙ ap (λ o. kept_label (option_map device_data o)) (reported_now clean devices has)
           ∙ label_in_device id (get devices id) ∙ ap (λ n. kept_label (get devices n)) (sym at) in
           ap (λ l. Some (record { eep = it.eep; maker = it.maker; label = l })) (sym label)
 
       -- a known device with another label
       pub gets_label : (was it : Device) (label : List ℕ) → known ≡ Some was → it.id ≡ id
           → device_data it ≡ record { eep = was.eep; maker = was.maker; label = label }
-          → HasCleanDisk mid → (devices : Devices) → HasDevices mid devices
+          → HasCleanDisk mid → (devices : Devices) → HasDevicesIfOpen mid devices
           → data_after (get devices it.id) (Relabel it.label) ≡ Some (device_data it)
       gets_label was it label some at is clean devices has =
           ap (λ n. data_after (get devices n) (Relabel it.label)) at
           ∙ ap (λ o. data_after o (Relabel it.label))
-          (known_as id (get devices id) was (sym some ∙ told_now clean devices has))
+          (known_as id (get devices id) was (sym some ∙ reported_now clean devices has))
           ∙ ap (λ (l : DeviceData). Some (record { eep = l.eep; maker = l.maker; label = it.label }))
           (labels_apart was it label is)
 
     -- the row of a device is written over the same devices
     pub written_after : {C : Type 0} (state : C → State) (last : C) (update : DeviceUpdate) {T E : Type 0}
         (r : Result T E)
-        → (HasCleanDisk mid → (devices : Devices) → HasDevices mid devices → OnOk r
+        → (HasCleanDisk mid → (devices : Devices) → HasDevicesIfOpen mid devices → OnOk r
         (WritesRow state last update devices))
-        → HasCleanDisk mid → (devices : Devices) → HasDevices old devices → OnOk r (WritesRow state last update devices)
+        → HasCleanDisk mid → (devices : Devices) → HasDevicesIfOpen old devices
+        → OnOk r (WritesRow state last update devices)
     written_after state last update r written clean devices has =
         written clean devices (kept_here clean devices has).now
 
@@ -497,7 +504,7 @@ module _ (old mid : State) (id : ℕ) where
         → Learns (registry_state old) (registry_state new) it r
     learns_after it r learns = record {
       clean = λ clean. looks.clean (learns.clean clean);
-      registries = learns.registries;
+      recoverable = learns.recoverable;
       devices = λ clean devices has.
           let keeps = kept_here (learns.clean clean) devices has in
           learned_after it r devices keeps (learns.devices clean devices keeps.now);
@@ -505,13 +512,13 @@ module _ (old mid : State) (id : ℕ) where
 
     -- the write of a label failed, or it is committed
     pub relabels_failed : {A E F : Type 0} (label : List ℕ) (error : E) (fault : F) (it : DeviceData)
-        → (HasCleanDisk mid → (devices : Devices) → HasDevices mid devices
+        → (HasCleanDisk mid → (devices : Devices) → HasDevicesIfOpen mid devices
         → data_after (get devices id) (Relabel label) ≡ Some it)
         → Updates {A = A} (registry_state mid) (registry_state new) (relabel_update id label) (Err error)
         → Relabels (registry_state old) (registry_state new) id label (Err fault)
     relabels_failed label error fault it known updates = record {
       clean = λ clean. looks.clean (updates.clean clean);
-      registries = updates.registries;
+      recoverable = updates.recoverable;
       devices = λ clean devices has.
           let keeps = kept_here (updates.clean clean) devices has in
           rw (← is_known (get devices id) label it (known (updates.clean clean) devices keeps.now))
@@ -519,13 +526,13 @@ module _ (old mid : State) (id : ℕ) where
     }
 
     pub relabels_known : {A E F : Type 0} (label : List ℕ) (done : A) (it : DeviceData)
-        → (HasCleanDisk mid → (devices : Devices) → HasDevices mid devices
+        → (HasCleanDisk mid → (devices : Devices) → HasDevicesIfOpen mid devices
         → data_after (get devices id) (Relabel label) ≡ Some it)
         → Updates {A = A} {E = E} (registry_state mid) (registry_state new) (relabel_update id label) (Ok done)
         → Relabels {E = F} (registry_state old) (registry_state new) id label (Ok true)
     relabels_known label done it known updates = record {
       clean = λ clean. looks.clean (updates.clean clean);
-      registries = updates.registries;
+      recoverable = updates.recoverable;
       devices = λ clean devices has.
           let now = (kept_here (updates.clean clean) devices has).now in (
             is_known (get devices id) label it (known (updates.clean clean) devices now),
@@ -543,7 +550,7 @@ learns_alike old new it other r id eep maker learns =
     let as_it = subst (λ d. Learns (registry_state old) (registry_state new) d r) same learns in
     record {
       clean = as_it.clean;
-      registries = as_it.registries;
+      recoverable = as_it.recoverable;
       devices = λ clean devices has. unlabelled r devices (as_it.devices clean devices has);
     }
   where
@@ -574,10 +581,10 @@ hands_on s well = record {
 -- ---- any registry
 
 -- if the connection is closed, any devices will do
-some_by : (s : State) (is_open : Bool) → s.is_open ≡ is_open → HasCleanDisk s → StaysReady s
-    → (devices : Devices) × HasDevices s devices
+some_by : (s : State) (is_open : Bool) → s.is_open ≡ is_open → HasCleanDisk s → IsReadyIfOpen s
+    → (devices : Devices) × HasDevicesIfOpen s devices
 some_by s true is clean ready = let it = ready clean is in (it.held, λ _ _. it.shows.holds)
 some_by s false is clean ready = (empty, λ _ is_open. absurd (let e = sym is ∙ is_open in cc))
 
-pub holds_some : (s : State) → StaysReady s → HoldsSomeDevices s
+pub holds_some : (s : State) → IsReadyIfOpen s → HasSomeDevicesIfOpen s
 holds_some s ready clean = some_by s s.is_open refl clean ready

@@ -24,7 +24,7 @@ use Rattle.keyed_table.proofs.TablesAlone.{StandsAlone}
 use Rattle.keyed_table.proofs.TableWrites.{SparesOthers, Did, updates}
 use Rattle.device_registry.specs.declared.table.Version.TheVariants.{Second}
 use Rattle.device_registry.specs.Table.{meta_table}
-use Rattle.device_registry.specs.Table.Rows.{IsVersion}
+use Rattle.device_registry.specs.Table.Rows.{IsVersionRow}
 use Rattle.device_registry.proofs.StatementTexts.{renew_query}
 use Rattle.std.proofs.lemmas.Bool.{and_parts}
 
@@ -58,12 +58,14 @@ null_is (Text t) h = absurd cc
 null_is (Blob b) h = absurd cc
 
 -- the row of version 2 is what the statement writes
-pub version_is : (m : ℕ) (row : Row) (it : IsVersion Second row) → are_typed (meta_table m).key 0 (meta_table m).columns
+pub version_is : (m : ℕ) (row : Row) (it : IsVersionRow Second row)
+    → are_typed (meta_table m).key 0 (meta_table m).columns
     (drop 1 row) ≡ true → row ≡ version_row
 version_is m [] it h = absurd (let e : ◌≡◌ {A = Value} Null (Int (pos 1)) = it.key in cc)
 version_is m (a ∷ []) it h = absurd (let e : ◌≡◌ {A = Value} Null (Int (pos 2)) = it.number in cc)
 version_is m (a ∷ b ∷ []) it h = absurd (let e : ◌≡◌ {A = Value} Null (Int (pos 2)) = it.number in cc)
-version_is m (a ∷ b ∷ c ∷ []) it h = let null = null_is b (and_parts _ _ h).0 in λ i. it.key i ∷ null i ∷ it.number i ∷ []
+version_is m (a ∷ b ∷ c ∷ []) it h =
+    let null = null_is b (and_parts _ _ h).0 in λ i. it.key i ∷ null i ∷ it.number i ∷ []
 version_is m (a ∷ b ∷ c ∷ d ∷ more) it h = absurd (untrue (and_parts _ _ (and_parts _ _ h).1).1)
 
 pub renews : (schema : Schema) (at m : ℕ) (limit : Option ℕ) (mode : Mode) (db : Trees) (tally : Tally)

@@ -19,10 +19,10 @@ use Rattle.device_registry.specs.declared.table.Version.TheVariants.{First, Seco
 use Rattle.device_registry.specs.Table.{version_number, find_all_sql, read_version_sql}
 use Rattle.device_registry.specs.Table.{max_sender, max_profile, max_maker}
 use Rattle.device_registry.specs.Stored.{HasTables, HasValidRows}
-use Rattle.device_registry.specs.Table.Rows.{RowidsDiffer, IsDevice, rows_of, with_label}
+use Rattle.device_registry.specs.Table.Rows.{RowidsDiffer, IsDeviceRow, upgraded_rows, with_empty_label}
 use Rattle.learned_devices.specs.Devices.{max_devices}
-use Rattle.device_registry.specs.Table.Rows.{ShowsVersion, natural_in, is_number, is_maker, is_label_text}
-use Rattle.device_registry.specs.Table.Rows.{is_device_row, are_ascending_devices}
+use Rattle.device_registry.specs.Table.Rows.{ShowsVersion, natural_in, is_natural_up_to, is_maker, is_label_text}
+use Rattle.device_registry.specs.Table.Rows.{shows_device, are_ascending_devices}
 use Rattle.keyed_table.proofs.Answers.{shows_one, one_shown}
 use Rattle.keyed_table.proofs.RowsApart.{ranked, ranked_rises, ranked_permutes}
 use Rattle.keyed_table.proofs.RowsAsMap.{differ_from, keyed_turned, key_below}
@@ -55,7 +55,7 @@ at_most a b h = grind (arith, nat_tests, h)
 passes : (a b : ℕ) → a ≤ b → nat_le a b ≡ true
 passes a b h = grind (arith, nat_tests)
 
-numbered : (last : ℕ) (v : Value) → is_number last v ≡ true → (n : ℕ) × (v ≡ Int (pos n)) × (n ≤ last)
+numbered : (last : ℕ) (v : Value) → is_natural_up_to last v ≡ true → (n : ℕ) × (v ≡ Int (pos n)) × (n ≤ last)
 numbered last (Int (pos n)) h = (n, refl, at_most n last h)
 numbered last (Int (negsuc n)) h = absurd cc
 numbered last Null h = absurd cc
@@ -90,7 +90,7 @@ labelled (Real x) h = absurd cc
 labelled (Blob b) h = absurd cc
 
 -- what is shown as a device is one
-device_is : (row : Row) → is_device_row (shown row) ≡ true → IsDevice row
+device_is : (row : Row) → shows_device (shown row) ≡ true → IsDeviceRow row
 device_is row h =
     let all = and_parts _ _ h in
     let three = and_parts _ _ all.0 in
@@ -115,10 +115,10 @@ device_is row h =
     }
 
 -- and a device is shown as one
-device_shows : (row : Row) → IsDevice row → is_device_row (shown row) ≡ true
+device_shows : (row : Row) → IsDeviceRow row → shows_device (shown row) ≡ true
 device_shows row it =
-    let id = ap (is_number max_sender) it.id_is ∙ passes it.id max_sender it.is_sender in
-    let eep = ap (is_number max_profile) it.eep_is ∙ passes it.eep max_profile it.is_profile in
+    let id = ap (is_natural_up_to max_sender) it.id_is ∙ passes it.id max_sender it.is_sender in
+    let eep = ap (is_natural_up_to max_profile) it.eep_is ∙ passes it.eep max_profile it.is_profile in
     let maker = ap is_maker it.maker_is ∙ maker_passes it.maker it.is_maker in
     let label = ap is_label_text it.label_is ∙ it.is_label in
     rw (id, eep, maker, label) refl
@@ -129,7 +129,7 @@ AtLeast least row = least ≤ natural_in (column row 0)
 
 -- ascending rows are devices, and no two have the same rowid
 rising : (least : ℕ) (rows : List Row) → are_ascending_devices least (map shown rows) ≡ true
-    → AllByRecursion IsDevice rows × AllByRecursion (AtLeast least) rows × RowidsDiffer rows
+    → AllByRecursion IsDeviceRow rows × AllByRecursion (AtLeast least) rows × RowidsDiffer rows
 rising least [] h = (tt, tt, tt)
 rising least (row ∷ rows) h =
     let parts = and_parts _ _ h in
@@ -148,44 +148,47 @@ rising least (row ∷ rows) h =
 -- if the shown rows are ascending, the table's rows are devices, none twice
 rows_are : (version : Version) (d : ℕ) (db : Trees) (rows : List Row)
     → IsAnswer (all_query version d) (overlay db []) [] rows → are_ascending_devices 0 rows ≡ true
-    → AllByRecursion IsDevice (rows_of version (db d)) × RowidsDiffer (rows_of version (db d))
+    → AllByRecursion IsDeviceRow (upgraded_rows version (db d)) × RowidsDiffer (upgraded_rows version (db d))
 rows_are version d db rows a h =
-    let table = rows_of version (db d) in
+    let table = upgraded_rows version (db d) in
     let shows = shows_devices version d db rows a in
     let to = pull_back shown (map shown table) rows shows table refl in
     let it = rising 0 to.0 (subst (λ rs. are_ascending_devices 0 rs ≡ true) to.2 h) in
     let back = IsPermutation-sym table to.0 to.1 in (
-      all-permutation IsDevice to.0 table back it.0,
+      all-permutation IsDeviceRow to.0 table back it.0,
       differ_from table (keyed_turned to.0 table back (keyed to.0 it.0 it.2)).apart,
     )
 
 -- the rows of devices, none twice, are shown in ascending order
-shown_rise : (least : ℕ) (rows : List Row) → AllByRecursion IsDevice rows → IsTable rows
+shown_rise : (least : ℕ) (rows : List Row) → AllByRecursion IsDeviceRow rows → IsTable rows
     → AllByRecursion (AtLeast least) rows → are_ascending_devices least (map shown rows) ≡ true
 shown_rise least [] all up high = refl
 shown_rise least (row ∷ rows) all up high =
     let tail = shown_rise (natural_in (column row 0) + 1) rows all.1 up.1 (raised rows all.1 up.0) in
     rw (device_shows row all.0, passes least (natural_in (column row 0)) high.0, tail) refl
   where
-    raised : (rs : List Row) → AllByRecursion IsDevice rs → AllByRecursion (λ b. value_cmp (rowid row) (rowid b) ≡ Less)
+    raised : (rs : List Row) → AllByRecursion IsDeviceRow rs
+        → AllByRecursion (λ b. value_cmp (rowid row) (rowid b) ≡ Less)
         rs → AllByRecursion (AtLeast (natural_in (column row 0) + 1)) rs
     raised [] ds low = tt
     raised (r ∷ rs) ds low =
-        let less = key_below row r (key_of row all.0) (key_of r ds.0) low.0 in (omega (arith, less), raised rs ds.1 low.1)
+        let less = key_below row r (key_of row all.0) (key_of r ds.0) low.0 in
+        (omega (arith, less), raised rs ds.1 low.1)
 
 from_zero : (rows : List Row) → AllByRecursion (AtLeast 0) rows
 from_zero [] = tt
 from_zero (row ∷ rows) = (omega arith, from_zero rows)
 
 -- the same rows as rows of version 2
-rising_as : (version : Version) (rows : List Row) → IsTable rows → IsTable (rows_of version rows)
-rising_as First rows up = ascending-map _ with_label rows up
+rising_as : (version : Version) (rows : List Row) → IsTable rows → IsTable (upgraded_rows version rows)
+rising_as First rows up = ascending-map _ with_empty_label rows up
 rising_as Second rows up = up
 
-turned : (version : Version) (xs ys : List Row) → IsPermutation xs ys → AllByRecursion IsDevice (rows_of version xs)
-    → AllByRecursion IsDevice (rows_of version ys)
-turned First xs ys same = all-permutation IsDevice _ _ (IsPermutation-map with_label xs ys same)
-turned Second xs ys same = all-permutation IsDevice xs ys same
+turned : (version : Version) (xs ys : List Row) → IsPermutation xs ys
+    → AllByRecursion IsDeviceRow (upgraded_rows version xs)
+    → AllByRecursion IsDeviceRow (upgraded_rows version ys)
+turned First xs ys same = all-permutation IsDeviceRow _ _ (IsPermutation-map with_empty_label xs ys same)
+turned Second xs ys same = all-permutation IsDeviceRow xs ys same
 
 module _ (version : Version) where
   -- the output of the query for all devices
@@ -198,10 +201,10 @@ module _ (version : Version) where
       (answer_of [] mid new devices means (ap (λ (d : Database). d.schema) same.0.now_is) h)
 
   -- the query for all devices shows as many rows as there are
-  pub devices_told : (old mid new : State) (devices : List Row) (t : HasTables version old.now.schema)
+  pub devices_reported : (old mid new : State) (devices : List Row) (t : HasTables version old.now.schema)
       → IsUnchanged old mid → Shown (find_all_sql version) [] mid new devices
-      → length devices ≡ length (rows_of version (old.now.trees t.devices))
-  devices_told old mid new devices t same h =
+      → length devices ≡ length (upgraded_rows version (old.now.trees t.devices))
+  devices_reported old mid new devices t same h =
       let a = devices_read old mid new devices t same h in
       length_permutation _ devices (shows_devices version t.devices old.now.trees devices a) ∙ length-map _ shown
 
@@ -211,7 +214,7 @@ module _ (version : Version) where
       → are_ascending_devices 0 devices ≡ true → HasValidRows version old.now.trees t.meta t.devices
   whole old mid new versions devices t shows first same second few rise =
       let it = one_shown old.now.trees shows.row shows.are (version_reads old mid versions t first) in
-      let count = devices_told old mid new devices t same second in
+      let count = devices_reported old mid new devices t same second in
       let are =
       rows_are version t.devices old.now.trees devices (devices_read old mid new devices t same second) rise in
       record {
@@ -228,22 +231,22 @@ module _ (version : Version) where
       }
 
   -- a registry's devices are shown in ascending order
-  pub rise_told : (old mid new : State) (devices : List Row) (t : HasTables version old.now.schema)
+  pub rise_reported : (old mid new : State) (devices : List Row) (t : HasTables version old.now.schema)
       → HasValidRows version old.now.trees t.meta t.devices → IsUnchanged old mid
       → Shown (find_all_sql version) [] mid new devices → are_ascending_devices 0 devices ≡ true
-  rise_told old mid new devices t it same h =
+  rise_reported old mid new devices t it same h =
       let table = old.now.trees t.devices in
       let up = ranked table in
       let there = stored_keyed version table it.rows it.once in
       ap (are_ascending_devices 0) (shows_ranked version t.devices old.now.trees devices it.rows it.once
       (devices_read old mid new devices t same h))
-      ∙ shown_rise 0 (rows_of version up) (turned version table up (ranked_permutes table there.apart) it.rows)
-      (rising_as version up (ranked_rises table)) (from_zero (rows_of version up))
+      ∙ shown_rise 0 (upgraded_rows version up) (turned version table up (ranked_permutes table there.apart) it.rows)
+      (rising_as version up (ranked_rises table)) (from_zero (upgraded_rows version up))
 
-  pub version_told : (old new : State) (rows : List Row) (t : HasTables version old.now.schema)
+  pub version_reported : (old new : State) (rows : List Row) (t : HasTables version old.now.schema)
       (it : HasValidRows version old.now.trees t.meta t.devices) → Shown read_version_sql [] old new rows
       → rows ≡ (Int (pos 1) ∷ Int (pos (version_number version)) ∷ []) ∷ []
-  version_told old new rows t it h =
+  version_reported old new rows t it h =
       shows_one old.now.trees it.row it.one (version_reads old new rows t h)
       ∙ ap (λ v. (v ∷ column it.row 2 ∷ []) ∷ []) it.numbered.key
       ∙ ap (λ v. (Int (pos 1) ∷ v ∷ []) ∷ []) it.numbered.number

@@ -13,13 +13,14 @@ use Rattle.sqlite_trees.proofs.ListLemmas.{all_weaker, all_both}
 use Rattle.sqlite_catalog.specs.Change.{is_used}
 use Rattle.device_registry.specs.declared.table.Version.{Version}
 use Rattle.device_registry.specs.declared.table.Version.TheVariants.{First, Second}
-use Rattle.device_registry.specs.Table.{meta_name, device_name}
+use Rattle.device_registry.specs.Table.{meta_name, device_table_name}
 use Rattle.device_registry.specs.Stored.{NoneRefersToOurs, HasNoReferenceTo, HasNoReferenceToOurs, TreeHasName}
-use Rattle.device_registry.specs.Stored.{HasTables, CanCountRowids, other}
+use Rattle.device_registry.specs.Stored.{HasTables, MigrationAddsNoSequence, other}
 use Rattle.device_registry.specs.Stored.{AdmitsTables}
-use Rattle.device_registry.specs.SchemaChecks.{refers_to, is_referenced, are_ours_referenced, is_indexed, lacks_sequence_table}
+use Rattle.device_registry.specs.SchemaChecks.{refers_to, is_referenced, has_foreign_key_to_ours, is_indexed}
+use Rattle.device_registry.specs.SchemaChecks.{lacks_sequence_table}
 use Rattle.device_registry.specs.SchemaChecks.{admits_tables, is_alone_in_tree}
-use Rattle.device_registry.specs.SchemaChecks.{can_count_rowids}
+use Rattle.device_registry.specs.SchemaChecks.{migration_adds_no_sequence}
 use Rattle.device_registry.specs.SchemaChecks.{is_unaffected, trees_if_unaffected, tree_of_table, trees_of_tables}
 use Rattle.device_registry.proofs.TablesAlone.{meta_lone, devices_lone, spares_meta, spares_devices}
 use Rattle.sqlite_rules.specs.Lists.{Has}
@@ -45,7 +46,7 @@ pub by_version : (P : Version → Type 0) → P First → P Second → (version 
 by_version P first second First = first
 by_version P first second Second = second
 
-spared : (schema : Schema) → are_ours_referenced schema ≡ false → NoneRefersToOurs schema
+spared : (schema : Schema) → has_foreign_key_to_ours schema ≡ false → NoneRefersToOurs schema
 spared schema h =
     let a = or_parts _ _ h in
     let b = or_parts _ _ a.0 in
@@ -53,14 +54,17 @@ spared schema h =
     all_has (HasNoReferenceTo name) schema.tables t (spares schema name none) has in
     all_from HasNoReferenceToOurs schema.tables (λ t has. record {
       meta = free meta_name b.0 t has;
-      devices = by_version (λ version. HasNoReferenceTo (device_name version) t) (free (device_name First) b.1 t has)
-          (free (device_name Second) a.1 t has);
+      devices =
+          by_version (λ version. HasNoReferenceTo (device_table_name version) t)
+          (free (device_table_name First) b.1 t has)
+          (free (device_table_name Second) a.1 t has);
     })
 
-unspared : (schema : Schema) → NoneRefersToOurs schema → are_ours_referenced schema ≡ false
+unspared : (schema : Schema) → NoneRefersToOurs schema → has_foreign_key_to_ours schema ≡ false
 unspared schema all =
     let meta = unreferred schema meta_name (spares_meta schema all) in
-    let devices = λ (version : Version). unreferred schema (device_name version) (spares_devices version schema all) in
+    let devices = λ (version : Version). unreferred schema (device_table_name version)
+    (spares_devices version schema all) in
     rw (meta, devices First, devices Second) refl
 
 unindexed : (schema : Schema) (tree : ℕ) → is_indexed schema tree ≡ false
@@ -104,7 +108,7 @@ cleared schema h =
     record {
       free_meta = not-true _ d.0;
       free_devices =
-          by_version (λ version. is_used schema (device_name version) ≡ false) (not-true _ d.1) (not-true _ c.1);
+          by_version (λ version. is_used schema (device_table_name version) ≡ false) (not-true _ d.1) (not-true _ c.1);
       spared = spared schema (not-true _ b.1);
       counted = counted schema ∙ not-true _ a.1;
     }
@@ -123,10 +127,10 @@ pub record IsLeftAlone (version : Version) (schema : Schema) (meta devices : ℕ
   pub spared : NoneRefersToOurs schema
   pub unindexed : AllByRecursion (λ index. (index.table ≢ meta) × (index.table ≢ devices)) schema.indexes
   pub alone : AllByRecursion (λ table. TreeHasName meta_name meta table
-      × TreeHasName (device_name version) devices table)
+      × TreeHasName (device_table_name version) devices table)
       schema.tables
-  pub free : is_used schema (device_name (other version)) ≡ false
-  pub counted : CanCountRowids version schema
+  pub free : is_used schema (device_table_name (other version)) ≡ false
+  pub counted : MigrationAddsNoSequence version schema
 
 same_tree : (a b : ℕ) → a ≡ b → (a == b) ≡ true
 same_tree a b e = grind (arith, nat_tests)
@@ -150,12 +154,13 @@ is_alone schema name tree all = test_from_all (λ t. not (t.tree == tree) || sam
       | inr apart ↦ rw apart refl
     ]) schema.tables all)
 
-are_so : (version : Version) (schema : Schema) → can_count_rowids version schema ≡ true → CanCountRowids version schema
+are_so : (version : Version) (schema : Schema) → migration_adds_no_sequence version schema ≡ true
+    → MigrationAddsNoSequence version schema
 are_so First schema h = counted schema ∙ not-true _ h
 are_so Second schema h = tt
 
-so_tested : (version : Version) (schema : Schema) → CanCountRowids version schema
-    → can_count_rowids version schema ≡ true
+so_tested : (version : Version) (schema : Schema) → MigrationAddsNoSequence version schema
+    → migration_adds_no_sequence version schema ≡ true
 so_tested First schema h = ap not (sym (counted schema) ∙ h)
 so_tested Second schema h = refl
 
@@ -168,7 +173,7 @@ left_alone version schema meta devices h =
     let y = and_parts _ _ z.0 in
     let a = and_parts _ _ y.0 in
     let b = and_parts _ _ a.0 in
-    let name = device_name version in
+    let name = device_table_name version in
     record {
       alone =
           all_both (TreeHasName meta_name meta) (TreeHasName name devices)
@@ -206,12 +211,12 @@ named_at schema name tree h =
 -- the indexes at which the two tables of a version are found
 pub record IsPlaced (version : Version) (schema : Schema) (meta devices : ℕ) : Type 0 where
   pub meta_is : IsNamed schema meta_name meta
-  pub devices_are : IsNamed schema (device_name version) devices
+  pub devices_are : IsNamed schema (device_table_name version) devices
   pub alone : IsLeftAlone version schema meta devices
 
 module _ (version : Version) (schema : Schema) where
   abbrev name : List ℕ
-  name = device_name version
+  name = device_table_name version
 
   pub found : (meta devices : ℕ) → trees_of_tables version schema ≡ Some (meta, devices)
       → IsPlaced version schema meta devices
@@ -243,5 +248,6 @@ module _ (version : Version) (schema : Schema) where
       let counted = so_tested version schema t.counted in
       let alone : is_unaffected version schema t.meta t.devices ≡ true = rw (a, c, d, m, n, t.free, counted) refl in
       let pair : Bool → Option (ℕ × ℕ) = λ b. if b then Some (t.meta, t.devices) else None in
-      ap (option_and_then (λ m. option_and_then (trees_if_unaffected version schema m) (tree_of_table schema name))) meta
+      ap (option_and_then (λ m. option_and_then (trees_if_unaffected version schema m)
+      (tree_of_table schema name))) meta
       ∙ ap (option_and_then (trees_if_unaffected version schema t.meta)) devices ∙ ap pair alone

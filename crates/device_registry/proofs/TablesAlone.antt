@@ -13,17 +13,19 @@ use Rattle.keyed_table.proofs.LoneTables.{IsLone, lone_alone, lone_stands}
 use Rattle.keyed_table.proofs.TablesAlone.{StandsAlone}
 use Rattle.device_registry.specs.declared.table.Version.{Version}
 use Rattle.device_registry.specs.declared.table.Version.TheVariants.{First, Second}
-use Rattle.device_registry.specs.Stored.{HasNoReferenceTo, HasNoReferenceToOurs, NoneRefersToOurs, TreeHasName, HasTables}
-use Rattle.device_registry.specs.Stored.{CanCountRowids, other}
-use Rattle.device_registry.specs.Table.{meta_name, device_name, meta_table, device_table, keyed_table}
+use Rattle.device_registry.specs.Stored.{HasNoReferenceTo, HasNoReferenceToOurs, NoneRefersToOurs, TreeHasName}
+use Rattle.device_registry.specs.Stored.{HasTables}
+use Rattle.device_registry.specs.Stored.{MigrationAddsNoSequence, other}
+use Rattle.device_registry.specs.Table.{meta_name, device_table_name, meta_table, device_table, keyed_table}
 
 -- nothing refers to our names
-pub spares_meta : (schema : Schema) → NoneRefersToOurs schema → AllByRecursion (HasNoReferenceTo meta_name) schema.tables
+pub spares_meta : (schema : Schema) → NoneRefersToOurs schema
+    → AllByRecursion (HasNoReferenceTo meta_name) schema.tables
 spares_meta schema = all_weaker HasNoReferenceToOurs (HasNoReferenceTo meta_name) (λ t ours. ours.meta) schema.tables
 
 pub spares_devices : (version : Version) (schema : Schema) → NoneRefersToOurs schema
-    → AllByRecursion (HasNoReferenceTo (device_name version)) schema.tables
-spares_devices version schema = all_weaker HasNoReferenceToOurs (HasNoReferenceTo (device_name version))
+    → AllByRecursion (HasNoReferenceTo (device_table_name version)) schema.tables
+spares_devices version schema = all_weaker HasNoReferenceToOurs (HasNoReferenceTo (device_table_name version))
     (λ t ours. ours.devices version) schema.tables
 
 pub spared_still : (schema : Schema) (own : List ℕ) (columns : List Column) (checks : List Term)
@@ -32,7 +34,7 @@ spared_still schema own columns checks spared = all-append HasNoReferenceToOurs 
     (keyed_table own (next_tree schema) columns checks ∷ []) spared
     (record { meta = tt; devices = λ version. tt }, tt)
 
-own_name : (version : Version) → same_name (device_name version) (device_name version) ≡ true
+own_name : (version : Version) → same_name (device_table_name version) (device_table_name version) ≡ true
 unfolding same_name
 own_name First = refl
 own_name Second = refl
@@ -49,11 +51,11 @@ meta_lone schema t = record {
 }
 
 pub devices_lone : {version : Version} (schema : Schema) (t : HasTables version schema)
-    → IsLone schema (device_name version) (device_table version t.devices)
+    → IsLone schema (device_table_name version) (device_table version t.devices)
 devices_lone {version} schema t = record {
   listed = has_got schema.tables t.devices_at (device_table version t.devices) t.devices_stand.there;
   named = own_name version;
-  keeps = all_weaker _ (TreeHasName (device_name version) t.devices) (λ t both. both.1) schema.tables t.alone;
+  keeps = all_weaker _ (TreeHasName (device_table_name version) t.devices) (λ t both. both.1) schema.tables t.alone;
   spares = spares_devices version schema t.spared;
   unindexed = all_weaker _ (λ index. index.table ≢ t.devices) (λ index both. both.1) schema.indexes t.unindexed;
 }
@@ -72,11 +74,11 @@ pub record StandIn (version : Version) (schema : Schema) (meta devices : ℕ) : 
 
 pub stand_in : (version : Version) (db : Database) → IsDatabase db → {meta devices : ℕ}
     → IsLone db.schema meta_name (meta_table meta)
-    → IsLone db.schema (device_name version) (device_table version devices) → meta ≢ devices
-    → NoneRefersToOurs db.schema → is_used db.schema (device_name (other version)) ≡ false
-    → CanCountRowids version db.schema → StandIn version db.schema meta devices
+    → IsLone db.schema (device_table_name version) (device_table version devices) → meta ≢ devices
+    → NoneRefersToOurs db.schema → is_used db.schema (device_table_name (other version)) ≡ false
+    → MigrationAddsNoSequence version db.schema → StandIn version db.schema meta devices
 stand_in version db sound {meta} {devices} one two apart spared free counted =
-    let name = device_name version in
+    let name = device_table_name version in
     let at = lone_stands db sound one in
     let to = lone_stands db sound two in
     record {

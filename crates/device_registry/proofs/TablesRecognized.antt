@@ -12,48 +12,50 @@ use Rattle.sqlite_rules.proofs.ListLemmas.{all_has, has_got}
 use Rattle.sqlite_catalog.specs.Listing.{IsSound}
 use Rattle.device_registry.specs.declared.table.Version.{Version}
 use Rattle.device_registry.specs.declared.table.Version.TheVariants.{First, Second}
-use Rattle.device_registry.specs.Table.{list_objects_sql, meta_name, device_name, create_meta_sql}
+use Rattle.device_registry.specs.Table.{list_objects_sql, meta_name, device_table_name, create_meta_sql}
 use Rattle.device_registry.specs.Table.{create_device_sql, meta_table, device_table}
 use Rattle.device_registry.specs.Stored.{TreeHasName, HasTables, IsRegistry}
-use Rattle.device_registry.specs.Stored.{AreListed}
+use Rattle.device_registry.specs.Stored.{AreTablesListed}
 use Rattle.device_registry.specs.Stored.{AdmitsRegistry, AdmitsTables}
-use Rattle.device_registry.specs.Opening.{IsOwnRegistry, IsSettledOpen}
+use Rattle.device_registry.specs.Opening.{IsRegistryIn, IsSettledOpen}
 use Rattle.device_registry.specs.private.CatalogRows.{is_catalog_row, are_our_tables}
 use Rattle.device_registry.specs.SchemaChecks.{admits_tables, trees_of_tables}
 use Rattle.device_registry.proofs.TableTexts.{meta_is, device_is}
 use Rattle.keyed_table.proofs.ListedTables.{same_schema, defined, stands_in}
 use Rattle.device_registry.proofs.SchemaTests.{IsPlaced, found, is_cleared}
 use Rattle.std.proofs.lemmas.Bool.{and_parts}
-use Rattle.keyed_table.proofs.ObjectsListed.{told, shows_line}
+use Rattle.keyed_table.proofs.ObjectsListed.{reported, shows_line}
 
-pub ours_told : (version : Version) (old new : State) (rows : List Row) → IsDatabase old.now
-    → Shown list_objects_sql [] old new rows → are_our_tables version rows ≡ true → AreListed version old.now.trees
-ours_told version old new rows sound shows h =
+pub ours_reported : (version : Version) (old new : State) (rows : List Row) → IsDatabase old.now
+    → Shown list_objects_sql [] old new rows → are_our_tables version rows ≡ true
+    → AreTablesListed version old.now.trees
+ours_reported version old new rows sound shows h =
     let parts = and_parts _ _ h in (
-      told old new rows sound shows meta_name create_meta_sql parts.0,
-      told old new rows sound shows (device_name version) (create_device_sql version) parts.1,
+      reported old new rows sound shows meta_name create_meta_sql parts.0,
+      reported old new rows sound shows (device_table_name version) (create_device_sql version) parts.1,
     )
 
 pub ours_shown : (version : Version) (old new : State) (rows : List Row) → IsDatabase old.now
-    → Shown list_objects_sql [] old new rows → AreListed version old.now.trees → are_our_tables version rows ≡ true
+    → Shown list_objects_sql [] old new rows → AreTablesListed version old.now.trees
+    → are_our_tables version rows ≡ true
 ours_shown version old new rows sound shows listed =
-    ap (λ b. b && list_any (is_catalog_row (device_name version) (create_device_sql version)) rows)
+    ap (λ b. b && list_any (is_catalog_row (device_table_name version) (create_device_sql version)) rows)
     (shows_line old new rows sound shows meta_name create_meta_sql listed.0)
-    ∙ shows_line old new rows sound shows (device_name version) (create_device_sql version) listed.1
+    ∙ shows_line old new rows sound shows (device_table_name version) (create_device_sql version) listed.1
 
 -- ---- the tables
 
-names_differ : (version : Version) → same_name (device_name version) meta_name ≡ true → ⊥
+names_differ : (version : Version) → same_name (device_table_name version) meta_name ≡ true → ⊥
 unfolding same_name
 names_differ First e = absurd cc
 names_differ Second e = absurd cc
 
-tables_told : (version : Version) (db : Database) (meta devices : ℕ) → IsDatabase db
-    → IsPlaced version db.schema meta devices → AreListed version db.trees → HasTables version db.schema
+tables_reported : (version : Version) (db : Database) (meta devices : ℕ) → IsDatabase db
+    → IsPlaced version db.schema meta devices → AreTablesListed version db.trees → HasTables version db.schema
 unfolding same_name
-tables_told version db meta devices sound placed listed =
+tables_reported version db meta devices sound placed listed =
     let own = defined db sound meta_name meta placed.meta_is create_meta_sql (meta_table 0) listed.0 meta_is in
-    let name = device_name version in
+    let name = device_table_name version in
     let there = defined db sound name devices placed.devices_are (create_device_sql version) (device_table version 0)
     listed.1 (device_is version) in
     let keeps = placed.alone.alone in
@@ -81,13 +83,13 @@ tables_told version db meta devices sound placed listed =
 
 -- if the two tables are found and listed, the schema has them
 pub tables_taken : (version : Version) (s : State) (meta devices : ℕ) → IsSettledOpen s
-    → trees_of_tables version s.now.schema ≡ Some (meta, devices) → AreListed version s.now.trees
+    → trees_of_tables version s.now.schema ≡ Some (meta, devices) → AreTablesListed version s.now.trees
     → HasTables version s.now.schema
 tables_taken version s meta devices rest is listed =
-    tables_told version s.now meta devices rest.sound (found version s.now.schema meta devices is) listed
+    tables_reported version s.now meta devices rest.sound (found version s.now.schema meta devices is) listed
 
 -- so a registry as this program leaves it is recognized
-pub own_found : (version : Version) (s : State) → IsSettledOpen s → IsOwnRegistry version s.now.trees
+pub own_found : (version : Version) (s : State) → IsSettledOpen s → IsRegistryIn version s.now.trees
     → IsRegistry version s.now
 own_found version s rest own =
     let schema : own.db.schema ≡ s.now.schema = same_schema s.now.trees own.db.schema s.now.schema

@@ -11,26 +11,26 @@ use Rattle.sqlite.proofs.StateLemmas.{survives_weaker}
 use Rattle.sqlite_trees.specs.declared.store.Store.{Ghosts}
 use Rattle.device_registry.specs.declared.table.Version.TheVariants.{Second}
 use Rattle.learned_devices.specs.Devices.{Devices}
-use Rattle.device_registry.specs.Stored.{IsRegistryOf, Holds}
+use Rattle.device_registry.specs.Stored.{IsVersion2RegistryOf, HoldsVersion2}
 use Rattle.device_registry.specs.Ready.{IsReadyWith, KeepsOtherTables}
-use Rattle.device_registry.specs.Opening.{KeepsDatabase}
-use Rattle.device_registry.specs.private.Transaction.{IsListedMidTransaction}
+use Rattle.device_registry.specs.Opening.{KeepsDatabaseIfOpen}
+use Rattle.device_registry.specs.private.Transaction.{IsMidTransactionWithTables}
 use Rattle.keyed_table.proofs.Transactions.{Commits, shows_committed, on_ok, since, leaves, uncommitted_remains}
 
 -- the end of a transaction that was to create a registry of such devices
 pub record Ends {V : Type 0} (Are : Devices → Type 0) (old new : State) (r : Result V Error) : Type 0 where
   pub made : HasCleanDisk new → OnOk r ((devices : Devices) → Are devices → IsReadyWith new devices)
   pub others : HasCleanDisk new → OnOk r (KeepsOtherTables old.now new.now)
-  pub crash : Survives old new (λ trees. (devices : Devices) → Are devices → Holds trees devices)
-  pub remains : HasCleanDisk new → OnErr r (KeepsDatabase old new)
+  pub crash : Survives old new (λ trees. (devices : Devices) → Are devices → HoldsVersion2 trees devices)
+  pub remains : HasCleanDisk new → OnErr r (KeepsDatabaseIfOpen old new)
 
 -- what the transaction shows before its commit
 abbrev pub Shown : (Devices → Type 0) → Database → Database → Type 0
 Shown Are old new =
-    ((devices : Devices) → Are devices → IsRegistryOf new devices) × IsDatabase new × KeepsOtherTables old new
+    ((devices : Devices) → Are devices → IsVersion2RegistryOf new devices) × IsDatabase new × KeepsOtherTables old new
 
 module _ {S V : Type 0} (g : Ghosts S) (texts : List (List ℕ)) (old start last : Held S)
-    (is : start ≡ record old { in_transaction = true }) (it : IsListedMidTransaction g Second texts start last)
+    (is : start ≡ record old { in_transaction = true }) (it : IsMidTransactionWithTables g Second texts start last)
     (Are : Devices → Type 0) (shows : HasCleanDisk (state g last) → Shown Are (state g old).now (state g last).now)
     (r : Result V Error) where
   ends_at : (new : State) → Survives (state g last) new (λ trees. trees ≡ (state g last).now.trees)
@@ -47,7 +47,7 @@ module _ {S V : Type 0} (g : Ghosts S) (texts : List (List ℕ)) (old start last
         others = λ clean. on_ok r (Commits (state g last) new) (KeepsOtherTables (state g old).now new.now)
             (λ done. subst (KeepsOtherTables (state g old).now) (sym done.1.now_is) (db clean).2) (ok clean);
         crash = leaves (state g old) (state g last) new was commits
-            (λ trees. (devices : Devices) → Are devices → Holds trees devices)
+            (λ trees. (devices : Devices) → Are devices → HoldsVersion2 trees devices)
             (λ clean devices are. let it = shows clean in record {
               db = (state g last).now;
               same = refl;
@@ -71,6 +71,6 @@ module _ {V : Type 0} {old new : State} {r : Result V Error} (it : Ends (λ devi
   made_empty clean = on_ok r ((devices : Devices) → devices ≡ empty → IsReadyWith new devices) (IsReadyWith new empty)
       (λ shows. shows empty refl) (it.made clean)
 
-  pub stop_empty : Survives old new (λ trees. Holds trees empty)
-  stop_empty = survives_weaker old new (λ trees. (devices : Devices) → devices ≡ empty → Holds trees devices)
-      (λ trees. Holds trees empty) (λ clean trees holds. holds empty refl) it.crash
+  pub stop_empty : Survives old new (λ trees. HoldsVersion2 trees empty)
+  stop_empty = survives_weaker old new (λ trees. (devices : Devices) → devices ≡ empty → HoldsVersion2 trees devices)
+      (λ trees. HoldsVersion2 trees empty) (λ clean trees holds. holds empty refl) it.crash

@@ -16,8 +16,8 @@ use Rattle.sqlite_rules.specs.declared.error.Rowids.TheVariants.{Chosen}
 use Rattle.sqlite.proofs.StateLemmas.{survives_weaker}
 use Rattle.learned_devices.specs.Devices.{Devices, DeviceUpdate, apply_update}
 use Rattle.device_registry.specs.Table.{rewrite_version_sql, meta_table}
-use Rattle.device_registry.specs.Stored.{IsRegistryOf, Holds}
-use Rattle.device_registry.specs.Ready.{IsReadyWith, IsReady, KeepsRows, CommitsOrFails}
+use Rattle.device_registry.specs.Stored.{IsVersion2RegistryOf, HoldsVersion2}
+use Rattle.device_registry.specs.Ready.{IsReadyWith, IsReady, KeepsRows, CommitsOrMayBeLeft}
 use Rattle.std.specs.List.{AllByRecursion}
 use Rattle.std.proofs.lemmas.Bool.{cases_Bool}
 use Rattle.std.proofs.lemmas.Bool.Decides.{nat_tests}
@@ -33,7 +33,7 @@ use Rattle.keyed_table.proofs.TablesAlone.{StandsAlone}
 use Rattle.keyed_table.proofs.TableWrites.{SparesOthers, Did, inserts}
 use Rattle.device_registry.proofs.RewriteVersionEffect.{version_row, cast_version, renews, version_is}
 use Rattle.device_registry.proofs.DevicesHeld.{renewed_registers}
-use Rattle.keyed_table.proofs.TextMeaning.{Means}
+use Rattle.keyed_table.proofs.TextMeaning.{CompilesTo}
 use Rattle.keyed_table.proofs.Writes.{wrote_as, made, left, turned}
 use Rattle.sqlite_schema.specs.declared.command.Command.{Command}
 
@@ -53,26 +53,27 @@ numbers schema at m limit mode db tally after there stands none did =
 
 -- ---- it is rewritten
 
-abbrev renew_command : (db : Database) (devices : Devices) → IsRegistryOf db devices → Command
+abbrev renew_command : (db : Database) (devices : Devices) → IsVersion2RegistryOf db devices → Command
 renew_command db devices had =
     Update had.registry.tables.meta_at (program_of (renew_query had.registry.tables.meta))
 
-renew_known : (db : Database) (devices : Devices) (had : IsRegistryOf db devices)
-    → Means db.schema rewrite_version_sql (renew_command db devices had)
+renew_known : (db : Database) (devices : Devices) (had : IsVersion2RegistryOf db devices)
+    → CompilesTo db.schema rewrite_version_sql (renew_command db devices had)
 renew_known db devices had =
     let t = had.registry.tables in renew_means db.schema t.meta_at t.meta t.meta_stands
 
 -- an update that leaves the devices as they are
 module _ (then : Devices → Devices) where
   renew_does : (s : State) (after : Database) (text : List ℕ) (tally : Tally) (devices : Devices)
-      (had : IsRegistryOf s.now devices) → IsDatabase s.now → then devices ≡ devices
+      (had : IsVersion2RegistryOf s.now devices) → IsDatabase s.now → then devices ≡ devices
       → Does s.step_limit (mode_of s) [] s.now text None (renew_command s.now devices had) (Ok (tally, after))
-      → IsRegistryOf after (then devices)
+      → IsVersion2RegistryOf after (then devices)
   renew_does s after text tally devices had sound same h =
       let r = had.registry in
       let kept = renews s.now.schema r.tables.meta_at r.tables.meta s.step_limit (mode_of s) s.now.trees tally after
       r.whole.row r.tables.meta_stands.there (meta_alone s.now.schema r.tables) r.whole.one r.whole.numbered.key h in
-      subst (IsRegistryOf after) (sym same) (renewed_registers s.now after devices had sound kept.0 kept.1 kept.2)
+      subst (IsVersion2RegistryOf after) (sym same)
+      (renewed_registers s.now after devices had sound kept.0 kept.1 kept.2)
 
 -- the effect of the text on the tables of a registry; it changes one row
 effect : (old new : State) (count : ℕ) (devices : Devices) (shows : IsReadyWith old devices)
@@ -140,11 +141,12 @@ renewed_if old new (Ok count) h = λ devices shows. made rewrite_version_sql [] 
 renewed_if old new (Err e) h = tt
 
 pub renew_stop : (old new : State) → Survives old new (CommitsBy rewrite_version_sql [] old)
-    → Survives old new (λ trees. (devices : Devices) → IsReadyWith old devices → Holds trees devices)
+    → Survives old new (λ trees. (devices : Devices) → IsReadyWith old devices → HoldsVersion2 trees devices)
 renew_stop old new h =
     survives_weaker old new (CommitsBy rewrite_version_sql [] old)
     (λ trees. (devices : Devices) → IsReadyWith old devices
-    → Holds trees devices) (λ clean trees commits devices shows. left rewrite_version_sql [] (λ devices. devices)
+    → HoldsVersion2 trees devices)
+    (λ clean trees commits devices shows. left rewrite_version_sql [] (λ devices. devices)
     (λ devices. devices ≡ devices) renew_command (λ db devices had. tt) renew_known (renew_does (λ devices. devices))
     old devices trees refl shows commits) h
 
@@ -153,7 +155,7 @@ pub renew_turns : (update : DeviceUpdate) (old new : State) (r : Result ℕ Erro
     → (HasCleanDisk old → (devices : Devices) → IsReadyWith old devices → apply_update devices update ≡ devices)
     → Survives old new (CommitsBy rewrite_version_sql [] old)
     → (HasCleanDisk new → Executes rewrite_version_sql [] old new r)
-    → CommitsOrFails old new update r
+    → CommitsOrMayBeLeft old new update r
 renew_turns update = turned rewrite_version_sql [] (λ devices. apply_update devices update)
     (λ devices. apply_update devices update ≡ devices) renew_command (λ db devices had. tt) renew_known
     (renew_does (λ devices. apply_update devices update))

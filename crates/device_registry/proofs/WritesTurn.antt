@@ -13,8 +13,8 @@ use Rattle.learned_devices.specs.Labels.{is_label}
 use Rattle.device_registry.specs.declared.table.Version.TheVariants.{Second}
 use Rattle.device_registry.specs.Table.{upsert_sql, delete_sql, device_table}
 use Rattle.learned_devices.specs.Devices.{Devices, DeviceData, DeviceUpdate, apply_update, forget_update, is_full}
-use Rattle.device_registry.specs.Stored.{IsRegistryOf}
-use Rattle.device_registry.specs.Ready.{IsReadyWith, IsReady, CommitsOrFails}
+use Rattle.device_registry.specs.Stored.{IsVersion2RegistryOf}
+use Rattle.device_registry.specs.Ready.{IsReadyWith, IsReady, CommitsOrMayBeLeft}
 use Rattle.device_registry.proofs.StatementTexts.{put_terms, forget_query}
 use Rattle.device_registry.proofs.DeviceMeaning.{put_means}
 use Rattle.device_registry.proofs.DeviceMeaning.{forget_means}
@@ -36,11 +36,11 @@ abbrev pub MakesIt : DeviceUpdate → ℕ → DeviceData → Devices → Type 0
 MakesIt update id it devices = (is_full devices id ≡ false) × (apply_update devices update ≡ insert devices id it)
 
 put_does : (update : DeviceUpdate) (id : ℕ) (it : DeviceData) → IsShort it.eep → is_label it.label ≡ true → (s : State)
-    (after : Database) (text : List ℕ) (tally : Tally) (devices : Devices) (had : IsRegistryOf s.now devices)
+    (after : Database) (text : List ℕ) (tally : Tally) (devices : Devices) (had : IsVersion2RegistryOf s.now devices)
     → IsDatabase s.now → MakesIt update id it devices
     → Does s.step_limit (mode_of s) (upsert_params id it) s.now text None
     (InsertOr had.registry.tables.devices_at Replace (Values put_terms 5) []) (Ok (tally, after))
-    → IsRegistryOf after (apply_update devices update)
+    → IsVersion2RegistryOf after (apply_update devices update)
 put_does update id it short label s after text tally devices had sound room h =
     let r = had.registry in
     let table = device_table Second r.tables.devices in
@@ -49,28 +49,30 @@ put_does update id it short label s after text tally devices had sound room h =
     (devices_alone s.now.schema r.tables) s.step_limit (mode_of s) (upsert_params id it) (device_row id it) stored
     (Values put_terms 5) s.now.trees tally after refl
     (λ rows given. (device_row id it, given.1, ap (with_rowid Chosen (s.now.trees r.tables.devices)) stored)) h in
-    subst (IsRegistryOf after) (sym room.1)
+    subst (IsVersion2RegistryOf after) (sym room.1)
     (put_registers s.now after devices had sound id it short label room.0 put.0 put.1)
 
 pub put_turns : (update : DeviceUpdate) (id : ℕ) (it : DeviceData) → IsShort it.eep → is_label it.label ≡ true
     → (old new : State) (r : Result ℕ Error) → (HasCleanDisk old → IsReady old)
     → (HasCleanDisk old → (devices : Devices) → IsReadyWith old devices → MakesIt update id it devices)
     → Survives old new (CommitsBy upsert_sql (upsert_params id it) old)
-    → (HasCleanDisk new → Executes upsert_sql (upsert_params id it) old new r) → CommitsOrFails old new update r
-put_turns update id it short label = turned upsert_sql (upsert_params id it) (λ devices. apply_update devices update) (MakesIt update id it)
+    → (HasCleanDisk new → Executes upsert_sql (upsert_params id it) old new r) → CommitsOrMayBeLeft old new update r
+put_turns update id it short label =
+    turned upsert_sql (upsert_params id it) (λ devices. apply_update devices update) (MakesIt update id it)
     (λ db devices had. InsertOr had.registry.tables.devices_at Replace (Values put_terms 5) [])
     (λ db devices had. tt)
     (λ db devices had. let t = had.registry.tables in put_means db.schema t.devices_at t.devices t.devices_stand)
     (put_does update id it short label)
 
 forget_does : (id : ℕ) (s : State) (after : Database) (text : List ℕ) (tally : Tally) (devices : Devices)
-    (had : IsRegistryOf s.now devices) → IsDatabase s.now → Unit {0}
+    (had : IsVersion2RegistryOf s.now devices) → IsDatabase s.now → Unit {0}
     → Does s.step_limit (mode_of s) (asked id) s.now text None
     (Delete had.registry.tables.devices_at (program_of (forget_query had.registry.tables.devices))) (Ok (tally, after))
-    → IsRegistryOf after (remove devices id)
+    → IsVersion2RegistryOf after (remove devices id)
 forget_does id s after text tally devices had sound room h =
     let r = had.registry in
-    let it = deletes s.now.schema r.tables.devices_at (device_table Second r.tables.devices) r.tables.devices_stand.there
+    let it = deletes s.now.schema r.tables.devices_at
+    (device_table Second r.tables.devices) r.tables.devices_stand.there
     (devices_alone s.now.schema r.tables) s.step_limit (mode_of s) (asked id) s.now.trees tally after
     (forget_query r.tables.devices) h in
     forgotten_registers s.now after devices had sound id it.0 it.1 it.2
@@ -78,7 +80,7 @@ forget_does id s after text tally devices had sound room h =
 pub forget_turns : (id : ℕ) (old new : State) (r : Result ℕ Error) → (HasCleanDisk old → IsReady old)
     → Survives old new (CommitsBy delete_sql (asked id) old)
     → (HasCleanDisk new → Executes delete_sql (asked id) old new r)
-    → CommitsOrFails old new (forget_update id) r
+    → CommitsOrMayBeLeft old new (forget_update id) r
 forget_turns id old new r ready =
     turned delete_sql (asked id) (λ devices. remove devices id) (λ devices. Unit {0})
     (λ db devices had. Delete had.registry.tables.devices_at (program_of (forget_query had.registry.tables.devices)))

@@ -9,31 +9,31 @@ use Rattle.learned_devices.specs.DeviceStoreState.{DeviceStoreState}
 use Rattle.device_registry.specs.declared.table.Version.{Version}
 use Rattle.device_registry.specs.Table.{upsert_sql, rewrite_version_sql}
 use Rattle.device_registry.specs.Table.Rows.{upsert_params}
-use Rattle.device_registry.specs.Stored.{IsRegistryOf, HoldsAs, Holds, AreRegistryTrees, AdmitsRegistry}
+use Rattle.device_registry.specs.Stored.{IsVersion2RegistryOf, HoldsAs, HoldsVersion2, AreVersion2Trees, AdmitsRegistry}
 
 -- while the disk is clean and the connection is open, the registry holds these devices
-abbrev pub HasDevices : State → Devices → Type 0
-HasDevices s devices = HasCleanDisk s → IsTrue s.is_open → IsRegistryOf s.now devices
+abbrev pub HasDevicesIfOpen : State → Devices → Type 0
+HasDevicesIfOpen s devices = HasCleanDisk s → IsTrue s.is_open → IsVersion2RegistryOf s.now devices
 
 -- while the disk is clean and the connection is open, the registry holds some devices
-abbrev pub HoldsSomeDevices : State → Type 0
-HoldsSomeDevices s = HasCleanDisk s → (devices : Devices) × HasDevices s devices
+abbrev pub HasSomeDevicesIfOpen : State → Type 0
+HasSomeDevicesIfOpen s = HasCleanDisk s → (devices : Devices) × HasDevicesIfOpen s devices
 
 -- a crash may leave these devices
 abbrev pub MayRecover : State → Devices → Type 0
-MayRecover s devices = (trees : Trees) × s.may_leave trees × Holds trees devices
+MayRecover s devices = (trees : Trees) × s.may_leave trees × HoldsVersion2 trees devices
 
 -- whatever a crash leaves is a registry
-abbrev pub AreRegistries : (Trees → Type 0) → Type 0
-AreRegistries may_leave = (trees : Trees) → may_leave trees → AreRegistryTrees trees
+abbrev pub AreVersion2Registries : (Trees → Type 0) → Type 0
+AreVersion2Registries may_leave = (trees : Trees) → may_leave trees → AreVersion2Trees trees
 
 -- the state of a registry as a device store
 abbrev pub registry_state : State → DeviceStoreState
 registry_state s = record {
   honest = HasCleanDisk s;
-  holds = HasDevices s;
+  holds = HasDevicesIfOpen s;
   may_recover = MayRecover s;
-  sound = AreRegistries s.may_leave;
+  sound = AreVersion2Registries s.may_leave;
 }
 
 -- the same for a registry over a connection
@@ -41,26 +41,27 @@ abbrev pub registry_state_of : {C : Type 0} → (C → State) → C → DeviceSt
 registry_state_of state conn = registry_state (state conn)
 
 -- the registry holds exactly the committed devices
-abbrev pub IsCommitted : State → Type 0
-IsCommitted s = HasCleanDisk s → IsTrue s.is_open → (devices : Devices) → HasDevices s devices
-    → Holds s.committed.trees devices
+abbrev pub DevicesAreCommitted : State → Type 0
+DevicesAreCommitted s = HasCleanDisk s → IsTrue s.is_open → (devices : Devices) → HasDevicesIfOpen s devices
+    → HoldsVersion2 s.committed.trees devices
 
 -- a database with these trees is a registry of these devices, of either version; or it has none of the tables, they can
 -- be created, and there are no devices
-abbrev pub Finds : Trees → Devices → Type 0
-Finds trees devices = ((version : Version) × HoldsAs version trees devices) ⊎ (AdmitsRegistry trees × (devices ≡ empty))
+abbrev pub OpenFinds : Trees → Devices → Type 0
+OpenFinds trees devices =
+    ((version : Version) × HoldsAs version trees devices) ⊎ (AdmitsRegistry trees × (devices ≡ empty))
 
 -- The registry is opened: it has the devices that were committed last, and a crash leaves only these.
 pub record Opens (old new : State) (devices : Devices) : Type 0 where
   pub was_open : IsTrue old.is_open
-  pub found : Finds old.committed.trees devices
-  pub now : HasDevices new devices
+  pub found : OpenFinds old.committed.trees devices
+  pub now : HasDevicesIfOpen new devices
   pub crash : (left : Devices) → MayRecover new left → left ≡ devices
 
 -- The state was changed exactly by the text that rewrites the version row unchanged, which counts one row. Outside a
 -- transaction this is a commit. It is an observable change, because SQLite counts the row. A later rollback would leave
 -- the same.
-abbrev pub RewritesVersion : State → State → Type 0
+abbrev pub RewritesVersion : (old new : State) → Type 0
 RewritesVersion old new = Executes rewrite_version_sql [] old new (Ok 1)
 
 -- The last operation on the state is the statement that upserts the row of the update's sender, over the same devices.
@@ -70,7 +71,7 @@ pub record WritesRow {C : Type 0} (state : C → State) (new : C) (update : Devi
     pub row : DeviceData
     pub is : data_after (get devices update.sender) update.operation ≡ Some row
     pub before : C
-    pub had : HasDevices (state before) devices
+    pub had : HasDevicesIfOpen (state before) devices
     pub count : ℕ
     pub executed : Executes upsert_sql (upsert_params update.sender row) (state before) (state new) (Ok count)
 
@@ -88,4 +89,4 @@ module _ {C : Type 0} (state : C → State) (old new : C) (update : DeviceUpdate
 -- the connection is returned with no open transaction, and what the registry holds is committed
 pub record IsReturnedByClose (s : State) : Type 0 where
   pub idle : HasCleanDisk s → IsTrue s.is_open → s.in_transaction ≡ false
-  pub committed : IsCommitted s
+  pub committed : DevicesAreCommitted s

@@ -12,14 +12,15 @@ use Rattle.sqlite_disk.specs.declared.Files.{Files}
 use Rattle.sqlite_store.specs.declared.store.FileStore.{FileStore}
 use Rattle.sqlite_store.specs.FileStore.{view, state as stored}
 use Rattle.sqlite_trees.specs.Tree.{Trees}
-pub use Rattle.keyed_table.specs.Stores.{IsSettledOpen, KeepsDatabase}
+pub use Rattle.keyed_table.specs.Stores.{IsSettledOpen, KeepsDatabaseIfOpen}
 use Rattle.device_registry.specs.declared.fault.OpenFault.{OpenFault}
 use Rattle.device_registry.specs.declared.fault.OpenFault.TheVariants.{NotARegistry}
 use Rattle.device_registry.specs.declared.table.Version.{Version}
 use Rattle.learned_devices.specs.Devices.{Devices, max_devices}
-use Rattle.device_registry.specs.Stored.{IsRegistry, Holds, AreRegistryTrees}
+use Rattle.device_registry.specs.Stored.{IsRegistry, HoldsVersion2, AreVersion2Trees}
 use Rattle.device_registry.specs.Ready.{IsReadyWith, IsReady}
-use Rattle.device_registry.specs.Holding.{AreRegistries, HasDevices, IsCommitted, RewritesVersion, MayRecover, Finds}
+use Rattle.device_registry.specs.Holding.{AreVersion2Registries, HasDevicesIfOpen, DevicesAreCommitted, RewritesVersion}
+use Rattle.device_registry.specs.Holding.{MayRecover, OpenFinds}
 use Rattle.device_registry.specs.Holding.{Opens}
 
 -- the maximum size of the cache of looked-up senders. Own choice
@@ -28,22 +29,22 @@ max_cached = 1024
 
 -- the database is prepared: the registry is open with the devices that were found
 pub record IsPrepared (old new : State) (devices : Devices) : Type 0 where
-  pub found : Finds old.now.trees devices
+  pub found : OpenFinds old.now.trees devices
   pub shows : IsReadyWith new devices
 
 -- An open succeeded: the database was a registry, or the open made it one.
 pub record IsOpened (old new : State) : Type 0 where
   -- whatever a crash leaves is a registry
-  pub registries : AreRegistries new.may_leave
+  pub registries : AreVersion2Registries new.may_leave
   -- the registry has the devices that were committed last, and a crash leaves only these
   pub opens : (devices : Devices) × Opens old new devices
   -- the connection is open, with no open transaction
   pub ready : IsReady new
   -- if it was a registry of version 2, it was changed exactly by the text that rewrites its version row unchanged
-  pub written : AreRegistryTrees old.committed.trees → RewritesVersion old new
+  pub written : AreVersion2Trees old.committed.trees → RewritesVersion old new
 
 -- a registry of this version as this program leaves it
-pub record IsOwnRegistry (version : Version) (trees : Trees) : Type 0 where
+pub record IsRegistryIn (version : Version) (trees : Trees) : Type 0 where
   pub db : Database
   pub same : db.trees ≡ trees
   pub sound : IsDatabase db
@@ -52,90 +53,92 @@ pub record IsOwnRegistry (version : Version) (trees : Trees) : Type 0 where
 -- the trees of a registry of version 2 with the devices that are found in the other trees
 pub record KeepsFoundDevices (found left : Trees) : Type 0 where
   pub devices : Devices
-  pub finds : Finds found devices
-  pub holds : Holds left devices
+  pub finds : OpenFinds found devices
+  pub holds : HoldsVersion2 left devices
 
 -- No devices are found in the trees: they are neither those of a registry of either version as this program leaves it,
 -- nor those of a database in which the tables can be created.
-abbrev pub IsNoRegistry : Trees → Type 0
-IsNoRegistry trees = (devices : Devices) → ¬ Finds trees devices
+abbrev pub IsForeignDatabase : Trees → Type 0
+IsForeignDatabase trees = (devices : Devices) → ¬ OpenFinds trees devices
 
 -- A database is rejected, or opening it failed. One that is no registry is as it was. After another fault, a crash
 -- leaves what it could leave before, or a registry of the devices that were committed.
-pub record RefusesToOpen (old new : State) (fault : OpenFault) : Type 0 where
+pub record FailsToOpen (old new : State) (fault : OpenFault) : Type 0 where
   pub survives : Survives old new (KeepsFoundDevices old.committed.trees)
   pub clean : HasCleanDisk new → HasCleanDisk old
-  pub other : HasCleanDisk new → fault ≡ NotARegistry → IsNoRegistry old.committed.trees × IsUnchanged old new
+  pub other : HasCleanDisk new → fault ≡ NotARegistry → IsForeignDatabase old.committed.trees × IsUnchanged old new
       × ((trees : Trees) → new.may_leave trees → old.may_leave trees)
   pub crash : HasCleanDisk new → (trees : Trees) → new.may_leave trees
       → old.may_leave trees ⊎ (IsTrue old.is_open × KeepsFoundDevices old.committed.trees trees)
 
--- An open failed, and dropped its connection. After `NotARegistry`, some state satisfies `RefusesToOpen`. No contract
+-- An open failed, and dropped its connection. After `NotARegistry`, some state satisfies `FailsToOpen`. No contract
 -- says that it is the last state of the connection.
 abbrev pub RefusesAndDrops : {C : Type 0} → (C → State) → C → OpenFault → Type 0
 RefusesAndDrops {C} state conn fault =
-    fault ≡ NotARegistry → (last : C) × RefusesToOpen (state conn) (state last) fault
+    fault ≡ NotARegistry → (last : C) × FailsToOpen (state conn) (state last) fault
 
 -- ---- theorems
 
 -- a registry has at most 1,000 devices
 abbrev pub DevicesAreLimited : Type 0
-DevicesAreLimited = (trees : Trees) (devices : Devices) → Holds trees devices → len devices ≤ max_devices
+DevicesAreLimited = (trees : Trees) (devices : Devices) → HoldsVersion2 trees devices → len devices ≤ max_devices
 
 -- the devices that an open finds in what a crash left are unique, however often it is opened
-abbrev pub OpensAgree : Type 0
-OpensAgree = (trees : Trees) (left found : Devices) → Finds trees left → Finds trees found → left ≡ found
+abbrev pub FoundDevicesAreUnique : Type 0
+FoundDevicesAreUnique =
+    (trees : Trees) (left found : Devices) → OpenFinds trees left → OpenFinds trees found → left ≡ found
 
 -- the next open after a crash at this moment may find these devices
 abbrev pub MayFindAfterCrash : State → Devices → Type 0
-MayFindAfterCrash s devices = (trees : Trees) × s.may_leave trees × Finds trees devices
+MayFindAfterCrash s devices = (trees : Trees) × s.may_leave trees × OpenFinds trees devices
 
 -- the next open finds some devices in whatever a crash leaves at this moment
 abbrev pub FindsSomeAfterCrash : State → Type 0
-FindsSomeAfterCrash s = (trees : Trees) → s.may_leave trees → (devices : Devices) × Finds trees devices
+FindsSomeAfterCrash s = (trees : Trees) → s.may_leave trees → (devices : Devices) × OpenFinds trees devices
 
 -- After a failed open, the next one finds devices if it would have found some before. They are what it could have found
 -- before, or what was committed then.
 abbrev pub FailedOpensKeep : {C : Type 0} → (C → State) → Type 0
 FailedOpensKeep {C} state = (old new : C) (fault : OpenFault) → HasCleanDisk (state new)
-    → RefusesToOpen (state old) (state new) fault
+    → FailsToOpen (state old) (state new) fault
     → (FindsSomeAfterCrash (state old) → FindsSomeAfterCrash (state new))
     × ((devices : Devices) → MayFindAfterCrash (state new) devices → MayFindAfterCrash (state old) devices
-    ⊎ (IsTrue (state old).is_open × Finds (state old).committed.trees devices))
+    ⊎ (IsTrue (state old).is_open × OpenFinds (state old).committed.trees devices))
 
 -- No open rejects, as no registry, a database in which devices are found. They are found in whatever a crash leaves of
 -- an opened registry.
 abbrev pub RegistriesAreRecognized : {C : Type 0} → (C → State) → Type 0
 RegistriesAreRecognized {C} state =
-    ((trees : Trees) → AreRegistryTrees trees → (devices : Devices) × Finds trees devices)
+    ((trees : Trees) → AreVersion2Trees trees → (devices : Devices) × OpenFinds trees devices)
     × ((old new : C) (fault : OpenFault) (devices : Devices) → HasCleanDisk (state new)
-    → RefusesToOpen (state old) (state new) fault → Finds (state old).committed.trees devices → fault ≢ NotARegistry)
+    → FailsToOpen (state old) (state new) fault → OpenFinds (state old).committed.trees devices → fault ≢ NotARegistry)
 
 -- Only a database that is no registry is rejected as such. This also holds of an open that drops its connection, if
 -- the disk had returned what was written when the connection was dropped.
 abbrev pub OnlyNonRegistriesAreRefused : {C : Type 0} → (C → State) → Type 0
 OnlyNonRegistriesAreRefused {C} state = (conn last : C) → HasCleanDisk (state last)
-    → RefusesToOpen (state conn) (state last) NotARegistry → IsNoRegistry (state conn).committed.trees
+    → FailsToOpen (state conn) (state last) NotARegistry → IsForeignDatabase (state conn).committed.trees
 
 -- the next open finds what a closed registry returned
 abbrev pub ReturnedIsFound : {C : Type 0} → (C → State) → Type 0
 ReturnedIsFound {C} state = (closed opened : C) (devices found : Devices) → HasCleanDisk (state closed)
-    → IsCommitted (state closed)
-    → HasDevices (state closed) devices → Opens (state closed) (state opened) found → found ≡ devices
+    → DevicesAreCommitted (state closed)
+    → HasDevicesIfOpen (state closed) devices → Opens (state closed) (state opened) found → found ≡ devices
 
 -- after SQLite has closed the files of a registry, an open of these files finds exactly what the registry held
 abbrev pub ClosedFilesAreFound : {D : Type 0} → Ghosts D → Type 0
 ClosedFilesAreFound {D} g =
     (closed opened : Held (FileStore D g)) (files : Files D) (devices : Devices) → IsCopied closed files
-    → FindsFiles files opened → IsCommitted (file_state closed) → HasDevices (file_state closed) devices
-    → Finds (file_state opened).committed.trees devices
-    × ((found : Devices) → Finds (file_state opened).committed.trees found → found ≡ devices)
+    → FindsFiles files opened → DevicesAreCommitted (file_state closed) → HasDevicesIfOpen (file_state closed) devices
+    → OpenFinds (file_state opened).committed.trees devices
+    × ((found : Devices) → OpenFinds (file_state opened).committed.trees found → found ≡ devices)
 
 -- If two files hold what a crash could leave in them, an open of these files finds devices that this crash could leave.
 -- (`next_run` of the crate `sqlite` says this of the trees; a file store numbers its pages while its disk is clean.)
 abbrev pub CrashedFilesAreFound : {D : Type 0} → Ghosts D → Type 0
 CrashedFilesAreFound {D} g =
     (stopped opened : Held (FileStore D g)) (image : _) → IsTrue (view stopped.store).is_numbered
-    → AreRegistries (file_state stopped).may_leave → (stored stopped.store).may_leave image
+    → AreVersion2Registries (file_state stopped).may_leave → (stored stopped.store).may_leave image
     → FindsIn image (file_state opened)
-    → ∥ ((left : Devices) × MayRecover (file_state stopped) left × Finds (file_state opened).committed.trees left) ∥₁
+    → ∥ ((left : Devices) × MayRecover (file_state stopped) left
+    × OpenFinds (file_state opened).committed.trees left) ∥₁

@@ -8,23 +8,24 @@ use Rattle.sqlite_schema.specs.Names.{same_name, table_named}
 use Rattle.sqlite_catalog.specs.Change.{is_used}
 use Rattle.device_registry.specs.declared.table.Version.{Version}
 use Rattle.device_registry.specs.declared.table.Version.TheVariants.{First, Second}
-use Rattle.device_registry.specs.Table.{meta_name, device_name}
+use Rattle.device_registry.specs.Table.{meta_name, device_table_name}
 use Rattle.device_registry.specs.Stored.{other}
 
 -- the table has a foreign key that refers to this name
-abbrev pub refers_to : List ℕ → Table → Bool
+abbrev pub refers_to : (name : List ℕ) → Table → Bool
 refers_to name table = list_any (λ reference. same_name reference.parent name) table.references
 
-abbrev pub is_referenced : Schema → List ℕ → Bool
+abbrev pub is_referenced : Schema → (name : List ℕ) → Bool
 is_referenced schema name = list_any (refers_to name) schema.tables
 
-abbrev pub is_indexed : Schema → ℕ → Bool
+abbrev pub is_indexed : Schema → (tree : ℕ) → Bool
 is_indexed schema tree = list_any (λ index. index.table == tree) schema.indexes
 
 -- a table refers to one of ours, of either version
-abbrev pub are_ours_referenced : Schema → Bool
-are_ours_referenced schema =
-    is_referenced schema meta_name || is_referenced schema (device_name First) || is_referenced schema (device_name Second)
+abbrev pub has_foreign_key_to_ours : Schema → Bool
+has_foreign_key_to_ours schema =
+    is_referenced schema meta_name || is_referenced schema (device_table_name First)
+    || is_referenced schema (device_table_name Second)
 
 -- a table counts its rowids, but SQLite's table of the counts does not exist
 abbrev pub lacks_sequence_table : Schema → Bool
@@ -32,34 +33,36 @@ lacks_sequence_table schema =
     list_any (λ table. table.is_counted) schema.tables && is_none (table_named schema (codes "sqlite_sequence"))
 
 -- in version 1, no table counts its rowids without SQLite's table of the counts
-abbrev pub can_count_rowids : Version → Schema → Bool
-can_count_rowids First schema = not (lacks_sequence_table schema)
-can_count_rowids Second schema = true
+abbrev pub migration_adds_no_sequence : Version → Schema → Bool
+migration_adds_no_sequence First schema = not (lacks_sequence_table schema)
+migration_adds_no_sequence Second schema = true
 
 -- the tables can be created
 abbrev pub admits_tables : Schema → Bool
 admits_tables schema =
-    not (is_used schema meta_name) && not (is_used schema (device_name First)) && not
-    (is_used schema (device_name Second)) && not (are_ours_referenced schema) && not (lacks_sequence_table schema)
+    not (is_used schema meta_name) && not (is_used schema (device_table_name First)) && not
+    (is_used schema (device_table_name Second)) && not (has_foreign_key_to_ours schema)
+    && not (lacks_sequence_table schema)
 
 -- no other table than that of this name is in the tree
-abbrev pub is_alone_in_tree : Schema → List ℕ → ℕ → Bool
-is_alone_in_tree schema name tree = list_all (λ table. not (table.tree == tree) || same_name table.name name) schema.tables
+abbrev pub is_alone_in_tree : Schema → (name : List ℕ) (tree : ℕ) → Bool
+is_alone_in_tree schema name tree =
+    list_all (λ table. not (table.tree == tree) || same_name table.name name) schema.tables
 
 -- no foreign key refers to our tables; no index is on the two of this version; no other table is in their trees; the
 -- name of the other version's table is free; tables that count their rowids have the table of the counts
-abbrev pub is_unaffected : Version → Schema → ℕ → ℕ → Bool
+abbrev pub is_unaffected : Version → Schema → (meta devices : ℕ) → Bool
 is_unaffected version schema meta devices =
-    not (are_ours_referenced schema) && not (is_indexed schema meta) && not (is_indexed schema devices)
-    && is_alone_in_tree schema meta_name meta && is_alone_in_tree schema (device_name version) devices && not
-    (is_used schema (device_name (other version))) && can_count_rowids version schema
+    not (has_foreign_key_to_ours schema) && not (is_indexed schema meta) && not (is_indexed schema devices)
+    && is_alone_in_tree schema meta_name meta && is_alone_in_tree schema (device_table_name version) devices && not
+    (is_used schema (device_table_name (other version))) && migration_adds_no_sequence version schema
 
 -- the tree of the table with this name
-abbrev pub tree_of_table : Schema → List ℕ → Option ℕ
+abbrev pub tree_of_table : Schema → (name : List ℕ) → Option ℕ
 tree_of_table schema name =
     option_map (λ table. table.tree) (option_and_then (slice_get schema.tables) (table_named schema name))
 
-abbrev pub trees_if_unaffected : Version → Schema → ℕ → ℕ → Option (ℕ × ℕ)
+abbrev pub trees_if_unaffected : Version → Schema → (meta devices : ℕ) → Option (ℕ × ℕ)
 trees_if_unaffected version schema meta devices =
     if is_unaffected version schema meta devices then Some (meta, devices) else None
 
@@ -67,5 +70,6 @@ trees_if_unaffected version schema meta devices =
 abbrev pub trees_of_tables : Version → Schema → Option (ℕ × ℕ)
 trees_of_tables version schema =
     option_and_then
-    (λ meta. option_and_then (trees_if_unaffected version schema meta) (tree_of_table schema (device_name version)))
+    (λ meta. option_and_then (trees_if_unaffected version schema meta)
+    (tree_of_table schema (device_table_name version)))
     (tree_of_table schema meta_name)

@@ -13,13 +13,14 @@ pub use Rattle.keyed_table.specs.Tables.{IsTableAt, HasNoReferenceTo, TreeHasNam
 use Rattle.device_registry.specs.declared.table.Version.{Version}
 use Rattle.device_registry.specs.declared.table.Version.TheVariants.{First, Second}
 use Rattle.learned_devices.specs.Devices.{Devices, max_devices}
-use Rattle.device_registry.specs.Table.{meta_name, device_name, create_meta_sql, create_device_sql, meta_table, device_table}
-use Rattle.device_registry.specs.Table.Rows.{IsDevice, IsVersion, RowidsDiffer, devices_in, rows_of}
+use Rattle.device_registry.specs.Table.{meta_name, device_table_name, create_meta_sql, create_device_sql, meta_table}
+use Rattle.device_registry.specs.Table.{device_table}
+use Rattle.device_registry.specs.Table.Rows.{IsDeviceRow, IsVersionRow, RowidsDiffer, devices_in, upgraded_rows}
 
 -- no foreign key of the table refers to one of ours, of either version
 pub record HasNoReferenceToOurs (table : Table) : Type 0 where
   pub meta : HasNoReferenceTo meta_name table
-  pub devices : (version : Version) → HasNoReferenceTo (device_name version) table
+  pub devices : (version : Version) → HasNoReferenceTo (device_table_name version) table
 
 -- no table refers to ours
 abbrev pub NoneRefersToOurs : Schema → Type 0
@@ -31,9 +32,9 @@ other Second = First
 
 -- In version 1, no table counts its rowids without SQLite's table of the counts: creating the device table of version 2
 -- would add it.
-abbrev pub CanCountRowids : Version → Schema → Type 0
-CanCountRowids First schema = lacks_sequence schema ≡ false
-CanCountRowids Second schema = Unit {0}
+abbrev pub MigrationAddsNoSequence : Version → Schema → Type 0
+MigrationAddsNoSequence First schema = lacks_sequence schema ≡ false
+MigrationAddsNoSequence Second schema = Unit {0}
 
 -- The schema has the two tables of a registry of this version, and the other objects do not affect them: no foreign key
 -- refers to them, no other table is in their trees, they have no index, and the name of the other version's table is
@@ -45,62 +46,63 @@ pub record HasTables (version : Version) (schema : Schema) : Type 0 where
   pub meta_at : ℕ
   pub devices_at : ℕ
   pub meta_stands : IsTableAt schema meta_name (meta_table meta) meta_at
-  pub devices_stand : IsTableAt schema (device_name version) (device_table version devices) devices_at
+  pub devices_stand : IsTableAt schema (device_table_name version) (device_table version devices) devices_at
   pub apart : meta ≢ devices
   pub spared : NoneRefersToOurs schema
   pub alone : AllByRecursion (λ table. TreeHasName meta_name meta table
-      × TreeHasName (device_name version) devices table)
+      × TreeHasName (device_table_name version) devices table)
       schema.tables
   pub unindexed : AllByRecursion (λ index. (index.table ≢ meta) × (index.table ≢ devices)) schema.indexes
-  pub free : is_used schema (device_name (other version)) ≡ false
-  pub counted : CanCountRowids version schema
+  pub free : is_used schema (device_table_name (other version)) ≡ false
+  pub counted : MigrationAddsNoSequence version schema
 
 -- in the trees of the two tables, the version is this one, and the other rows are devices, none twice and at most 1,000
 pub record HasValidRows (version : Version) (trees : Trees) (meta devices : ℕ) : Type 0 where
   pub row : Row
   pub one : trees meta ≡ row ∷ []
-  pub numbered : IsVersion version row
-  pub rows : AllByRecursion IsDevice (rows_of version (trees devices))
-  pub once : RowidsDiffer (rows_of version (trees devices))
-  pub few : length (rows_of version (trees devices)) ≤ max_devices
+  pub numbered : IsVersionRow version row
+  pub rows : AllByRecursion IsDeviceRow (upgraded_rows version (trees devices))
+  pub once : RowidsDiffer (upgraded_rows version (trees devices))
+  pub few : length (upgraded_rows version (trees devices)) ≤ max_devices
 
 -- the two tables are listed with our texts
-abbrev pub AreListed : Version → Trees → Type 0
-AreListed version trees =
-    IsListedAs trees meta_name create_meta_sql × IsListedAs trees (device_name version) (create_device_sql version)
+abbrev pub AreTablesListed : Version → Trees → Type 0
+AreTablesListed version trees =
+    IsListedAs trees meta_name create_meta_sql
+    × IsListedAs trees (device_table_name version) (create_device_sql version)
 
 -- the database is a registry of this version, as this program leaves it
 pub record IsRegistry (version : Version) (db : Database) : Type 0 where
   pub tables : HasTables version db.schema
   pub whole : HasValidRows version db.trees tables.meta tables.devices
-  pub listed : AreListed version db.trees
+  pub listed : AreTablesListed version db.trees
 
 -- the database is a registry of this version with these devices
 pub record IsRegistryOfVersion (version : Version) (db : Database) (devices : Devices) : Type 0 where
   pub registry : IsRegistry version db
-  pub is : devices_in (rows_of version (db.trees registry.tables.devices)) ≡ devices
+  pub is : devices_in (upgraded_rows version (db.trees registry.tables.devices)) ≡ devices
 
 -- the trees are those of a registry of this version with these devices
 abbrev pub HoldsAs : Version → Trees → Devices → Type 0
 HoldsAs version = HoldsIn (IsRegistryOfVersion version)
 
 -- the same for an opened registry, which is of version 2
-abbrev pub IsRegistryOf : Database → Devices → Type 0
-IsRegistryOf = IsRegistryOfVersion Second
+abbrev pub IsVersion2RegistryOf : Database → Devices → Type 0
+IsVersion2RegistryOf = IsRegistryOfVersion Second
 
-abbrev pub Holds : Trees → Devices → Type 0
-Holds = HoldsAs Second
+abbrev pub HoldsVersion2 : Trees → Devices → Type 0
+HoldsVersion2 = HoldsAs Second
 
 -- the trees are those of a registry of version 2
-pub record AreRegistryTrees (trees : Trees) : Type 0 where
+pub record AreVersion2Trees (trees : Trees) : Type 0 where
   pub devices : Devices
-  pub holds : Holds trees devices
+  pub holds : HoldsVersion2 trees devices
 
 -- The tables can be created: nothing has their names, of either version; no foreign key refers to them; and no table
 -- counts its rowids without SQLite's table of the counts, which our CREATE would add.
 pub record AdmitsTables (schema : Schema) : Type 0 where
   pub free_meta : is_used schema meta_name ≡ false
-  pub free_devices : (version : Version) → is_used schema (device_name version) ≡ false
+  pub free_devices : (version : Version) → is_used schema (device_table_name version) ≡ false
   pub spared : NoneRefersToOurs schema
   pub counted : lacks_sequence schema ≡ false
 

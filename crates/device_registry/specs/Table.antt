@@ -39,9 +39,9 @@ max_maker = 2047
 abbrev pub meta_name : List ℕ
 meta_name = codes "enogate_meta"
 
-abbrev pub device_name : Version → List ℕ
-device_name First = codes "enogate_device"
-device_name Second = codes "enogate_device_v2"
+abbrev pub device_table_name : Version → List ℕ
+device_table_name First = codes "enogate_device"
+device_table_name Second = codes "enogate_device_v2"
 
 abbrev pub create_meta_sql : List ℕ
 create_meta_sql = codes "CREATE TABLE enogate_meta (k INTEGER PRIMARY KEY CHECK (k = 1), version INTEGER NOT NULL) STRICT"
@@ -92,7 +92,7 @@ drop_sql = codes "DROP TABLE enogate_device"
 
 -- ---- the tables, as SQLite reads them from the texts
 
-abbrev pub meta_table : ℕ → Table
+abbrev pub meta_table : (tree : ℕ) → Table
 meta_table tree = keyed_table meta_name tree (key_column (codes "k") ∷ not_null_column Integer (codes "version") ∷ [])
     (op2 (Compare Eq Binary) (col 1 0) (lit (Int (pos 1))) ∷ [])
 
@@ -102,8 +102,8 @@ device_columns First =
 device_columns Second = key_column (codes "id") ∷ not_null_column Integer (codes "eep")
     ∷ not_null_column Integer (codes "maker") ∷ not_null_column Text (codes "label") ∷ []
 
-abbrev pub device_table : Version → ℕ → Table
+abbrev pub device_table : Version → (tree : ℕ) → Table
 device_table version tree =
-    keyed_table (device_name version) tree (device_columns version)
+    keyed_table (device_table_name version) tree (device_columns version)
     (between 0 (lit (Int (pos 0))) (lit (Int (pos max_sender))) ∷ between 2 (lit (Int (pos 0)))
     (lit (Int (pos max_profile))) ∷ between 3 (lit (Int (negsuc 0))) (lit (Int (pos max_maker))) ∷ [])

@@ -38,7 +38,7 @@ pub fn are_our_tables(rows: &[Row], version: Version) -> bool
     has_catalog_row(rows, META, CREATE_META.as_bytes())
         && has_catalog_row(
             rows,
-            version.device_table(),
+            version.device_table_name(),
             version.create_device_sql().as_bytes(),
         )
 }

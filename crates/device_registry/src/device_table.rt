@@ -5,11 +5,12 @@ ghost use Rattle.sqlite.specs.State.{HasCleanDisk};
 ghost use Rattle.learned_devices.specs.Devices.{Devices, Learn, Relabel, data_after, device_data, learn_update};
 ghost use Rattle.learned_devices.specs.Devices.{relabel_update};
 ghost use Rattle.learned_devices.specs.StoreCalls.{LooksUp, Updates, Forgets, ListsAll};
-ghost use Rattle.device_registry.specs.Holding.{HasDevices, IsReturnedByClose, RewritesVersion, WritesRow, registry_state};
-ghost use Rattle.device_registry.specs.private.TableCalls.{Adds};
+ghost use Rattle.device_registry.specs.Holding.{HasDevicesIfOpen, IsReturnedByClose, RewritesVersion, WritesRow};
+ghost use Rattle.device_registry.specs.Holding.{registry_state};
+ghost use Rattle.device_registry.specs.private.TableCalls.{LearnsUnlessFull};
 ghost use Rattle.device_registry.specs.Ready.{IsReady, AreReady};
 
-use crate::queries::{delete_or_rewrite_version, is_full_for, list_devices, look_up, upsert};
+use crate::queries::{delete_or_rewrite_if_absent, is_full_for, list_devices, look_up, upsert};
 use crate::sql_connection::SqlConnection;
 use crate::table::row_codec::{decode_all, decode_found};
 use learned_devices::Device;
@@ -27,8 +28,8 @@ pub struct DeviceTable<C: SqlConnection> {
 
 impl<C: SqlConnection> Model for DeviceTable<C> {
     ghost use Rattle.sqlite.specs.State.{HasCleanDisk};
-    ghost use Rattle.device_registry.specs.Holding.{AreRegistries};
-    ghost use Rattle.device_registry.specs.Ready.{StaysReady};
+    ghost use Rattle.device_registry.specs.Holding.{AreVersion2Registries};
+    ghost use Rattle.device_registry.specs.Ready.{IsReadyIfOpen};
 
     ghost Value = { C };
 
@@ -37,8 +38,8 @@ impl<C: SqlConnection> Model for DeviceTable<C> {
     ghost view = { λ table. table.conn };
 
     ghost invariant = { λ table. (HasCleanDisk (C.state table.conn) →
-        AreRegistries (C.state table.conn).may_leave)
-        × StaysReady (C.state table.conn) };
+        AreVersion2Registries (C.state table.conn).may_leave)
+        × IsReadyIfOpen (C.state table.conn) };
 }
 
 impl<C: SqlConnection> DeviceTable<C> {
@@ -54,12 +55,13 @@ impl<C: SqlConnection> DeviceTable<C> {
 
     /// Upserts a device, unless the registry is full, and returns whether it did. The device already has the label that
     /// its sender keeps.
-    pub fn learn(&mut self, device: Device) -> Result<bool, Error>
-        requires { HasCleanDisk (C.state self.old) → (devices : Devices) → HasDevices (C.state self.old) devices →
+    pub fn learn_unless_full(&mut self, device: Device) -> Result<bool, Error>
+        requires { HasCleanDisk (C.state self.old) → (devices : Devices) → HasDevicesIfOpen (C.state self.old) devices →
             data_after (get devices device.id) (Learn device.eep device.maker) ≡ Some (device_data device) }
-        ensures adds { Adds (registry_state (C.state self.old)) (registry_state (C.state self.new)) device result }
+        ensures adds { LearnsUnlessFull (registry_state (C.state self.old))
+            (registry_state (C.state self.new)) device result }
         ensures written { HasCleanDisk (C.state self.new) → (devices : Devices) →
-            HasDevices (C.state self.old) devices → IfOk result (λ room. IsTrue room →
+            HasDevicesIfOpen (C.state self.old) devices → IfOk result (λ room. IsTrue room →
             WritesRow C.state self.new (learn_update device) devices) }
         ensures ready { HasCleanDisk (C.state self.new) → OnOk result (AreReady (C.state self.old)
             (C.state self.new)) }
@@ -74,12 +76,13 @@ impl<C: SqlConnection> DeviceTable<C> {
     /// Stores the device of a known sender; only its label may be new.
     pub fn relabel(&mut self, device: Device) -> Result<(), Error>
         requires ready { HasCleanDisk (C.state self.old) → IsReady (C.state self.old) }
-        requires known { HasCleanDisk (C.state self.old) → (devices : Devices) → HasDevices (C.state self.old) devices →
+        requires known { HasCleanDisk (C.state self.old) → (devices : Devices)
+            → HasDevicesIfOpen (C.state self.old) devices →
             data_after (get devices device.id) (Relabel device.label) ≡ Some (device_data device) }
         ensures updates { Updates (registry_state (C.state self.old)) (registry_state (C.state self.new))
             (relabel_update device.id device.label) result }
         ensures written { HasCleanDisk (C.state self.new) → (devices : Devices) →
-            HasDevices (C.state self.old) devices → OnOk result (WritesRow C.state self.new
+            HasDevicesIfOpen (C.state self.old) devices → OnOk result (WritesRow C.state self.new
             (relabel_update device.id device.label) devices) }
         ensures ready { HasCleanDisk (C.state self.new) → OnOk result (AreReady (C.state self.old)
             (C.state self.new)) }
@@ -92,13 +95,13 @@ impl<C: SqlConnection> DeviceTable<C> {
     pub fn forget(&mut self, id: u32) -> Result<(), Error>
         ensures forgets { Forgets (registry_state (C.state self.old)) (registry_state (C.state self.new)) id result }
         ensures written { HasCleanDisk (C.state self.new) → (devices : Devices) →
-            HasDevices (C.state self.old) devices → OnOk result (get devices id ≡ None →
+            HasDevicesIfOpen (C.state self.old) devices → OnOk result (get devices id ≡ None →
             RewritesVersion (C.state self.old) (C.state self.new)) }
         ensures ready { HasCleanDisk (C.state self.new) → OnOk result (AreReady (C.state self.old)
             (C.state self.new)) }
     {
         let rows = look_up(&mut self.conn, id)?;
-        delete_or_rewrite_version(&mut self.conn, id, &rows)?;
+        delete_or_rewrite_if_absent(&mut self.conn, id, &rows)?;
         Ok(())
     }
 

@@ -7,7 +7,7 @@ use sqlite::{Error, ErrorCode};
 use std::alloc::AllocError;
 
 /// The fault for an error of SQLite.
-pub(crate) fn store_fault(error: Error) -> StoreFault
+pub(crate) fn store_fault_of(error: Error) -> StoreFault
     ensures { result ≡ fault_of error }
 {
     match error {
@@ -35,7 +35,7 @@ impl From<Error> for OpenFault {
     ghost from_gives = { λ error why. why ≡ Failed (fault_of error) };
 
     fn from(error: Error) -> OpenFault {
-        OpenFault::Failed(store_fault(error))
+        OpenFault::Failed(store_fault_of(error))
     }
 }
 

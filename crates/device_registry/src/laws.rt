@@ -2,8 +2,9 @@
 ghost use Rattle.std.specs.Prelude.{◌≡◌};
 ghost use Rattle.device_registry.specs.declared.cache_limits.TheConstants.{MAX_CACHED};
 ghost use Rattle.device_registry.specs.Opening.{max_cached};
-ghost use Rattle.device_registry.specs.Holding.{HoldsSomeDevices};
-ghost use Rattle.device_registry.specs.Opening.{ClosedFilesAreFound, DevicesAreLimited, OpensAgree, ReturnedIsFound};
+ghost use Rattle.device_registry.specs.Holding.{HasSomeDevicesIfOpen};
+ghost use Rattle.device_registry.specs.Opening.{ClosedFilesAreFound, DevicesAreLimited, FoundDevicesAreUnique};
+ghost use Rattle.device_registry.specs.Opening.{ReturnedIsFound};
 ghost use Rattle.device_registry.specs.Opening.{CrashedFilesAreFound};
 ghost use Rattle.device_registry.specs.Opening.{RegistriesAreRecognized, OnlyNonRegistriesAreRefused, FailedOpensKeep};
 ghost use Rattle.device_registry.specs.Ranges.{RegistriesAreInRange};
@@ -23,8 +24,8 @@ pub fn devices_are_limited()
 {}
 
 /// The next open finds what a crash left of a registry, or of a database that has neither of its tables yet.
-pub fn opens_agree()
-    ensures { OpensAgree }
+pub fn found_devices_are_unique()
+    ensures { FoundDevicesAreUnique }
 {}
 
 /// The following devices are in range: those that a registry holds while its connection is open, those that a crash may
@@ -69,7 +70,7 @@ pub fn closed_files_are_found<D: Disk>()
 
 /// Every registry holds some devices while the disk has returned what was written and the connection is open.
 pub fn devices_are_held<C: SqlConnection>(registry: &RegistryOver<C>)
-    ensures { HoldsSomeDevices (C.state registry.now) }
+    ensures { HasSomeDevicesIfOpen (C.state registry.now) }
 {
     // The proof uses the fields: the table's invariant implies the contract.
     let table = &registry.table;

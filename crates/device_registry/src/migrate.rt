@@ -5,12 +5,12 @@ ghost use Rattle.sqlite.specs.Effect.{IsDatabase};
 ghost use Rattle.sqlite.specs.Held.{state};
 ghost use Rattle.device_registry.specs.declared.table.Version.TheVariants.{First};
 ghost use Rattle.learned_devices.specs.Devices.{Devices};
-ghost use Rattle.device_registry.specs.Stored.{IsRegistry, IsRegistryOfVersion, Holds};
+ghost use Rattle.device_registry.specs.Stored.{IsRegistry, IsRegistryOfVersion, HoldsVersion2};
 ghost use Rattle.device_registry.specs.Ready.{IsReadyWith, KeepsOtherTables};
-ghost use Rattle.device_registry.specs.Opening.{KeepsDatabase};
+ghost use Rattle.device_registry.specs.Opening.{KeepsDatabaseIfOpen};
 
 use crate::table::Version;
-use crate::table::statements::{COPY, CREATE_DEVICE, DROP_FIRST_DEVICE, REWRITE_VERSION};
+use crate::table::statements::{COPY, CREATE_DEVICE, DROP_DEVICE_V1, REWRITE_VERSION};
 use crate::transaction::run_and_check_catalog;
 use sqlite::{Alter, Connection, Error};
 
@@ -25,14 +25,14 @@ pub fn migrate<S: Alter>(conn: &mut Connection<S>) -> Result<(), Error>
     ensures others { HasCleanDisk (state S.Store conn.new) → OnOk result (KeepsOtherTables (state S.Store conn.old).now
         (state S.Store conn.new).now) }
     ensures crash { Survives (state S.Store conn.old) (state S.Store conn.new) (λ trees. (devices : Devices) →
-        IsRegistryOfVersion First (state S.Store conn.old).now devices → Holds trees devices) }
-    ensures remains { HasCleanDisk (state S.Store conn.new) → OnErr result (KeepsDatabase (state S.Store conn.old)
+        IsRegistryOfVersion First (state S.Store conn.old).now devices → HoldsVersion2 trees devices) }
+    ensures remains { HasCleanDisk (state S.Store conn.new) → OnErr result (KeepsDatabaseIfOpen (state S.Store conn.old)
         (state S.Store conn.new)) }
 {
     let mut migrating = conn.transaction();
     run_and_check_catalog(
         &mut migrating,
-        &[CREATE_DEVICE, COPY, DROP_FIRST_DEVICE, REWRITE_VERSION],
+        &[CREATE_DEVICE, COPY, DROP_DEVICE_V1, REWRITE_VERSION],
         Version::Second,
     )?;
     migrating.commit()

@@ -5,10 +5,11 @@ ghost use Rattle.sqlite_trees.specs.Tree.{Trees};
 ghost use Rattle.learned_devices.specs.Devices.{Devices};
 ghost use Rattle.device_registry.specs.Opening.{max_cached};
 ghost use Rattle.device_registry.specs.Holding.{RewritesVersion};
-ghost use Rattle.device_registry.specs.Stored.{AreRegistryTrees};
+ghost use Rattle.device_registry.specs.Stored.{AreVersion2Trees};
 ghost use Rattle.device_registry.specs.Ready.{KeepsOtherTables, KeepsRows};
-ghost use Rattle.device_registry.specs.Opening.{IsSettledOpen, KeepsDatabase, IsPrepared, KeepsFoundDevices, IsNoRegistry};
-ghost use Rattle.device_registry.specs.Opening.{IsOpened, RefusesAndDrops, RefusesToOpen};
+ghost use Rattle.device_registry.specs.Opening.{IsSettledOpen, KeepsDatabaseIfOpen, IsPrepared, KeepsFoundDevices};
+ghost use Rattle.device_registry.specs.Opening.{IsForeignDatabase};
+ghost use Rattle.device_registry.specs.Opening.{IsOpened, RefusesAndDrops, FailsToOpen};
 
 use crate::cache::new_cache;
 use crate::cache_limits::DEFAULT_CACHED;
@@ -46,20 +47,20 @@ fn create_or_recognize<C: SqlConnection>(conn: &mut C) -> Result<(), OpenFault>
     requires rest { HasCleanDisk (C.state conn.old) → IsSettledOpen (C.state conn.old) }
     ensures prepared { HasCleanDisk (C.state conn.new) → OnOk result ((devices : Devices) × IsPrepared
         (C.state conn.old) (C.state conn.new) devices) }
-    ensures refused { HasCleanDisk (C.state conn.new) → result ≡ Err OpenFault.NotARegistry → IsNoRegistry
+    ensures refused { HasCleanDisk (C.state conn.new) → result ≡ Err OpenFault.NotARegistry → IsForeignDatabase
         (C.state conn.old).now.trees }
     ensures unchanged { HasCleanDisk (C.state conn.new) → result ≡ Err OpenFault.NotARegistry →
         IsUnchanged (C.state conn.old) (C.state conn.new)
         × ((trees : Trees) → (C.state conn.new).may_leave trees → (C.state conn.old).may_leave trees) }
     ensures crash { Survives (C.state conn.old) (C.state conn.new) (KeepsFoundDevices
         (C.state conn.old).now.trees) }
-    ensures rows { HasCleanDisk (C.state conn.new) → OnOk result (AreRegistryTrees (C.state conn.old).now.trees →
+    ensures rows { HasCleanDisk (C.state conn.new) → OnOk result (AreVersion2Trees (C.state conn.old).now.trees →
         KeepsRows (C.state conn.old) (C.state conn.new)) }
-    ensures written { HasCleanDisk (C.state conn.new) → OnOk result (AreRegistryTrees (C.state conn.old).now.trees →
+    ensures written { HasCleanDisk (C.state conn.new) → OnOk result (AreVersion2Trees (C.state conn.old).now.trees →
         RewritesVersion (C.state conn.old) (C.state conn.new)) }
     ensures others { HasCleanDisk (C.state conn.new) → OnOk result (KeepsOtherTables (C.state conn.old).now
         (C.state conn.new).now) }
-    ensures remains { HasCleanDisk (C.state conn.new) → OnErr result (KeepsDatabase (C.state conn.old)
+    ensures remains { HasCleanDisk (C.state conn.new) → OnErr result (KeepsDatabaseIfOpen (C.state conn.old)
         (C.state conn.new)) }
 {
     if admits_tables(conn.schema()) {
@@ -90,13 +91,13 @@ pub fn prepare<C: SqlConnection>(conn: &mut C) -> Result<(), OpenFault>
     requires idle { (C.state conn.old).in_transaction ≡ false }
     ensures clean { HasCleanDisk (C.state conn.new) → HasCleanDisk (C.state conn.old) }
     ensures opened { HasCleanDisk (C.state conn.new) → OnOk result (IsOpened (C.state conn.old) (C.state conn.new)) }
-    ensures rows { HasCleanDisk (C.state conn.new) → OnOk result (AreRegistryTrees
+    ensures rows { HasCleanDisk (C.state conn.new) → OnOk result (AreVersion2Trees
         (C.state conn.old).committed.trees → KeepsRows (C.state conn.old) (C.state conn.new)) }
     ensures others { HasCleanDisk (C.state conn.new) → OnOk result (KeepsOtherTables (C.state conn.old).now
         (C.state conn.new).now) }
     ensures kept { HasCleanDisk (C.state conn.new) → OnErr result (IsTrue (C.state conn.new).is_open →
         IsSettledOpen (C.state conn.new) × ((C.state conn.new).now ≡ (C.state conn.old).now)) }
-    ensures refused { IfErr result (RefusesToOpen (C.state conn.old) (C.state conn.new)) }
+    ensures refused { IfErr result (FailsToOpen (C.state conn.old) (C.state conn.new)) }
 {
     check_open(conn)?;
     create_or_recognize(conn)

@@ -9,11 +9,11 @@ ghost use Rattle.learned_devices.specs.Devices.{Devices, DeviceUpdate, apply_upd
 ghost use Rattle.learned_devices.specs.Devices.{is_full, all_of};
 ghost use Rattle.learned_devices.specs.Devices.{device_of};
 ghost use Rattle.device_registry.specs.Table.{upsert_sql, delete_sql, rewrite_version_sql};
-ghost use Rattle.device_registry.specs.Stored.{Holds};
-ghost use Rattle.device_registry.specs.Opening.{KeepsDatabase};
-ghost use Rattle.device_registry.specs.Ready.{IsReadyWith, IsReady, StaysReady, WritesNothing, CommitsOrFails};
+ghost use Rattle.device_registry.specs.Stored.{HoldsVersion2};
+ghost use Rattle.device_registry.specs.Opening.{KeepsDatabaseIfOpen};
+ghost use Rattle.device_registry.specs.Ready.{IsReadyWith, IsReady, IsReadyIfOpen, WritesNothing, CommitsOrMayBeLeft};
 ghost use Rattle.device_registry.specs.Ready.{KeepsRows};
-ghost use Rattle.device_registry.specs.Table.Rows.{IsDeviceOrNone, device_in_row, upsert_params};
+ghost use Rattle.device_registry.specs.Table.Rows.{IsDeviceOrNone, shown_device, upsert_params};
 
 use crate::sql_connection::SqlConnection;
 use crate::table::row_codec::{eep_number, maker_number, shown_count};
@@ -23,7 +23,7 @@ use sqlite::{Error, Row, Statement, params};
 
 /// Compiles a statement, which writes nothing. Fails on a connection that a failure has closed.
 fn compile<C: SqlConnection>(conn: &mut C, sql: &str) -> Result<Statement, Error>
-    requires { StaysReady (C.state conn.old) }
+    requires { IsReadyIfOpen (C.state conn.old) }
     ensures text { HasCleanDisk (C.state conn.new) → IfOk result (λ statement. statement.text ≡ sql.now) }
     ensures stays { WritesNothing (C.state conn.old) (C.state conn.new) }
     ensures same { HasCleanDisk (C.state conn.new) → OnOk result (IsUnchanged (C.state conn.old) (C.state conn.new)) }
@@ -53,7 +53,7 @@ fn query_by_sender<C: SqlConnection>(
 
 /// The rows of a sender.
 pub(crate) fn look_up<C: SqlConnection>(conn: &mut C, id: u32) -> Result<Vec<Row>, Error>
-    requires { StaysReady (C.state conn.old) }
+    requires { IsReadyIfOpen (C.state conn.old) }
     ensures stays { WritesNothing (C.state conn.old) (C.state conn.new) }
     ensures same { HasCleanDisk (C.state conn.new) → OnOk result (IsUnchanged (C.state conn.old) (C.state conn.new)) }
     ensures survives { Survives (C.state conn.old) (C.state conn.new) (λ _. ⊥) }
@@ -67,7 +67,7 @@ pub(crate) fn look_up<C: SqlConnection>(conn: &mut C, id: u32) -> Result<Vec<Row
 
 /// Whether the registry is full for a sender.
 pub(crate) fn is_full_for<C: SqlConnection>(conn: &mut C, id: u32) -> Result<bool, Error>
-    requires { StaysReady (C.state conn.old) }
+    requires { IsReadyIfOpen (C.state conn.old) }
     ensures stays { WritesNothing (C.state conn.old) (C.state conn.new) }
     ensures full { HasCleanDisk (C.state conn.new) → IfOk result (λ full. IsReady (C.state conn.new) ×
         ((devices : Devices) → IsReadyWith (C.state conn.old) devices → full ≡ is_full devices id)) }
@@ -79,11 +79,11 @@ pub(crate) fn is_full_for<C: SqlConnection>(conn: &mut C, id: u32) -> Result<boo
 
 /// The rows of all devices, by ascending ID.
 pub(crate) fn list_devices<C: SqlConnection>(conn: &mut C) -> Result<Vec<Row>, Error>
-    requires { StaysReady (C.state conn.old) }
+    requires { IsReadyIfOpen (C.state conn.old) }
     ensures stays { WritesNothing (C.state conn.old) (C.state conn.new) }
     ensures all { HasCleanDisk (C.state conn.new) → IfOk result (λ rows. IsReady (C.state conn.new) ×
         ((devices : Devices) → IsReadyWith (C.state conn.old) devices
-        → map device_in_row rows.items ≡ all_of devices)) }
+        → map shown_device rows.items ≡ all_of devices)) }
 {
     let all = compile(conn, FIND_ALL)?;
     conn.query_all_prepared(&all, &[])
@@ -111,7 +111,7 @@ pub(crate) fn upsert<C: SqlConnection>(conn: &mut C, device: Device) -> Result<u
         (C.state conn.old) devices → is_full devices device.id ≡ false }
     ensures turns { (update : DeviceUpdate) → (HasCleanDisk (C.state conn.old) → (devices : Devices) → IsReadyWith
         (C.state conn.old) devices → apply_update devices update ≡ insert devices device.id (device_data device))
-        → CommitsOrFails (C.state conn.old) (C.state conn.new) update result }
+        → CommitsOrMayBeLeft (C.state conn.old) (C.state conn.new) update result }
     ensures written { HasCleanDisk (C.state conn.new) → IfOk result (λ count. Executes upsert_sql
         (upsert_params device.id (device_data device)) (C.state conn.old) (C.state conn.new) (Ok count)) }
 {
@@ -136,7 +136,7 @@ fn run_delete<C: SqlConnection>(conn: &mut C, id: i64) -> Result<usize, Error>
 /// Deletes the device of a sender.
 fn forget<C: SqlConnection>(conn: &mut C, id: u32) -> Result<usize, Error>
     requires { HasCleanDisk (C.state conn.old) → IsReady (C.state conn.old) }
-    ensures { CommitsOrFails (C.state conn.old) (C.state conn.new) (forget_update id) result }
+    ensures { CommitsOrMayBeLeft (C.state conn.old) (C.state conn.new) (forget_update id) result }
 {
     run_delete(conn, i64::from(id))
 }
@@ -149,20 +149,20 @@ pub(crate) fn rewrite_version<C: SqlConnection>(conn: &mut C) -> Result<usize, E
     ensures renewed { HasCleanDisk (C.state conn.new) → OnOk result ((devices : Devices) → IsReadyWith
         (C.state conn.old) devices → IsReadyWith (C.state conn.new) devices) }
     ensures crash { Survives (C.state conn.old) (C.state conn.new) (λ trees. (devices : Devices) →
-        IsReadyWith (C.state conn.old) devices → Holds trees devices) }
+        IsReadyWith (C.state conn.old) devices → HoldsVersion2 trees devices) }
     ensures rows { HasCleanDisk (C.state conn.new) → OnOk result (IsReady (C.state conn.old) →
         KeepsRows (C.state conn.old) (C.state conn.new)) }
-    ensures remains { HasCleanDisk (C.state conn.new) → OnErr result (KeepsDatabase (C.state conn.old)
+    ensures remains { HasCleanDisk (C.state conn.new) → OnErr result (KeepsDatabaseIfOpen (C.state conn.old)
         (C.state conn.new)) }
     ensures turns { (update : DeviceUpdate) → (HasCleanDisk (C.state conn.old) → (devices : Devices) → IsReadyWith
         (C.state conn.old) devices → apply_update devices update ≡ devices)
-        → CommitsOrFails (C.state conn.old) (C.state conn.new) update result }
+        → CommitsOrMayBeLeft (C.state conn.old) (C.state conn.new) update result }
 {
     conn.execute(REWRITE_VERSION, &[])
 }
 
 /// Deletes the device of a sender whose rows are `rows`. Commits also if there is none.
-pub(crate) fn delete_or_rewrite_version<C: SqlConnection>(
+pub(crate) fn delete_or_rewrite_if_absent<C: SqlConnection>(
     conn: &mut C,
     id: u32,
     rows: &[Row],
@@ -170,7 +170,7 @@ pub(crate) fn delete_or_rewrite_version<C: SqlConnection>(
     requires ready { HasCleanDisk (C.state conn.old) → IsReady (C.state conn.old) }
     requires found { HasCleanDisk (C.state conn.old) → (devices : Devices) → IsReadyWith
         (C.state conn.old) devices → IsDeviceOrNone (device_of devices id) rows.now }
-    ensures turns { CommitsOrFails (C.state conn.old) (C.state conn.new) (forget_update id) result }
+    ensures turns { CommitsOrMayBeLeft (C.state conn.old) (C.state conn.new) (forget_update id) result }
     ensures written { HasCleanDisk (C.state conn.new) → rows.now ≡ []
         → IfOk result (λ count. Executes rewrite_version_sql []
         (C.state conn.old) (C.state conn.new) (Ok count)) }

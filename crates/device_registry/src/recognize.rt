@@ -4,14 +4,14 @@ ghost use Rattle.sqlite.specs.State.{HasCleanDisk, Survives, Shown, IsUnchanged}
 ghost use Rattle.sqlite.specs.Given.{IsPlain};
 ghost use Rattle.sqlite.specs.Listing.{understood};
 ghost use Rattle.sqlite.specs.Effect.{IsDatabase};
-ghost use Rattle.device_registry.specs.Stored.{HasTables, HasValidRows, IsRegistry, AreListed};
-ghost use Rattle.device_registry.specs.Opening.{IsSettledOpen, KeepsDatabase, IsOwnRegistry};
+ghost use Rattle.device_registry.specs.Stored.{HasTables, HasValidRows, IsRegistry, AreTablesListed};
+ghost use Rattle.device_registry.specs.Opening.{IsSettledOpen, KeepsDatabaseIfOpen, IsRegistryIn};
 
 use crate::catalog::are_our_tables;
 use crate::schema_check::trees_of_tables;
 use crate::sql_connection::SqlConnection;
 use crate::table::Version;
-use crate::table::row_codec::{are_ascending_devices, is_version};
+use crate::table::row_codec::{are_ascending_devices, shows_version};
 use crate::table::statements::{LIST_OBJECTS, READ_VERSION};
 use learned_devices::MAX_DEVICES;
 use sqlite::{Error, Row};
@@ -25,7 +25,7 @@ fn query_rows<C: SqlConnection>(conn: &mut C, sql: &str) -> Result<Vec<Row>, Err
         (C.state conn.new)) }
     ensures mode { (C.state conn.old).in_transaction ≡ false → (C.state conn.new).in_transaction ≡ false }
     ensures crash { Survives (C.state conn.old) (C.state conn.new) (λ _. ⊥) }
-    ensures remains { HasCleanDisk (C.state conn.new) → OnErr result (KeepsDatabase (C.state conn.old)
+    ensures remains { HasCleanDisk (C.state conn.new) → OnErr result (KeepsDatabaseIfOpen (C.state conn.old)
         (C.state conn.new)) }
 {
     conn.query_all(sql, &[])
@@ -35,12 +35,12 @@ fn query_rows<C: SqlConnection>(conn: &mut C, sql: &str) -> Result<Vec<Row>, Err
 fn lists_our_tables<C: SqlConnection>(conn: &mut C, version: Version) -> Result<bool, Error>
     requires { HasCleanDisk (C.state conn.old) → IsDatabase (C.state conn.old).now }
     ensures ours { HasCleanDisk (C.state conn.new) → IfOk result (λ yes. IsUnchanged (C.state conn.old)
-        (C.state conn.new) × (IsTrue yes → AreListed version (C.state conn.old).now.trees)) }
-    ensures other { HasCleanDisk (C.state conn.new) → result ≡ Ok false → ¬ AreListed version
+        (C.state conn.new) × (IsTrue yes → AreTablesListed version (C.state conn.old).now.trees)) }
+    ensures other { HasCleanDisk (C.state conn.new) → result ≡ Ok false → ¬ AreTablesListed version
         (C.state conn.old).now.trees }
     ensures mode { (C.state conn.old).in_transaction ≡ false → (C.state conn.new).in_transaction ≡ false }
     ensures crash { Survives (C.state conn.old) (C.state conn.new) (λ _. ⊥) }
-    ensures remains { HasCleanDisk (C.state conn.new) → OnErr result (KeepsDatabase (C.state conn.old)
+    ensures remains { HasCleanDisk (C.state conn.new) → OnErr result (KeepsDatabaseIfOpen (C.state conn.old)
         (C.state conn.new)) }
 {
     let rows = query_rows(conn, LIST_OBJECTS)?;
@@ -57,11 +57,11 @@ fn has_valid_rows<C: SqlConnection>(conn: &mut C, version: Version) -> Result<bo
         (C.state conn.old).now.schema) → ¬ HasValidRows version (C.state conn.old).now.trees t.meta t.devices }
     ensures mode { (C.state conn.old).in_transaction ≡ false → (C.state conn.new).in_transaction ≡ false }
     ensures crash { Survives (C.state conn.old) (C.state conn.new) (λ _. ⊥) }
-    ensures remains { HasCleanDisk (C.state conn.new) → OnErr result (KeepsDatabase (C.state conn.old)
+    ensures remains { HasCleanDisk (C.state conn.new) → OnErr result (KeepsDatabaseIfOpen (C.state conn.old)
         (C.state conn.new)) }
 {
     let versions = query_rows(conn, READ_VERSION)?;
-    if !is_version(&versions, version) {
+    if !shows_version(&versions, version) {
         return Ok(false);
     }
     let devices = query_rows(conn, version.find_all_sql())?;
@@ -76,11 +76,11 @@ fn is_registry<C: SqlConnection>(conn: &mut C, version: Version) -> Result<bool,
     requires { HasCleanDisk (C.state conn.old) → IsSettledOpen (C.state conn.old) }
     ensures ours { HasCleanDisk (C.state conn.new) → IfOk result (λ yes. IsUnchanged (C.state conn.old)
         (C.state conn.new) × (IsTrue yes → IsRegistry version (C.state conn.old).now)) }
-    ensures other { HasCleanDisk (C.state conn.new) → result ≡ Ok false → ¬ IsOwnRegistry version
+    ensures other { HasCleanDisk (C.state conn.new) → result ≡ Ok false → ¬ IsRegistryIn version
         (C.state conn.old).now.trees }
     ensures mode { (C.state conn.old).in_transaction ≡ false → (C.state conn.new).in_transaction ≡ false }
     ensures crash { Survives (C.state conn.old) (C.state conn.new) (λ _. ⊥) }
-    ensures remains { HasCleanDisk (C.state conn.new) → OnErr result (KeepsDatabase (C.state conn.old)
+    ensures remains { HasCleanDisk (C.state conn.new) → OnErr result (KeepsDatabaseIfOpen (C.state conn.old)
         (C.state conn.new)) }
 {
     let Some((_meta, _devices)) = trees_of_tables(conn.schema(), version) else {
@@ -96,11 +96,11 @@ fn is_registry<C: SqlConnection>(conn: &mut C, version: Version) -> Result<bool,
 pub fn version_of<C: SqlConnection>(conn: &mut C) -> Result<Option<Version>, Error>
     requires { HasCleanDisk (C.state conn.old) → IsSettledOpen (C.state conn.old) }
     ensures found { HasCleanDisk (C.state conn.new) → IfOk result (λ found. IsUnchanged (C.state conn.old)
-        (C.state conn.new) × MatchOption found ((version : _) → ¬ IsOwnRegistry version (C.state conn.old).now.trees)
+        (C.state conn.new) × MatchOption found ((version : _) → ¬ IsRegistryIn version (C.state conn.old).now.trees)
         (λ version. IsRegistry version (C.state conn.old).now)) }
     ensures mode { (C.state conn.old).in_transaction ≡ false → (C.state conn.new).in_transaction ≡ false }
     ensures crash { Survives (C.state conn.old) (C.state conn.new) (λ _. ⊥) }
-    ensures remains { HasCleanDisk (C.state conn.new) → OnErr result (KeepsDatabase (C.state conn.old)
+    ensures remains { HasCleanDisk (C.state conn.new) → OnErr result (KeepsDatabaseIfOpen (C.state conn.old)
         (C.state conn.new)) }
 {
     if is_registry(conn, Version::First)? {

@@ -6,12 +6,13 @@ ghost use Rattle.learned_devices.specs.Labels.{is_label};
 ghost use Rattle.learned_devices.specs.Devices.{Devices, Learn, Relabel, data_after, kept_label, device_data};
 ghost use Rattle.learned_devices.specs.Devices.{learn_update, relabel_update};
 ghost use Rattle.learned_devices.specs.StoreCalls.{LooksUp, Updates, Learns, Forgets, Relabels, ListsAll};
-ghost use Rattle.device_registry.specs.Holding.{HasDevices, IsReturnedByClose, RewritesVersion, WritesRow, registry_state};
+ghost use Rattle.device_registry.specs.Holding.{HasDevicesIfOpen, IsReturnedByClose, RewritesVersion, WritesRow};
+ghost use Rattle.device_registry.specs.Holding.{registry_state};
 ghost use Rattle.device_registry.specs.Ready.{IsReady, AreReady};
 
 use crate::cache::{Cache, cache_entry, copied, drop_entry, look_up_cached};
 use crate::device_table::DeviceTable;
-use crate::fault::store_fault;
+use crate::fault::store_fault_of;
 use crate::sql_connection::SqlConnection;
 use learned_devices::{Device, DeviceStore, Label, LearnFault, Receipt, StoreFault};
 use sqlite::Connection;
@@ -31,8 +32,8 @@ pub type Registry<S> = RegistryOver<Connection<S>>;
 
 impl<C: SqlConnection> Model for RegistryOver<C> {
     ghost use Rattle.sqlite.specs.State.{HasCleanDisk};
-    ghost use Rattle.device_registry.specs.Holding.{AreRegistries};
-    ghost use Rattle.device_registry.specs.private.Cached.{CacheAgrees};
+    ghost use Rattle.device_registry.specs.Holding.{AreVersion2Registries};
+    ghost use Rattle.device_registry.specs.private.Cached.{CacheAgreesIfClean};
 
     ghost Value = { C };
 
@@ -41,8 +42,8 @@ impl<C: SqlConnection> Model for RegistryOver<C> {
     ghost view = { λ registry. registry.table };
 
     ghost invariant = { λ registry. (HasCleanDisk (C.state registry.table) →
-        AreRegistries (C.state registry.table).may_leave)
-        × CacheAgrees (C.state registry.table) registry.cache.entries };
+        AreVersion2Registries (C.state registry.table).may_leave)
+        × CacheAgreesIfClean (C.state registry.table) registry.cache.entries };
 }
 
 // The device, with the label of `known`, if the sender is known.
@@ -99,7 +100,7 @@ impl<C: SqlConnection> RegistryOver<C> {
             }
             Err(error) => {
                 self.cache.clear();
-                Err(store_fault(error))
+                Err(store_fault_of(error))
             }
         }
     }
@@ -113,17 +114,17 @@ impl<C: SqlConnection> RegistryOver<C> {
 
     // Learns a device with the label that its sender keeps.
     fn store_learned(&mut self, device: Device) -> Result<(), LearnFault>
-        requires { HasCleanDisk (C.state self.old) → (devices : Devices) → HasDevices (C.state self.old) devices →
+        requires { HasCleanDisk (C.state self.old) → (devices : Devices) → HasDevicesIfOpen (C.state self.old) devices →
             data_after (get devices device.id) (Learn device.eep device.maker) ≡ Some (device_data device) }
         ensures learns { Learns (registry_state (C.state self.old)) (registry_state (C.state self.new)) device result }
         ensures written { HasCleanDisk (C.state self.new) → (devices : Devices) →
-            HasDevices (C.state self.old) devices → OnOk result
+            HasDevicesIfOpen (C.state self.old) devices → OnOk result
             (WritesRow C.state self.new (learn_update device) devices) }
     {
         let id = device.id;
         let copy = device.copied();
         drop_entry(&mut self.cache, id);
-        match self.table.learn(device) {
+        match self.table.learn_unless_full(device) {
             Ok(true) => {
                 cache_entry(&mut self.cache, id, Some(copy));
                 Ok(())
@@ -131,17 +132,17 @@ impl<C: SqlConnection> RegistryOver<C> {
             Ok(false) => Err(LearnFault::Full),
             Err(error) => {
                 self.cache.clear();
-                Err(LearnFault::Failed(store_fault(error)))
+                Err(LearnFault::Failed(store_fault_of(error)))
             }
         }
     }
 
     // Stores a device. A known sender keeps its label; an unknown one gets the empty label, which the device has here.
-    pub(crate) fn put_device(&mut self, device: Device) -> Result<(), LearnFault>
+    pub(crate) fn put_keeping_label(&mut self, device: Device) -> Result<(), LearnFault>
         requires { device.label ≡ [] }
         ensures learns { Learns (registry_state (C.state self.old)) (registry_state (C.state self.new)) device result }
         ensures written { HasCleanDisk (C.state self.new) → (devices : Devices) →
-            HasDevices (C.state self.old) devices → OnOk result
+            HasDevicesIfOpen (C.state self.old) devices → OnOk result
             (WritesRow C.state self.new (learn_update device) devices) }
     {
         let known = self.known(device.id)?;
@@ -156,7 +157,7 @@ impl<C: SqlConnection> RegistryOver<C> {
         ensures learns { Learns (registry_state (C.state self.old)) (registry_state (C.state self.new)) device result }
         ensures receipt { IfOk result (λ receipt. (receipt.id ≡ device.id) × IsTrue receipt.is_learned) }
         ensures written { HasCleanDisk (C.state self.new) → (devices : Devices) →
-            HasDevices (C.state self.old) devices → OnOk result
+            HasDevicesIfOpen (C.state self.old) devices → OnOk result
             (WritesRow C.state self.new (learn_update device) devices) }
     {
         DeviceStore::learn(self, device)
@@ -165,12 +166,13 @@ impl<C: SqlConnection> RegistryOver<C> {
     // Stores a device of a known sender, with a new label.
     fn relabel_known(&mut self, device: Device) -> Result<(), StoreFault>
         requires ready { HasCleanDisk (C.state self.old) → IsReady (C.state self.old) }
-        requires known { HasCleanDisk (C.state self.old) → (devices : Devices) → HasDevices (C.state self.old) devices
+        requires known { HasCleanDisk (C.state self.old) → (devices : Devices)
+            → HasDevicesIfOpen (C.state self.old) devices
             → data_after (get devices device.id) (Relabel device.label) ≡ Some (device_data device) }
         ensures updates { Updates (registry_state (C.state self.old)) (registry_state (C.state self.new))
             (relabel_update device.id device.label) result }
         ensures written { HasCleanDisk (C.state self.new) → (devices : Devices) →
-            HasDevices (C.state self.old) devices → OnOk result (WritesRow C.state self.new
+            HasDevicesIfOpen (C.state self.old) devices → OnOk result (WritesRow C.state self.new
             (relabel_update device.id device.label) devices) }
     {
         let id = device.id;
@@ -183,7 +185,7 @@ impl<C: SqlConnection> RegistryOver<C> {
             }
             Err(error) => {
                 self.cache.clear();
-                Err(store_fault(error))
+                Err(store_fault_of(error))
             }
         }
     }
@@ -193,7 +195,8 @@ impl<C: SqlConnection> RegistryOver<C> {
         ensures relabels { Relabels (registry_state (C.state self.old)) (registry_state (C.state self.new)) id label
             result }
         ensures written { HasCleanDisk (C.state self.new) → (devices : Devices) →
-            HasDevices (C.state self.old) devices → IfOk result (λ known. IsTrue known → WritesRow C.state self.new
+            HasDevicesIfOpen (C.state self.old) devices
+            → IfOk result (λ known. IsTrue known → WritesRow C.state self.new
             (relabel_update id label) devices) }
     {
         match self.known(id)? {
@@ -212,7 +215,8 @@ impl<C: SqlConnection> RegistryOver<C> {
         ensures relabels { Relabels (registry_state (C.state self.old)) (registry_state (C.state self.new)) id text.now
             result }
         ensures written { HasCleanDisk (C.state self.new) → (devices : Devices) →
-            HasDevices (C.state self.old) devices → IfOk result (λ known. IsTrue known → WritesRow C.state self.new
+            HasDevicesIfOpen (C.state self.old) devices
+            → IfOk result (λ known. IsTrue known → WritesRow C.state self.new
             (relabel_update id text.now) devices) }
     {
         match Label::new(text) {
@@ -225,7 +229,7 @@ impl<C: SqlConnection> RegistryOver<C> {
     pub(crate) fn delete_device(&mut self, id: u32) -> Result<(), StoreFault>
         ensures forgets { Forgets (registry_state (C.state self.old)) (registry_state (C.state self.new)) id result }
         ensures written { HasCleanDisk (C.state self.new) → (devices : Devices) →
-            HasDevices (C.state self.old) devices → OnOk result (get devices id ≡ None →
+            HasDevicesIfOpen (C.state self.old) devices → OnOk result (get devices id ≡ None →
             RewritesVersion (C.state self.old) (C.state self.new)) }
     {
         drop_entry(&mut self.cache, id);
@@ -236,7 +240,7 @@ impl<C: SqlConnection> RegistryOver<C> {
             }
             Err(error) => {
                 self.cache.clear();
-                Err(store_fault(error))
+                Err(store_fault_of(error))
             }
         }
     }
@@ -246,7 +250,7 @@ impl<C: SqlConnection> RegistryOver<C> {
         ensures forgets { Forgets (registry_state (C.state self.old)) (registry_state (C.state self.new)) id result }
         ensures receipt { IfOk result (λ receipt. (receipt.id ≡ id) × (receipt.is_learned ≡ false)) }
         ensures written { HasCleanDisk (C.state self.new) → (devices : Devices) →
-            HasDevices (C.state self.old) devices → OnOk result (get devices id ≡ None →
+            HasDevicesIfOpen (C.state self.old) devices → OnOk result (get devices id ≡ None →
             RewritesVersion (C.state self.old) (C.state self.new)) }
     {
         DeviceStore::forget(self, id)
@@ -260,7 +264,7 @@ impl<C: SqlConnection> RegistryOver<C> {
             Ok(all) => Ok(all),
             Err(error) => {
                 self.cache.clear();
-                Err(store_fault(error))
+                Err(store_fault_of(error))
             }
         }
     }

@@ -3,9 +3,9 @@ ghost use Rattle.std.specs.Prelude.{◌≡◌};
 ghost use Rattle.std.specs.List.{list_any};
 ghost use Rattle.sqlite.specs.Table.{Table};
 ghost use Rattle.sqlite_catalog.specs.Change.{is_used};
-ghost use Rattle.device_registry.specs.SchemaChecks.{refers_to, is_referenced, are_ours_referenced, is_indexed};
+ghost use Rattle.device_registry.specs.SchemaChecks.{refers_to, is_referenced, has_foreign_key_to_ours, is_indexed};
 ghost use Rattle.device_registry.specs.SchemaChecks.{lacks_sequence_table, admits_tables};
-ghost use Rattle.device_registry.specs.SchemaChecks.{can_count_rowids};
+ghost use Rattle.device_registry.specs.SchemaChecks.{migration_adds_no_sequence};
 ghost use Rattle.device_registry.specs.SchemaChecks.{is_alone_in_tree, is_unaffected, tree_of_table, trees_of_tables};
 
 use crate::table::{META, Version};
@@ -42,12 +42,12 @@ fn is_referenced(schema: &Schema, name: &[u8]) -> bool
 }
 
 /// Whether a foreign key refers to a table of ours, of either version.
-fn are_ours_referenced(schema: &Schema) -> bool
-    ensures { result ≡ are_ours_referenced schema.now }
+fn has_foreign_key_to_ours(schema: &Schema) -> bool
+    ensures { result ≡ has_foreign_key_to_ours schema.now }
 {
     is_referenced(schema, META)
-        || is_referenced(schema, Version::First.device_table())
-        || is_referenced(schema, Version::Second.device_table())
+        || is_referenced(schema, Version::First.device_table_name())
+        || is_referenced(schema, Version::Second.device_table_name())
 }
 
 fn is_indexed(schema: &Schema, tree: u32) -> bool
@@ -79,8 +79,8 @@ fn lacks_sequence_table(schema: &Schema) -> bool
 
 /// Whether a registry of this version allows these tables. In version 1 no table may count its rowids without SQLite's
 /// table of the counts, because the migration would add that table.
-fn can_count_rowids(schema: &Schema, version: Version) -> bool
-    ensures { result ≡ can_count_rowids version schema.now }
+fn migration_adds_no_sequence(schema: &Schema, version: Version) -> bool
+    ensures { result ≡ migration_adds_no_sequence version schema.now }
 {
     match version {
         Version::First => !lacks_sequence_table(schema),
@@ -93,9 +93,9 @@ pub fn admits_tables(schema: &Schema) -> bool
     ensures { result ≡ admits_tables schema.now }
 {
     !is_used(schema, META)
-        && !is_used(schema, Version::First.device_table())
-        && !is_used(schema, Version::Second.device_table())
-        && !are_ours_referenced(schema)
+        && !is_used(schema, Version::First.device_table_name())
+        && !is_used(schema, Version::Second.device_table_name())
+        && !has_foreign_key_to_ours(schema)
         && !lacks_sequence_table(schema)
 }
 
@@ -110,13 +110,13 @@ fn is_alone_in_tree(schema: &Schema, name: &[u8], tree: u32) -> bool
 fn is_unaffected(schema: &Schema, version: Version, meta: u32, devices: u32) -> bool
     ensures { result ≡ is_unaffected version schema.now meta devices }
 {
-    !are_ours_referenced(schema)
+    !has_foreign_key_to_ours(schema)
         && !is_indexed(schema, meta)
         && !is_indexed(schema, devices)
         && is_alone_in_tree(schema, META, meta)
-        && is_alone_in_tree(schema, version.device_table(), devices)
-        && !is_used(schema, version.other().device_table())
-        && can_count_rowids(schema, version)
+        && is_alone_in_tree(schema, version.device_table_name(), devices)
+        && !is_used(schema, version.other().device_table_name())
+        && migration_adds_no_sequence(schema, version)
 }
 
 fn tree_of_table(schema: &Schema, name: &[u8]) -> Option<u32>
@@ -132,7 +132,7 @@ pub fn trees_of_tables(schema: &Schema, version: Version) -> Option<(u32, u32)>
     ensures { result ≡ trees_of_tables version schema.now }
 {
     let meta = tree_of_table(schema, META)?;
-    let devices = tree_of_table(schema, version.device_table())?;
+    let devices = tree_of_table(schema, version.device_table_name())?;
     if is_unaffected(schema, version, meta, devices) {
         Some((meta, devices))
     } else {

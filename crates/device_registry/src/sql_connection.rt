@@ -8,9 +8,9 @@ ghost use Rattle.sqlite.specs.State.{Executes, CommitsBy, Shown, FailsToQuery, C
 ghost use Rattle.sqlite_trees.specs.Tree.{Trees};
 ghost use Rattle.device_registry.specs.declared.table.Version.TheVariants.{First};
 ghost use Rattle.learned_devices.specs.Devices.{Devices};
-ghost use Rattle.device_registry.specs.Stored.{IsRegistry, IsRegistryOfVersion, Holds};
+ghost use Rattle.device_registry.specs.Stored.{IsRegistry, IsRegistryOfVersion, HoldsVersion2};
 ghost use Rattle.device_registry.specs.Ready.{IsReadyWith, KeepsOtherTables};
-ghost use Rattle.device_registry.specs.Opening.{KeepsDatabase};
+ghost use Rattle.device_registry.specs.Opening.{KeepsDatabaseIfOpen};
 ghost use Rattle.device_registry.specs.SchemaChecks.{admits_tables};
 
 use crate::{create, migrate};
@@ -82,9 +82,9 @@ pub trait SqlConnection {
         ensures made { HasCleanDisk (state self.new) → OnOk result (IsReadyWith (state self.new) empty) }
         ensures others { HasCleanDisk (state self.new) → OnOk result (KeepsOtherTables (state self.old).now
             (state self.new).now) }
-        ensures crash { Survives (state self.old) (state self.new) (λ trees. Holds trees empty) }
+        ensures crash { Survives (state self.old) (state self.new) (λ trees. HoldsVersion2 trees empty) }
         ensures remains { HasCleanDisk (state self.new)
-            → OnErr result (KeepsDatabase (state self.old) (state self.new)) };
+            → OnErr result (KeepsDatabaseIfOpen (state self.old) (state self.new)) };
 
     /// Migrates the tables of a registry of version 1 to version 2, in one transaction.
     fn migrate_tables(&mut self) -> Result<(), Error>
@@ -96,9 +96,9 @@ pub trait SqlConnection {
         ensures others { HasCleanDisk (state self.new) → OnOk result (KeepsOtherTables (state self.old).now
             (state self.new).now) }
         ensures crash { Survives (state self.old) (state self.new) (λ trees. (devices : Devices) →
-            IsRegistryOfVersion First (state self.old).now devices → Holds trees devices) }
+            IsRegistryOfVersion First (state self.old).now devices → HoldsVersion2 trees devices) }
         ensures remains { HasCleanDisk (state self.new)
-            → OnErr result (KeepsDatabase (state self.old) (state self.new)) };
+            → OnErr result (KeepsDatabaseIfOpen (state self.old) (state self.new)) };
 
     // While the connection is open, a crash leaves what is committed.
     ghost settled: { (s : Self) (trees : Trees) → IsTrue (state s).is_open → (state s).may_leave trees

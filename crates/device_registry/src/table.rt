@@ -1,12 +1,12 @@
 //! The two tables of the registry, in both versions: names, numbers and ranges.
 ghost use Rattle.std.specs.Prelude.{◌≡◌, pos};
 ghost use Rattle.device_registry.specs.Stored.{other};
-ghost use Rattle.device_registry.specs.Table.{version_number, device_name, create_device_sql, find_all_sql};
+ghost use Rattle.device_registry.specs.Table.{version_number, device_table_name, create_device_sql, find_all_sql};
 
 pub mod row_codec;
 pub mod statements;
 
-use statements::{CREATE_DEVICE, CREATE_FIRST_DEVICE, FIND_ALL, FIND_ALL_FIRST};
+use statements::{CREATE_DEVICE, CREATE_DEVICE_V1, FIND_ALL, FIND_ALL_V1};
 
 /// A version of the tables. Own choice.
 #[derive(Clone, Copy)]
@@ -39,8 +39,8 @@ impl Version {
     }
 
     /// The name of its device table.
-    pub fn device_table(self) -> &'static [u8]
-        ensures { result.now ≡ device_name self }
+    pub fn device_table_name(self) -> &'static [u8]
+        ensures { result.now ≡ device_table_name self }
     {
         match self {
             Version::First => b"enogate_device",
@@ -53,7 +53,7 @@ impl Version {
         ensures { result.now ≡ create_device_sql self }
     {
         match self {
-            Version::First => CREATE_FIRST_DEVICE,
+            Version::First => CREATE_DEVICE_V1,
             Version::Second => CREATE_DEVICE,
         }
     }
@@ -63,7 +63,7 @@ impl Version {
         ensures { result.now ≡ find_all_sql self }
     {
         match self {
-            Version::First => FIND_ALL_FIRST,
+            Version::First => FIND_ALL_V1,
             Version::Second => FIND_ALL,
         }
     }

@@ -3,7 +3,11 @@ ghost use Rattle.std.specs.Prelude.{◌≡◌, map, IsTrue, MatchResult};
 ghost use Rattle.sqlite.specs.Effect.{IsDatabase};
 ghost use Rattle.sqlite.specs.State.{HasCleanDisk};
 ghost use Rattle.sqlite.specs.Held.{state};
-ghost use Rattle.device_registry.specs.private.Transaction.{IsMidTransaction, IsListedMidTransaction, IsUncommitted};
+ghost use Rattle.device_registry.specs.private.Transaction.{
+  IsMidTransaction,
+  IsMidTransactionWithTables,
+  IsUncommitted,
+};
 
 use crate::catalog::are_our_tables;
 use crate::table::Version;
@@ -38,7 +42,8 @@ pub fn run_and_check_catalog<S: Alter>(
         (map (λ text. text.now) texts.now) ours.old.conn.now mid → IsDatabase (state S.Store mid).now }
     ensures same_reference { ours.new.conn.ghost_name ≡ ours.old.conn.ghost_name }
     ensures inside { MatchResult result
-        (λ _. IsListedMidTransaction S.Store version (map (λ text. text.now) texts.now) ours.old.conn.now ours.new.conn.now)
+        (λ _. IsMidTransactionWithTables S.Store version
+        (map (λ text. text.now) texts.now) ours.old.conn.now ours.new.conn.now)
         (λ _. IsUncommitted (state S.Store ours.old.conn.now) (state S.Store ours.new.conn.now)) }
 {
     run_all(ours, texts)?;

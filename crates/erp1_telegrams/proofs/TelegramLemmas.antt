@@ -12,7 +12,8 @@ use Rattle.std.proofs.lemmas.Nat.{from_be_bytes-to_be_bytes_4}
 use Rattle.esp3_frames.specs.Packet.{Packet}
 use Rattle.erp1_telegrams.specs.declared.telegram.TelegramFault.{TelegramFault}
 use Rattle.erp1_telegrams.specs.declared.telegram.TelegramFault.TheVariants.{NotRadio, OtherKind, BadLength}
-use Rattle.erp1_telegrams.specs.Telegram.{Telegram, CarriesTelegram, is_known_rorg, payload_length_fits, destination, dbm_of_optional}
+use Rattle.erp1_telegrams.specs.Telegram.{Telegram, CarriesTelegram, is_decoded_rorg, payload_length_fits, destination}
+use Rattle.erp1_telegrams.specs.Telegram.{dbm_of_optional}
 use Rattle.erp1_telegrams.specs.Telegram.{telegram_in}
 use Rattle.erp1_telegrams.specs.Telegram.{telegram_of, radio_packet}
 
@@ -28,7 +29,7 @@ some_test false false false true e u v w x y h = refl
 some_test false false false false true u v w x y h = refl
 some_test false false false false false u v w x y h = absurd cc
 
-pub fits_kind : (r n : ℕ) → payload_length_fits r n ≡ true → is_known_rorg r ≡ true
+pub fits_kind : (r n : ℕ) → payload_length_fits r n ≡ true → is_decoded_rorg r ≡ true
 fits_kind r n h = some_test (r == 0xF6) (r == 0xD5) (r == 0xA5) (r == 0xD2) (r == 0xD4) _ _ _ _ _ h
 
 and_left : (a b : Bool) → (a && b) ≡ true → a ≡ true
@@ -109,7 +110,7 @@ pub packed_of : (r : ℕ) (payload id : List ℕ) (status : ℕ) (opt : List ℕ
 packed_of r payload id status opt four fit =
     let all : List ℕ = r ∷ payload ++ id ++ status ∷ [] in
     let some : (length all == 0) ≡ false = ne_eqb (length all) 0 (λ e. omega arith) in
-    let kind : is_known_rorg r ≡ true = fits_kind r (length payload) fit in
+    let kind : is_decoded_rorg r ≡ true = fits_kind r (length payload) fit in
     let n : length all - 6 ≡ length payload =
     omega (arith, length-append (payload ++ id) (status ∷ []), length-append payload id) in
     let fit_all : payload_length_fits r (length all - 6) ≡ true = ap (payload_length_fits r) n ∙ fit in
@@ -184,7 +185,7 @@ pub of_carried : (p : Packet) (t : Telegram) → telegram_of p ≡ Ok t → Carr
 of_carried p t e =
     let a = guard (not (p.kind == 1)) NotRadio _ t e in
     let b = guard (length p.body == 0) BadLength _ t a.1 in
-    let c = guard (not (is_known_rorg (get_or p.body 0 0))) OtherKind _ t b.1 in
+    let c = guard (not (is_decoded_rorg (get_or p.body 0 0))) OtherKind _ t b.1 in
     let d = guard (not (payload_length_fits (get_or p.body 0 0) (length p.body - 6))) BadLength _ t c.1 in
     let is : telegram_in p ≡ t = (let x = d.1 in cc) in
     subst (λ (u : Telegram). CarriesTelegram p u) is
@@ -197,7 +198,8 @@ one_carried p t u h k =
 
 -- ---- what is sent is read
 
-pub sent_of : (t : Telegram) → payload_length_fits t.rorg (length t.payload) ≡ true → t.sender < 2 ^ 32 → t.dest < 2 ^ 32
+pub sent_of : (t : Telegram) → payload_length_fits t.rorg (length t.payload) ≡ true → t.sender < 2 ^ 32
+    → t.dest < 2 ^ 32
     → telegram_of (radio_packet t) ≡ Ok (record t { dbm = Some 255 })
 sent_of t fit sender dest =
     let opt : List ℕ = 3 ∷ to_be_bytes w32 t.dest ++ 0xFF ∷ 0 ∷ [] in
@@ -289,9 +291,9 @@ taken_in p w sender dest dbm h =
 
 pub taken_is : (p : Packet) (w : List ℕ) (sender dest : ℕ) (dbm : Option ℕ) (r : Result Telegram TelegramFault)
     → Taken p w sender dest dbm → IfOk r (λ x. x ≡ taken p w sender dest dbm)
-    → ((r ≡ Err OtherKind) ↔ (is_known_rorg (get_or p.body 0 0) ≡ false))
+    → ((r ≡ Err OtherKind) ↔ (is_decoded_rorg (get_or p.body 0 0) ≡ false))
     → ((r ≡ Err BadLength) ↔
-    ((is_known_rorg (get_or p.body 0 0) ≡ true)
+    ((is_decoded_rorg (get_or p.body 0 0) ≡ true)
     × (payload_length_fits (get_or p.body 0 0) (length (take (length w - 5) w)) ≡ false)))
     → (r ≡ Err NotRadio → ⊥) → r ≡ telegram_of p
 taken_is p w sender dest dbm r h o a b n =
@@ -302,6 +304,6 @@ taken_is p w sender dest dbm r h o a b n =
     let len : length (take (length w - 5) w) ≡ length p.body - 6 =
     omega (arith, length-take (length w - 5) w, ap length rest, length-drop 1 p.body) in
     let made =
-    made_is r (taken p w sender dest dbm) (is_known_rorg (get_or p.body 0 0))
+    made_is r (taken p w sender dest dbm) (is_decoded_rorg (get_or p.body 0 0))
     (payload_length_fits (get_or p.body 0 0) (length (take (length w - 5) w))) o a b n in
     rw (is_radio, some, ← taken_in p w sender dest dbm h, ← len) made

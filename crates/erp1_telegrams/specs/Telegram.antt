@@ -17,11 +17,11 @@ pub record Telegram : Type 0 where
   pub dbm : Option ℕ
 
 -- the RORGs that are read: RPS, 1BS, 4BS, VLD and UTE (ISO/IEC 14543-3-10, "RORG"). Own choice: no others
-abbrev pub is_known_rorg : ℕ → Bool
-is_known_rorg rorg = rorg == 0xF6 || rorg == 0xD5 || rorg == 0xA5 || rorg == 0xD2 || rorg == 0xD4
+abbrev pub is_decoded_rorg : (rorg : ℕ) → Bool
+is_decoded_rorg rorg = rorg == 0xF6 || rorg == 0xD5 || rorg == 0xA5 || rorg == 0xD2 || rorg == 0xD4
 
 -- the payload lengths, in bytes, of each RORG (ISO/IEC 14543-3-10, "RORG")
-abbrev pub payload_length_fits : ℕ → ℕ → Bool
+abbrev pub payload_length_fits : (rorg n : ℕ) → Bool
 payload_length_fits rorg n =
     if rorg == 0xF6 then n == 1
     else if rorg == 0xD5 then n == 1
@@ -33,12 +33,12 @@ payload_length_fits rorg n =
 -- the destination in the optional data: the number of subtelegrams, the destination ID, dBm, the security level
 -- (EnOcean Serial Protocol 3, "Packet type 1: RADIO_ERP1", optional data). Own choice: shorter data is read as a
 -- broadcast
-abbrev pub destination : List ℕ → ℕ
+abbrev pub destination : (opt : List ℕ) → ℕ
 destination (n ∷ a ∷ b ∷ c ∷ d ∷ dbm ∷ security ∷ more) = from_be_bytes w32 (a ∷ b ∷ c ∷ d ∷ [])
 destination opt = 0xFFFF_FFFF
 
 -- dBm in the optional data. Own choice: shorter data has none
-abbrev pub dbm_of_optional : List ℕ → Option ℕ
+abbrev pub dbm_of_optional : (opt : List ℕ) → Option ℕ
 dbm_of_optional (n ∷ a ∷ b ∷ c ∷ d ∷ dbm ∷ security ∷ more) = Some dbm
 dbm_of_optional opt = None
 
@@ -72,7 +72,7 @@ abbrev pub telegram_of : Packet → Result Telegram TelegramFault
 telegram_of p =
     if not (p.kind == 1) then Err NotRadio
     else if length p.body == 0 then Err BadLength
-    else if not (is_known_rorg (slice_index p.body 0)) then Err OtherKind
+    else if not (is_decoded_rorg (slice_index p.body 0)) then Err OtherKind
     else if not (payload_length_fits (slice_index p.body 0) (length p.body - 6)) then Err BadLength
     else Ok (telegram_in p)
 

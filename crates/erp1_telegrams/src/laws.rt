@@ -1,7 +1,8 @@
 //! Theorems about the definitions. Each function does nothing: its contract is the theorem.
 ghost use Rattle.std.specs.Prelude.{◌≡◌, ℕ, ◌<◌, ◌^◌, ◌↔◌, length, IsTrue, Some, Ok};
 ghost use Rattle.esp3_frames.specs.Packet.{Packet};
-ghost use Rattle.erp1_telegrams.specs.Telegram.{Telegram, CarriesTelegram, payload_length_fits, telegram_of, radio_packet};
+ghost use Rattle.erp1_telegrams.specs.Telegram.{Telegram, CarriesTelegram, payload_length_fits, telegram_of};
+ghost use Rattle.erp1_telegrams.specs.Telegram.{radio_packet};
 
 /// Reading a packet returns the telegram that it carries, and a packet carries at most one.
 pub fn one_telegram()
@@ -11,6 +12,7 @@ pub fn one_telegram()
 
 /// The packet in which a telegram is sent is read as that telegram, except for its dBm, which is sent as 255.
 pub fn sent_is_read()
-    ensures { (t : Telegram) → IsTrue (payload_length_fits t.rorg (length t.payload)) → t.sender < 2 ^ 32 → t.dest < 2 ^ 32
+    ensures { (t : Telegram) → IsTrue (payload_length_fits t.rorg (length t.payload)) → t.sender < 2 ^ 32
+        → t.dest < 2 ^ 32
         → telegram_of (radio_packet t) ≡ Ok (record t { dbm = Some 255 }) }
 {}

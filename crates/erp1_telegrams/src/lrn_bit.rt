@@ -2,7 +2,7 @@
 //! a teach-in telegram and 1 in data (EnOcean Equipment Profiles 2.6, "Teach-in process").
 
 /// The offset in the one byte of a 1BS payload.
-pub const ONE_BS: usize = 4;
+pub const ONE_BS_OFFSET: usize = 4;
 
 /// The offset in the four bytes of a 4BS payload.
-pub const FOUR_BS: usize = 28;
+pub const FOUR_BS_OFFSET: usize = 28;

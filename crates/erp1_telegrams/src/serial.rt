@@ -4,9 +4,10 @@ ghost use Rattle.std.specs.Prelude.{Ok, Err, OnOk, OnErr};
 ghost use Rattle.arrayvec.specs.ArrayVec.{array_vec_len};
 ghost use Rattle.esp3_frames.specs.Packet.{IsPacket, spelling};
 ghost use Rattle.esp3_frames.specs.Outcome.{packet_of};
-ghost use Rattle.erp1_telegrams.specs.Telegram.{telegram_of, destination, dbm_of_optional, radio_packet, max_radio_packet};
+ghost use Rattle.erp1_telegrams.specs.Telegram.{telegram_of, destination, dbm_of_optional, radio_packet};
+ghost use Rattle.erp1_telegrams.specs.Telegram.{max_radio_packet};
 
-use crate::telegram::{BROADCAST, Telegram, TelegramFault, is_known_rorg};
+use crate::telegram::{BROADCAST, Telegram, TelegramFault, is_decoded_rorg};
 use arrayvec::ArrayVec;
 use esp3_frames::packet_type::RADIO_ERP1;
 use esp3_frames::{PacketFault, PacketRef, write_packet};
@@ -25,7 +26,7 @@ pub fn read(p: &PacketRef<'_>) -> Result<Telegram, TelegramFault>
         return Err(TelegramFault::BadLength);
     };
     let [payload @ .., a, b, c, d, status] = rest else {
-        return Err(if is_known_rorg(*rorg) {
+        return Err(if is_decoded_rorg(*rorg) {
             TelegramFault::BadLength
         } else {
             TelegramFault::OtherKind

@@ -1,6 +1,6 @@
 //! Telegrams, received or to be sent.
 ghost use Rattle.std.specs.Prelude.{◌≡◌, ◌≢◌, ◌↔◌, length, true, false, IsTrue, IfOk, Err, if◌then◌else◌, Some, None};
-ghost use Rattle.erp1_telegrams.specs.Telegram.{payload_length_fits, is_known_rorg};
+ghost use Rattle.erp1_telegrams.specs.Telegram.{payload_length_fits, is_decoded_rorg};
 
 use crate::rorg;
 use arrayvec::ArrayVec;
@@ -75,9 +75,9 @@ impl Telegram {
           dest = dest;
           dbm = dbm;
         }) }
-        ensures other_kind { (result ≡ Err TelegramFault.OtherKind) ↔ (is_known_rorg rorg ≡ false) }
+        ensures other_kind { (result ≡ Err TelegramFault.OtherKind) ↔ (is_decoded_rorg rorg ≡ false) }
         ensures bad_length { (result ≡ Err TelegramFault.BadLength)
-            ↔ ((is_known_rorg rorg ≡ true) × (payload_length_fits rorg (length payload.now) ≡ false)) }
+            ↔ ((is_decoded_rorg rorg ≡ true) × (payload_length_fits rorg (length payload.now) ≡ false)) }
         ensures no_other { result ≢ Err TelegramFault.NotRadio }
     {
         match payload_length_fits(rorg, payload.len()) {
@@ -144,15 +144,15 @@ impl Telegram {
 }
 
 /// Whether telegrams with this RORG are read.
-pub(crate) fn is_known_rorg(rorg: u8) -> bool
-    ensures { result ≡ is_known_rorg rorg }
+pub(crate) fn is_decoded_rorg(rorg: u8) -> bool
+    ensures { result ≡ is_decoded_rorg rorg }
 {
     payload_length_fits(rorg, 0).is_some()
 }
 
 // Whether a payload of this RORG may have this many bytes. `None` if telegrams with this RORG are not read.
 fn payload_length_fits(rorg: u8, len: usize) -> Option<bool>
-    ensures { result ≡ (if is_known_rorg rorg then Some (payload_length_fits rorg len) else None) }
+    ensures { result ≡ (if is_decoded_rorg rorg then Some (payload_length_fits rorg len) else None) }
 {
     match rorg {
         rorg::RPS | rorg::ONE_BS => Some(len == 1),

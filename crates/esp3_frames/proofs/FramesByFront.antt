@@ -8,7 +8,7 @@ use Rattle.std.proofs.lemmas.Bool.{ne_eqb}
 use Rattle.esp3_frames.specs.Packet.{max_packet, Packet, IsPacket}
 use Rattle.esp3_frames.specs.Framing.{BeginsWithPacket}
 use Rattle.esp3_frames.specs.Framing.Framing.{ends, finds}
-use Rattle.esp3_frames.specs.Frames.{Front, front_of, Frames, frames_after, frames_of, packets_in}
+use Rattle.esp3_frames.specs.Frames.{Front, front_of, Frames, frames_after_skipping, frames_of, packets_in}
 use Rattle.esp3_frames.specs.Frames.{rest_of}
 use Rattle.esp3_frames.specs.Frames.Front.{Never, Partial, Whole}
 use Rattle.esp3_frames.proofs.PacketLemmas.{packet_length, one_reading, begins_not_may}
@@ -21,14 +21,14 @@ cases_front Never = inl refl
 cases_front Partial = inr (inl refl)
 cases_front (Whole p) = inr (inr (p, refl))
 
-after_drop : (n : ℕ) (s : List ℕ) → frames_after n s ≡ frames_of (drop n s)
-unfolding frames_after
+after_drop : (n : ℕ) (s : List ℕ) → frames_after_skipping n s ≡ frames_of (drop n s)
+unfolding frames_after_skipping
 after_drop zero s = refl
 after_drop (suc n) [] = refl
 after_drop (suc n) (b ∷ s) = after_drop n s
 
 pub frames-never : (s : List ℕ) → front_of s ≡ Never → (0 < length s) × (frames_of (drop 1 s) ≡ frames_of s)
-unfolding frames_after front_of
+unfolding frames_after_skipping front_of
 frames-never [] e = absurd cc
 frames-never (b ∷ s) e = (omega arith, ap (stepped b s) (sym e))
 
@@ -54,7 +54,7 @@ frames-skipped (b ∷ w) (suc n) h none =
     ∙ (frames-never (b ∷ w) (front-no_sync b w (none zero (omega arith)))).1
 
 pub frames-partial : (s : List ℕ) → front_of s ≡ Partial → frames_of s ≡ record { ready = []; rest = s }
-unfolding frames_after
+unfolding frames_after_skipping
 frames-partial [] e = refl
 frames-partial (b ∷ s) e = ap (stepped b s) e
 
@@ -63,7 +63,7 @@ pub frames-whole : (s : List ℕ) (p : Packet) → front_of s ≡ Whole p
       ready = p ∷ packets_in (drop (length p.body + length p.opt + 7) s);
       rest = rest_of (drop (length p.body + length p.opt + 7) s);
     }
-unfolding frames_after front_of
+unfolding frames_after_skipping front_of
 frames-whole [] p e = absurd cc
 frames-whole (b ∷ s) p e =
     let n : ℕ = length p.body + length p.opt + 6 in

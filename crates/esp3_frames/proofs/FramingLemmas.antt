@@ -8,7 +8,7 @@ use Rattle.esp3_frames.specs.Check.{check}
 use Rattle.esp3_frames.specs.Packet.{Packet, spelling, IsPacket}
 use Rattle.esp3_frames.specs.Framing.{BeginsWithPacket, MayBecomePacket, NeverPacket, Framing}
 use Rattle.esp3_frames.specs.Framing.Framing.{ends, skips, finds}
-use Rattle.esp3_frames.specs.Frames.{Front, front_of, Frames, frames_after, packets_in, rest_of}
+use Rattle.esp3_frames.specs.Frames.{Front, front_of, Frames, frames_after_skipping, packets_in, rest_of}
 use Rattle.esp3_frames.specs.Frames.Front.{Never, Partial, Whole}
 use Rattle.esp3_frames.proofs.PacketLemmas.{split_fronts, one_reading, never-longer, packet_length, begins_not_may}
 use Rattle.esp3_frames.proofs.HeaderLemmas.{packet_parts, tail_check}
@@ -125,10 +125,10 @@ empty_front = refl
 abbrev pub stepped : ℕ → List ℕ → Front → Frames
 stepped b s f =
     elim f [
-      | Never ↦ frames_after zero s
+      | Never ↦ frames_after_skipping zero s
       | Partial ↦ record { ready = []; rest = b ∷ s }
       | Whole p ↦ let c =
-          frames_after (length p.body + length p.opt + 6) s in record { ready = p ∷ c.ready; rest = c.rest }
+          frames_after_skipping (length p.body + length p.opt + 6) s in record { ready = p ∷ c.ready; rest = c.rest }
     ]
 
 dropped : (b : ℕ) (s v r : List ℕ) (n : ℕ) → (b ∷ s) ≡ v ++ r → length v ≡ suc n → (n ≤ length s) × (r ≡ drop n s)
@@ -141,7 +141,7 @@ dropped b s (x ∷ v) r n e h =
     )
 
 at_front : (b : ℕ) (s : List ℕ) (f : Front) → front_of (b ∷ s) ≡ f
-    → ((n : ℕ) → n ≤ length s → Framing (drop n s) (frames_after n s).ready (frames_after n s).rest)
+    → ((n : ℕ) → n ≤ length s → Framing (drop n s) (frames_after_skipping n s).ready (frames_after_skipping n s).rest)
     → Framing (b ∷ s) (stepped b s f).ready (stepped b s f).rest
 at_front b s Never e ih = skips (front_never (b ∷ s) e) (ih zero (omega arith))
 at_front b s Partial e ih = ends (front_partial (b ∷ s) e)
@@ -153,8 +153,8 @@ at_front b s (Whole p) e ih =
     finds {front = h.front} {s = drop n s} h.whole (h.is ∙ ap (λ (y : List ℕ). h.front ++ y) d.1) (ih n d.0)
 
 pub framing_after : (n : ℕ) (s : List ℕ) → n ≤ length s
-    → Framing (drop n s) (frames_after n s).ready (frames_after n s).rest
-unfolding frames_after
+    → Framing (drop n s) (frames_after_skipping n s).ready (frames_after_skipping n s).rest
+unfolding frames_after_skipping
 framing_after zero [] h = ends (front_partial [] empty_front)
 framing_after (suc n) [] h = absurd (omega arith)
 framing_after (suc n) (b ∷ s) h = framing_after n s (omega arith)

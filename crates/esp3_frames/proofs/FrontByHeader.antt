@@ -5,7 +5,7 @@ use Rattle.std.proofs.Common.{arith, subst, ◌⊎◌, inl, inr}
 use Rattle.std.specs.Prelude.{Result, Ok, Err}
 use Rattle.std.proofs.lemmas.Bool.{and_parts, and_from, le-leb, lt-leb, eq-eqb, ne_eqb}
 use Rattle.esp3_frames.specs.Check.{check}
-use Rattle.esp3_frames.specs.Packet.{lengths_fit, Packet}
+use Rattle.esp3_frames.specs.Packet.{announces_data, Packet}
 use Rattle.esp3_frames.specs.Frames.{may_begin, Front, front_after_header, front_of}
 use Rattle.esp3_frames.specs.Frames.Front.{Never, Partial, Whole}
 use Rattle.esp3_frames.specs.Outcome.{decoded_header, header_of}
@@ -60,7 +60,7 @@ good_header s h l o k c e =
     let b = and_parts _ _ a.0 in
     let e1 : eqb s 0x55 ≡ true = b.0 in
     let e2 : eqb c (check (h ∷ l ∷ o ∷ k ∷ [])) ≡ true = a.1 in
-    let e3 : lengths_fit h l o ≡ true = b.1 in
+    let e3 : announces_data h l o ≡ true = b.1 in
     rw (e1, e2, e3) refl
 
 apart : (y : Header) (e : HeaderFault) → ◌≡◌ {A = Result Header HeaderFault} (Ok y) (Err e) → ⊥

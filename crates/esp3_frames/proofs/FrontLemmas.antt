@@ -6,14 +6,14 @@ use Rattle.std.proofs.Math.ListN.{length-replicate}
 use Rattle.std.proofs.lemmas.List.{take-append-drop}
 use Rattle.std.proofs.lemmas.Bool.{and_parts, and_from, leb-true, leb-false, eqb-true, lt-ltb, eq-eqb}
 use Rattle.esp3_frames.specs.Check.{check}
-use Rattle.esp3_frames.specs.Packet.{lengths_fit, Packet, IsPacket}
+use Rattle.esp3_frames.specs.Packet.{announces_data, Packet, IsPacket}
 use Rattle.esp3_frames.specs.Framing.{MayBecomePacket}
 use Rattle.esp3_frames.specs.Frames.{may_begin, Front, front_of}
 use Rattle.esp3_frames.specs.Frames.Front.{Never, Partial, Whole}
 use Rattle.esp3_frames.proofs.PacketLemmas.{may_become-shorter}
 use Rattle.esp3_frames.proofs.HeaderLemmas.{packet_parts, parts_packet, Fitting, fitting, made, is_made}
 
-pub test_fitting : (h l o : ℕ) → Fitting h l o → lengths_fit h l o ≡ true
+pub test_fitting : (h l o : ℕ) → Fitting h l o → announces_data h l o ≡ true
 test_fitting h l o f =
     and_from _ _ (and_from _ _ (lt-ltb h 256 f.high) (lt-ltb l 256 f.low))
     (and_from _ _ (lt-ltb o 256 f.opts) (lt-ltb 0 _ f.some))
@@ -66,17 +66,17 @@ no_whole : (b : Bool) (p : Packet) → cond b Partial Never ≡ Whole p → ⊥
 no_whole true p e = cc
 no_whole false p e = cc
 
-pub may_become_two : (h : ℕ) → lengths_fit h 0 1 ≡ true → MayBecomePacket (0x55 ∷ h ∷ [])
+pub may_become_two : (h : ℕ) → announces_data h 0 1 ≡ true → MayBecomePacket (0x55 ∷ h ∷ [])
 may_become_two h e =
     may_become-shorter (0x55 ∷ h ∷ []) (0 ∷ 1 ∷ 0 ∷ check (h ∷ 0 ∷ 1 ∷ 0 ∷ []) ∷ [])
     (completed h 0 1 0 [] (fitting h 0 1 e) (omega arith))
 
-pub may_become_three : (h l : ℕ) → lengths_fit h l 1 ≡ true → MayBecomePacket (0x55 ∷ h ∷ l ∷ [])
+pub may_become_three : (h l : ℕ) → announces_data h l 1 ≡ true → MayBecomePacket (0x55 ∷ h ∷ l ∷ [])
 may_become_three h l e =
     may_become-shorter (0x55 ∷ h ∷ l ∷ []) (1 ∷ 0 ∷ check (h ∷ l ∷ 1 ∷ 0 ∷ []) ∷ [])
     (completed h l 1 0 [] (fitting h l 1 e) (omega arith))
 
-pub may_become_five : (h l o k : ℕ) → lengths_fit h l o ≡ true → MayBecomePacket (0x55 ∷ h ∷ l ∷ o ∷ k ∷ [])
+pub may_become_five : (h l o k : ℕ) → announces_data h l o ≡ true → MayBecomePacket (0x55 ∷ h ∷ l ∷ o ∷ k ∷ [])
 may_become_five h l o k e =
     may_become-shorter (0x55 ∷ h ∷ l ∷ o ∷ k ∷ []) (check (h ∷ l ∷ o ∷ k ∷ []) ∷ [])
     (completed h l o k [] (fitting h l o e) (omega arith))

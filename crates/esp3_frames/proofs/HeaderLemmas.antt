@@ -10,7 +10,7 @@ use Rattle.esp3_frames.specs.Check.{check}
 use Rattle.esp3_frames.specs.Outcome.{decoded_header, header_of}
 use Rattle.esp3_frames.specs.declared.packet.Header.{Header}
 use Rattle.esp3_frames.specs.declared.packet.HeaderFault.{HeaderFault}
-use Rattle.esp3_frames.specs.Packet.{lengths_fit, Packet, header, spelling, IsPacket}
+use Rattle.esp3_frames.specs.Packet.{announces_data, Packet, header, spelling, IsPacket}
 
 -- the bytes of a packet, by index
 pub record Parts (p : Packet) (s h l o k c : ℕ) (w : List ℕ) : Type 0 where
@@ -69,7 +69,7 @@ pub record Fitting (h l o : ℕ) : Type 0 where
   pub opts : o < 256
   pub some : 0 < h + l + o
 
-pub fitting : (h l o : ℕ) → lengths_fit h l o ≡ true → Fitting h l o
+pub fitting : (h l o : ℕ) → announces_data h l o ≡ true → Fitting h l o
 fitting h l o e =
     let a = and_parts _ _ e in
     let b = and_parts _ _ a.0 in
@@ -139,7 +139,7 @@ six_first b f w h ef ew = (
 pub record Heads (s h l o k c : ℕ) (x : Header) : Type 0 where
   pub sync : s ≡ 0x55
   pub checked : c ≡ check (h ∷ l ∷ o ∷ k ∷ [])
-  pub fits : lengths_fit h l o ≡ true
+  pub fits : announces_data h l o ≡ true
   pub is : decoded_header (s ∷ h ∷ l ∷ o ∷ k ∷ c ∷ []) ≡ x
 
 pub heads : (s h l o k c : ℕ) (x : Header) → header_of (s ∷ h ∷ l ∷ o ∷ k ∷ c ∷ []) ≡ Ok x → Heads s h l o k c x

@@ -34,6 +34,6 @@ unfoldable pub check : List ℕ → ℕ
 check m = remainder (bits m)
 
 -- the CRC of a message whose CRC is c, after n more zero bytes
-unfoldable pub crc_after_zeros : ℕ → ℕ → ℕ
+unfoldable pub crc_after_zeros : (c : ℕ) → ℕ → ℕ
 crc_after_zeros c zero = c
 crc_after_zeros c (suc n) = crc_after_zeros (check (c ∷ [])) n

@@ -2,12 +2,13 @@
 use Rattle.std.specs.Prelude.{ℕ, zero, suc, ◌+◌, ◌*◌, List, [], ◌∷◌, length, take, drop, Bool, ◌&&◌, nat_le}
 use Rattle.std.specs.Prelude.{◌==◌, slice_index, slice_index_or, if◌then◌else◌}
 use Rattle.esp3_frames.specs.Check.{check}
-use Rattle.esp3_frames.specs.Packet.{lengths_fit, Packet}
+use Rattle.esp3_frames.specs.Packet.{announces_data, Packet}
 
 -- some packet may begin with these at most five bytes; missing bytes are assumed to be valid
 abbrev pub may_begin : List ℕ → Bool
 may_begin w =
-    slice_index_or w 0 0x55 == 0x55 && lengths_fit (slice_index_or w 1 0) (slice_index_or w 2 0) (slice_index_or w 3 1)
+    slice_index_or w 0 0x55 == 0x55
+    && announces_data (slice_index_or w 1 0) (slice_index_or w 2 0) (slice_index_or w 3 1)
 
 -- the front of a text: no packet whatever follows, a part of one, or a whole one
 pub data Front : Type 0 where
@@ -16,7 +17,7 @@ pub data Front : Type 0 where
   Whole : Packet → Front
 
 -- the front of a text whose first six bytes are a valid header with these lengths and this type, followed by w
-abbrev pub front_after_header : ℕ → ℕ → ℕ → List ℕ → Front
+abbrev pub front_after_header : (d o kind : ℕ) → List ℕ → Front
 front_after_header d o kind w =
     if nat_le (length w) (d + o) then Partial
     else if slice_index w (d + o) == check (take (d + o) w) then Whole
@@ -35,19 +36,19 @@ pub record Frames : Type 0 where
   pub rest : List ℕ
 
 -- the frames after the next n bytes, which belong to a packet
-unfoldable pub frames_after : ℕ → List ℕ → Frames
-frames_after n [] = record { ready = []; rest = [] }
-frames_after (suc n) (b ∷ s) = frames_after n s
-frames_after zero (b ∷ s) =
+unfoldable pub frames_after_skipping : (skip : ℕ) → List ℕ → Frames
+frames_after_skipping n [] = record { ready = []; rest = [] }
+frames_after_skipping (suc n) (b ∷ s) = frames_after_skipping n s
+frames_after_skipping zero (b ∷ s) =
     elim (front_of (b ∷ s)) [
-      | Never ↦ frames_after zero s
+      | Never ↦ frames_after_skipping zero s
       | Partial ↦ record { ready = []; rest = b ∷ s }
       | Whole p ↦ let c =
-          frames_after (length p.body + length p.opt + 6) s in record { ready = p ∷ c.ready; rest = c.rest }
+          frames_after_skipping (length p.body + length p.opt + 6) s in record { ready = p ∷ c.ready; rest = c.rest }
     ]
 
 abbrev pub frames_of : List ℕ → Frames
-frames_of s = frames_after zero s
+frames_of s = frames_after_skipping zero s
 
 -- the packets in a stream
 abbrev pub packets_in : List ℕ → List Packet

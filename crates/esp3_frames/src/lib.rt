@@ -12,6 +12,6 @@ pub mod packet_type;
 pub use check::{check8, check8_between, check8_next};
 pub use limits::{MAX_DATA, MAX_OPTIONAL_DATA, MAX_PACKET};
 pub use packet::{
-    Header, HeaderFault, PacketFault, PacketRef, SYNC_BYTE, first_packet, lengths_fit, read_header,
-    read_packet, write_packet,
+    Header, HeaderFault, PacketFault, PacketRef, SYNC_BYTE, announces_data, packet_at_start,
+    read_header, read_packet, write_packet,
 };

@@ -1,5 +1,6 @@
 //! Reading and writing headers and whole packets.
-ghost use Rattle.std.specs.Prelude.{◌≡◌, ◌≢◌, ℕ, ◌+◌, ◌*◌, ◌-◌, ◌++◌, length, IfSome, IfNone, IfOk, IfErr, OnOk, OnErr, Ok, Err};
+ghost use Rattle.std.specs.Prelude.{◌≡◌, ◌≢◌, ℕ, ◌+◌, ◌*◌, ◌-◌, ◌++◌, length, IfSome, IfNone, IfOk, IfErr, OnOk, OnErr};
+ghost use Rattle.std.specs.Prelude.{Ok, Err};
 ghost use Rattle.esp3_frames.specs.Frames.{front_of};
 ghost use Rattle.esp3_frames.specs.Frames.Front.{Whole};
 ghost use Rattle.esp3_frames.specs.Packet;
@@ -42,8 +43,8 @@ pub enum HeaderFault {
 
 /// Whether a header may announce these lengths: that of the data in two bytes, the high byte first, and that of the
 /// optional data. Own choice: a packet is not empty.
-pub fn lengths_fit(high: u8, low: u8, opt_len: u8) -> bool
-    ensures { result ≡ Packet.lengths_fit high low opt_len }
+pub fn announces_data(high: u8, low: u8, opt_len: u8) -> bool
+    ensures { result ≡ Packet.announces_data high low opt_len }
 {
     high > 0 || low > 0 || opt_len > 0
 }
@@ -59,7 +60,7 @@ fn check_header(b: &[u8; 6]) -> Result<(), HeaderFault>
     if b[5] != check8(&b[1..5]) {
         return Err(HeaderFault::HeaderCheck);
     }
-    if !lengths_fit(b[1], b[2], b[3]) {
+    if !announces_data(b[1], b[2], b[3]) {
         return Err(HeaderFault::EmptyPacket);
     }
     Ok(())
@@ -103,7 +104,7 @@ pub struct PacketRef<'a> {
 /// The packet at the beginning of a slice, and its length in bytes. `None` if the slice begins with no whole packet.
 ///
 /// EnOcean Serial Protocol 3, "Packet structure".
-pub fn first_packet(b: &[u8]) -> Option<(PacketRef<'_>, usize)>
+pub fn packet_at_start(b: &[u8]) -> Option<(PacketRef<'_>, usize)>
     ensures some { IfSome result (λ r. (front_of b.now ≡ Whole (packet_of r.0))
         × (r.1 ≡ length r.0.body.now + length r.0.opt.now + 7)) }
     ensures none { IfNone result ((p : Packet) → front_of b.now ≢ Whole p) }
@@ -137,7 +138,7 @@ pub fn read_packet(b: &[u8]) -> Option<PacketRef<'_>>
     ensures some { IfSome result (λ r. IsPacket (packet_of r) b.now) }
     ensures none { IfNone result ((p : Packet) → ¬ IsPacket p b.now) }
 {
-    match first_packet(b) {
+    match packet_at_start(b) {
         Some((packet, len)) if len == b.len() => Some(packet),
         _ => None,
     }

@@ -9,7 +9,7 @@ use Rattle.std.proofs.lemmas.Bool.{cases_lt}
 use Rattle.std.proofs.lemmas.List.{append-nil, nil_from_length, take_all, get_or-take, take-append-drop}
 use Rattle.esp3_frames.specs.Packet.{Packet, IsPacket}
 use Rattle.esp3_frames.specs.Framing.{MayBecomePacket, ends, finds}
-use Rattle.esp3_frames.specs.Frames.{front_of, Frames, frames_after, frames_of}
+use Rattle.esp3_frames.specs.Frames.{front_of, Frames, frames_after_skipping, frames_of}
 use Rattle.esp3_frames.specs.Frames.Front.{Never, Partial, Whole}
 use Rattle.esp3_frames.proofs.ForCallers.{whole_length, only_framing, empty_may_become, framing_in_parts, cases_front}
 use Rattle.esp3_frames.proofs.ForCallers.{frames_of-may_become, frames-never, frames-skipped, frames-partial}
@@ -34,7 +34,7 @@ pub unready_partial : (s : List ℕ) → front_of s ≡ Partial → length (fram
 unready_partial s h = ap (λ (c : Frames). length c.ready) (frames-partial s h)
 
 pub frames_of-empty : frames_of [] ≡ record { ready = []; rest = [] }
-unfolding frames_after
+unfolding frames_after_skipping
 frames_of-empty = refl
 
 -- a text that begins with no packet, from its next sync byte on

@@ -67,66 +67,67 @@ header_stays w t h has = (
 )
 
 -- the announced length, and that the CRC after it is correct
-abbrev announced_len : Header → ℕ
-announced_len h = h.data_len + h.opt_len
+abbrev announced_data_len : Header → ℕ
+announced_data_len h = h.data_len + h.opt_len
 
 abbrev IsRight : Header → List ℕ → Type 0
-IsRight h w = get_or w (announced_len h + 6) 0 ≡ check (take (announced_len h) (drop 6 w))
+IsRight h w = get_or w (announced_data_len h + 6) 0 ≡ check (take (announced_data_len h) (drop 6 w))
 
 module _ (w : List ℕ) (h : Header) (has : HasHeader w h) where
   behind : front_of w ≡ front_after_header h.data_len h.opt_len h.kind (drop 6 w)
   behind = front-good w h has.0 has.1
 
   -- the byte of the CRC, by its index after the header and by its index in the packet
-  last : get_or (drop 6 w) (announced_len h) 0 ≡ get_or w (announced_len h + 6) 0
+  last : get_or (drop 6 w) (announced_data_len h) 0 ≡ get_or w (announced_data_len h + 6) 0
   last =
-      let e : 6 + announced_len h ≡ announced_len h + 6 = omega arith in
-      get_or-drop 6 w (announced_len h) 0 ∙ ap (λ i. get_or w i 0) e
+      let e : 6 + announced_data_len h ≡ announced_data_len h + 6 = omega arith in
+      get_or-drop 6 w (announced_data_len h) 0 ∙ ap (λ i. get_or w i 0) e
 
-  pub waits : length w ≤ announced_len h + 6 → front_of w ≡ Partial
+  pub waits : length w ≤ announced_data_len h + 6 → front_of w ≡ Partial
   waits short =
-      let n : length (drop 6 w) ≤ announced_len h = omega (arith, length-drop 6 w) in
+      let n : length (drop 6 w) ≤ announced_data_len h = omega (arith, length-drop 6 w) in
       behind ∙ front_after_header-partial h.data_len h.opt_len h.kind (drop 6 w) n
 
-  pub stands : announced_len h + 6 < length w → IsRight h w → front_of w ≡ Whole (packet_at h w)
+  pub stands : announced_data_len h + 6 < length w → IsRight h w → front_of w ≡ Whole (packet_at h w)
   stands long right =
-      let n : announced_len h < length (drop 6 w) = omega (arith, length-drop 6 w) in
+      let n : announced_data_len h < length (drop 6 w) = omega (arith, length-drop 6 w) in
       behind ∙ front_after_header-whole h.data_len h.opt_len h.kind (drop 6 w) n (last ∙ right)
 
-  pub refused : announced_len h + 6 < length w → (IsRight h w → ⊥) → front_of w ≡ Never
+  pub refused : announced_data_len h + 6 < length w → (IsRight h w → ⊥) → front_of w ≡ Never
   refused long wrong =
-      let n : announced_len h < length (drop 6 w) = omega (arith, length-drop 6 w) in
+      let n : announced_data_len h < length (drop 6 w) = omega (arith, length-drop 6 w) in
       behind ∙ front_after_header-never h.data_len h.opt_len h.kind (drop 6 w) n (λ e. wrong (sym last ∙ e))
 
   -- with all its bytes there, the packet is whole unless it is rejected
-  pub whole : announced_len h + 6 < length w → front_of w ≢ Never → front_of w ≡ Whole (packet_at h w)
-  whole long n = elim (cases_eq (get_or w (announced_len h + 6) 0) (check (take (announced_len h) (drop 6 w)))) [
-    | inl right ↦ stands long right
-    | inr wrong ↦ absurd (n (refused long wrong))
-  ]
+  pub whole : announced_data_len h + 6 < length w → front_of w ≢ Never → front_of w ≡ Whole (packet_at h w)
+  whole long n =
+      elim (cases_eq (get_or w (announced_data_len h + 6) 0) (check (take (announced_data_len h) (drop 6 w)))) [
+        | inl right ↦ stands long right
+        | inr wrong ↦ absurd (n (refused long wrong))
+      ]
 
   -- a part of a packet is at most all but its last byte
-  pub part_fits : front_of w ≡ Partial → length w ≤ announced_len h + 6
-  part_fits p = elim (cases_lt (announced_len h + 6) (length w)) [
+  pub part_fits : front_of w ≡ Partial → length w ≤ announced_data_len h + 6
+  part_fits p = elim (cases_lt (announced_data_len h + 6) (length w)) [
     | inl more ↦ absurd (let z = sym p ∙ whole more (λ n. let y = sym p ∙ n in cc) in cc)
     | inr less ↦ less
   ]
 
 -- a whole packet at the front, by its header
 module _ (w : List ℕ) (h : Header) (is : front_of w ≡ Whole (packet_at h w)) where
-  pub whole_sum : length (packet_at h w).body + length (packet_at h w).opt ≡ announced_len h
+  pub whole_sum : length (packet_at h w).body + length (packet_at h w).opt ≡ announced_data_len h
   whole_sum =
-      let m : List ℕ = take (announced_len h) (drop 6 w) in
+      let m : List ℕ = take (announced_data_len h) (drop 6 w) in
       let n = whole_length w (packet_at h w) is in
       omega (
         arith,
         n.0,
         length-take h.data_len m,
         length-drop h.data_len m,
-        length-take (announced_len h) (drop 6 w),
+        length-take (announced_data_len h) (drop 6 w),
         length-drop 6 w,
       )
 
-  pub whole_parts : (announced_len h + 7 ≤ length w) × (announced_len h + 7 ≤ max_packet)
+  pub whole_parts : (announced_data_len h + 7 ≤ length w) × (announced_data_len h + 7 ≤ max_packet)
   whole_parts =
       let n = whole_length w (packet_at h w) is in (omega (arith, n.0, whole_sum), omega (arith, n.1, whole_sum))

@@ -11,10 +11,10 @@ ghost use Rattle.esp3_frames.specs.Outcome.{packet_of};
 ghost use Rattle.esp3_frames.specs.Packet.{Packet, max_data, max_packet};
 ghost use Rattle.esp3_resync.specs.BufferedPacket.{packet_with};
 
-use crate::front::{WindowFront, announced_len, resync, resync_with_header};
+use crate::front::{WindowFront, announced_data_len, resync, resync_with_header};
 use crate::runs::{len_before_sync, push_announced, push_header_bytes};
 use crate::window::Window;
-use esp3_frames::{Header, MAX_PACKET, PacketRef, first_packet};
+use esp3_frames::{Header, MAX_PACKET, PacketRef, packet_at_start};
 use std::alloc::{AllocError, Global};
 use std::marker::Model;
 
@@ -125,7 +125,7 @@ impl Framer {
 
     /// Processes the next bytes of the stream up to the one that makes a packet ready, or all if none does, and returns
     /// their number. Does not allocate.
-    pub fn push_run(&mut self, bytes: &[u8]) -> usize
+    pub fn push_until_ready(&mut self, bytes: &[u8]) -> usize
         requires { length self.old.ready ≡ 0 }
         ensures within { result ≤ length bytes.now }
         ensures some { 0 < length bytes.now → 0 < result }
@@ -187,7 +187,7 @@ impl Framer {
         let WindowFront::Empty = self.front else {
             return None;
         };
-        first_packet(bytes)
+        packet_at_start(bytes)
     }
 
     // Moves the data and the optional data of the first packet that is ready into `to`, and returns its header. If
@@ -204,7 +204,7 @@ impl Framer {
             return None;
         };
         self.window.skip(6);
-        self.window.move_into(announced_len(header), to);
+        self.window.move_into(announced_data_len(header), to);
         self.window.skip(1);
         self.front = resync(&mut self.window);
         Some(header)

@@ -6,7 +6,7 @@ ghost use Rattle.esp3_frames.specs.Frames.Front.{Never};
 ghost use Rattle.esp3_resync.specs.private.WindowFronts.{HasHeader, IsWindowFront};
 
 use crate::window::Window;
-use esp3_frames::{Header, SYNC_BYTE, lengths_fit, read_header};
+use esp3_frames::{Header, SYNC_BYTE, announces_data, read_header};
 
 /// The front of a window at which a packet may begin.
 #[derive(Clone, Copy)]
@@ -22,7 +22,7 @@ pub enum WindowFront {
 }
 
 /// The length of the data and optional data that a header announces.
-pub fn announced_len(header: Header) -> usize
+pub fn announced_data_len(header: Header) -> usize
     ensures { result ≡ header.data_len + header.opt_len }
 {
     header.data_len as usize + header.opt_len as usize
@@ -33,7 +33,7 @@ fn front_with_header(window: &Window, header: Header) -> Option<WindowFront>
     requires { HasHeader window.now header }
     ensures { MatchOption result (front_of window.now ≡ Never) (λ front. IsWindowFront front window.now) }
 {
-    let len = announced_len(header);
+    let len = announced_data_len(header);
     if window.len() < len + 7 {
         Some(WindowFront::PartialPacket(header))
     } else if window.byte_or(len + 6, 0) == window.crc_of(6, len) {
@@ -48,7 +48,7 @@ fn may_begin(window: &Window) -> bool
     ensures { result ≡ Frames.may_begin window.now }
 {
     window.byte_or(0, SYNC_BYTE) == SYNC_BYTE
-        && lengths_fit(
+        && announces_data(
             window.byte_or(1, 0),
             window.byte_or(2, 0),
             window.byte_or(3, 1),
@@ -82,7 +82,7 @@ pub fn resync(window: &mut Window) -> WindowFront
     loop {
         match front(window) {
             Some(front) => return front,
-            None => window.skip_to_sync(),
+            None => window.skip_to_next_sync(),
         }
     }
 }
@@ -93,7 +93,7 @@ fn resync_after_first(window: &mut Window) -> WindowFront
     ensures frames { frames_of window.new ≡ frames_of window.old }
     ensures front { IsWindowFront result window.new }
 {
-    window.skip_to_sync();
+    window.skip_to_next_sync();
     resync(window)
 }
 

@@ -4,7 +4,7 @@ ghost use Rattle.esp3_frames.specs.Frames.{front_of};
 ghost use Rattle.esp3_frames.specs.Frames.Front.{Partial};
 ghost use Rattle.esp3_resync.specs.private.WindowFronts.{HasHeader};
 
-use crate::front::announced_len;
+use crate::front::announced_data_len;
 use crate::window::Window;
 use esp3_frames::{Header, SYNC_BYTE};
 use memchr::memchr;
@@ -19,7 +19,7 @@ pub fn push_announced(window: &mut Window, header: Header, bytes: &[u8]) -> usiz
     ensures has { HasHeader window.new header }
     ensures before { (k : ℕ) → k < result → front_of (window.old ++ take k bytes.now) ≡ Partial }
 {
-    let missing = announced_len(header) + 7 - window.len();
+    let missing = announced_data_len(header) + 7 - window.len();
     let count = missing.min(bytes.len());
     window.extend(&bytes[..count]);
     count

@@ -3,7 +3,7 @@ ghost use Rattle.std.specs.Prelude.{◌≡◌, ℕ, ◌+◌, ◌<◌, ◌≤◌,
 ghost use Rattle.std.specs.Prelude.{slice_index, slice_index_or, vec_capacity, ◌==◌, IfOk};
 ghost use Rattle.esp3_frames.specs.Check.{check};
 ghost use Rattle.esp3_frames.specs.Packet.{max_packet};
-ghost use Rattle.esp3_resync.specs.private.RunningChecks.{HasChecks, HasRunningChecks, room};
+ghost use Rattle.esp3_resync.specs.private.RunningChecks.{HasRunningCrcs, HasRunningChecks, room};
 ghost use Rattle.esp3_resync.specs.private.WindowFronts.{ReachesSync};
 
 use esp3_frames::{MAX_PACKET, SYNC_BYTE, check8_between, check8_next};
@@ -22,8 +22,8 @@ const WINDOW_CAPACITY: usize = MAX_PACKET + SLACK;
 fn record_checks(checks: &mut [u8], at: usize, bytes: &[u8])
     requires { at + length bytes.now < length checks.old }
     ensures len { length checks.new ≡ length checks.old }
-    ensures noted { (gone w : List ℕ) → at ≡ length w → HasChecks gone w checks.old →
-        HasChecks gone (w ++ bytes.now) checks.new }
+    ensures noted { (gone w : List ℕ) → at ≡ length w → HasRunningCrcs gone w checks.old →
+        HasRunningCrcs gone (w ++ bytes.now) checks.new }
 {
     let mut all = checks[at];
     for i in 0..bytes.len() {
@@ -163,7 +163,7 @@ impl Window {
     }
 
     /// Drops the first byte, and all after it up to the next sync byte.
-    pub fn skip_to_sync(&mut self)
+    pub fn skip_to_next_sync(&mut self)
         requires { 1 ≤ length self.old }
         ensures { ReachesSync (drop 1 self.old) self.new }
     {

@@ -8,7 +8,7 @@ use Rattle.std.proofs.lemmas.Nat.Gcd.{IsGcd-from_zero, IsGcd-from_mod}
 use Rattle.std.proofs.Math.Nat.{div-mul_cancel, mul-dvd-mul_right, dvd_of_mul-dvd-mul_right, one-dvd, mul_assoc}
 use Rattle.std.proofs.Math.Nat.{dvd-mul_right, add-mul, mod-add-div', dvd-add_iff_left, dvd-mul_left_of_dvd}
 use Rattle.std.proofs.lemmas.Bool.Decides.{nat_tests}
-use Rattle.exact_values.specs.Ratio.{greatest_divisor}
+use Rattle.exact_values.specs.Ratio.{common_divisor_up_to}
 
 -- two numbers, each divided by their greatest common divisor, have no common divisor but 1
 pub IsGcd-divided : (a b g : ℕ) → 0 < g → IsGcd a b g → IsGcd (a / g) (b / g) 1
@@ -31,11 +31,12 @@ not_there a b g m ma mb e q =
     cc
 
 greatest_divisor_step : (k a b g : ℕ) → g ≤ suc k → 0 < g → IsGcd a b g
-    → (g ≤ k → 0 < g → IsGcd a b g → greatest_divisor k a b ≡ g) →
-    cond (eqb (a % suc k) 0 && eqb (b % suc k) 0) (suc k) (greatest_divisor k a b) ≡ g
+    → (g ≤ k → 0 < g → IsGcd a b g → common_divisor_up_to k a b ≡ g) →
+    cond (eqb (a % suc k) 0 && eqb (b % suc k) 0) (suc k) (common_divisor_up_to k a b) ≡ g
 greatest_divisor_step k a b g l p h lower = by_cases (eqb (a % suc k) 0 && eqb (b % suc k) 0) refl
   where
-    by_cases : (t : Bool) → (eqb (a % suc k) 0 && eqb (b % suc k) 0) ≡ t → cond t (suc k) (greatest_divisor k a b) ≡ g
+    by_cases : (t : Bool) → (eqb (a % suc k) 0 && eqb (b % suc k) 0) ≡ t
+        → cond t (suc k) (common_divisor_up_to k a b) ≡ g
     by_cases true e =
         let both : (a % suc k ≡ 0) × (b % suc k ≡ 0) = grind (arith, nat_tests, e) in
         let d : suc k ∣ g = h.2 (suc k) (dvd_of_mod-eq-zero (suc k) both.0) (dvd_of_mod-eq-zero (suc k) both.1) in
@@ -46,8 +47,8 @@ greatest_divisor_step k a b g l p h lower = by_cases (eqb (a % suc k) 0 && eqb (
         lower (omega (arith, other)) p h
 
 -- the downward search finds it
-pub greatest_divisor_is : (k a b g : ℕ) → g ≤ k → 0 < g → IsGcd a b g → greatest_divisor k a b ≡ g
-unfolding greatest_divisor
+pub greatest_divisor_is : (k a b g : ℕ) → g ≤ k → 0 < g → IsGcd a b g → common_divisor_up_to k a b ≡ g
+unfolding common_divisor_up_to
 greatest_divisor_is zero a b g l p h = absurd (omega arith)
 greatest_divisor_is (suc k) a b g l p h = greatest_divisor_step k a b g l p h (greatest_divisor_is k a b g)
 

@@ -7,7 +7,7 @@ use Rattle.std.proofs.lemmas.Nat.Gcd.{le_of_dvd, dvd_antisymm}
 use Rattle.std.proofs.Math.Nat.{div-mul_cancel, zero-div, add-mul, dvd-mul_left, eq_of_mul-eq-mul_right}
 use borrow.Author.Differences.{up, down, same_in, same_out, product_is, quot_is, abs_is}
 use Rattle.std.proofs.lemmas.Int.{unsigned_abs-mul}
-use Rattle.exact_values.specs.Ratio.{Ratio, IsLowest, greatest_divisor, lowest}
+use Rattle.exact_values.specs.Ratio.{Ratio, IsLowest, common_divisor_up_to, lowest}
 use Rattle.exact_values.proofs.Divisors.{dvd_of_quotient, IsGcd-divided, greatest_divisor_is, positive_divisor}
 use Rattle.exact_values.proofs.Divisors.{dvd_of_coprime}
 
@@ -17,7 +17,7 @@ pub lowest_is : (t : ℤ) (b g : ℕ) → 0 < b → IsGcd (unsigned_abs t) b g
 unfolding lowest
 lowest_is t b g p h =
     let q : 0 < g = positive_divisor b g p h.1 in
-    let e : greatest_divisor b (unsigned_abs t) b ≡ g =
+    let e : common_divisor_up_to b (unsigned_abs t) b ≡ g =
     greatest_divisor_is b (unsigned_abs t) b g (le_of_dvd p h.1) q h in
     ap (λ n. record { num = int_div t (pos n); den = b / n }) e
 

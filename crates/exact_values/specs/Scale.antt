@@ -6,22 +6,22 @@ use Rattle.std.specs.Prelude.{pos, ◌+ℤ◌, ◌-ℤ◌, ◌*ℤ◌, Option, S
 use Rattle.exact_values.specs.Ratio.{Ratio, lowest}
 
 -- r is one of a and b or between them, whichever is greater
-abbrev pub IsBetween : ℕ → ℕ → ℕ → Type 0
+abbrev pub IsBetween : (r a b : ℕ) → Type 0
 IsBetween r a b = (min a b ≤ r) × (r ≤ max a b)
 
 -- v is the value of r: v = (x + (r - a) * (y - x) / (b - a)) / 10, without its divisions
-unfoldable pub StandsFor : ℕ → ℕ → ℕ → ℤ → ℤ → Ratio → Type 0
+unfoldable pub StandsFor : (raw raw_a raw_b : ℕ) (tenths_a tenths_b : ℤ) → Ratio → Type 0
 StandsFor r a b x y v =
     pos 10 *ℤ (pos b -ℤ pos a) *ℤ v.num ≡ pos v.den *ℤ (x *ℤ (pos b -ℤ pos a) +ℤ (pos r -ℤ pos a) *ℤ (y -ℤ x))
 
 -- the distance of two numbers
-abbrev pub distance : ℕ → ℕ → ℕ
+abbrev pub distance : (a b : ℕ) → ℕ
 distance a b = (a - b) + (b - a)
 
 -- the value of r, in lowest terms, if r is between a and b
-unfoldable pub interpolated : ℕ → ℕ → ℕ → ℤ → ℤ → Ratio
+unfoldable pub interpolated : (raw raw_a raw_b : ℕ) (tenths_a tenths_b : ℤ) → Ratio
 interpolated r a b x y = lowest (x *ℤ pos (distance a b) +ℤ (y -ℤ x) *ℤ pos (distance r a)) (10 * distance a b)
 
 -- the value of r, if r is between a and b
-unfoldable pub scaled : ℕ → ℕ → ℕ → ℤ → ℤ → Option Ratio
+unfoldable pub scaled : (raw raw_a raw_b : ℕ) (tenths_a tenths_b : ℤ) → Option Ratio
 scaled r a b x y = if nat_le (min a b) r && nat_le r (max a b) then Some (interpolated r a b x y) else None

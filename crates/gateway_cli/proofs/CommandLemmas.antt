@@ -33,8 +33,9 @@ use Rattle.clap.specs.declared.parser.matches.ArgMatches.{ArgMatches}
 use Rattle.clap.proofs.SimpleLemmas.{plain_fields}
 use Rattle.clap.proofs.ValueTestLemmas.{accepts-Accepts}
 use Rattle.gateway_cli.specs.Bases.{base_in}
-use Rattle.gateway_cli.specs.CommandLine.{HasExplain, IsComplete, IsAccepted, HasLiveOptions, base_rule, enogate_app}
-use Rattle.gateway_cli.specs.CommandLine.{explain_rule, subcommand_rows, option_text}
+use Rattle.gateway_cli.specs.CommandLine.{HasExplain, IsComplete, IsAcceptedByClap, HasLiveOptions, base_rule}
+use Rattle.gateway_cli.specs.CommandLine.{enogate_app}
+use Rattle.gateway_cli.specs.CommandLine.{explain_rule, rows_if_replay_or_live, option_text}
 use Rattle.gateway_cli.proofs.RequiredLemmas.{DefaultFits, HasOne, RowFits, RuleFits, default_one, found_in, given_one}
 use Rattle.gateway_cli.proofs.RequiredLemmas.{level_fits, none_missing, or_else_none}
 
@@ -54,7 +55,7 @@ more_commands old sub new app below added above is plain =
 
 -- the parse of the command `enogate` accepts the words
 pub taken_so : (words : List Text) (command : Command) → app_of command ≡ enogate_app
-    → (is_simple_and_free (app_of command) ≡ true → fault_of (app_of command) words ≡ []) → IsAccepted words
+    → (is_simple_and_free (app_of command) ≡ true → fault_of (app_of command) words ≡ []) → IsAcceptedByClap words
 taken_so words command is none =
     let P : App → Type 0 = λ app. is_simple_and_free app ≡ true → fault_of app words ≡ [] in subst P is none refl
 
@@ -239,7 +240,7 @@ entered_complete (Some p) found e is named =
         (complete (subst (λ (x : Text × List Row). Serves x.0) (sym same) named) p.1 e)
 
 -- if a base was found, the subcommand is one that serves, with everything that it requires
-complete : (words : List Text) (found : Option (Text × List Row)) (base : ℕ) → IsAccepted words
+complete : (words : List Text) (found : Option (Text × List Row)) (base : ℕ) → IsAcceptedByClap words
     → found ≡ subcommand_of enogate_app words → option_and_then base_in (option_text (codes "base") found) ≡ Some base
     → IsComplete found
 complete words None base taken is read = cc
@@ -275,7 +276,7 @@ complete_so words command m base is none found read =
 
 -- what was given to a complete subcommand has the text of `--explain`
 pub has_explain : (found : Option (Text × List Row)) (rows : List Row) → IsComplete found
-    → Some rows ≡ option_and_then subcommand_rows found → HasExplain rows
+    → Some rows ≡ option_and_then rows_if_replay_or_live found → HasExplain rows
 has_explain None rows complete is = cc
 has_explain (Some found) rows complete is =
     go (bytes_eq found.0 (codes "replay") || bytes_eq found.0 (codes "live")) is

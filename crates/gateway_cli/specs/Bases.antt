@@ -9,5 +9,5 @@ base_from (Some id) = if is_base_id id then Some id else None
 base_from None = None
 
 -- the ID that eight hexadecimal digits spell, in upper or lower case, if it is a base ID
-abbrev pub base_in : List ℕ → Option ℕ
+abbrev pub base_in : (text : List ℕ) → Option ℕ
 base_in text = base_from (id_in text)

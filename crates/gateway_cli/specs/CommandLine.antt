@@ -13,7 +13,7 @@ use Rattle.clap.specs.declared.error.ErrorKind.TheVariants.{OutOfMemory}
 use Rattle.gateway_cli.specs.Bases.{base_in}
 use Rattle.gateway_cli.specs.declared.LiveOptions.{LiveOptions}
 use Rattle.gateway_cli.specs.declared.CommandLineFault.{CommandLineFault}
-use Rattle.gateway_cli.specs.declared.CommandLineFault.TheVariants.{Words, BadBase}
+use Rattle.gateway_cli.specs.declared.CommandLineFault.TheVariants.{ClapError, BadBase}
 use Rattle.gateway_cli.specs.declared.Task.{Task}
 use Rattle.gateway_cli.specs.declared.Task.TheVariants.{Replay, Live}
 
@@ -67,39 +67,40 @@ enogate_app =
     (with_subcommand (with_subcommand_required (with_version (new_app (codes "enogate")))) replay_app.top) live_app.top
 
 -- the options of the subcommand, if it is `replay` or `live`
-abbrev pub subcommand_rows : Text × List Row → Option (List Row)
-subcommand_rows (name, rows) =
+abbrev pub rows_if_replay_or_live : Text × List Row → Option (List Row)
+rows_if_replay_or_live (name, rows) =
     if bytes_eq name (codes "replay") || bytes_eq name (codes "live") then Some rows else None
 
 -- the text of its option of this name
 abbrev pub option_text : Text → Option (Text × List Row) → Option Text
-option_text name found = option_and_then (first_of name) (option_and_then subcommand_rows found)
+option_text name found = option_and_then (first_of name) (option_and_then rows_if_replay_or_live found)
 
 -- its flag of this name was given: `clap` then finds the text `true` for it, and otherwise `false`
 abbrev pub option_flag : Text → Option (Text × List Row) → Bool
 option_flag name found = option_map_or (λ text. bytes_eq text (codes "true")) (option_text name found) false
 
 -- the base ID of a command line that `clap` accepts
-abbrev pub base_of_line : List Text → Option ℕ
-base_of_line words = option_and_then base_in (option_text (codes "base") (subcommand_of enogate_app words))
+abbrev pub base_of_command_line : List Text → Option ℕ
+base_of_command_line words = option_and_then base_in (option_text (codes "base") (subcommand_of enogate_app words))
 
 -- the path of its registry, if it names one
-abbrev pub db_of_line : List Text → Option Text
-db_of_line words = option_text (codes "db") (subcommand_of enogate_app words)
+abbrev pub db_of_command_line : List Text → Option Text
+db_of_command_line words = option_text (codes "db") (subcommand_of enogate_app words)
 
 -- whether it asks for explanations
-abbrev pub explain_of_line : List Text → Bool
-explain_of_line words = option_flag (codes "explain") (subcommand_of enogate_app words)
+abbrev pub explain_of_command_line : List Text → Bool
+explain_of_command_line words = option_flag (codes "explain") (subcommand_of enogate_app words)
 
 -- the text spells this number in decimal digits, after one optional `+`
-abbrev pub Spells : Text → ℕ → Type 0
-Spells text n = IsNumeral 10 (without_leading_plus text) × (n ≡ digits_value 10 (without_leading_plus text))
+abbrev pub SpellsUnsignedDecimal : Text → ℕ → Type 0
+SpellsUnsignedDecimal text n =
+    IsNumeral 10 (without_leading_plus text) × (n ≡ digits_value 10 (without_leading_plus text))
 
 -- the turns are the number, 1 to 4294967295, that the text of `--turns` spells
 pub record AreTurns (rows : List Row) (turns : ℕ) : Type 0 where
   pub text : Text
   pub given : first_of (codes "turns") rows ≡ Some text
-  pub spelled : Spells text turns
+  pub spelled : SpellsUnsignedDecimal text turns
   pub least : 1 ≤ turns
   pub most : turns ≤ 4294967295
 
@@ -111,17 +112,17 @@ pub record AreLiveOptions (rows : List Row) (options : LiveOptions) : Type 0 whe
   pub turns : AreTurns rows options.turns
 
 -- the task of a subcommand, by its name and its options
-abbrev pub Asks : Option (Text × List Row) → Task → Type 0
-Asks None task = ⊥
-Asks (Some (name, rows)) Replay = name ≡ codes "replay"
-Asks (Some (name, rows)) (Live options) = (name ≡ codes "live") × AreLiveOptions rows options
+abbrev pub SubcommandAsksFor : Option (Text × List Row) → Task → Type 0
+SubcommandAsksFor None task = ⊥
+SubcommandAsksFor (Some (name, rows)) Replay = name ≡ codes "replay"
+SubcommandAsksFor (Some (name, rows)) (Live options) = (name ≡ codes "live") × AreLiveOptions rows options
 
 -- the task of a command line that `clap` accepts
 abbrev pub AsksFor : List Text → Task → Type 0
-AsksFor words task = Asks (subcommand_of enogate_app words) task
+AsksFor words task = SubcommandAsksFor (subcommand_of enogate_app words) task
 
 -- a text was given for `--turns` that spells a number from 1 to 4294967295
-pub record HasTurns (rows : List Row) : Type 0 where
+pub record HasValidTurns (rows : List Row) : Type 0 where
   pub text : Text
   pub given : first_of (codes "turns") rows ≡ Some text
   pub read : one_of (codes "turns") rows ≡ Some text
@@ -139,7 +140,7 @@ pub record HasLiveOptions (rows : List Row) : Type 0 where
   pub serial : is_some (first_of (codes "serial") rows) ≡ true
   pub desk : is_some (first_of (codes "desk") rows) ≡ true
   pub out : is_some (first_of (codes "out") rows) ≡ true
-  pub turns : HasTurns rows
+  pub turns : HasValidTurns rows
 
 -- a subcommand is `replay`, or `live` with everything that it requires, and `--explain` was given or not
 abbrev pub IsComplete : Option (Text × List Row) → Type 0
@@ -150,14 +151,14 @@ IsComplete (Some (name, rows)) =
 -- it was rejected because memory ran out
 abbrev pub IsOutOfMemory : CommandLineFault → Type 0
 IsOutOfMemory BadBase = ⊥
-IsOutOfMemory (Words error) = kind_of error ≡ OutOfMemory
+IsOutOfMemory (ClapError error) = kind_of error ≡ OutOfMemory
 
 -- `clap` accepts the line
-abbrev pub IsAccepted : List Text → Type 0
-IsAccepted words = fault_of enogate_app words ≡ []
+abbrev pub IsAcceptedByClap : List Text → Type 0
+IsAcceptedByClap words = fault_of enogate_app words ≡ []
 
 -- `clap` rejects the line for a cause that the line has, or because memory ran out; or it accepts it, and the base is
 -- invalid
-abbrev pub RefusesLine : List Text → CommandLineFault → Type 0
-RefusesLine words (Words error) = HasKind (fault_of enogate_app words) error
-RefusesLine words BadBase = IsAccepted words × (base_of_line words ≡ None)
+abbrev pub RefusesCommandLine : List Text → CommandLineFault → Type 0
+RefusesCommandLine words (ClapError error) = HasKind (fault_of enogate_app words) error
+RefusesCommandLine words BadBase = IsAcceptedByClap words × (base_of_command_line words ≡ None)

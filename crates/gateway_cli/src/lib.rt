@@ -10,9 +10,10 @@ ghost use Rattle.std.specs.Prelude.{◌≡◌, ◌⊎◌, IfOk, IfErr, OnOk, Som
 ghost use Rattle.std.specs.String.{string_bytes};
 ghost use Rattle.clap.specs.Words.{takes};
 ghost use Rattle.erp1_telegrams.specs.Address;
-ghost use Rattle.gateway_cli.specs.CommandLine.{AsksFor, IsOutOfMemory, IsAccepted, RefusesLine, base_of_line};
-ghost use Rattle.gateway_cli.specs.CommandLine.{db_of_line};
-ghost use Rattle.gateway_cli.specs.CommandLine.{enogate_app, explain_of_line};
+ghost use Rattle.gateway_cli.specs.CommandLine.{AsksFor, IsOutOfMemory, IsAcceptedByClap, RefusesCommandLine};
+ghost use Rattle.gateway_cli.specs.CommandLine.{base_of_command_line};
+ghost use Rattle.gateway_cli.specs.CommandLine.{db_of_command_line};
+ghost use Rattle.gateway_cli.specs.CommandLine.{enogate_app, explain_of_command_line};
 
 use clap::Error;
 use commands::command;
@@ -60,19 +61,19 @@ pub struct LiveOptions<'a> {
 pub enum CommandLineFault {
     /// `clap` rejected it, or was asked for help or for the version, or is out of memory.
     #[error(transparent)]
-    Words(Error),
+    ClapError(Error),
     /// The base ID is not eight hexadecimal digits, or not a base ID.
     #[error("not a base ID")]
     BadBase,
 }
 
 impl From<Error> for CommandLineFault {
-    ghost use Rattle.gateway_cli.specs.declared.CommandLineFault.TheVariants.{Words};
+    ghost use Rattle.gateway_cli.specs.declared.CommandLineFault.TheVariants.{ClapError};
 
-    ghost from_gives = { λ error why. why ≡ Words error };
+    ghost from_gives = { λ error why. why ≡ ClapError error };
 
     fn from(error: Error) -> CommandLineFault {
-        CommandLineFault::Words(error)
+        CommandLineFault::ClapError(error)
     }
 }
 
@@ -82,7 +83,7 @@ impl From<AllocError> for CommandLineFault {
     ghost from_gives = { λ _ why. IsOutOfMemory why };
 
     fn from(error: AllocError) -> CommandLineFault {
-        CommandLineFault::Words(Error::from(error))
+        CommandLineFault::ClapError(Error::from(error))
     }
 }
 
@@ -95,14 +96,14 @@ impl From<AllocError> for CommandLineFault {
 /// any order, and in the spellings that `clap` has for them. Any other line is rejected, and so is one that asks for
 /// help or for the version.
 pub fn read<'a>(alloc: Global, words: &'a [String]) -> Result<Options<'a>, CommandLineFault>
-    ensures taken { OnOk result (IsAccepted (map string_bytes words.now)) }
-    ensures base { IfOk result (λ options. base_of_line (map string_bytes words.now) ≡ Some options.base) }
+    ensures taken { OnOk result (IsAcceptedByClap (map string_bytes words.now)) }
+    ensures base { IfOk result (λ options. base_of_command_line (map string_bytes words.now) ≡ Some options.base) }
     ensures db { IfOk result (λ options.
-        option_map (λ path. path.now) options.db ≡ db_of_line (map string_bytes words.now)) }
-    ensures explain { IfOk result (λ options. options.explain ≡ explain_of_line (map string_bytes words.now)) }
+        option_map (λ path. path.now) options.db ≡ db_of_command_line (map string_bytes words.now)) }
+    ensures explain { IfOk result (λ options. options.explain ≡ explain_of_command_line (map string_bytes words.now)) }
     ensures task { IfOk result (λ options. AsksFor (map string_bytes words.now) options.task) }
     ensures is_base_id { IfOk result (λ options. Address.is_base_id options.base ≡ true) }
-    ensures refused { IfErr result (RefusesLine (map string_bytes words.now)) }
+    ensures refused { IfErr result (RefusesCommandLine (map string_bytes words.now)) }
     ensures passes { takes enogate_app (map string_bytes words.now) ≡ true →
         IfErr result (λ why. (why ≡ CommandLineFault.BadBase) ⊎ IsOutOfMemory why) }
 {

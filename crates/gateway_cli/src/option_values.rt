@@ -2,8 +2,9 @@
 ghost use Rattle.std.specs.Prelude.{◌≡◌, Some, codes, is_some, option_and_then, option_map, true};
 ghost use Rattle.clap.specs.Words.{first_of, found_of, rows_of, subcommand_rows_of};
 ghost use Rattle.gateway_cli.specs.Bases.{base_in};
-ghost use Rattle.gateway_cli.specs.CommandLine.{AreLiveOptions, AreTurns, Asks, HasTurns, IsComplete, HasLiveOptions};
-ghost use Rattle.gateway_cli.specs.CommandLine.{subcommand_rows};
+ghost use Rattle.gateway_cli.specs.CommandLine.{AreLiveOptions, AreTurns, SubcommandAsksFor, HasValidTurns, IsComplete};
+ghost use Rattle.gateway_cli.specs.CommandLine.{HasLiveOptions};
+ghost use Rattle.gateway_cli.specs.CommandLine.{rows_if_replay_or_live};
 ghost use Rattle.gateway_cli.specs.CommandLine.{option_flag, option_text};
 
 use super::{LiveOptions, Task};
@@ -15,13 +16,13 @@ use erp1_telegrams::is_base_id;
 pub(super) fn text_value<'a>(matches: &ArgMatches<'a>, name: &str) -> Option<&'a str>
     ensures { option_map (λ text. text.now) result ≡ option_text name.now (subcommand_rows_of matches.now) }
 {
-    given(matches)?.get_str(name)
+    matches_if_replay_or_live(matches)?.get_str(name)
 }
 
 /// The options of the subcommand, which is `replay` or `live`.
-fn given<'m, 'a>(matches: &'m ArgMatches<'a>) -> Option<&'m ArgMatches<'a>>
+fn matches_if_replay_or_live<'m, 'a>(matches: &'m ArgMatches<'a>) -> Option<&'m ArgMatches<'a>>
     ensures { option_map (λ given. rows_of (found_of given.now)) result
-        ≡ option_and_then subcommand_rows (subcommand_rows_of matches.now) }
+        ≡ option_and_then rows_if_replay_or_live (subcommand_rows_of matches.now) }
 {
     let (name, given) = matches.subcommand()?;
     if name == "replay" || name == "live" {
@@ -50,7 +51,7 @@ pub(super) fn explain_flag(matches: &ArgMatches<'_>) -> bool
     requires { IsComplete (subcommand_rows_of matches.now) }
     ensures { result ≡ option_flag (codes "explain") (subcommand_rows_of matches.now) }
 {
-    match given(matches) {
+    match matches_if_replay_or_live(matches) {
         Some(given) => given.get_flag("explain"),
         None => false,
     }
@@ -59,7 +60,7 @@ pub(super) fn explain_flag(matches: &ArgMatches<'_>) -> bool
 /// The task of the subcommand.
 pub(super) fn task_value<'a>(matches: &ArgMatches<'a>) -> Task<'a>
     requires { IsComplete (subcommand_rows_of matches.now) }
-    ensures { Asks (subcommand_rows_of matches.now) result }
+    ensures { SubcommandAsksFor (subcommand_rows_of matches.now) result }
 {
     match matches.subcommand_matches("live") {
         Some(given) => Task::Live(live_options_of(given)),
@@ -75,7 +76,7 @@ fn live_options_of<'a>(given: &ArgMatches<'a>) -> LiveOptions<'a>
         serial: path_value(given, "serial"),
         desk: path_value(given, "desk"),
         out: path_value(given, "out"),
-        turns: turns_value(given),
+        turns: required_turns(given),
     }
 }
 
@@ -89,8 +90,8 @@ fn path_value<'a>(given: &ArgMatches<'a>, name: &str) -> &'a str
     }
 }
 
-fn turns_value(given: &ArgMatches<'_>) -> u32
-    requires { HasTurns (rows_of (found_of given.now)) }
+fn required_turns(given: &ArgMatches<'_>) -> u32
+    requires { HasValidTurns (rows_of (found_of given.now)) }
     ensures { AreTurns (rows_of (found_of given.now)) result }
 {
     match given.get_one::<u32>("turns") {

@@ -9,10 +9,10 @@ use Rattle.json_lines.proofs.TeachLines.{one_teach_line}
 use Rattle.gateway_core.specs.Step.{State, Input, Answer, update_of, effect, device_teach_line}
 use Rattle.gateway_core.specs.Run.{InputResult, Run, Applied, answer_for_result, state_after_result}
 use Rattle.gateway_core.specs.Sessions.{IsSession, Session, initial_state}
-use Rattle.gateway_core.specs.Reporting.{IsDeleted, ReportsEffect, acknowledged_update}
-use Rattle.gateway_core.specs.Acknowledgements.{Acknowledges, IsDurable, AcknowledgedIsDurable}
-use Rattle.learned_devices.specs.Ranges.{AreInRange, IsDeviceInRange}
-use Rattle.gateway_core.specs.Ranges.{ConsistsOfBytes, IsStateInRange}
+use Rattle.gateway_core.specs.Reporting.{IsDeviceOfDeletedLine, OutcomeMatchesUpdate, accepted_or_deleted_update}
+use Rattle.gateway_core.specs.Acknowledgements.{AnswersWithTeachLine, IsDurable, AcceptedOrDeletedIsDurable}
+use Rattle.learned_devices.specs.Ranges.{AreInRange, HasDeviceNumbersInRange}
+use Rattle.gateway_core.specs.Ranges.{PacketBodyIsBytes, IsStateInRange}
 use Rattle.gateway_core.proofs.SessionLemmas.{updates_survive_restarts}
 use Rattle.gateway_core.proofs.RangeLemmas.{stays_in_range, learned-in, deleted-in}
 use Rattle.gateway_core.proofs.ReportingLemmas.{teach_lines_are_true}
@@ -42,50 +42,50 @@ parted old new (first ∷ before) after input (its ∷ results) more result [] l
     absurd (omega (arith, a))
 
 -- the first inputs are of bytes, and the next one
-parted-bytes : (before after : List Input) (input : Input) → AllByRecursion ConsistsOfBytes (before ++ input ∷ after)
-    → AllByRecursion ConsistsOfBytes before × ConsistsOfBytes input
+parted-bytes : (before after : List Input) (input : Input) → AllByRecursion PacketBodyIsBytes (before ++ input ∷ after)
+    → AllByRecursion PacketBodyIsBytes before × PacketBodyIsBytes input
 parted-bytes [] after input bytes = (tt, bytes.0)
 parted-bytes (first ∷ before) after input bytes =
     let rest = parted-bytes before after input bytes.1 in ((bytes.0, rest.0), rest.1)
 
 -- the devices found are in range, and the inputs are of bytes
 abbrev BeginsInRange : Session → Type 0
-BeginsInRange session = AreInRange session.found × AllByRecursion ConsistsOfBytes session.inputs
+BeginsInRange session = AreInRange session.found × AllByRecursion PacketBodyIsBytes session.inputs
 
 -- so the state is in range when an input is answered, and the input is of bytes
-at-input : (session : Session) (line : TeachLine) (answered : Acknowledges session line) (at : State)
+at-input : (session : Session) (line : TeachLine) (answered : AnswersWithTeachLine session line) (at : State)
     → Run (initial_state session.base session.found) answered.before answered.results answered.answers at
     → BeginsInRange session
-    → IsStateInRange at × ConsistsOfBytes answered.input
+    → IsStateInRange at × PacketBodyIsBytes answered.input
 at-input session line answered at run (found, bytes) =
     let parts =
     parted-bytes answered.before answered.after answered.input
-    (subst (AllByRecursion ConsistsOfBytes) answered.inputs_are bytes) in (
+    (subst (AllByRecursion PacketBodyIsBytes) answered.inputs_are bytes) in (
       stays_in_range (initial_state session.base session.found) at answered.before answered.results answered.answers run
           parts.0
           (found, tt),
       parts.1,
     )
 
-kept : (session : Session) (line : TeachLine) → IsSession session → (answered : Acknowledges session line)
+kept : (session : Session) (line : TeachLine) → IsSession session → (answered : AnswersWithTeachLine session line)
     → (outcome : Outcome)
     → line.outcome ≡ outcome → (known : Device) → text (Teach line) ≡ text (Teach (device_teach_line known outcome))
     → (at : State) → Run (initial_state session.base session.found) answered.before answered.results answered.answers at
-    → answered.result ≡ Applied → update_of at answered.input ≡ Some (acknowledged_update outcome known)
-    → (BeginsInRange session → IsDeviceInRange known) → IsDurable session line answered
+    → answered.result ≡ Applied → update_of at answered.input ≡ Some (accepted_or_deleted_update outcome known)
+    → (BeginsInRange session → HasDeviceNumbersInRange known) → IsDurable session line answered
 kept session line is answered outcome word known same at run taken asks in_range = record {
   at = at;
   known = known;
   run = run;
   taken = taken;
-  asks = asks ∙ ap (λ o. Some (acknowledged_update o known)) (sym word);
+  asks = asks ∙ ap (λ o. Some (accepted_or_deleted_update o known)) (sym word);
   same_text = subst (λ o. text (Teach line) ≡ text (Teach (device_teach_line known o))) (sym word) same;
   in_range = λ found bytes. in_range (found, bytes);
-  line_is = λ found bytes numbers.
+  is_line_of_device = λ found bytes numbers.
       one_teach_line line (device_teach_line known line.outcome) numbers (in_range (found, bytes))
       (subst (λ o. text (Teach line) ≡ text (Teach (device_teach_line known o))) (sym word) same);
-  keeps = λ spared crash sessions last all are.
-      updates_survive_restarts session (acknowledged_update line.outcome known) sessions last is (record {
+  later_sessions_keep = λ spared crash sessions last all are.
+      updates_survive_restarts session (accepted_or_deleted_update line.outcome known) sessions last is (record {
         before = answered.before;
         input = answered.input;
         after = answered.after;
@@ -96,14 +96,14 @@ kept session line is answered outcome word known same at run taken asks in_range
         inputs_are = answered.inputs_are;
         results_are = answered.results_are ∙ ap (λ f. answered.results ++ f ∷ answered.more) taken;
         run = run;
-        asks = asks ∙ ap (λ o. Some (acknowledged_update o known)) (sym word);
+        asks = asks ∙ ap (λ o. Some (accepted_or_deleted_update o known)) (sym word);
         spared = spared;
         crash = crash;
       }) all are;
 }
 
-pub acknowledged_is_durable : AcknowledgedIsDurable
-acknowledged_is_durable session line is answered word =
+pub accepted_or_deleted_is_durable : AcceptedOrDeletedIsDurable
+accepted_or_deleted_is_durable session line is answered word =
     let whole : Run (initial_state session.base session.found) (answered.before ++ answered.input ∷ answered.after)
     (answered.results ++ answered.result ∷ answered.more) (answered.answers ++ answered.answer ∷ answered.later)
     session.last
@@ -113,18 +113,18 @@ acknowledged_is_durable session line is answered word =
     answered.results answered.more answered.result answered.answers answered.later answered.answer
     answered.as_many_results
     answered.as_many_answers whole in
-    let tells = teach_lines_are_true part.at answered.input answered.result line
+    let reports = teach_lines_are_true part.at answered.input answered.result line
     (ap (λ (a : Answer). a.desk) (sym part.is) ∙ answered.reported) in
-    let Of = ReportsEffect (IsDeleted part.at answered.input) (effect part.at answered.input) line in
+    let Of = OutcomeMatchesUpdate (IsDeviceOfDeletedLine part.at answered.input) (effect part.at answered.input) line in
     elim word [
       | inl accepted ↦
-          let (known, same, asks) = subst Of accepted tells.1 in
-          kept session line is answered Accepted accepted known same part.at part.run tells.0 asks
+          let (known, same, asks) = subst Of accepted reports.1 in
+          kept session line is answered Accepted accepted known same part.at part.run reports.0 asks
           (λ begins. let at = at-input session line answered part.at part.run begins in
           learned-in part.at answered.input known at.0 at.1 asks)
       | inr deleted ↦
-          let (known, same, gone, asks) = subst Of deleted tells.1 in
-          kept session line is answered Deleted deleted known same part.at part.run tells.0 asks
+          let (known, same, gone, asks) = subst Of deleted reports.1 in
+          kept session line is answered Deleted deleted known same part.at part.run reports.0 asks
           (λ begins. let at = at-input session line answered part.at part.run begins in
           deleted-in part.at answered.input known at.0 at.1 gone)
     ]

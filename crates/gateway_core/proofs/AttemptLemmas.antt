@@ -34,31 +34,33 @@ use Rattle.gateway_core.specs.declared.failure.Failure.TheVariants.{Before, AtCo
 use Rattle.json_lines.specs.declared.counts.Counts.{Counts}
 use Rattle.json_lines.specs.Counts.{increment_if_any}
 use Rattle.json_lines.specs.Lines.{Error, Teach as TeachOf, TeachLine, text}
-use Rattle.gateway_core.specs.Step.{State, Input, Answer, Effect, with_packet_line, packet_line_for, count_in}
-use Rattle.gateway_core.specs.Step.{lines_effect, learn_effect}
-use Rattle.gateway_core.specs.Step.{effect_unless_full, if_known, relabel_effect}
+use Rattle.gateway_core.specs.Step.{State, Input, Answer, Effect, with_packet_line, packet_line_for, counter_in}
+use Rattle.gateway_core.specs.Step.{lines_effect, ordered_learn_effect}
+use Rattle.gateway_core.specs.Step.{if_full_of_others_else, if_learned_else_error, relabel_effect}
 use Rattle.actuator_commands.specs.Limits.{max_line}
 use Rattle.actuator_commands.specs.declared.orders.Order.{Order}
 use Rattle.actuator_commands.specs.declared.orders.OrderFault.{OrderFault}
 use Rattle.actuator_commands.specs.Orders.{order_of}
 use Rattle.gateway_core.specs.Step.{order_effect, line_effect}
 use Rattle.gateway_core.specs.Step.{reading_effect, case_effect, data_case, effect, update_of, need_of, with_update}
-use Rattle.gateway_core.specs.Step.{state_after, with_mode, plan_effect, teach_effect, radio_of, reply_of}
+use Rattle.gateway_core.specs.Step.{state_if_applied, with_mode, plan_effect, teach_report_effect, radio_of}
+use Rattle.gateway_core.specs.Step.{reply_telegram_of}
 use Rattle.gateway_core.specs.Step.{query_teach_line}
-use Rattle.gateway_core.specs.Step.{if_supported, mode_effect, error_effect, accept_effect, device_teach_line}
-use Rattle.gateway_core.specs.Step.{answer_from_effect, send_result_effect}
-use Rattle.gateway_core.specs.Dispositions.{query_eep, query_maker}
+use Rattle.gateway_core.specs.Step.{if_supported_else_error, mode_effect, error_effect, accept_effect}
+use Rattle.gateway_core.specs.Step.{device_teach_line}
+use Rattle.gateway_core.specs.Step.{unexplained_answer, send_result_effect}
+use Rattle.gateway_core.specs.Dispositions.{eep_in_query, maker_in_query}
 use Rattle.gateway_core.specs.Profiles.{read_by}
 use Rattle.gateway_core.specs.private.Failures.{cause_of}
 use Rattle.gateway_core.specs.Step.{Cause, Memory, Need, NeedsMemory, NeedsStore, MayFailFor}
 use Rattle.gateway_core.specs.Run.{failure_answer, Applied, Failed, FailedAtCommit, state_after_failure}
-use Rattle.gateway_core.specs.CrashStates.{no_crash_states, after_committed_update, with_pending_update}
+use Rattle.gateway_core.specs.CrashStates.{nothing_committed_yet, after_committed_update, with_pending_update}
 use Rattle.gateway_core.specs.CrashStates.{IsCrashConsistent}
 use Rattle.gateway_core.specs.Handling.{HandlerValue, HandlesFrom, Handles}
 use Rattle.gateway_core.specs.private.Attempts.{HandlerEffect, state_of, MatchesEffect, IsUpdateCommitted, IsPending}
 use Rattle.gateway_core.specs.private.Attempts.{AppliesOrFails, Attempts, counts_from}
-use Rattle.gateway_core.specs.private.Attempts.{answer_after, mode_from}
-use Rattle.gateway_core.specs.private.Attempts.{FailsToUpdate, ChangesOnlyRegistry, Learns, Forgets}
+use Rattle.gateway_core.specs.private.Attempts.{explained_answer_to, mode_from}
+use Rattle.gateway_core.specs.private.Attempts.{FailsToUpdate, ChangesOnlyRegistry, TriesToLearn, TriesToForget}
 
 -- the state that consists of these parts
 abbrev pub known_with : ℕ → Mode → Counts → Devices → State
@@ -95,9 +97,9 @@ pub permits-memory : (asked : Bool) → MayFailFor (if asked then NeedsStore els
 permits-memory true = tt
 permits-memory false = tt
 
-pub effect_unless_full-need : (devices : Devices) (known : Device) (full done : Effect) → full.need ≡ NeedsStore
-    → done.need ≡ NeedsStore → (effect_unless_full devices known full done).need ≡ NeedsStore
-effect_unless_full-need devices known full done first second =
+pub if_full_of_others_else-need : (devices : Devices) (known : Device) (full done : Effect) → full.need ≡ NeedsStore
+    → done.need ≡ NeedsStore → (if_full_of_others_else devices known full done).need ≡ NeedsStore
+if_full_of_others_else-need devices known full done first second =
     either (λ (e : Effect). e.need ≡ NeedsStore) (is_full devices known.id) full done first second
 
 pub plan-need : (state : State) (t : Telegram)
@@ -106,7 +108,7 @@ plan-need state t =
     of_plan (λ plan. (plan_effect state t true plan).need ≡ NeedsStore) t state.mode false (record {
       silent = refl;
       adds = λ hears eep maker.
-          effect_unless_full-need state.devices (record { id = t.sender; eep = eep; maker = maker; label = [] }) _ _
+          if_full_of_others_else-need state.devices (record { id = t.sender; eep = eep; maker = maker; label = [] }) _ _
           refl refl;
       forgets = λ learning asks. refl;
       refuses = λ hears outcome is. refl;
@@ -128,40 +130,50 @@ telegram-need (Some (Err fault)) = refl
 telegram-need None = refl
 
 pub known-need : (known : Option Device) (effect_of : Device → Effect)
-    → ((it : Device) → (effect_of it).need ≡ NeedsStore) → (if_known known effect_of).need ≡ NeedsStore
+    → ((it : Device) → (effect_of it).need ≡ NeedsStore) → (if_learned_else_error known effect_of).need ≡ NeedsStore
 known-need None effect_of needs_store = refl
 known-need (Some it) effect_of needs_store = needs_store it
 
 -- the line and the reply for a sender
-pub taught-answer : (state : State) (kind : Teach) (line : TeachLine) (answer : Answer) (outcome : Outcome)
+pub teach_line-answer : (state : State) (kind : Teach) (line : TeachLine) (answer : Answer) (outcome : Outcome)
     (desk : List ℕ)
     → outcome ≡ line.outcome → desk ≡ text (TeachOf line)
-    → answer ≡ record { radio = radio_of (reply_of state.base state.mode kind outcome); explained = []; desk = desk }
-    → answer ≡ answer_from_effect (teach_effect state kind line)
-taught-answer state kind line answer outcome desk is says e =
+    → answer ≡ record {
+      radio = radio_of
+          (reply_telegram_of state.base state.mode kind outcome);
+      explained = [];
+      desk = desk;
+    }
+    → answer ≡ unexplained_answer (teach_report_effect state kind line)
+teach_line-answer state kind line answer outcome desk is says e =
     e
     ∙ ap (λ o. let a : Answer =
-    record { radio = radio_of (reply_of state.base state.mode kind o); explained = []; desk = desk } in a) is
+    record { radio = radio_of (reply_telegram_of state.base state.mode kind o); explained = []; desk = desk } in a) is
     ∙ ap (λ d. let a : Answer =
-    record { radio = radio_of (reply_of state.base state.mode kind line.outcome); explained = []; desk = d } in a)
+    record {
+      radio =
+          radio_of (reply_telegram_of state.base state.mode kind line.outcome);
+      explained = [];
+      desk = d;
+    } in a)
     (says ∙ sym (append-nil _))
 
 -- the line with the outcome for a sender, by what its telegram contains
-pub line_told : (id : ℕ) (kind : Teach) (outcome : Outcome) (eep : Option Eep) (maker : Option ℕ)
-    → eep ≡ query_eep kind → maker ≡ query_maker kind
+pub line_reported : (id : ℕ) (kind : Teach) (outcome : Outcome) (eep : Option Eep) (maker : Option ℕ)
+    → eep ≡ eep_in_query kind → maker ≡ maker_in_query kind
     → query_teach_line id kind outcome ≡ record { eep = eep; id = id; maker = maker; outcome = outcome }
-line_told id kind outcome eep maker first second = rw (first, second) refl
+line_reported id kind outcome eep maker first second = rw (first, second) refl
 
 -- a sender is rejected with the line of its telegram
 pub refused-gives : (done : HandlerEffect) (state : State) (t : Telegram) (kind : Teach) (id : ℕ) (line : TeachLine)
     (outcome : Outcome) → kind ≡ teach_in_of t → id ≡ t.sender → query_teach_line id kind outcome ≡ line
-    → MatchesEffect done (teach_effect state kind line)
+    → MatchesEffect done (teach_report_effect state kind line)
     → MatchesEffect done (plan_effect state t true (Refuse outcome))
-refused-gives done state t kind id line outcome is sent_by is_told =
+refused-gives done state t kind id line outcome is sent_by is_reported =
     subst (MatchesEffect done)
-    (ap (teach_effect state kind) (sym is_told)
-    ∙ ap (λ i. teach_effect state kind (query_teach_line i kind outcome)) sent_by
-    ∙ ap (λ k. teach_effect state k (query_teach_line t.sender k outcome)) is)
+    (ap (teach_report_effect state kind) (sym is_reported)
+    ∙ ap (λ i. teach_report_effect state kind (query_teach_line i kind outcome)) sent_by
+    ∙ ap (λ k. teach_report_effect state k (query_teach_line t.sender k outcome)) is)
 
 -- the effects of a device that is to be learned: if the registry is full, and if not
 pub record Adds (known : Device) (full done : Effect) : Type 0 where
@@ -175,11 +187,12 @@ pub record Drops (id : ℕ) (done : Effect) : Type 0 where
   pub needs : done.need ≡ NeedsStore
   pub forgets : done.update ≡ Some (forget_update id)
 
-pub by-desk : (known : Device) → Adds known (lines_effect NeedsStore (Error error.Full ∷ [])) (learn_effect known)
+pub by-desk : (known : Device)
+    → Adds known (lines_effect NeedsStore (Error error.Full ∷ [])) (ordered_learn_effect known)
 by-desk known = record { full_needs = refl; stays = refl; done_needs = refl; learns = refl }
 
 pub by-radio : (state : State) (kind : Teach) (known : Device)
-    → Adds known (teach_effect state kind (device_teach_line known Full)) (accept_effect state kind known)
+    → Adds known (teach_report_effect state kind (device_teach_line known Full)) (accept_effect state kind known)
 by-radio state kind known = record { full_needs = refl; stays = refl; done_needs = refl; learns = refl }
 
 module _ {S : Type 0} (stored : S → DeviceStoreState) where
@@ -201,14 +214,15 @@ module _ {S : Type 0} (stored : S → DeviceStoreState) where
   pending-after old mid new devices need cause (Some update) keeps pends =
       pends-after (stored old) (stored mid) (stored new) update devices keeps pends
 
-  pub comes-after : (old mid new : S) (devices : Devices) (effect : Effect) (r : Result HandlerEffect Failure)
+  pub applies_or_fails-after : (old mid new : S) (devices : Devices) (effect : Effect)
+      (r : Result HandlerEffect Failure)
       → Keeps (stored old) (stored mid) devices → AppliesOrFails (stored mid) (stored new) devices effect r
       → AppliesOrFails (stored old) (stored new) devices effect r
-  comes-after old mid new devices effect (Ok done) keeps (gives, made) =
+  applies_or_fails-after old mid new devices effect (Ok done) keeps (gives, made) =
       (gives, made-after old mid new devices effect.update keeps made)
-  comes-after old mid new devices effect (Err (Before fault)) keeps (needed, kept) =
+  applies_or_fails-after old mid new devices effect (Err (Before fault)) keeps (needed, kept) =
       (needed, keeps-after (stored old) (stored mid) (stored new) devices keeps kept)
-  comes-after old mid new devices effect (Err (AtCommit fault)) keeps with_pending_update =
+  applies_or_fails-after old mid new devices effect (Err (AtCommit fault)) keeps with_pending_update =
       pending-after old mid new devices effect.need (cause_of fault) effect.update keeps with_pending_update
 
   -- ---- an input that is tried
@@ -223,14 +237,14 @@ module _ {S : Type 0} (stored : S → DeviceStoreState) where
       (effect (record { base = base; mode = mode; counts = counts; devices = devices })) r)
       → Attempts stored (record { base = base; mode = mode; counts = counts; registry = old }) effect r
       (record { base = base; mode = mode; counts = counts; registry = new })
-  tries base mode counts old new effect r clean registries comes =
+  tries base mode counts old new effect r clean recoverable applies_or_fails =
       record {
         base = refl;
         mode = refl;
         counts = refl;
         clean = clean;
-        registries = λ honest before. registries honest;
-        comes = comes;
+        recoverable = λ honest before. recoverable honest;
+        applies_or_fails = applies_or_fails;
       }
 
   -- with no call of the registry
@@ -238,13 +252,13 @@ module _ {S : Type 0} (stored : S → DeviceStoreState) where
       → ((devices : Devices) → Keeps (stored v.registry) (stored v.registry) devices
       → AppliesOrFails (stored v.registry) (stored v.registry) devices (effect (state_of v devices)) r)
       → Attempts stored v effect r v
-  tries-alone v effect r comes = record {
+  tries-alone v effect r applies_or_fails = record {
     base = refl;
     mode = refl;
     counts = refl;
     clean = λ honest. honest;
-    registries = λ honest before. before;
-    comes = λ honest devices has. comes devices (keeps-same (stored v.registry) devices has);
+    recoverable = λ honest before. before;
+    applies_or_fails = λ honest devices has. applies_or_fails devices (keeps-same (stored v.registry) devices has);
   }
 
   -- if the effects are equal
@@ -256,10 +270,10 @@ module _ {S : Type 0} (stored : S → DeviceStoreState) where
     mode = tries.mode;
     counts = tries.counts;
     clean = tries.clean;
-    registries = tries.registries;
-    comes = λ honest devices has.
+    recoverable = tries.recoverable;
+    applies_or_fails = λ honest devices has.
         subst (λ e. AppliesOrFails (stored old.registry) (stored new.registry) devices e r) (sym (same devices))
-        (tries.comes honest devices has);
+        (tries.applies_or_fails honest devices has);
   }
 
   -- after a look-up in the registry
@@ -272,7 +286,7 @@ module _ {S : Type 0} (stored : S → DeviceStoreState) where
       → (effect (state_of v devices) ≡ other (state_of v devices))
       × Keeps (stored v.registry) (stored registry) devices)
       → Attempts stored mid other r new → Attempts stored v effect r new
-  tries-behind v mid new registry effect other r is clean registries found tried =
+  tries-behind v mid new registry effect other r is clean recoverable found tried =
       let over : Attempts stored (record v { registry = registry }) other r new =
       subst (λ (m : HandlerValue S). Attempts stored m other r new) is tried in
       record {
@@ -280,22 +294,22 @@ module _ {S : Type 0} (stored : S → DeviceStoreState) where
         mode = over.mode;
         counts = over.counts;
         clean = λ honest. clean (over.clean honest);
-        registries = λ honest before. over.registries honest (registries (over.clean honest));
-        comes = λ honest devices has.
+        recoverable = λ honest before. over.recoverable honest (recoverable (over.clean honest));
+        applies_or_fails = λ honest devices has.
             let f = found (over.clean honest) devices has in
             subst (λ e. AppliesOrFails (stored v.registry) (stored new.registry) devices e r) (sym f.0)
-            (comes-after v.registry registry new.registry devices (other (state_of v devices)) r f.1
-            (over.comes honest devices f.1.now));
+            (applies_or_fails-after v.registry registry new.registry devices (other (state_of v devices)) r f.1
+            (over.applies_or_fails honest devices f.1.now));
       }
 
   -- a telegram that is read gives a line or none, and changes nothing
-  pub reading-comes : (old new : S) (devices : Devices) (t : Telegram) (known : Device)
+  pub reading-applies_or_fails : (old new : S) (devices : Devices) (t : Telegram) (known : Device)
       (readings : Result (List Entry) Unreadable) (done : HandlerEffect)
       → MatchesEffect done (reading_effect t known readings)
       → Keeps (stored old) (stored new) devices
       → AppliesOrFails (stored old) (stored new) devices (reading_effect t known readings) (Ok done)
-  reading-comes old new devices t known (Err fault) done gives keeps = (gives, keeps)
-  reading-comes old new devices t known (Ok readings) done gives keeps = (gives, keeps)
+  reading-applies_or_fails old new devices t known (Err fault) done gives keeps = (gives, keeps)
+  reading-applies_or_fails old new devices t known (Ok readings) done gives keeps = (gives, keeps)
 
   -- ---- learning and forgetting a device
 
@@ -306,8 +320,8 @@ module _ {S : Type 0} (stored : S → DeviceStoreState) where
       → ((stored new).honest → (devices : Devices) → (stored old).holds devices → IsSo devices)
       → ChangesOnlyRegistry stored (record { base = base; mode = mode; counts = counts; registry = old }) IsSo
       (record { base = base; mode = mode; counts = counts; registry = new })
-  alone base mode counts old new IsSo clean registries is_so =
-      record { same = refl; clean = clean; registries = λ honest before. registries honest; is_so = is_so }
+  alone base mode counts old new IsSo clean recoverable is_so =
+      record { same = refl; clean = clean; recoverable = λ honest before. recoverable honest; is_so = is_so }
 
   -- with no call of the registry
   pub alone-unasked : (v : HandlerValue S) (IsSo : Devices → Type 0)
@@ -316,7 +330,7 @@ module _ {S : Type 0} (stored : S → DeviceStoreState) where
   alone-unasked v IsSo is_so = record {
     same = refl;
     clean = λ honest. honest;
-    registries = λ honest before. before;
+    recoverable = λ honest before. before;
     is_so = λ honest devices has. is_so devices (keeps-same (stored v.registry) devices has);
   }
 
@@ -326,14 +340,14 @@ module _ {S : Type 0} (stored : S → DeviceStoreState) where
       → ((devices : Devices) → IsSo devices
       → AppliesOrFails (stored old.registry) (stored new.registry) devices (effect (state_of old devices)) r)
       → Attempts stored old effect r new
-  tries-registry old new IsSo effect r alone comes =
+  tries-registry old new IsSo effect r alone applies_or_fails =
       record {
         base = ap (λ (v : HandlerValue S). v.base) alone.same;
         mode = ap (λ (v : HandlerValue S). v.mode) alone.same;
         counts = ap (λ (v : HandlerValue S). v.counts) alone.same;
         clean = alone.clean;
-        registries = alone.registries;
-        comes = λ honest devices has. comes devices (alone.is_so honest devices has);
+        recoverable = alone.recoverable;
+        applies_or_fails = λ honest devices has. applies_or_fails devices (alone.is_so honest devices has);
       }
 
   -- the effect by what the handler knows then is the effect by what it knew
@@ -344,24 +358,27 @@ module _ {S : Type 0} (stored : S → DeviceStoreState) where
       subst (λ s. MatchesEffect done (effect s)) (ap (λ v. state_of v devices) same)
 
   -- an update that fails
-  refused-comes : (old new : S) (devices : Devices) (effect : Effect) (update : DeviceUpdate) (failure : Failure)
+  refused-applies_or_fails : (old new : S) (devices : Devices) (effect : Effect) (update : DeviceUpdate)
+      (failure : Failure)
       → effect.need ≡ NeedsStore → effect.update ≡ Some update
       → FailsToUpdate (stored old) (stored new) devices update failure
       → AppliesOrFails (stored old) (stored new) devices effect (Err failure)
-  refused-comes old new devices effect update (Before fault) need changes keeps =
+  refused-applies_or_fails old new devices effect update (Before fault) need changes keeps =
       (permitted effect.need (cause_of fault) need, keeps)
-  refused-comes old new devices effect update (AtCommit fault) need changes pends = rw changes pends
+  refused-applies_or_fails old new devices effect update (AtCommit fault) need changes pends = rw changes pends
 
   -- a label is committed, or the sender is unknown
-  pub label-comes : (old new : S) (devices : Devices) (id : ℕ) (label : List ℕ) (known : Bool) (done : HandlerEffect)
+  pub label-applies_or_fails : (old new : S) (devices : Devices) (id : ℕ) (label : List ℕ) (known : Bool)
+      (done : HandlerEffect)
       → known ≡ is_some (get devices id)
       → MatchBool known (MatchesEffect done (relabel_effect id label)
       × Commits (stored new) (relabel_update id label) devices)
       (MatchesEffect done (lines_effect NeedsStore (Error error.UnknownDevice ∷ []))
       × Keeps (stored old) (stored new) devices)
       → AppliesOrFails (stored old) (stored new) devices
-      (if_known (device_of devices id) (λ it. relabel_effect id label)) (Ok done)
-  label-comes old new devices id label known done is comes = one (get devices id) known is comes
+      (if_learned_else_error (device_of devices id) (λ it. relabel_effect id label)) (Ok done)
+  label-applies_or_fails old new devices id label known done is applies_or_fails =
+      one (get devices id) known is applies_or_fails
     where
       one : (it : Option DeviceData) (b : Bool) → b ≡ is_some it
           → MatchBool b (MatchesEffect done (relabel_effect id label)
@@ -369,18 +386,18 @@ module _ {S : Type 0} (stored : S → DeviceStoreState) where
           (MatchesEffect done (lines_effect NeedsStore (Error error.UnknownDevice ∷ []))
           × Keeps (stored old) (stored new) devices)
           → AppliesOrFails (stored old) (stored new) devices
-          (if_known (option_map (device id) it) (λ it. relabel_effect id label))
+          (if_learned_else_error (option_map (device id) it) (λ it. relabel_effect id label))
           (Ok done)
-      one (Some it) true is comes = comes
-      one (Some it) false is comes = absurd (let no = is in cc)
-      one None true is comes = absurd (let no = is in cc)
-      one None false is comes = comes
+      one (Some it) true is applies_or_fails = applies_or_fails
+      one (Some it) false is applies_or_fails = absurd (let no = is in cc)
+      one None true is applies_or_fails = absurd (let no = is in cc)
+      one None false is applies_or_fails = applies_or_fails
 
   pub label-refused : (old new : S) (devices : Devices) (id : ℕ) (label : List ℕ) (fault : StoreFault)
       → MatchBool (is_some (get devices id)) (LeavesPending (stored old) (stored new) (relabel_update id label) devices)
       (Keeps (stored old) (stored new) devices)
       → AppliesOrFails (stored old) (stored new) devices
-      (if_known (device_of devices id) (λ it. relabel_effect id label))
+      (if_learned_else_error (device_of devices id) (λ it. relabel_effect id label))
       (Err (AtCommit fault))
   label-refused old new devices id label fault failed = one (get devices id) failed
     where
@@ -388,19 +405,19 @@ module _ {S : Type 0} (stored : S → DeviceStoreState) where
           → MatchBool (is_some it) (LeavesPending (stored old) (stored new) (relabel_update id label) devices)
           (Keeps (stored old) (stored new) devices)
           → AppliesOrFails (stored old) (stored new) devices
-          (if_known (option_map (device id) it) (λ it. relabel_effect id label))
+          (if_learned_else_error (option_map (device id) it) (λ it. relabel_effect id label))
           (Err (AtCommit fault))
       one (Some it) pends = pends
       one None keeps = (permitted NeedsStore (cause_of fault) refl, keeps)
 
   -- a device is not learned: if the registry is full, nothing is written
-  effect_unless_full-pending : (old new : S) (devices : Devices) (known : Device) (full done : Effect)
+  if_full_of_others_else-pending : (old new : S) (devices : Devices) (known : Device) (full done : Effect)
       → Adds known full done
       → (cause : Cause) → MatchBool (is_full devices known.id) (Keeps (stored old) (stored new) devices)
       (LeavesPending (stored old) (stored new) (learn_update known) devices)
-      → IsPending (stored old) (stored new) devices (effect_unless_full devices known full done).need cause
-      (effect_unless_full devices known full done).update
-  effect_unless_full-pending old new devices known full done adds cause state_after_failure =
+      → IsPending (stored old) (stored new) devices (if_full_of_others_else devices known full done).need cause
+      (if_full_of_others_else devices known full done).update
+  if_full_of_others_else-pending old new devices known full done adds cause state_after_failure =
       one (is_full devices known.id) state_after_failure
     where
       one : (b : Bool)
@@ -413,25 +430,27 @@ module _ {S : Type 0} (stored : S → DeviceStoreState) where
 
   module _ (old new : HandlerValue S) (known : Device) (full done : State → Effect)
       (adds : (devices : Devices) → Adds known (full (state_of old devices)) (done (state_of old devices))) where
-    pub tries-refused : (failure : Failure) → Learns stored old known (Err failure) new
-        → Attempts stored old (λ state. effect_unless_full state.devices known (full state) (done state)) (Err failure)
+    pub tries-refused : (failure : Failure) → TriesToLearn stored old known (Err failure) new
+        → Attempts stored old (λ state. if_full_of_others_else state.devices known (full state) (done state))
+        (Err failure)
         new
     tries-refused (Before fault) learns =
         tries-registry old new _ _ _ learns.alone
         (λ devices keeps.
         let all = adds devices in (
-          permitted _ (cause_of fault) (effect_unless_full-need devices known _ _ all.full_needs all.done_needs),
+          permitted _ (cause_of fault) (if_full_of_others_else-need devices known _ _ all.full_needs all.done_needs),
           keeps,
         ))
     tries-refused (AtCommit fault) learns =
         tries-registry old new _ _ _ learns.alone
         (λ devices pends.
-        effect_unless_full-pending old.registry new.registry devices known (full (state_of old devices))
+        if_full_of_others_else-pending old.registry new.registry devices known (full (state_of old devices))
         (done (state_of old devices)) (adds devices) (cause_of fault) pends)
 
-    pub tries-full : (made : HandlerEffect) → Learns stored old known (Ok None) new
+    pub tries-full : (made : HandlerEffect) → TriesToLearn stored old known (Ok None) new
         → ((devices : Devices) → MatchesEffect made (full (state_of new devices)))
-        → Attempts stored old (λ state. effect_unless_full state.devices known (full state) (done state)) (Ok made) new
+        → Attempts stored old (λ state. if_full_of_others_else state.devices known (full state) (done state))
+        (Ok made) new
     tries-full made learns gives =
         tries-registry old new _ _ _ learns.alone
         (λ devices (is, keeps).
@@ -439,21 +458,22 @@ module _ {S : Type 0} (stored : S → DeviceStoreState) where
         (gives-before old new made full devices learns.alone.same (gives devices), keeps))
 
     -- out of memory for the line that reports it
-    pub tries-unacknowledged : (fault : StoreFault) → Learns stored old known (Ok None) new
-        → Attempts stored old (λ state. effect_unless_full state.devices known (full state) (done state))
+    pub tries-unacknowledged : (fault : StoreFault) → TriesToLearn stored old known (Ok None) new
+        → Attempts stored old (λ state. if_full_of_others_else state.devices known (full state) (done state))
         (Err (Before fault)) new
     tries-unacknowledged fault learns =
         tries-registry old new _ _ _ learns.alone
         (λ devices (is, keeps).
         let all = adds devices in (
-          permitted _ (cause_of fault) (effect_unless_full-need devices known _ _ all.full_needs all.done_needs),
+          permitted _ (cause_of fault) (if_full_of_others_else-need devices known _ _ all.full_needs all.done_needs),
           keeps,
         ))
 
     pub tries-learned : (committed : Verdict × List ℕ) (made : HandlerEffect)
-        → Learns stored old known (Ok (Some committed)) new
+        → TriesToLearn stored old known (Ok (Some committed)) new
         → ((devices : Devices) → MatchesEffect made (done (state_of new devices)))
-        → Attempts stored old (λ state. effect_unless_full state.devices known (full state) (done state)) (Ok made) new
+        → Attempts stored old (λ state. if_full_of_others_else state.devices known (full state) (done state))
+        (Ok made) new
     tries-learned committed made learns gives =
         tries-registry old new _ _ _ learns.alone
         (λ devices (is, commits).
@@ -462,17 +482,18 @@ module _ {S : Type 0} (stored : S → DeviceStoreState) where
 
   module _ (old new : HandlerValue S) (line : TeachLine) (effect : State → Effect)
       (drops : (devices : Devices) → Drops line.id (effect (state_of old devices))) where
-    pub tries-unforgotten : (failure : Failure) → Forgets stored old line (Err failure) new
+    pub tries-unforgotten : (failure : Failure) → TriesToForget stored old line (Err failure) new
         → Attempts stored old effect (Err failure) new
     tries-unforgotten failure forgets =
         tries-registry old new _ _ _ forgets.alone
         (λ devices.
         let all = drops devices in
-        refused-comes old.registry new.registry devices (effect (state_of old devices)) (forget_update line.id) failure
+        refused-applies_or_fails old.registry new.registry devices (effect (state_of old devices))
+        (forget_update line.id) failure
         all.needs all.forgets)
 
     pub tries-forgotten : (committed : Verdict × List ℕ) (made : HandlerEffect)
-        → Forgets stored old line (Ok committed) new
+        → TriesToForget stored old line (Ok committed) new
         → ((devices : Devices) → MatchesEffect made (effect (state_of new devices)))
         → Attempts stored old effect (Ok made) new
     tries-forgotten committed made forgets gives =
@@ -482,20 +503,22 @@ module _ {S : Type 0} (stored : S → DeviceStoreState) where
         (gives-before old new made effect devices forgets.alone.same (gives devices), commits))
 
   -- an order's telegram is sent, or an error reports why there is none
-  pub telegram-comes : (old new : S) (devices : Devices) (asked : Bool)
+  pub telegram-applies_or_fails : (old new : S) (devices : Devices) (asked : Bool)
       (telegram : Option (Result Telegram OrderFault)) (done : HandlerEffect)
       → MatchesEffect done (send_result_effect asked telegram)
       → Keeps (stored old) (stored new) devices
       → AppliesOrFails (stored old) (stored new) devices (send_result_effect asked telegram) (Ok done)
-  telegram-comes old new devices asked (Some (Ok t)) done gives keeps = (gives, keeps)
-  telegram-comes old new devices asked (Some (Err fault)) done gives keeps = (gives, keeps)
-  telegram-comes old new devices asked None done gives keeps = (gives, keeps)
+  telegram-applies_or_fails old new devices asked (Some (Ok t)) done gives keeps = (gives, keeps)
+  telegram-applies_or_fails old new devices asked (Some (Err fault)) done gives keeps = (gives, keeps)
+  telegram-applies_or_fails old new devices asked None done gives keeps = (gives, keeps)
 
   -- the window is opened, or the profile is not supported
-  pub opens-comes : (old new : S) (devices : Devices) (eep : Eep) (done : HandlerEffect)
-      → MatchesEffect done (if_supported eep (mode_effect (LearnAs eep))) → Keeps (stored old) (stored new) devices
-      → AppliesOrFails (stored old) (stored new) devices (if_supported eep (mode_effect (LearnAs eep))) (Ok done)
-  opens-comes old new devices eep done gives keeps =
+  pub opens-applies_or_fails : (old new : S) (devices : Devices) (eep : Eep) (done : HandlerEffect)
+      → MatchesEffect done (if_supported_else_error eep (mode_effect (LearnAs eep)))
+      → Keeps (stored old) (stored new) devices
+      → AppliesOrFails (stored old) (stored new) devices (if_supported_else_error eep (mode_effect (LearnAs eep)))
+      (Ok done)
+  opens-applies_or_fails old new devices eep done gives keeps =
       one (supported eep) gives
     where
       one : (b : Bool) → let e : Effect =
@@ -525,7 +548,7 @@ module _ {S : Type 0} (stored : S → DeviceStoreState) where
   made-safe : (old new : S) (devices : Devices) (update : Option DeviceUpdate)
       → IsUpdateCommitted (stored old) (stored new) devices update
       → (left : Devices) → (stored new).may_recover left
-      → IsCrashConsistent (stored old).may_recover (after_committed_update no_crash_states devices update) left
+      → IsCrashConsistent (stored old).may_recover (after_committed_update nothing_committed_yet devices update) left
   made-safe old new devices None keeps left may = inr (refl, keeps.crash left may)
   made-safe old new devices (Some update) commits left may = inl (inl (commits.crash left may))
 
@@ -548,20 +571,20 @@ module _ {S : Type 0} (stored : S → DeviceStoreState) where
     run = (subst (λ o. IsSome o) (sym asks) refl, refl, refl);
     at = (base, mode, pends.now, counts);
     crash = λ left may. subst (λ o. IsCrashConsistent (stored old.registry).may_recover
-        (with_pending_update no_crash_states start.devices o) left)
+        (with_pending_update nothing_committed_yet start.devices o) left)
         (sym asks)
         (elim (pends.crash left may) [ inl before ↦ inr (refl, before) | inr is ↦ inl (inl is) ]);
   }
 
-  comes-went : (old new : HandlerValue S) (start : State) (input : Input) (r : Result HandlerEffect Failure)
+  applies_or_fails-went : (old new : HandlerValue S) (start : State) (input : Input) (r : Result HandlerEffect Failure)
       → new.base ≡ start.base
       → new.mode ≡ mode_from start.mode r
       → new.counts ≡ counts_from start.counts r
       → AppliesOrFails (stored old.registry) (stored new.registry) start.devices (effect start input) r
-      → HandlesFrom stored old start (input ∷ []) (answer_after input r ∷ []) new
-  comes-went old new start input (Ok done) base mode counts ((says, counted, mode_effect), made) = record {
+      → HandlesFrom stored old start (input ∷ []) (explained_answer_to input r ∷ []) new
+  applies_or_fails-went old new start input (Ok done) base mode counts ((says, counted, mode_effect), made) = record {
     results = Applied ∷ [];
-    last = state_after start input;
+    last = state_if_applied start input;
     run = (
       tt,
       ap (λ a. with_packet_line (packet_line_for input a) done.answer) counted
@@ -573,25 +596,25 @@ module _ {S : Type 0} (stored : S → DeviceStoreState) where
       mode ∙ ap (with_mode start.mode) mode_effect,
       made-now old.registry new.registry start.devices (update_of start input) made,
       counts
-          ∙ ap (λ a. increment_if_any start.counts (count_in a)) counted,
+          ∙ ap (λ a. increment_if_any start.counts (counter_in a)) counted,
     );
     crash = made-safe old.registry new.registry start.devices (update_of start input) made;
   }
-  comes-went old new start input (Err (Before fault)) base mode counts (need, keeps) = record {
+  applies_or_fails-went old new start input (Err (Before fault)) base mode counts (need, keeps) = record {
     results = Failed (cause_of fault) ∷ [];
     last = state_after_failure start;
     run = (need, refl, refl);
     at = (base, mode, keeps.now, counts);
     crash = λ left may. inr (refl, keeps.crash left may);
   }
-  comes-went old new start input (Err (AtCommit fault)) base mode counts with_pending_update =
+  applies_or_fails-went old new start input (Err (AtCommit fault)) base mode counts with_pending_update =
       at_write-went old new start input (cause_of fault)
       (update_of start input) refl base mode counts with_pending_update
 
   -- the input that was tried is finished: it is counted
   pub record Settles (mid : HandlerValue S) (input : Input) (r : Result HandlerEffect Failure) (answer : Answer)
       (new : HandlerValue S) : Type 0 where
-    pub answer_is : answer ≡ answer_after input r
+    pub answer_is : answer ≡ explained_answer_to input r
     pub base : new.base ≡ mid.base
     pub mode : new.mode ≡ mode_from mid.mode r
     pub counts : new.counts ≡ counts_from mid.counts r
@@ -609,14 +632,14 @@ module _ {S : Type 0} (stored : S → DeviceStoreState) where
       record {
         base = settles.base ∙ over.base;
         clean = over.clean;
-        registries = over.registries;
+        recoverable = over.recoverable;
         went = λ honest start at.
-            let come = over.comes honest start.devices at.2 in
+            let come = over.applies_or_fails honest start.devices at.2 in
             let Here = λ (s : State).
             AppliesOrFails (stored old.registry) (stored new.registry) start.devices (effect s input) r in
             let here : Here start = subst Here (same old start at.0 at.1 at.3) come in
             subst (λ a. HandlesFrom stored old start (input ∷ []) (a ∷ []) new) (sym settles.answer_is)
-            (comes-went old new start input r (settles.base ∙ tried.base ∙ at.0)
+            (applies_or_fails-went old new start input r (settles.base ∙ tried.base ∙ at.0)
             (settles.mode ∙ ap (λ m. mode_from m r) (tried.mode ∙ at.1))
             (settles.counts ∙ ap (λ c. counts_from c r) (tried.counts ∙ at.3)) here);
       }

@@ -3,15 +3,15 @@ use Rattle.std.proofs.Common.{◌≡◌, inl, inr, refl, sym, subst}
 use Rattle.learned_devices.specs.DeviceStoreState.{DeviceStoreState}
 use Rattle.learned_devices.specs.Devices.{Devices}
 use Rattle.gateway_core.specs.Step.{update_of}
-use Rattle.gateway_core.specs.CrashStates.{IsCrashConsistent, with_pending_update, no_crash_states, crash_states}
+use Rattle.gateway_core.specs.CrashStates.{IsCrashConsistent, with_pending_update, nothing_committed_yet, crash_states}
 use Rattle.gateway_core.specs.Sessions.{initial_state}
 use Rattle.gateway_core.specs.SessionCalls.{CallsAreSessions, ClosesEndSessions}
 use Rattle.gateway_core.specs.SessionCalls.{CrashesEndSessions}
 use Rattle.gateway_core.proofs.CrashLemmas.{safe-weaker, safe-pending, safe-last}
 
 module _ {S : Type 0} (stored : S → DeviceStoreState) where
-  pub calls_are_sessions : CallsAreSessions stored
-  calls_are_sessions old new found inputs answers honest begins handles left may =
+  pub crash_after_calls_is_end : CallsAreSessions stored
+  crash_after_calls_is_end old new found inputs answers honest begins handles left may =
       let went = handles.went honest (initial_state old.base found) begins.at in
       record {
         results = went.results;
@@ -23,14 +23,14 @@ module _ {S : Type 0} (stored : S → DeviceStoreState) where
         };
       }
 
-  pub crashes_end_sessions : CrashesEndSessions stored
-  crashes_end_sessions old new within found inputs answers input update honest early begins handles asks tries left may
+  pub crash_in_input_is_end : CrashesEndSessions stored
+  crash_in_input_is_end old new within found inputs answers input update honest early begins handles asks tries left may
       =
       let went = handles.went early (initial_state old.base found) begins.at in
       let leaves = tries went.last.devices went.at.2 in
       let is = asks went.last went.at in
       let Before = λ (d : Devices). d ≡ found in
-      let so_far = crash_states no_crash_states (initial_state old.base found) inputs went.results in
+      let so_far = crash_states nothing_committed_yet (initial_state old.base found) inputs went.results in
       let safe : IsCrashConsistent Before (with_pending_update so_far went.last.devices (update_of went.last input))
       left =
       elim (leaves left may) [
@@ -42,8 +42,8 @@ module _ {S : Type 0} (stored : S → DeviceStoreState) where
       ] in
       record { results = went.results; last = went.last; is = record { run = went.run; safe = safe } }
 
-  pub closes_end_sessions : ClosesEndSessions stored
-  closes_end_sessions old new found inputs answers honest begins handles =
+  pub closed_session_leaves_last : ClosesEndSessions stored
+  closed_session_leaves_last old new found inputs answers honest begins handles =
       let went = handles.went honest (initial_state old.base found) begins.at in (
         went.last.devices,
         went.at.2,
@@ -53,7 +53,7 @@ module _ {S : Type 0} (stored : S → DeviceStoreState) where
             last = went.last;
             is = record {
               run = went.run;
-              safe = safe-last (λ d. d ≡ found) no_crash_states
+              safe = safe-last (λ d. d ≡ found) nothing_committed_yet
                   (initial_state old.base found) went.last inputs went.results
                   answers
                   went.run (inr (refl, refl));

@@ -16,7 +16,7 @@ use Rattle.esp3_frames.specs.Framing.Framing.{ends, skips, finds}
 use Rattle.esp3_frames.proofs.ForCallers.{framing_of}
 use Rattle.gateway_core.specs.Step.{Input, Received}
 use Rattle.gateway_core.specs.Events.{Chunk, Line, new_packets, bytes_in, inputs_of}
-use Rattle.gateway_core.specs.Ranges.{ConsistsOfBytes, InputsAreOfBytes}
+use Rattle.gateway_core.specs.Ranges.{PacketBodyIsBytes, InputsAreOfBytes}
 
 -- ---- a field is below two to the power of its length
 
@@ -120,7 +120,7 @@ drop-packets (suc n) [] all = tt
 drop-packets (suc n) (packet ∷ packets) all = drop-packets n packets all.1
 
 joined-inputs : (packets : List Packet) (inputs : List Input) → AllByRecursion HasByteData packets
-    → AllByRecursion ConsistsOfBytes inputs → AllByRecursion ConsistsOfBytes (map Received packets ++ inputs)
+    → AllByRecursion PacketBodyIsBytes inputs → AllByRecursion PacketBodyIsBytes (map Received packets ++ inputs)
 joined-inputs [] inputs all more = more
 joined-inputs (packet ∷ packets) inputs all more = (all.0, joined-inputs packets inputs all.1 more)
 

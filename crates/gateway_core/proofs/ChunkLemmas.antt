@@ -8,9 +8,10 @@ use Rattle.esp3_frames.specs.Frames.{packets_in, rest_of}
 use Rattle.esp3_frames.proofs.ForCallers.{framing_in_parts}
 use Rattle.gateway_core.specs.Step.{Input, Received, Ordered}
 use Rattle.gateway_core.specs.Run.{Run}
-use Rattle.gateway_core.specs.Events.{Event, Chunk, Line, new_packets, inputs_of, bytes_in, lines_in, prepend_to_first}
+use Rattle.gateway_core.specs.Events.{Event, Chunk, Line, new_packets, inputs_of, bytes_in, desk_lines_in}
+use Rattle.gateway_core.specs.Events.{prepend_to_first}
 use Rattle.gateway_core.specs.Events.{bytes_between, InputsDoNotDependOnChunks, AnswersDoNotDependOnChunks}
-use Rattle.gateway_core.proofs.RunLemmas.{same_failures}
+use Rattle.gateway_core.proofs.RunLemmas.{same_failures_give_same_answers}
 
 -- some bytes complete the packets that they complete after the rest of the stream
 pub new_packets-rest : (s w : List ℕ) → new_packets s w ≡ packets_in (rest_of s ++ w)
@@ -77,26 +78,26 @@ between_cons (Chunk w ∷ events) = front_cons w (bytes_between events)
 between_cons (Line l ∷ events) = ([], bytes_between events, refl)
 
 inputs_of-spread : (s : List ℕ) (events : List Event)
-    → inputs_of s events ≡ spread s (bytes_between events) (lines_in events)
+    → inputs_of s events ≡ spread s (bytes_between events) (desk_lines_in events)
 unfolding spread
 inputs_of-spread s [] = sym (ap (λ (ps : List Packet). map Received ps) (new_packets-nil s))
 inputs_of-spread s (Chunk w ∷ events) =
     let c = between_cons events in
     ap (λ (is : List Input). map Received (new_packets s w) ++ is)
-    (inputs_of-spread (s ++ w) events ∙ ap (λ (xs : List (List ℕ)). spread (s ++ w) xs (lines_in events)) c.2)
-    ∙ sym (ap (λ (xs : List (List ℕ)). spread s (prepend_to_first w xs) (lines_in events)) c.2
-    ∙ spread-prepend_to_first s w c.1 (lines_in events) c.0)
+    (inputs_of-spread (s ++ w) events ∙ ap (λ (xs : List (List ℕ)). spread (s ++ w) xs (desk_lines_in events)) c.2)
+    ∙ sym (ap (λ (xs : List (List ℕ)). spread s (prepend_to_first w xs) (desk_lines_in events)) c.2
+    ∙ spread-prepend_to_first s w c.1 (desk_lines_in events) c.0)
 inputs_of-spread s (Line l ∷ events) =
     ap (λ (is : List Input). Ordered l ∷ is)
     (inputs_of-spread s events
-    ∙ ap (λ (z : List ℕ). spread z (bytes_between events) (lines_in events)) (sym (append-nil s)))
+    ∙ ap (λ (z : List ℕ). spread z (bytes_between events) (desk_lines_in events)) (sym (append-nil s)))
     ∙ sym (ap (λ (ps : List Packet). map Received ps
-    ++ Ordered l ∷ spread (s ++ []) (bytes_between events) (lines_in events)) (new_packets-nil s))
+    ++ Ordered l ∷ spread (s ++ []) (bytes_between events) (desk_lines_in events)) (new_packets-nil s))
 
 pub cuts_do_not_matter : InputsDoNotDependOnChunks
 cuts_do_not_matter s events others same_lines same_bytes =
     inputs_of-spread s events
-    ∙ ap (λ (xs : List (List ℕ)). spread s xs (lines_in events)) same_bytes
+    ∙ ap (λ (xs : List (List ℕ)). spread s xs (desk_lines_in events)) same_bytes
     ∙ ap (λ (ls : List (List ℕ)). spread s (bytes_between others) ls) same_lines
     ∙ sym (inputs_of-spread s others)
 
@@ -106,4 +107,4 @@ answers_do_not_depend_on_chunks s events others old left right results after ans
     second =
     let same = cuts_do_not_matter s events others same_lines same_bytes in
     let on_same = subst (λ inputs. Run old inputs after more right) (sym same) second in
-    same_failures old left right (inputs_of s events) results after answers more alike first on_same
+    same_failures_give_same_answers old left right (inputs_of s events) results after answers more alike first on_same

@@ -12,10 +12,10 @@ use Rattle.teach_in.specs.declared.why.Why.{Why}
 use Rattle.teach_in.specs.declared.why.Why.TheVariants as why
 use Rattle.json_lines.specs.Lines.{Reading, Teach, ResponseLine, TeachLine, text, texts}
 use Rattle.gateway_core.specs.declared.disposition.Disposition.{Disposition}
-use Rattle.gateway_core.specs.Dispositions.{without_device, count_for, explanation, packet_line_of}
-use Rattle.gateway_core.specs.Counting.{AppliedAreCounted, IsExplained, ExplanationsAreCounted, MatchesDeskLines}
+use Rattle.gateway_core.specs.Dispositions.{without_device, counter_for, explanation, packet_line_of}
+use Rattle.gateway_core.specs.Counting.{AppliedPacketsAreCounted, IsExplained, ExplanationsAreCounted, MatchesDeskLines}
 use Rattle.gateway_core.specs.Counting.{disposition_for_result}
-use Rattle.gateway_core.specs.Step.{State, Input, Received, Ordered, count_in, count_of, packet_effect}
+use Rattle.gateway_core.specs.Step.{State, Input, Received, Ordered, counter_in, counter_if_applied, packet_effect}
 use Rattle.gateway_core.specs.Step.{device_teach_line}
 use Rattle.gateway_core.specs.Step.{Answer, Cause, Effect, query_teach_line}
 use Rattle.gateway_core.specs.Run.{InputResult, Applied, Failed, FailedAtCommit, answer_for_result, state_after_result}
@@ -29,9 +29,9 @@ count_on a b c n m is on = omega (arith, is, on)
 
 -- an applied input is not counted as failed
 unrefused : (state : State) (input : Input)
-    → (increment_if_any state.counts (count_of state input)).refused ≡ state.counts.refused
+    → (increment_if_any state.counts (counter_if_applied state input)).refused ≡ state.counts.refused
 unrefused state =
-    of_effect (λ e. (increment_if_any state.counts (count_in e.disposition)).refused ≡ state.counts.refused) state
+    of_effect (λ e. (increment_if_any state.counts (counter_in e.disposition)).refused ≡ state.counts.refused) state
     (λ packet. record {
       telegrams = λ t is. record {
         unsays = λ asked disposition. ignores disposition;
@@ -55,14 +55,14 @@ unrefused state =
       relabels = λ id label is known. refl;
     })
   where
-    ignores : (disposition : Disposition) → count_for disposition.why ≡ count.Ignored
-        → (increment state.counts (count_for disposition.why)).refused ≡ state.counts.refused
+    ignores : (disposition : Disposition) → counter_for disposition.why ≡ count.Ignored
+        → (increment state.counts (counter_for disposition.why)).refused ≡ state.counts.refused
     ignores disposition is = ap (λ c. (increment state.counts c).refused) is
 
 -- an applied packet is counted, and a line is not
-packets-counted : (state : State) (packet : Packet) → IsSome (count_of state (Received packet))
+packets-counted : (state : State) (packet : Packet) → IsSome (counter_if_applied state (Received packet))
 packets-counted state packet =
-    of_packet (λ e. IsSome (count_in e.disposition)) state packet (record {
+    of_packet (λ e. IsSome (counter_in e.disposition)) state packet (record {
       telegrams = λ t is. record {
         unsays = λ asked disposition is. refl;
         reads = λ known line. refl;
@@ -74,9 +74,9 @@ packets-counted state packet =
       hears = λ response. refl;
     })
 
-lines-uncounted : (state : State) (line : List ℕ) → count_of state (Ordered line) ≡ None
+lines-uncounted : (state : State) (line : List ℕ) → counter_if_applied state (Ordered line) ≡ None
 lines-uncounted state line =
-    of_line (λ e. count_in e.disposition ≡ None) state line (record {
+    of_line (λ e. counter_in e.disposition ≡ None) state line (record {
       denies = λ name. refl;
       finds = λ name. refl;
       opens = λ mode is. refl;
@@ -91,9 +91,10 @@ lines-uncounted state line =
 -- the counter of teach-in is incremented exactly when the answer is a teach line
 teach-counted : (state : State) (line : TeachLine) (packet : Packet)
     → texts (packet_effect state packet).desk ≡ text (Teach line)
-    → count_of state (Received packet) ≡ Some count.Teach
+    → counter_if_applied state (Received packet) ≡ Some count.Teach
 teach-counted state line packet =
-    of_packet (λ e. texts e.desk ≡ text (Teach line) → count_in e.disposition ≡ Some count.Teach) state packet (record {
+    of_packet (λ e. texts e.desk ≡ text (Teach line) → counter_in e.disposition ≡ Some count.Teach) state packet
+    (record {
       telegrams = λ t is. record {
         unsays = λ asked disposition is e. absurd (no_line line e);
         reads = λ known read e. absurd (other-line (Reading read) line (λ never. never) e);
@@ -105,10 +106,11 @@ teach-counted state line packet =
       hears = λ response e. absurd (other-line (ResponseLine response) line (λ never. never) e);
     })
 
-teach-told : (state : State) (packet : Packet) → count_of state (Received packet) ≡ Some count.Teach
+counted-answered : (state : State) (packet : Packet) → counter_if_applied state (Received packet) ≡ Some count.Teach
     → (line : TeachLine) × (texts (packet_effect state packet).desk ≡ text (Teach line))
-teach-told state packet =
-    of_packet (λ e. count_in e.disposition ≡ Some count.Teach → (line : TeachLine) × (texts e.desk ≡ text (Teach line)))
+counted-answered state packet =
+    of_packet (λ e. counter_in e.disposition ≡ Some count.Teach → (line : TeachLine)
+    × (texts e.desk ≡ text (Teach line)))
     state packet
     (record {
       telegrams = λ t is. record {
@@ -123,18 +125,18 @@ teach-told state packet =
       hears = λ response e. absurd cc;
     })
 
-pub applied_are_counted : AppliedAreCounted
-applied_are_counted = record {
+pub applied_packets_are_counted : AppliedPacketsAreCounted
+applied_packets_are_counted = record {
   packets = packets-counted;
-  teach = λ state packet line. teach-counted state line packet;
-  taught = teach-told;
+  teach_line_is_counted = λ state packet line. teach-counted state line packet;
+  counted_has_teach_line = counted-answered;
   lines = lines-uncounted;
 }
 
 -- ---- the line that explains a packet
 
 -- with a word that counts as ignored, the desk receives no other line
-ignoring-says : (why : Why) → count_for why ≡ count.Ignored → MatchesDeskLines why []
+ignoring-says : (why : Why) → counter_for why ≡ count.Ignored → MatchesDeskLines why []
 ignoring-says why.Refused is = absurd cc
 ignoring-says why.Response is = absurd cc
 ignoring-says why.EmptyResponse is = refl
@@ -196,7 +198,7 @@ explained state packet Applied =
       explained = ap (λ o. explanation (option_map (packet_line_of packet) o)) is;
       says = λ taken. says;
       taken = (λ taken word. subst (λ w. MatchesDeskLines w (packet_effect state packet).desk) word says, λ word. refl);
-      counts = ap (λ o. increment_if_any state.counts (count_in o)) is;
+      counts = ap (λ o. increment_if_any state.counts (counter_in o)) is;
     }
 explained state packet (Failed cause) =
     refused-explained state packet (Failed cause) cause refl refl refl (λ taken. absurd cc)

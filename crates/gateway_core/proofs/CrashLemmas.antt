@@ -5,7 +5,8 @@ use Rattle.learned_devices.specs.Devices.{Devices, apply_update}
 use Rattle.learned_devices.specs.Devices.{DeviceUpdate}
 use Rattle.gateway_core.specs.Step.{State, Input, Answer, update_of, with_update}
 use Rattle.gateway_core.specs.Run.{InputResult, Applied, Failed, FailedAtCommit, state_after_result, Run}
-use Rattle.gateway_core.specs.CrashStates.{CrashStates, no_crash_states, after_committed_update, with_pending_update}
+use Rattle.gateway_core.specs.CrashStates.{CrashStates, nothing_committed_yet, after_committed_update}
+use Rattle.gateway_core.specs.CrashStates.{with_pending_update}
 use Rattle.gateway_core.specs.CrashStates.{crash_states_after_result}
 use Rattle.gateway_core.specs.CrashStates.{crash_states, IsOneOf, IsCrashConsistent, CrashConsistencyComposes}
 
@@ -17,10 +18,10 @@ over first second =
       maps = cond second.has_commit second.maps (second.maps ++ first.maps);
     }
 
-over-told : (first second : CrashStates) (devices : Devices) (o : Option DeviceUpdate)
+over-reported : (first second : CrashStates) (devices : Devices) (o : Option DeviceUpdate)
     → after_committed_update (over first second) devices o ≡ over first (after_committed_update second devices o)
-over-told first second devices (Some update) = refl
-over-told first second devices None = refl
+over-reported first second devices (Some update) = refl
+over-reported first second devices None = refl
 
 pushed : (first second : CrashStates) (devices : Devices) (b : Bool) → second.has_commit ≡ b
     → devices ∷ cond b second.maps (second.maps ++ first.maps)
@@ -39,7 +40,7 @@ over-pending first second devices None = refl
 over-with : (first second : CrashStates) (state : State) (input : Input) (result : InputResult)
     → crash_states_after_result (over first second) state input result
     ≡ over first (crash_states_after_result second state input result)
-over-with first second state input Applied = over-told first second state.devices (update_of state input)
+over-with first second state input Applied = over-reported first second state.devices (update_of state input)
 over-with first second state input (Failed cause) = refl
 over-with first second state input (FailedAtCommit cause) =
     over-pending first second state.devices (update_of state input)
@@ -90,11 +91,11 @@ both_safe Before r false xs ys devices (inr (non, inr is)) = inr is
 
 pub crash_consistency_composes : (Before : Devices → Type 0) → CrashConsistencyComposes Before
 crash_consistency_composes Before old mid inputs others results more answers devices run safe =
-    let first = crash_states no_crash_states old inputs results in
-    let second = crash_states no_crash_states mid others more in
-    let is : crash_states no_crash_states old (inputs ++ others) (results ++ more) ≡ over first second =
-    left_by-append no_crash_states old mid inputs others results more answers run
-    ∙ over-by first no_crash_states mid others more in
+    let first = crash_states nothing_committed_yet old inputs results in
+    let second = crash_states nothing_committed_yet mid others more in
+    let is : crash_states nothing_committed_yet old (inputs ++ others) (results ++ more) ≡ over first second =
+    left_by-append nothing_committed_yet old mid inputs others results more answers run
+    ∙ over-by first nothing_committed_yet mid others more in
     subst (λ l. IsCrashConsistent Before l devices) (sym is)
     (both_safe Before first.has_commit second.has_commit first.maps second.maps devices safe)
 
@@ -110,17 +111,17 @@ safe-pending Before left known None devices safe = safe
 safe-pending Before left known (Some update) devices (inl one) = inl (inr one)
 safe-pending Before left known (Some update) devices (inr non) = inr non
 
-safe-told : (Before : Devices → Type 0) (left : CrashStates) (known : Devices) (o : Option DeviceUpdate)
+safe-reported : (Before : Devices → Type 0) (left : CrashStates) (known : Devices) (o : Option DeviceUpdate)
     → IsCrashConsistent Before left known
     → IsCrashConsistent Before (after_committed_update left known o) (with_update known o)
-safe-told Before left known None safe = safe
-safe-told Before left known (Some update) safe = inl (inl refl)
+safe-reported Before left known None safe = safe
+safe-reported Before left known (Some update) safe = inl (inl refl)
 
 safe-step : (Before : Devices → Type 0) (left : CrashStates) (state : State) (input : Input) (result : InputResult)
     → IsCrashConsistent Before left state.devices
     → IsCrashConsistent Before (crash_states_after_result left state input result)
     (state_after_result state input result).devices
-safe-step Before left state input Applied safe = safe-told Before left state.devices (update_of state input) safe
+safe-step Before left state input Applied safe = safe-reported Before left state.devices (update_of state input) safe
 safe-step Before left state input (Failed cause) safe = safe
 safe-step Before left state input (FailedAtCommit cause) safe =
     safe-pending Before left state.devices (update_of state input) state.devices safe

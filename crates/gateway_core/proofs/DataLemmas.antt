@@ -6,7 +6,7 @@ use Rattle.erp1_telegrams.specs.Telegram.{Telegram}
 use Rattle.profile_rows.specs.Payload.{is_data}
 use Rattle.teach_in.specs.declared.telegrams.Teach.{Teach}
 use Rattle.teach_in.specs.declared.telegrams.Teach.TheVariants.{Plain, Contact, Bare, FourByte, Ute, Answer}
-use Rattle.teach_in.specs.Telegrams.{teach_in_of, one_byte_kind, four_byte_kind, ute_kind}
+use Rattle.teach_in.specs.Telegrams.{teach_in_of, one_byte_role, four_byte_role, ute_role}
 use Rattle.teach_in.proofs.ForCallers.{either}
 use Rattle.gateway_core.proofs.ByteLemmas.{field-below}
 
@@ -24,8 +24,8 @@ pub plain-is-data : (t : Telegram) → teach_in_of t ≡ Plain → is_data t.ror
 plain-is-data t = by (t.rorg == 0xD5) (t.rorg == 0xA5)
   where
     by : (one four : Bool)
-        → (if one then one_byte_kind t.payload else if four then four_byte_kind t.sender t.payload
-        else if t.rorg == 0xD4 then ute_kind t.sender t.payload else Plain) ≡ Plain
+        → (if one then one_byte_role t.payload else if four then four_byte_role t.sender t.payload
+        else if t.rorg == 0xD4 then ute_role t.sender t.payload else Plain) ≡ Plain
         → (if one then field t.payload 4 1 == 1 else if four then field t.payload 28 1 == 1 else true) ≡ true
     by true four is = one-byte (field t.payload 4 1) (field-below t.payload 4 1) is
     by false true is =

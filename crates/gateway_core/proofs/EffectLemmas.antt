@@ -38,23 +38,26 @@ use Rattle.actuator_commands.specs.declared.orders.Order.TheVariants.{Central, L
 use Rattle.actuator_commands.specs.declared.orders.OrderFault.{OrderFault}
 use Rattle.actuator_commands.specs.Packets.{sends}
 use Rattle.actuator_commands.specs.Orders.{order_of}
-use Rattle.json_lines.specs.Lines.{Reading, StatusLine, ResponseLine, Error, ReadingLine, TeachLine, Response}
+use Rattle.json_lines.specs.Lines.{Reading, StatusLine, ResponseLine, Error, ReadingLine, TeachLine, ModuleResponse}
 use Rattle.json_lines.specs.Lines.{list_lines}
 use Rattle.gateway_core.specs.declared.disposition.Disposition.{Disposition}
-use Rattle.gateway_core.specs.Dispositions.{without_device, count_for, for_device}
-use Rattle.gateway_core.specs.Dispositions.{why_filtered, why_silent, why_other, why_unread}
+use Rattle.gateway_core.specs.Dispositions.{without_device, counter_for, for_device}
+use Rattle.gateway_core.specs.Dispositions.{why_filtered, why_nothing_done, why_no_telegram_or_response, why_unread}
 use Rattle.gateway_core.specs.Profiles.{read_by}
 use Rattle.gateway_core.specs.Responses.{response_in}
 use Rattle.gateway_core.specs.Step.{State, Input, Received, Ordered, Effect, silent_effect}
 use Rattle.gateway_core.specs.Step.{Need, NeedsMemory, NeedsStore}
-use Rattle.gateway_core.specs.Step.{packet_line_effect, error_effect, send_effect, send_result_effect, order_error_name}
+use Rattle.gateway_core.specs.Step.{packet_desk_line_effect, error_effect, send_effect, send_result_effect}
+use Rattle.gateway_core.specs.Step.{order_error_name}
 use Rattle.gateway_core.specs.Step.{sending_order_effect}
-use Rattle.gateway_core.specs.Step.{lines_effect, mode_effect, learn_effect, forget_effect, relabel_effect}
-use Rattle.gateway_core.specs.Step.{teach_effect, accept_effect, delete_effect, query_teach_line}
+use Rattle.gateway_core.specs.Step.{lines_effect, mode_effect, ordered_learn_effect, ordered_forget_effect}
+use Rattle.gateway_core.specs.Step.{relabel_effect}
+use Rattle.gateway_core.specs.Step.{teach_report_effect, accept_effect, delete_effect, query_teach_line}
 use Rattle.gateway_core.specs.Step.{plan_effect}
-use Rattle.gateway_core.specs.Step.{FilteredOut, TeachInTelegram, data_case, teach_case, reading_effect, case_effect}
+use Rattle.gateway_core.specs.Step.{FilteredOut, TeachInTelegram, data_case, case_by_role, reading_effect, case_effect}
 use Rattle.gateway_core.specs.Step.{telegram_effect, packet_effect, line_effect}
-use Rattle.gateway_core.specs.Step.{packet_effect_from, non_telegram_effect, if_known, if_supported, order_effect}
+use Rattle.gateway_core.specs.Step.{packet_effect_from, non_telegram_effect, if_learned_else_error}
+use Rattle.gateway_core.specs.Step.{if_supported_else_error, order_effect}
 use Rattle.gateway_core.specs.Step.{effect}
 use Rattle.gateway_core.proofs.DeviceLemmas.{device_of-known}
 
@@ -67,11 +70,11 @@ IsTeaching kind =
     ⊎ ((kind ≡ teach.Bare)
     ⊎ (((query : FourByteQuery) × (kind ≡ teach.FourByte query)) ⊎ ((query : UteQuery) × (kind ≡ teach.Ute query))))
 
-pub teaches : (kind : Teach) (known : Option Device) → IsTeaching kind → teach_case kind known ≡ TeachInTelegram
-teaches kind known (inl is) = ap (λ k. teach_case k known) is
-teaches kind known (inr (inl is)) = ap (λ k. teach_case k known) is
-teaches kind known (inr (inr (inl (query, is)))) = ap (λ k. teach_case k known) is
-teaches kind known (inr (inr (inr (query, is)))) = ap (λ k. teach_case k known) is
+pub teaches : (kind : Teach) (known : Option Device) → IsTeaching kind → case_by_role kind known ≡ TeachInTelegram
+teaches kind known (inl is) = ap (λ k. case_by_role k known) is
+teaches kind known (inr (inl is)) = ap (λ k. case_by_role k known) is
+teaches kind known (inr (inr (inl (query, is)))) = ap (λ k. case_by_role k known) is
+teaches kind known (inr (inr (inr (query, is)))) = ap (λ k. case_by_role k known) is
 
 pub not-data : (kind : Teach) → IsTeaching kind → kind ≢ teach.Plain
 not-data kind (inl is) plain = absurd cc
@@ -97,23 +100,23 @@ is-failure id kind outcome is = absurd is
 
 -- ---- whatever the reason, an ignored packet is counted as ignored
 
-other-ignores : (packet : Packet) → count_for (why_other packet) ≡ count.Ignored
+other-ignores : (packet : Packet) → counter_for (why_no_telegram_or_response packet) ≡ count.Ignored
 other-ignores packet =
-    let Ignores = λ (why : Why). count_for why ≡ count.Ignored in
+    let Ignores = λ (why : Why). counter_for why ≡ count.Ignored in
     either Ignores (packet.kind == 1) _ _ refl (either Ignores (packet.kind == 2) _ _ refl refl)
 
-filtered-ignores : (t : Telegram) → count_for (why_filtered (filter_reason t)) ≡ count.Ignored
+filtered-ignores : (t : Telegram) → counter_for (why_filtered (filter_reason t)) ≡ count.Ignored
 filtered-ignores t =
-    either (λ reason. count_for (why_filtered reason) ≡ count.Ignored) (t.sender == 0xFFFF_FFFF) _ _ refl refl
+    either (λ reason. counter_for (why_filtered reason) ≡ count.Ignored) (t.sender == 0xFFFF_FFFF) _ _ refl refl
 
-silent-ignores : (asked : Bool) (mode : Mode) → count_for (why_silent asked mode) ≡ count.Ignored
+silent-ignores : (asked : Bool) (mode : Mode) → counter_for (why_nothing_done asked mode) ≡ count.Ignored
 silent-ignores true mode = refl
 silent-ignores false mode.Closed = refl
 silent-ignores false mode.Learn = refl
 silent-ignores false mode.LearnAnswer = refl
 silent-ignores false (mode.LearnAs eep) = refl
 
-unread-ignores : (fault : Unreadable) → count_for (why_unread fault) ≡ count.Ignored
+unread-ignores : (fault : Unreadable) → counter_for (why_unread fault) ≡ count.Ignored
 unread-ignores unreadable.NotSupported = refl
 unread-ignores unreadable.WrongKind = refl
 unread-ignores unreadable.WrongLength = refl
@@ -123,17 +126,17 @@ unread-ignores unreadable.OtherMessage = refl
 
 -- it holds for each effect that a telegram may have
 pub record OfTelegram (P : Effect → Type 0) (state : State) (t : Telegram) : Type 0 where
-  pub unsays : (asked : Bool) (disposition : Disposition) → count_for disposition.why ≡ count.Ignored
+  pub unsays : (asked : Bool) (disposition : Disposition) → counter_for disposition.why ≡ count.Ignored
       → P (silent_effect asked disposition)
   pub reads : (known : Device) (line : ReadingLine)
-      → P (packet_line_effect NeedsStore (for_device known why.Read) (Reading line))
+      → P (packet_desk_line_effect NeedsStore (for_device known why.Read) (Reading line))
   pub admits : Hears state.mode (teach_in_of t) → (eep : Eep) (maker : Option ℕ) (known : Bool)
       → plan_of t state.mode known ≡ add t eep maker
       → P (accept_effect state (teach_in_of t) (record { id = t.sender; eep = eep; maker = maker; label = [] }))
   pub removes : LearnsByTold state.mode → AsksDeletion (teach_in_of t)
       → P (delete_effect state (teach_in_of t) t.sender)
   pub refuses : Hears state.mode (teach_in_of t) → (need : Need) (line : TeachLine) → IsRefusal line.outcome
-      → P (record (teach_effect state (teach_in_of t) line) { need = need })
+      → P (record (teach_report_effect state (teach_in_of t) line) { need = need })
 
 module _ (P : Effect → Type 0) (state : State) (t : Telegram) (each : OfTelegram P state t) where
   of-reading : (known : Device) (readings : Result (List Entry) Unreadable) → P (reading_effect t known readings)
@@ -148,7 +151,7 @@ module _ (P : Effect → Type 0) (state : State) (t : Telegram) (each : OfTelegr
         adds = λ hears eep maker planned.
             either P (is_full state.devices t.sender) _ _ (each.refuses hears NeedsStore _ tt)
             (each.admits hears eep maker known planned);
-        forgets = λ told asks planned. each.removes told asks;
+        forgets = λ reported asks planned. each.removes reported asks;
         refuses = λ hears outcome is planned.
             each.refuses hears _ (query_teach_line t.sender (teach_in_of t) outcome)
             (is-failure t.sender (teach_in_of t) outcome is);
@@ -158,7 +161,7 @@ module _ (P : Effect → Type 0) (state : State) (t : Telegram) (each : OfTelegr
   of-data None = of-plan true false
   of-data (Some known) = of-reading known (read_by known.eep t)
 
-  of-kind : (kind : Teach) (known : Option Device) → P (case_effect state t (teach_case kind known))
+  of-kind : (kind : Teach) (known : Option Device) → P (case_effect state t (case_by_role kind known))
   of-kind teach.Answer known = each.unsays false _ refl
   of-kind teach.Contact known = of-plan false _
   of-kind teach.Bare known = of-plan false _
@@ -168,7 +171,7 @@ module _ (P : Effect → Type 0) (state : State) (t : Telegram) (each : OfTelegr
 
   of-case : (over : Bool)
       → P (case_effect state t
-      (if over then FilteredOut else teach_case (teach_in_of t) (device_of state.devices t.sender)))
+      (if over then FilteredOut else case_by_role (teach_in_of t) (device_of state.devices t.sender)))
   of-case true = each.unsays false _ (filtered-ignores t)
   of-case false = of-kind (teach_in_of t) (device_of state.devices t.sender)
 
@@ -179,9 +182,9 @@ module _ (P : Effect → Type 0) (state : State) (t : Telegram) (each : OfTelegr
 -- it holds for each effect that a packet may have
 pub record OfPacket (P : Effect → Type 0) (state : State) (packet : Packet) : Type 0 where
   pub telegrams : (t : Telegram) → telegram_of packet ≡ Ok t → OfTelegram P state t
-  pub passes : (disposition : Disposition) → count_for disposition.why ≡ count.Ignored
+  pub passes : (disposition : Disposition) → counter_for disposition.why ≡ count.Ignored
       → P (silent_effect false disposition)
-  pub hears : (response : Response) → P (packet_line_effect NeedsMemory (without_device why.Response)
+  pub hears : (response : ModuleResponse) → P (packet_desk_line_effect NeedsMemory (without_device why.Response)
       (ResponseLine response))
 
 -- an order to devices has no other effect
@@ -206,13 +209,14 @@ pub record OfLine (P : Effect → Type 0) (state : State) (spelled : Result Orde
   pub sends : (asked : Bool) (bytes : List ℕ) → P (send_effect asked bytes)
   pub lists : P (lines_effect NeedsStore (list_lines (all_of state.devices)))
   pub reports : P (lines_effect NeedsMemory (StatusLine state.counts state.mode ∷ []))
-  pub adds : (known : Device) → (spelled ≡ Ok (Add known.id known.eep)) × (known.maker ≡ None) → P (learn_effect known)
-  pub drops : (known : Device) → device_of state.devices known.id ≡ Some known → P (forget_effect known)
+  pub adds : (known : Device) → (spelled ≡ Ok (Add known.id known.eep)) × (known.maker ≡ None)
+      → P (ordered_learn_effect known)
+  pub drops : (known : Device) → device_of state.devices known.id ≡ Some known → P (ordered_forget_effect known)
   pub relabels : (id : ℕ) (label : List ℕ) → spelled ≡ Ok (Label id label) → IsSome (device_of state.devices id)
       → P (relabel_effect id label)
 
 module _ (P : Effect → Type 0) (state : State) where
-  of-other : (packet : Packet) → OfPacket P state packet → (response : Option Response)
+  of-other : (packet : Packet) → OfPacket P state packet → (response : Option ModuleResponse)
       → P (non_telegram_effect packet response)
   of-other packet each None = each.passes _ (other-ignores packet)
   of-other packet each (Some response) = each.hears response
@@ -227,12 +231,12 @@ module _ (P : Effect → Type 0) (state : State) where
   of_packet packet each = of-packet packet each (telegram_of packet) refl
 
   of-supported : {spelled : Result Order OrderFault} → OfLine P state spelled → (eep : Eep) (effect : Effect)
-      → P effect → P (if_supported eep effect)
+      → P effect → P (if_supported_else_error eep effect)
   of-supported each eep effect holds = either P (supported eep) _ _ holds (each.denies error.UnsupportedProfile)
 
   of-known : {spelled : Result Order OrderFault} → OfLine P state spelled → (known : Option Device)
       (effect_of : Device → Effect) → ((it : Device) → known ≡ Some it → P (effect_of it))
-      → P (if_known known effect_of)
+      → P (if_learned_else_error known effect_of)
   of-known each None effect_of holds = each.finds error.UnknownDevice
   of-known each (Some it) effect_of holds = holds it refl
 
@@ -253,7 +257,7 @@ module _ (P : Effect → Type 0) (state : State) where
       of-supported each eep _
       (either P (is_full state.devices id) _ _ (each.finds error.Full) (each.adds known (refl, refl)))
   of-order (Ok (Remove id)) each =
-      of-known each (device_of state.devices id) forget_effect
+      of-known each (device_of state.devices id) ordered_forget_effect
       (λ known has. each.drops known (device_of-known state.devices id known has))
   of-order (Ok (Label id label)) each =
       of-known each (device_of state.devices id) (λ known. relabel_effect id label)

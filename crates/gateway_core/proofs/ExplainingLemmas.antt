@@ -30,23 +30,24 @@ use Rattle.teach_in.specs.Profiles.{supported}
 use Rattle.teach_in.specs.Telegrams.{teach_in_of}
 use Rattle.teach_in.specs.Plans.{add, add_supported, plan_in_mode, can_be_learned_by, ute_plan, plan_of, plan_row_of}
 use Rattle.teach_in.specs.Ute as ute
-use Rattle.teach_in.specs.Ute.{request_in, deletion, not_used}
+use Rattle.teach_in.specs.Ute.{request_in, deletion, unused_request}
 use Rattle.teach_in.proofs.ForCallers.{IsOpen, LearnsByTold, either, hears-open, of_plan}
 use Rattle.teach_in.specs.declared.why.Why.{Why}
 use Rattle.teach_in.specs.declared.why.Why.TheVariants as why
 use Rattle.json_lines.specs.ShownTelegram.{shown_destination}
 use Rattle.gateway_core.specs.declared.disposition.Disposition.{Disposition}
-use Rattle.gateway_core.specs.Dispositions.{without_device, query_eep, explanation, packet_line_of, for_device}
+use Rattle.gateway_core.specs.Dispositions.{without_device, eep_in_query, explanation, packet_line_of, for_device}
 use Rattle.gateway_core.specs.Dispositions.{shown_packet}
-use Rattle.gateway_core.specs.Dispositions.{why_filtered, why_other, why_silent}
+use Rattle.gateway_core.specs.Dispositions.{why_filtered, why_no_telegram_or_response, why_nothing_done}
 use Rattle.gateway_core.specs.Profiles.{read_by}
 use Rattle.gateway_core.specs.Responses.{response_from, response_in}
-use Rattle.gateway_core.specs.Explaining.{DoesNotFitRole, ExplanationsAreTrue, IsNotFilteredOut, IsDataOf, Means}
-use Rattle.gateway_core.specs.Explaining.{IsTeachIn}
+use Rattle.gateway_core.specs.Explaining.{RorgDoesNotFitTeachIn, ExplanationsAreTrue, IsNotFilteredOut, IsDataOf}
+use Rattle.gateway_core.specs.Explaining.{WhyIsTrue}
+use Rattle.gateway_core.specs.Explaining.{IsTeachInRequest}
 use Rattle.gateway_core.specs.Explaining.{IsPlanned, Shows}
-use Rattle.gateway_core.specs.Step.{State, Effect, case_effect, case_of, data_case, teach_case}
+use Rattle.gateway_core.specs.Step.{State, Effect, case_effect, case_of, data_case, case_by_role}
 use Rattle.gateway_core.specs.Step.{FilteredOut, non_telegram_effect, packet_effect_from, packet_effect, plan_effect}
-use Rattle.gateway_core.specs.Step.{accept_effect, is_learned, reading_effect, teach_effect, device_teach_line}
+use Rattle.gateway_core.specs.Step.{accept_effect, is_learned, reading_effect, teach_report_effect, device_teach_line}
 use Rattle.gateway_core.specs.Step.{silent_effect}
 use Rattle.std.specs.Option.{option_map}
 
@@ -54,12 +55,13 @@ use Rattle.std.specs.Option.{option_map}
 abbrev Truth : State → Packet → Effect → Type 0
 Truth state packet e =
     (packet_effect state packet).update ≡ e.update
-    → (disposition : Disposition) × (e.disposition ≡ Some disposition) × Means state packet disposition disposition.why
+    → (disposition : Disposition) × (e.disposition ≡ Some disposition)
+    × WhyIsTrue state packet disposition disposition.why
 
 -- ---- a packet without a telegram
 
 module _ (state : State) (packet : Packet) where
-  of-word : (word one : Why) → word ≡ one → Means state packet (without_device one) one
+  of-word : (word one : Why) → word ≡ one → WhyIsTrue state packet (without_device one) one
       → Truth state packet (silent_effect false (without_device word))
   of-word word one is means =
       subst (λ w. Truth state packet (silent_effect false (without_device w))) (sym is)
@@ -75,10 +77,10 @@ module _ (state : State) (packet : Packet) where
 
       by : (b : Bool) → (packet.kind == 1) ≡ b → Truth state packet (non_telegram_effect packet None)
       by true one =
-          of-word (why_other packet) why.NoTelegram (ap (λ b. word b (packet.kind == 2)) one)
+          of-word (why_no_telegram_or_response packet) why.NoTelegram (ap (λ b. word b (packet.kind == 2)) one)
           (eqb-true packet.kind 1 one, subst (λ r. IsErr r) (sym is) refl, (refl, refl))
       by false one =
-          of-word (why_other packet) why.OtherType
+          of-word (why_no_telegram_or_response packet) why.OtherType
           (ap (λ b. word b (packet.kind == 2)) one ∙ ap (λ c. word false c) other)
           (eqb-false packet.kind 1 one, eqb-false packet.kind 2 other, (refl, refl))
 
@@ -86,7 +88,7 @@ module _ (state : State) (packet : Packet) where
   of-body : (body : List ℕ) → packet.kind ≡ 2 → packet.body ≡ body
       → Truth state packet (non_telegram_effect packet (response_from body))
   of-body [] kind is update =
-      of-word (why_other packet) why.EmptyResponse
+      of-word (why_no_telegram_or_response packet) why.EmptyResponse
       (ap (λ (k : ℕ). if k == 1 then why.NoTelegram else if k == 2 then why.EmptyResponse else why.OtherType) kind)
       (kind, is, (refl, refl)) update
   of-body (code ∷ bytes) kind is update = (
@@ -121,13 +123,13 @@ outcome_in plan = Accepted
 
 -- why a sender is rejected
 abbrev RefusalMeans : Teach → Outcome → Type 0
-RefusalMeans kind Unsupported = (eep : Eep) × (query_eep kind ≡ Some eep) × (supported eep ≡ false)
-RefusalMeans kind General = (query : UteQuery) × (kind ≡ teach.Ute query) × (request_in query ≡ not_used)
+RefusalMeans kind Unsupported = (eep : Eep) × (eep_in_query kind ≡ Some eep) × (supported eep ≡ false)
+RefusalMeans kind General = (query : UteQuery) × (kind ≡ teach.Ute query) × (request_in query ≡ unused_request)
 RefusalMeans kind NoProfile = kind ≡ teach.Bare
 RefusalMeans kind outcome = ⊥
 
 module _ (t : Telegram) where
-  query-refuses : (kind : Teach) (eep : Eep) (maker : ℕ) (outcome : Outcome) → query_eep kind ≡ Some eep
+  query-refuses : (kind : Teach) (eep : Eep) (maker : ℕ) (outcome : Outcome) → eep_in_query kind ≡ Some eep
       → add_supported t eep maker ≡ Refuse outcome → RefusalMeans kind outcome
   query-refuses kind eep maker outcome is = by (supported eep) refl
     where
@@ -138,16 +140,16 @@ module _ (t : Telegram) where
 
   asked-refuses : (query : UteQuery) (outcome : Outcome) → ute_plan t query ≡ Refuse outcome
       → RefusalMeans (teach.Ute query) outcome
-  asked-refuses query outcome = by (request_in query == deletion) (request_in query == not_used) refl
+  asked-refuses query outcome = by (request_in query == deletion) (request_in query == unused_request) refl
     where
-      by : (b c : Bool) → (request_in query == not_used) ≡ c
+      by : (b c : Bool) → (request_in query == unused_request) ≡ c
           → (if b then Forget t.sender else if c then Refuse General
           else add_supported t query.eep query.maker) ≡ Refuse outcome
           → RefusalMeans (teach.Ute query) outcome
       by true c is e = absurd cc
       by false true is e =
           subst (RefusalMeans (teach.Ute query)) (ap outcome_in e)
-          (query, refl, eqb-true (request_in query) not_used is)
+          (query, refl, eqb-true (request_in query) unused_request is)
       by false false is e =
           query-refuses (teach.Ute query) query.eep query.maker outcome refl e
 
@@ -191,13 +193,13 @@ module _ (t : Telegram) where
   query-speaks : (eep : Eep) (maker : ℕ) → add_supported t eep maker ≢ Silent
   query-speaks eep maker = either (λ p. p ≢ Silent) (supported eep) _ _ (λ e. absurd cc) (λ e. absurd cc)
 
-  speaks : (known : Bool) (kind : Teach) → IsTeachIn kind → (plan_row_of t known kind).reported ≢ Silent
+  speaks : (known : Bool) (kind : Teach) → IsTeachInRequest kind → (plan_row_of t known kind).reported ≢ Silent
   speaks known teach.Contact is e = absurd cc
   speaks known teach.Bare is e = absurd cc
   speaks known (teach.FourByte query) is e = query-speaks _ _ e
   speaks known (teach.Ute query) is e =
       either (λ p. p ≢ Silent) (request_in query == deletion) _ _ (λ f. absurd cc)
-      (either (λ p. p ≢ Silent) (request_in query == not_used) _ _ (λ f. absurd cc) (query-speaks _ _)) e
+      (either (λ p. p ≢ Silent) (request_in query == unused_request) _ _ (λ f. absurd cc) (query-speaks _ _)) e
   speaks known teach.Plain is e = absurd is
   speaks known teach.Answer is e = absurd is
 
@@ -209,9 +211,10 @@ module _ (t : Telegram) where
       by true is e = absurd cc
       by false is e = eqb-false a b is
 
-  does-not-fit : (known : Bool) (kind : Teach) (eep : Eep) → IsTeachIn kind → (plan_row_of t known kind).given eep
+  does-not-fit : (known : Bool) (kind : Teach) (eep : Eep) → IsTeachInRequest kind
+      → (plan_row_of t known kind).given eep
       ≡ Silent
-      → DoesNotFitRole eep kind
+      → RorgDoesNotFitTeachIn eep kind
   does-not-fit known teach.Contact eep is e = given-silent eep.rorg 0xD5 _ e
   does-not-fit known teach.Bare eep is e = given-silent eep.rorg 0xA5 _ e
   does-not-fit known (teach.FourByte query) eep is e = given-silent eep.rorg 0xA5 _ e
@@ -255,7 +258,7 @@ module _ (state : State) (packet : Packet) (t : Telegram) (carried : telegram_of
   module _ (heard : IsNotFilteredOut state packet t) where
     refused : (outcome : Outcome) → RefusalMeans (teach_in_of t) outcome → state.mode ≢ mode.Closed
         → IsPlanned state t (Refuse outcome) → (update : (packet_effect state packet).update ≡ None)
-        → Means state packet (without_device (why.TeachIn outcome)) (why.TeachIn outcome)
+        → WhyIsTrue state packet (without_device (why.TeachIn outcome)) (why.TeachIn outcome)
     refused Unsupported means opened planned update =
         (t, means.0, heard, opened, means.1, means.2, planned, update, (refl, refl))
     refused General means opened planned update =
@@ -294,7 +297,7 @@ module _ (state : State) (packet : Packet) (t : Telegram) (carried : telegram_of
 
         by-room : (device : Device) (full : Bool) → is_full state.devices t.sender ≡ full → device.id ≡ t.sender
             → IsOpen state.mode → IsPlanned state t (Add device)
-            → Truth state packet (if full then teach_effect state (teach_in_of t) (device_teach_line device Full)
+            → Truth state packet (if full then teach_report_effect state (teach_in_of t) (device_teach_line device Full)
             else accept_effect state (teach_in_of t) device)
         by-room device true is same is_open is_planned update = (
           without_device (why.TeachIn Full),
@@ -317,12 +320,12 @@ module _ (state : State) (packet : Packet) (t : Telegram) (carried : telegram_of
         )
 
     -- teach-in telegrams
-    of-taught : (known : Bool) → is_learned state.devices t.sender ≡ known → IsTeachIn (teach_in_of t)
+    of-teach_in : (known : Bool) → is_learned state.devices t.sender ≡ known → IsTeachInRequest (teach_in_of t)
         → Truth state packet (plan_effect state t false (plan_of t state.mode known))
-    of-taught known same teaches = of-planned false known same (by state.mode refl)
+    of-teach_in known same teaches = of-planned false known same (by state.mode refl)
       where
         by : (mode : Mode) → state.mode ≡ mode → plan_in_mode (plan_row_of t known (teach_in_of t)) mode ≡ Silent
-            → Truth state packet (silent_effect false (without_device (why_silent false mode)))
+            → Truth state packet (silent_effect false (without_device (why_nothing_done false mode)))
         by mode.Closed is silent update = (without_device why.WindowClosed, refl, (t, heard, teaches, is, (refl, refl)))
         by (mode.LearnAs eep) is silent update = (
           without_device why.OtherMode,
@@ -358,12 +361,12 @@ module _ (state : State) (packet : Packet) (t : Telegram) (carried : telegram_of
         of-reading known (record { hears = heard; data_alone = plain; is_known = is }) (read_by known.eep t) refl
 
     of-kind : (kind : Teach) (known : Option Device) → teach_in_of t ≡ kind
-        → device_of state.devices t.sender ≡ known → Truth state packet (case_effect state t (teach_case kind known))
+        → device_of state.devices t.sender ≡ known → Truth state packet (case_effect state t (case_by_role kind known))
     of-kind teach.Answer known is has = λ update. (without_device why.TeachInReply, refl, (t, heard, is, (refl, refl)))
-    of-kind teach.Contact known is has = of-taught _ refl (subst IsTeachIn (sym is) tt)
-    of-kind teach.Bare known is has = of-taught _ refl (subst IsTeachIn (sym is) tt)
-    of-kind (teach.FourByte query) known is has = of-taught _ refl (subst IsTeachIn (sym is) tt)
-    of-kind (teach.Ute query) known is has = of-taught _ refl (subst IsTeachIn (sym is) tt)
+    of-kind teach.Contact known is has = of-teach_in _ refl (subst IsTeachInRequest (sym is) tt)
+    of-kind teach.Bare known is has = of-teach_in _ refl (subst IsTeachInRequest (sym is) tt)
+    of-kind (teach.FourByte query) known is has = of-teach_in _ refl (subst IsTeachInRequest (sym is) tt)
+    of-kind (teach.Ute query) known is has = of-teach_in _ refl (subst IsTeachInRequest (sym is) tt)
     of-kind teach.Plain known is has = of-data known is has
 
   of-telegram : Truth state packet (case_effect state t (case_of state t))
@@ -373,11 +376,11 @@ module _ (state : State) (packet : Packet) (t : Telegram) (carried : telegram_of
           → Truth state packet (case_effect state t (case_of state t))
       by true is =
           subst (λ o. Truth state packet (case_effect state t
-          (if o then FilteredOut else teach_case (teach_in_of t) (device_of state.devices t.sender)))) (sym is)
+          (if o then FilteredOut else case_by_role (teach_in_of t) (device_of state.devices t.sender)))) (sym is)
           (of-passed is)
       by false is =
           subst (λ o. Truth state packet (case_effect state t
-          (if o then FilteredOut else teach_case (teach_in_of t) (device_of state.devices t.sender)))) (sym is)
+          (if o then FilteredOut else case_by_role (teach_in_of t) (device_of state.devices t.sender)))) (sym is)
           (of-kind (record { carried = carried; heard = is }) (teach_in_of t)
           (device_of state.devices t.sender) refl refl)
 

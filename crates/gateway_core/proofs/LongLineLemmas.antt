@@ -8,10 +8,11 @@ use Rattle.json_lines.specs.declared.error_lines.ErrorName.TheVariants.{TooLong}
 use Rattle.actuator_commands.specs.Limits.{max_line}
 use Rattle.actuator_commands.specs.Orders.{order_of}
 use Rattle.gateway_core.specs.Step.{State, Input, Ordered, Answer, text_answer, Effect, error_effect, order_effect}
-use Rattle.gateway_core.specs.Step.{MayFailFor, line_effect, effect, answer_from_effect, count_in, with_update}
+use Rattle.gateway_core.specs.Step.{MayFailFor, line_effect, effect, unexplained_answer, counter_in, with_update}
 use Rattle.gateway_core.specs.Step.{with_mode}
 use Rattle.gateway_core.specs.Run.{InputResult, Applied, Failed, FailedAtCommit, Run, cause_text, state_after_failure}
-use Rattle.gateway_core.specs.CrashStates.{CrashStates, no_crash_states, after_committed_update, with_pending_update}
+use Rattle.gateway_core.specs.CrashStates.{CrashStates, nothing_committed_yet, after_committed_update}
+use Rattle.gateway_core.specs.CrashStates.{with_pending_update}
 use Rattle.gateway_core.specs.CrashStates.{crash_states}
 use Rattle.gateway_core.specs.CrashStates.{IsCrashConsistent}
 use Rattle.gateway_core.specs.Handling.{HandlerValue, HandlesFrom, Handles}
@@ -27,11 +28,11 @@ run_alike : (old new : State) (line other : List ℕ) (results : List InputResul
     → line_effect old line ≡ line_effect old other → Run old (Ordered line ∷ []) results answers new
     → Run old (Ordered other ∷ []) results answers new
 run_alike old new line other (Applied ∷ results) (answer ∷ answers) e run =
-    let P : Effect → Type 0 = λ d. Unit {0} × (answer ≡ answer_from_effect d)
+    let P : Effect → Type 0 = λ d. Unit {0} × (answer ≡ unexplained_answer d)
     × Run (record {
       base = old.base;
       mode = with_mode old.mode d.mode;
-      counts = increment_if_any old.counts (count_in d.disposition);
+      counts = increment_if_any old.counts (counter_in d.disposition);
       devices = with_update old.devices d.update;
     }) [] results answers new in subst P e run
 run_alike old new line other (Failed cause ∷ results) (answer ∷ answers) e run =
@@ -46,13 +47,14 @@ run_alike old new line other (result ∷ results) [] e run = absurd run
 
 -- and so do its crash states
 left_alike : (old : State) (input other : Input) (results : List InputResult) → effect old input ≡ effect old other
-    → crash_states no_crash_states old (input ∷ []) results ≡ crash_states no_crash_states old (other ∷ []) results
+    → crash_states nothing_committed_yet old (input ∷ []) results ≡ crash_states nothing_committed_yet old
+    (other ∷ []) results
 left_alike old input other [] e = refl
 left_alike old input other (Applied ∷ results) e = ap
-    (λ (d : Effect). after_committed_update no_crash_states old.devices d.update) e
+    (λ (d : Effect). after_committed_update nothing_committed_yet old.devices d.update) e
 left_alike old input other (Failed cause ∷ results) e = refl
 left_alike old input other (FailedAtCommit cause ∷ results) e =
-    ap (λ (d : Effect). with_pending_update no_crash_states old.devices d.update) e
+    ap (λ (d : Effect). with_pending_update nothing_committed_yet old.devices d.update) e
 
 module _ {S : Type 0} (stored : S → DeviceStoreState) where
   went_alike : (old new : HandlerValue S) (start : State) (line other : List ℕ) (answers : List Answer)
@@ -76,7 +78,7 @@ module _ {S : Type 0} (stored : S → DeviceStoreState) where
   handles_alike old new short long answers a b handled = record {
     base = handled.base;
     clean = handled.clean;
-    registries = handled.registries;
+    recoverable = handled.recoverable;
     went = λ clean start at.
         went_alike old new start short long answers
         (effect-long start short a ∙ sym (effect-long start long b)) (handled.went clean start at);

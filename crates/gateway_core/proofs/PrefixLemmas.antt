@@ -5,30 +5,31 @@ use Rattle.std.proofs.Common.{sym, ap, subst, ◌∙◌, arith}
 use Rattle.learned_devices.specs.Devices.{Devices, DeviceUpdate}
 use Rattle.gateway_core.specs.Step.{State, Input, Answer, update_of, with_update}
 use Rattle.gateway_core.specs.Run.{InputResult, Applied, Failed, FailedAtCommit, state_after_result, Run}
-use Rattle.gateway_core.specs.CrashStates.{CrashStates, no_crash_states, after_committed_update, with_pending_update}
+use Rattle.gateway_core.specs.CrashStates.{CrashStates, nothing_committed_yet, after_committed_update}
+use Rattle.gateway_core.specs.CrashStates.{with_pending_update}
 use Rattle.gateway_core.specs.CrashStates.{crash_states_after_result}
 use Rattle.gateway_core.specs.CrashStates.{crash_states, IsCrashConsistent}
 use Rattle.gateway_core.specs.Sessions.{initial_state, with_interrupted}
-use Rattle.gateway_core.specs.Prefixes.{IsAcknowledged, NoneAcknowledged, state_after_run, AfterPrefix}
+use Rattle.gateway_core.specs.Prefixes.{HasAcknowledgedUpdate, NoUpdateAcknowledged, state_after_run, AfterPrefix}
 use Rattle.gateway_core.specs.Prefixes.{CrashStatesArePrefixes, AcknowledgedAreInPrefix}
-use Rattle.gateway_core.specs.Prefixes.{IncludesInterrupted, SessionsLeavePrefixes}
+use Rattle.gateway_core.specs.Prefixes.{HasInterruptedUpdate, SessionsLeavePrefixes}
 
 module _ (Before : Devices → Type 0) where
   -- what one input makes of crash-consistent devices
   abbrev Steps : CrashStates → State → Input → InputResult → Devices → Type 0
   Steps left state input result devices =
-      (IsCrashConsistent Before left devices × (¬ IsAcknowledged state input result))
+      (IsCrashConsistent Before left devices × (¬ HasAcknowledgedUpdate state input result))
       ⊎ ((devices ≡ (state_after_result state input result).devices)
       ⊎ ((cause : _) × (result ≡ FailedAtCommit cause)
       × (devices ≡ with_update state.devices (update_of state input))))
 
-  told_steps : (left : CrashStates) (known devices : Devices) (o : Option DeviceUpdate)
+  reported_steps : (left : CrashStates) (known devices : Devices) (o : Option DeviceUpdate)
       → IsCrashConsistent Before (after_committed_update left known o) devices
       → (IsCrashConsistent Before left devices × (¬ IsSome o)) ⊎ (devices ≡ with_update known o)
-  told_steps left known devices None safe = inl (safe, λ is. absurd cc)
-  told_steps left known devices (Some update) (inl (inl is)) = inr is
-  told_steps left known devices (Some update) (inl (inr never)) = absurd never
-  told_steps left known devices (Some update) (inr non) = absurd (let e = non.0 in cc)
+  reported_steps left known devices None safe = inl (safe, λ is. absurd cc)
+  reported_steps left known devices (Some update) (inl (inl is)) = inr is
+  reported_steps left known devices (Some update) (inl (inr never)) = absurd never
+  reported_steps left known devices (Some update) (inr non) = absurd (let e = non.0 in cc)
 
   pending_steps : (left : CrashStates) (known devices : Devices) (o : Option DeviceUpdate)
       → IsCrashConsistent Before (with_pending_update left known o) devices
@@ -42,7 +43,7 @@ module _ (Before : Devices → Type 0) where
       → IsCrashConsistent Before (crash_states_after_result left state input result) devices
       → Steps left state input result devices
   steps left state input Applied devices safe =
-      elim (told_steps left state.devices devices (update_of state input) safe) [
+      elim (reported_steps left state.devices devices (update_of state input) safe) [
         | inl old ↦ inl old
         | inr is ↦
             inr (inl is)
@@ -57,7 +58,7 @@ module _ (Before : Devices → Type 0) where
 
   prefixes : (left : CrashStates) (state : State) (inputs : List Input) (results : List InputResult) (devices : Devices)
       → length inputs ≡ length results → IsCrashConsistent Before (crash_states left state inputs results) devices
-      → (IsCrashConsistent Before left devices × NoneAcknowledged state inputs results)
+      → (IsCrashConsistent Before left devices × NoUpdateAcknowledged state inputs results)
       ⊎ AfterPrefix state inputs results devices
   prefixes left state [] [] devices same safe = inl (safe, tt)
   prefixes left state [] (result ∷ results) devices same safe = absurd (omega (arith, same))
@@ -95,7 +96,7 @@ module _ (Before : Devices → Type 0) where
             is = inl is;
           })
           | inr (inr yet) ↦
-              let P = λ (f : InputResult). NoneAcknowledged (state_after_result state input f) inputs results
+              let P = λ (f : InputResult). NoUpdateAcknowledged (state_after_result state input f) inputs results
               → AfterPrefix state (input ∷ inputs) (f ∷ results) devices in
               let at_write : P (FailedAtCommit yet.0) = λ unacknowledged. record {
                 before = [];
@@ -116,7 +117,7 @@ module _ (Before : Devices → Type 0) where
 
 pub crash_states_are_prefixes : CrashStatesArePrefixes
 crash_states_are_prefixes start inputs results devices same safe =
-    elim (prefixes (λ found. found ≡ start.devices) no_crash_states start inputs results devices same safe) [
+    elim (prefixes (λ found. found ≡ start.devices) nothing_committed_yet start inputs results devices same safe) [
       | inr p ↦ p
       | inl both ↦ elim both.0 [
         | inl never ↦ absurd never
@@ -149,8 +150,8 @@ run-length old new (input ∷ inputs) (result ∷ results) [] run = absurd run
 -- no input in a list without acknowledged ones was acknowledged
 unacknowledged-at : (state : State) (ahead behind : List Input) (input : Input) (earlier later : List InputResult)
     (result : InputResult)
-    → NoneAcknowledged state (ahead ++ input ∷ behind) (earlier ++ result ∷ later) → length ahead ≡ length earlier
-    → ¬ IsAcknowledged (state_after_run state ahead earlier) input result
+    → NoUpdateAcknowledged state (ahead ++ input ∷ behind) (earlier ++ result ∷ later) → length ahead ≡ length earlier
+    → ¬ HasAcknowledgedUpdate (state_after_run state ahead earlier) input result
 unacknowledged-at state [] behind input [] later result none same = none.0
 unacknowledged-at state (first ∷ ahead) behind input (its ∷ earlier) later result none same =
     unacknowledged-at (state_after_result state first its) ahead behind input earlier later result none.1
@@ -158,53 +159,57 @@ unacknowledged-at state (first ∷ ahead) behind input (its ∷ earlier) later r
 unacknowledged-at state [] behind input (its ∷ earlier) later result none same = absurd (omega (arith, same))
 unacknowledged-at state (first ∷ ahead) behind input [] later result none same = absurd (omega (arith, same))
 
-told-before : (state : State) (before after ahead behind : List Input) (input : Input)
+reported-before : (state : State) (before after ahead behind : List Input) (input : Input)
     (done more earlier later : List InputResult) (result : InputResult)
     → before ++ after ≡ ahead ++ input ∷ behind → done ++ more ≡ earlier ++ result ∷ later → length before ≡ length done
     → length ahead ≡ length earlier
-    → NoneAcknowledged (state_after_run state before done) after more
-    → IsAcknowledged (state_after_run state ahead earlier) input result
+    → NoUpdateAcknowledged (state_after_run state before done) after more
+    → HasAcknowledgedUpdate (state_after_run state ahead earlier) input result
     → length ahead < length before
-told-before state [] after ahead behind input [] more earlier later result inputs results many same none is =
-    let at : NoneAcknowledged state (ahead ++ input ∷ behind) (earlier ++ result ∷ later) = rw (sym inputs, sym results)
+reported-before state [] after ahead behind input [] more earlier later result inputs results many same none is =
+    let at : NoUpdateAcknowledged state (ahead ++ input ∷ behind) (earlier ++ result ∷ later) = rw
+    (sym inputs, sym results)
     none in
     absurd (unacknowledged-at state ahead behind input earlier later result at same is)
-told-before state (b ∷ before) after [] behind input (d ∷ done) more [] later result inputs results many same none is =
+reported-before state (b ∷ before) after [] behind input (d ∷ done) more [] later result inputs results many same none
+    is =
     omega arith
-told-before state (b ∷ before) after (a ∷ ahead) behind input (d ∷ done) more
-    (e ∷ earlier) later result inputs results many same none is =
+reported-before state (b ∷ before) after (a ∷ ahead) behind input (d ∷ done) more (e ∷ earlier) later result inputs
+    results many same none is =
     let first : a ≡ b = cc in
     let its : e ≡ d = cc in
-    let on : IsAcknowledged (state_after_run (state_after_result state b d) ahead earlier) input result =
-    subst (λ f. IsAcknowledged (state_after_run (state_after_result state b f) ahead earlier) input result) its
-    (subst (λ i. IsAcknowledged (state_after_run (state_after_result state i e) ahead earlier) input result) first is)
+    let on : HasAcknowledgedUpdate (state_after_run (state_after_result state b d) ahead earlier) input result =
+    subst (λ f. HasAcknowledgedUpdate (state_after_run (state_after_result state b f) ahead earlier) input result) its
+    (subst (λ i. HasAcknowledgedUpdate
+    (state_after_run (state_after_result state i e) ahead earlier) input result) first is)
     in
     omega (
       arith,
-      told-before (state_after_result state b d) before after ahead behind input done more earlier later result (cc)
+      reported-before (state_after_result state b d) before after ahead behind input done more earlier later result (cc)
           (cc)
           (omega (arith, many)) (omega (arith, same)) none on,
     )
-told-before state [] after ahead behind input (d ∷ done) more earlier later result inputs results many same none is =
+reported-before state [] after ahead behind input (d ∷ done) more earlier later result inputs results many same none
+    is =
     absurd (omega (arith, many))
-told-before state (b ∷ before) after ahead behind input [] more earlier later result inputs results many same none is =
+reported-before state (b ∷ before) after ahead behind input [] more earlier later result inputs results many same none
+    is =
     absurd (omega (arith, many))
-told-before state (b ∷ before) after [] behind input (d ∷ done) more
+reported-before state (b ∷ before) after [] behind input (d ∷ done) more
     (e ∷ earlier) later result inputs results many same none is = absurd (omega (arith, same))
-told-before state (b ∷ before) after (a ∷ ahead) behind input (d ∷ done) more [] later result inputs results many same
-    none
-    is = absurd (omega (arith, same))
+reported-before state (b ∷ before) after (a ∷ ahead) behind input (d ∷ done) more [] later result inputs results many
+    same none is = absurd (omega (arith, same))
 
-pub told_stand_before : AcknowledgedAreInPrefix
-told_stand_before start inputs ahead behind input results earlier later result devices p is are same told =
-    told-before start p.before p.after ahead behind input p.done p.more earlier later result (sym p.inputs_are ∙ is)
+pub reported_stand_before : AcknowledgedAreInPrefix
+reported_stand_before start inputs ahead behind input results earlier later result devices p is are same reported =
+    reported-before start p.before p.after ahead behind input p.done p.more earlier later result (sym p.inputs_are ∙ is)
     (sym p.results_are ∙ are) p.as_many same
-    (subst (λ s. NoneAcknowledged s p.after p.more) p.at_is p.unacknowledged) told
+    (subst (λ s. NoUpdateAcknowledged s p.after p.more) p.at_is p.unacknowledged) reported
 
 stop_steps : (Before : Devices → Type 0) (left : CrashStates) (state : State) (interrupted : Option Input)
     (devices : Devices)
     → IsCrashConsistent Before (with_interrupted left state interrupted) devices
-    → IsCrashConsistent Before left devices ⊎ IncludesInterrupted state interrupted devices
+    → IsCrashConsistent Before left devices ⊎ HasInterruptedUpdate state interrupted devices
 stop_steps Before left state None devices safe = inl safe
 stop_steps Before left state (Some input) devices safe =
     pending_steps Before left state.devices devices (update_of state input) safe
@@ -214,7 +219,7 @@ sessions_leave_prefixes session is =
     let start = initial_state session.base session.found in
     let same = run-length start session.last session.inputs session.results session.answers is.run in
     elim (stop_steps (λ devices. devices ≡ session.found)
-    (crash_states no_crash_states start session.inputs session.results)
+    (crash_states nothing_committed_yet start session.inputs session.results)
     session.last
     session.interrupted session.left is.safe) [
       | inl safe ↦ inl (crash_states_are_prefixes start session.inputs session.results session.left same safe)

@@ -14,7 +14,7 @@ use Rattle.teach_in.specs.Telegrams.{teach_in_of}
 use Rattle.teach_in.specs.Ute.{ute_code}
 use Rattle.teach_in.specs.Plans.{plan_of}
 use Rattle.teach_in.proofs.ForCallers.{Refuses, AsksDeletion, of_plan, query-sender, ute-sender}
-use Rattle.gateway_core.specs.private.Attempts.{MayReply}
+use Rattle.gateway_core.specs.private.Attempts.{HasReplyCodeIfQuery}
 
 -- a reply can have this outcome
 abbrev CanSay : Teach → Outcome → Type 0
@@ -50,7 +50,7 @@ can-delete kind (query, asked, wants) = subst (λ k. CanSay k Deleted) (sym aske
 
 -- the outcome is that of the sender, so the reply can be made
 may-reply : (t : Telegram) (kind : Teach) (outcome : Outcome) → teach_in_of t ≡ kind → CanSay kind outcome
-    → MayReply kind t.sender outcome
+    → HasReplyCodeIfQuery kind t.sender outcome
 may-reply t (FourByte query) outcome is can = (sym (query-sender t query is), can)
 may-reply t (Ute query) outcome is can = (sym (ute-sender t query is), can)
 may-reply t Plain outcome is can = tt
@@ -61,9 +61,9 @@ may-reply t Answer outcome is can = tt
 -- the outcomes of a plan can be replied
 abbrev pub CanReply : Teach → ℕ → Plan → Type 0
 CanReply kind sender Silent = Unit {0}
-CanReply kind sender (Add known) = MayReply kind known.id Accepted × MayReply kind known.id Full
-CanReply kind sender (Forget id) = MayReply kind id Deleted
-CanReply kind sender (Refuse outcome) = MayReply kind sender outcome
+CanReply kind sender (Add known) = HasReplyCodeIfQuery kind known.id Accepted × HasReplyCodeIfQuery kind known.id Full
+CanReply kind sender (Forget id) = HasReplyCodeIfQuery kind id Deleted
+CanReply kind sender (Refuse outcome) = HasReplyCodeIfQuery kind sender outcome
 
 planned : (t : Telegram) (mode : Mode) (known : Bool) → CanReply (teach_in_of t) t.sender (plan_of t mode known)
 planned t mode known =

@@ -16,7 +16,7 @@ use Rattle.learned_devices.specs.declared.Device.{Device}
 use Rattle.learned_devices.specs.Devices.{DeviceData, Devices, Operation, Learn, Forget, Relabel, DeviceUpdate}
 use Rattle.learned_devices.specs.Devices.{data_after, apply_update}
 use Rattle.learned_devices.specs.Devices.{device, learn_update}
-use Rattle.learned_devices.specs.Ranges.{IsProfileInRange, IsMakerInRange, IsDeviceInRange, AreInRange}
+use Rattle.learned_devices.specs.Ranges.{IsProfileInRange, MakerFitsTwoBytes, HasDeviceNumbersInRange, AreInRange}
 use Rattle.learned_devices.proofs.ForCallers.{entered-in}
 use Rattle.teach_in.specs.declared.mode.Mode.{Mode}
 use Rattle.teach_in.specs.declared.mode.Mode.TheVariants.{Closed, LearnAnswer, LearnAs}
@@ -27,7 +27,7 @@ use Rattle.teach_in.specs.declared.telegrams.Teach.{Teach as Kind}
 use Rattle.teach_in.specs.declared.telegrams.Teach.TheVariants.{Plain, Contact, Bare, FourByte, Ute, Answer}
 use Rattle.teach_in.specs.Profiles.{supported}
 use Rattle.teach_in.specs.Telegrams.{teach_in_of}
-use Rattle.teach_in.specs.Ute.{request_in, deletion, not_used}
+use Rattle.teach_in.specs.Ute.{request_in, deletion, unused_request}
 use Rattle.teach_in.specs.Plans.{plan_row_of, can_be_learned_by, plan_of}
 use Rattle.teach_in.proofs.ForCallers.{either, of-role}
 use Rattle.teach_in.specs.declared.outcome.Outcome.{Outcome}
@@ -41,13 +41,14 @@ use Rattle.json_lines.specs.Lines.{Teach, TeachLine, text}
 use Rattle.json_lines.proofs.TeachLines.{one_teach_line}
 use Rattle.gateway_core.specs.Step.{State, Input, Received, Ordered, Effect, update_of, effect, new_mode_of}
 use Rattle.gateway_core.specs.Step.{device_teach_line}
-use Rattle.gateway_core.specs.Step.{mode_after_learning, with_update, with_mode}
+use Rattle.gateway_core.specs.Step.{mode_set_by_learning, with_update, with_mode}
 use Rattle.gateway_core.specs.Run.{InputResult, Applied, Failed, FailedAtCommit, state_after_result}
 use Rattle.gateway_core.specs.Sessions.{initial_state}
-use Rattle.gateway_core.specs.Prefixes.{IncludesPendingUpdate, IncludesInterrupted, state_after_run}
-use Rattle.gateway_core.specs.Reporting.{IsDeleted, ReportsEffect, acknowledged_update}
+use Rattle.gateway_core.specs.Prefixes.{HasFailedNextUpdate, HasInterruptedUpdate, state_after_run}
+use Rattle.gateway_core.specs.Reporting.{IsDeviceOfDeletedLine, OutcomeMatchesUpdate, accepted_or_deleted_update}
 use Rattle.gateway_core.specs.Ranges.{IsModeInRange, IsStateInRange}
-use Rattle.gateway_core.specs.Ranges.{ConsistsOfBytes, StaysInRange, LeavesInRange, IsOfDevice, ReportsInRange}
+use Rattle.gateway_core.specs.Ranges.{PacketBodyIsBytes, StaysInRange, SessionsLeaveDevicesInRange, IsOfDevice}
+use Rattle.gateway_core.specs.Ranges.{ReportsInRange}
 use Rattle.gateway_core.proofs.ByteLemmas.{AreBytes, field-below, four-below, front-bytes, back-bytes}
 use Rattle.gateway_core.proofs.EffectLemmas.{of_packet, of_line}
 use Rattle.gateway_core.proofs.PrefixLemmas.{sessions_leave_prefixes}
@@ -55,7 +56,7 @@ use Rattle.gateway_core.proofs.ReportingLemmas.{teach_lines_are_true}
 
 -- ---- the sender of a telegram
 
-sender-below : (packet : Packet) (t : Telegram) → telegram_of packet ≡ Ok t → ConsistsOfBytes (Received packet)
+sender-below : (packet : Packet) (t : Telegram) → telegram_of packet ≡ Ok t → PacketBodyIsBytes (Received packet)
     → t.sender < 2 ^ 32
 sender-below packet t carried bytes =
     let is = of_carried packet t carried in
@@ -69,13 +70,13 @@ sender-below packet t carried bytes =
 -- ---- a plan
 
 abbrev IsPlanInRange : Plan → Type 0
-IsPlanInRange (Add known) = IsProfileInRange known.eep × IsMakerInRange known.maker
+IsPlanInRange (Add known) = IsProfileInRange known.eep × MakerFitsTwoBytes known.maker
 IsPlanInRange plan = Unit {0}
 
 -- the profile and maker of a query, if the telegram is one
 abbrev IsRoleInRange : Kind → Type 0
-IsRoleInRange (FourByte query) = IsProfileInRange query.eep × IsMakerInRange (Some query.maker)
-IsRoleInRange (Ute query) = IsProfileInRange query.eep × IsMakerInRange (Some query.maker)
+IsRoleInRange (FourByte query) = IsProfileInRange query.eep × MakerFitsTwoBytes (Some query.maker)
+IsRoleInRange (Ute query) = IsProfileInRange query.eep × MakerFitsTwoBytes (Some query.maker)
 IsRoleInRange kind = Unit {0}
 
 role-in : (t : Telegram) → IsRoleInRange (teach_in_of t)
@@ -97,7 +98,7 @@ module _ (t : Telegram) where
   by-query-in known Plain role = tt
   by-query-in known (Ute query) role =
       either IsPlanInRange (request_in query == deletion) _ _ tt
-      (either IsPlanInRange (request_in query == not_used) _ _ tt
+      (either IsPlanInRange (request_in query == unused_request) _ _ tt
       (either IsPlanInRange (supported query.eep) _ _ role tt))
   by-query-in known Answer role = tt
 
@@ -170,7 +171,7 @@ set-in line (LearnAs eep) is =
 -- ---- the update of an effect
 
 abbrev IsDeedInRange : ℕ → Operation → Type 0
-IsDeedInRange sender (Learn eep maker) = IsProfileInRange eep × (sender < 2 ^ 32) × IsMakerInRange maker
+IsDeedInRange sender (Learn eep maker) = IsProfileInRange eep × (sender < 2 ^ 32) × MakerFitsTwoBytes maker
 IsDeedInRange sender operation = Unit {0}
 
 abbrev IsChangeInRange : DeviceUpdate → Type 0
@@ -184,15 +185,15 @@ added-in : (line : List ℕ) (known : Device) → order_of line ≡ Ok (order.Ad
     → IsChangeInRange (learn_update known)
 added-in line known is unknown =
     let words = order-in line (order.Add known.id known.eep) is in
-    (words.1.1.0, words.1.0, subst IsMakerInRange (sym unknown) tt)
+    (words.1.1.0, words.1.0, subst MakerFitsTwoBytes (sym unknown) tt)
 
-after-one : (mode : Mode) → IfSome (mode_after_learning mode) IsModeInRange
+after-one : (mode : Mode) → IfSome (mode_set_by_learning mode) IsModeInRange
 after-one Closed = tt
 after-one mode.Learn = tt
 after-one LearnAnswer = tt
 after-one (LearnAs eep) = tt
 
-input-keeps : (state : State) (input : Input) → IsStateInRange state → ConsistsOfBytes input
+input-keeps : (state : State) (input : Input) → IsStateInRange state → PacketBodyIsBytes input
     → KeepsRange (effect state input)
 input-keeps state (Received packet) in_range bytes =
     of_packet KeepsRange state packet (record {
@@ -224,8 +225,8 @@ input-keeps state (Ordered line) in_range bytes =
 -- ---- the next state
 
 after-in : (sender : ℕ) (known : Option DeviceData) (operation : Operation) → IsDeedInRange sender operation
-    → IfSome (option_map (device sender) known) IsDeviceInRange
-    → IfSome (option_map (device sender) (data_after known operation)) IsDeviceInRange
+    → IfSome (option_map (device sender) known) HasDeviceNumbersInRange
+    → IfSome (option_map (device sender) (data_after known operation)) HasDeviceNumbersInRange
 after-in sender known (Learn eep maker) is old = is
 after-in sender known Forget is old = tt
 after-in sender (Some it) (Relabel label) is old = old
@@ -248,7 +249,7 @@ with_mode-in : (mode : Mode) (set : Option Mode) → IfSome set IsModeInRange �
 with_mode-in mode None is old = old
 with_mode-in mode (Some set) is old = is
 
-state_after_result-in : (state : State) (input : Input) (result : InputResult) → ConsistsOfBytes input
+state_after_result-in : (state : State) (input : Input) (result : InputResult) → PacketBodyIsBytes input
     → IsStateInRange state
     → IsStateInRange (state_after_result state input result)
 state_after_result-in state input Applied bytes old =
@@ -271,13 +272,13 @@ stays_in_range old new (input ∷ inputs) (result ∷ results) [] run bytes is =
 
 -- ---- what a session leaves
 
-update-in : (state : State) (input : Input) → ConsistsOfBytes input → IsStateInRange state
+update-in : (state : State) (input : Input) → PacketBodyIsBytes input → IsStateInRange state
     → AreInRange (with_update state.devices (update_of state input))
 update-in state input bytes is =
     with_update-in state.devices (update_of state input) (input-keeps state input is bytes).0 is.0
 
 state_after_run-in : (state : State) (inputs : List Input) (results : List InputResult)
-    → AllByRecursion ConsistsOfBytes inputs
+    → AllByRecursion PacketBodyIsBytes inputs
     → IsStateInRange state → IsStateInRange (state_after_run state inputs results)
 state_after_run-in state [] results bytes is = is
 state_after_run-in state (input ∷ inputs) [] bytes is = is
@@ -286,7 +287,7 @@ state_after_run-in state (input ∷ inputs) (result ∷ results) bytes is =
     (state_after_result-in state input result bytes.0 is)
 
 yet-in : (state : State) (inputs : List Input) (results : List InputResult) (devices : Devices)
-    → IncludesPendingUpdate state inputs results devices → AllByRecursion ConsistsOfBytes inputs → IsStateInRange state
+    → HasFailedNextUpdate state inputs results devices → AllByRecursion PacketBodyIsBytes inputs → IsStateInRange state
     → AreInRange devices
 yet-in state (input ∷ inputs) (FailedAtCommit cause ∷ results) devices done bytes is =
     subst AreInRange (sym done) (update-in state input bytes.0 is)
@@ -296,25 +297,25 @@ yet-in state (input ∷ inputs) [] devices done bytes is = absurd done
 yet-in state [] results devices done bytes is = absurd done
 
 interrupted-in : (state : State) (interrupted : Option Input) (devices : Devices)
-    → IncludesInterrupted state interrupted devices
-    → IfSome interrupted ConsistsOfBytes → IsStateInRange state → AreInRange devices
+    → HasInterruptedUpdate state interrupted devices
+    → IfSome interrupted PacketBodyIsBytes → IsStateInRange state → AreInRange devices
 interrupted-in state (Some input) devices done bytes is = subst AreInRange (sym done) (update-in state input bytes is)
 interrupted-in state None devices done bytes is = absurd done
 
 -- the first inputs are of bytes, and the others
-parts-in : (before later : List Input) → AllByRecursion ConsistsOfBytes (before ++ later)
-    → AllByRecursion ConsistsOfBytes before × AllByRecursion ConsistsOfBytes later
+parts-in : (before later : List Input) → AllByRecursion PacketBodyIsBytes (before ++ later)
+    → AllByRecursion PacketBodyIsBytes before × AllByRecursion PacketBodyIsBytes later
 parts-in [] later bytes = (tt, bytes)
 parts-in (input ∷ before) later bytes =
     let rest = parts-in before later bytes.1 in ((bytes.0, rest.0), rest.1)
 
-pub leaves_in_range : LeavesInRange
+pub leaves_in_range : SessionsLeaveDevicesInRange
 leaves_in_range session is found bytes interrupted =
     let start = initial_state session.base session.found in
     elim (sessions_leave_prefixes session is) [
       | inl prefix ↦
           let parts = parts-in prefix.before prefix.after
-          (subst (AllByRecursion ConsistsOfBytes) prefix.inputs_are bytes) in
+          (subst (AllByRecursion PacketBodyIsBytes) prefix.inputs_are bytes) in
           let at = subst IsStateInRange (sym prefix.at_is) (state_after_run-in start prefix.before prefix.done parts.0
           (found, tt)) in
           elim prefix.is [
@@ -328,44 +329,45 @@ leaves_in_range session is found bytes interrupted =
 
 -- ---- what a teach line reports
 
-pub learned-in : (state : State) (input : Input) (known : Device) → IsStateInRange state → ConsistsOfBytes input
-    → update_of state input ≡ Some (learn_update known) → IsDeviceInRange known
+pub learned-in : (state : State) (input : Input) (known : Device) → IsStateInRange state → PacketBodyIsBytes input
+    → update_of state input ≡ Some (learn_update known) → HasDeviceNumbersInRange known
 learned-in state input known in_range bytes is =
     subst (λ (o : Option DeviceUpdate). IfSome o IsChangeInRange) is (input-keeps state input in_range bytes).0
 
-pub deleted-in : (state : State) (input : Input) (known : Device) → IsStateInRange state → ConsistsOfBytes input
-    → IsDeleted state input known → IsDeviceInRange known
+pub deleted-in : (state : State) (input : Input) (known : Device) → IsStateInRange state → PacketBodyIsBytes input
+    → IsDeviceOfDeletedLine state input known → HasDeviceNumbersInRange known
 deleted-in state (Ordered line) known in_range bytes is =
-    subst (λ (o : Option Device). IfSome o IsDeviceInRange) is (in_range.0 known.id)
+    subst (λ (o : Option Device). IfSome o HasDeviceNumbersInRange) is (in_range.0 known.id)
 deleted-in state (Received packet) known in_range bytes (t, carried, id, query, asked, wants, eep, maker) =
     let carried_in = subst IsRoleInRange asked (role-in t) in (
       subst IsProfileInRange (sym eep) carried_in.0,
       subst (λ n. n < 2 ^ 32) (sym id) (sender-below packet t carried bytes),
-      subst IsMakerInRange (sym maker) carried_in.1,
+      subst MakerFitsTwoBytes (sym maker) carried_in.1,
     )
 
 device-in : (state : State) (input : Input) (line : TeachLine) (outcome : Outcome) (known : Device)
-    → line.outcome ≡ outcome → IsDeviceInRange known → update_of state input ≡ Some (acknowledged_update outcome known)
+    → line.outcome ≡ outcome → HasDeviceNumbersInRange known
+    → update_of state input ≡ Some (accepted_or_deleted_update outcome known)
     → text (Teach line) ≡ text (Teach (device_teach_line known outcome)) → IsOfDevice state input line
 device-in state input line outcome known word in_range update same =
     let one = subst (λ o. text (Teach line) ≡ text (Teach (device_teach_line known o))) (sym word) same in record {
       known = known;
       in_range = in_range;
-      update = update ∙ ap (λ o. Some (acknowledged_update o known)) (sym word);
+      update = update ∙ ap (λ o. Some (accepted_or_deleted_update o known)) (sym word);
       same_text = one;
-      line_is = λ numbers. one_teach_line line (device_teach_line known line.outcome) numbers in_range one;
+      is_line_of_device = λ numbers. one_teach_line line (device_teach_line known line.outcome) numbers in_range one;
     }
 
-pub tells_in_range : ReportsInRange
-tells_in_range state input result line in_range bytes answered word =
-    let tells = teach_lines_are_true state input result line answered in
-    let Of = ReportsEffect (IsDeleted state input) (effect state input) line in
+pub reports_in_range : ReportsInRange
+reports_in_range state input result line in_range bytes answered word =
+    let reporting = teach_lines_are_true state input result line answered in
+    let Of = OutcomeMatchesUpdate (IsDeviceOfDeletedLine state input) (effect state input) line in
     elim word [
       | inl accepted ↦
-          let (known, same, asks) = subst Of accepted tells.1 in
+          let (known, same, asks) = subst Of accepted reporting.1 in
           device-in state input line Accepted known accepted (learned-in state input known in_range bytes asks) asks
           same
       | inr deleted ↦
-          let (known, same, gone, asks) = subst Of deleted tells.1 in
+          let (known, same, gone, asks) = subst Of deleted reporting.1 in
           device-in state input line Deleted known deleted (deleted-in state input known in_range bytes gone) asks same
     ]

@@ -25,22 +25,22 @@ use Rattle.actuator_commands.specs.declared.orders.Order.TheVariants.{Label, Lis
 use Rattle.actuator_commands.specs.declared.orders.Order.TheVariants as orders
 use Rattle.actuator_commands.specs.declared.orders.OrderFault.{OrderFault}
 use Rattle.actuator_commands.specs.Orders.{order_of}
-use Rattle.actuator_commands.specs.Packets.{order_telegram, recipient}
+use Rattle.actuator_commands.specs.Packets.{order_telegram, recipient_id}
 use Rattle.json_lines.specs.Lines.{TeachLine, Teach, Done, text, texts}
 use Rattle.gateway_core.specs.Run.{Applied, Failed, FailedAtCommit}
-use Rattle.gateway_core.specs.Step.{State, Received, Ordered, Effect, device_teach_line, radio_of, reply_of}
+use Rattle.gateway_core.specs.Step.{State, Received, Ordered, Effect, device_teach_line, radio_of, reply_telegram_of}
 use Rattle.gateway_core.specs.Step.{query_teach_line}
 use Rattle.gateway_core.specs.Step.{packet_effect, line_effect}
-use Rattle.gateway_core.specs.Step.{order_effect, sending_order_effect, send_result_effect, forget_effect}
-use Rattle.gateway_core.specs.Step.{relabel_effect, if_known}
-use Rattle.gateway_core.specs.Step.{base_id_request, recipient_device, if_supported}
-use Rattle.gateway_core.specs.Reporting.{IsReply, IsSentByOrder, RadioIsReported}
+use Rattle.gateway_core.specs.Step.{order_effect, sending_order_effect, send_result_effect, ordered_forget_effect}
+use Rattle.gateway_core.specs.Step.{relabel_effect, if_learned_else_error}
+use Rattle.gateway_core.specs.Step.{base_id_request, recipient_device, if_supported_else_error}
+use Rattle.gateway_core.specs.Reporting.{IsReplyTelegram, IsSentByOrder, RadioIsReplyOrOrdered}
 use Rattle.gateway_core.proofs.EffectLemmas.{of_packet, of_line}
 
 -- the bytes are those of a reply to this telegram with this outcome for its sender
 abbrev Replies : State → Telegram → Outcome → List ℕ → Type 0
 Replies state t outcome bytes =
-    (reply : Telegram) × IsReply state t outcome reply × (bytes ≡ spelling (radio_packet reply))
+    (reply : Telegram) × IsReplyTelegram state t outcome reply × (bytes ≡ spelling (radio_packet reply))
 
 -- the bytes of a telegram, if there is one
 telegram-in : (t : Option Telegram) (bytes : List ℕ) → radio_of t ≡ Some bytes
@@ -56,7 +56,7 @@ wanted false reply bytes e = absurd cc
 
 reply-is : (state : State) (t : Telegram) (mode : Mode) (kind : Kind) (outcome : Outcome) (bytes : List ℕ)
     → state.mode ≡ mode → teach_in_of t ≡ kind → Hears mode kind
-    → radio_of (reply_of state.base mode kind outcome) ≡ Some bytes → Replies state t outcome bytes
+    → radio_of (reply_telegram_of state.base mode kind outcome) ≡ Some bytes → Replies state t outcome bytes
 reply-is state t mode (Ute query) outcome bytes plan_in_mode is hears e =
     let (wants, sent_as) = wanted (wants_reply query) (ute_reply query outcome state.base) bytes e in
     let (reply, says, spelled) = telegram-in (ute_reply query outcome state.base) bytes sent_as in
@@ -115,7 +115,7 @@ line-sends state bytes line =
 Silent : Effect → Type 0
 Silent e = e.radio ≡ None
 
-supported-silent : (eep : Eep) (e : Effect) → Silent e → Silent (if_supported eep e)
+supported-silent : (eep : Eep) (e : Effect) → Silent e → Silent (if_supported_else_error eep e)
 unfolding Silent
 supported-silent eep e silent = either (λ (x : Effect). x.radio ≡ None) (supported eep) e _ silent refl
 
@@ -136,17 +136,17 @@ no-bytes state spelled bytes silent e = absurd cc
 by-telegram : (state : State) (order : Order) (bytes : List ℕ) → (sending_order_effect state order).radio ≡ Some bytes
     → Sends state (Ok order) bytes
 by-telegram state order bytes e =
-    one (order_telegram order (recipient_device state.devices (recipient order)) state.base) refl e
+    one (order_telegram order (recipient_device state.devices (recipient_id order)) state.base) refl e
   where
     one : (telegram : Option (Result Telegram OrderFault))
-        → order_telegram order (recipient_device state.devices (recipient order)) state.base ≡ telegram
-        → (send_result_effect (is_some (recipient order)) telegram).radio ≡ Some bytes → Sends state (Ok order) bytes
+        → order_telegram order (recipient_device state.devices (recipient_id order)) state.base ≡ telegram
+        → (send_result_effect (is_some (recipient_id order)) telegram).radio ≡ Some bytes → Sends state (Ok order) bytes
     one (Some (Ok t)) is e = (order, refl, radio_packet t, inr (t, refl, is), ap (λ o. unwrap_or o bytes) (sym e))
     one (Some (Err fault)) is e = absurd cc
     one None is e = absurd cc
 
 known-silent : (known : Option Device) (effect_of : Device → Effect) → ((it : Device) → (effect_of it).radio ≡ None)
-    → (if_known known effect_of).radio ≡ None
+    → (if_learned_else_error known effect_of).radio ≡ None
 known-silent None effect_of silent = refl
 known-silent (Some it) effect_of silent = silent it
 
@@ -163,7 +163,8 @@ order-sends state (Ok (Add id eep)) bytes e =
     no-bytes state (Ok (Add id eep)) bytes
     (supported-silent eep _ (either (λ (x : Effect). x.radio ≡ None) (is_full state.devices id) _ _ refl refl)) e
 order-sends state (Ok (Remove id)) bytes e =
-    no-bytes state (Ok (Remove id)) bytes (known-silent (device_of state.devices id) forget_effect (λ known. refl)) e
+    no-bytes state (Ok (Remove id)) bytes
+    (known-silent (device_of state.devices id) ordered_forget_effect (λ known. refl)) e
 order-sends state (Ok (Label id label)) bytes e =
     no-bytes state (Ok (Label id label)) bytes
     (known-silent (device_of state.devices id) (λ known. relabel_effect id label) (λ known. refl)) e
@@ -180,9 +181,9 @@ line-orders state line bytes =
     either (λ (x : Effect). x.radio ≡ Some bytes → Sends state (order_of line) bytes)
     (nat_lt max_line (length line)) _ _ (λ e. absurd cc) (order-sends state (order_of line) bytes)
 
-pub radio_is_reported : RadioIsReported
-radio_is_reported state (Received packet) Applied bytes e =
-    let (t, carried, line, told, (reply, says, sent_as)) = packet-replies state packet bytes e in (
+pub radio_is_reply_or_ordered : RadioIsReplyOrOrdered
+radio_is_reply_or_ordered state (Received packet) Applied bytes e =
+    let (t, carried, line, stated, (reply, says, sent_as)) = packet-replies state packet bytes e in (
       refl,
       inl (record {
         packet = packet;
@@ -190,13 +191,13 @@ radio_is_reported state (Received packet) Applied bytes e =
         telegram = t;
         carried = carried;
         line = line;
-        reported = told;
+        reported = stated;
         reply = reply;
         says = says;
         sent_as = sent_as;
       }),
     )
-radio_is_reported state (Ordered line) Applied bytes e =
+radio_is_reply_or_ordered state (Ordered line) Applied bytes e =
     let (order, spelled, packet, is_packet, sent_as) = line-orders state line bytes e in (
       refl,
       inr (record {
@@ -210,5 +211,5 @@ radio_is_reported state (Ordered line) Applied bytes e =
         sent_as = sent_as;
       }),
     )
-radio_is_reported state input (Failed cause) bytes e = absurd cc
-radio_is_reported state input (FailedAtCommit cause) bytes e = absurd cc
+radio_is_reply_or_ordered state input (Failed cause) bytes e = absurd cc
+radio_is_reply_or_ordered state input (FailedAtCommit cause) bytes e = absurd cc

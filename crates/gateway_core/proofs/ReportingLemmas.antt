@@ -25,13 +25,16 @@ use Rattle.json_lines.specs.declared.error_lines.ErrorName.TheVariants as error
 use Rattle.json_lines.specs.Lines.{DeskLine, Reading, Teach, ListEnd, StatusLine, ResponseLine, Done, Error}
 use Rattle.json_lines.specs.Lines.{TeachLine, text, texts, list_lines}
 use Rattle.json_lines.proofs.ForCallers.{of_teach_lines}
-use Rattle.gateway_core.specs.Step.{State, Received, Ordered, Effect, device_teach_line, teach_effect, accept_effect}
+use Rattle.gateway_core.specs.Step.{State, Received, Ordered, Effect, device_teach_line, teach_report_effect}
+use Rattle.gateway_core.specs.Step.{accept_effect}
 use Rattle.gateway_core.specs.Step.{delete_effect}
-use Rattle.gateway_core.specs.Step.{query_teach_line, learn_effect, forget_effect, relabel_effect, if_known}
+use Rattle.gateway_core.specs.Step.{query_teach_line, ordered_learn_effect, ordered_forget_effect, relabel_effect}
+use Rattle.gateway_core.specs.Step.{if_learned_else_error}
 use Rattle.gateway_core.specs.Step.{error_effect, packet_effect, line_effect}
 use Rattle.gateway_core.specs.Step.{order_effect, update_of, Cause, Memory, Store}
 use Rattle.gateway_core.specs.Run.{InputResult, Applied, Failed, FailedAtCommit, cause_text, answer_for_result}
-use Rattle.gateway_core.specs.Reporting.{IsDeleted, ReportsEffect, UpdatesAreReported, LabelsAreAcknowledged}
+use Rattle.gateway_core.specs.Reporting.{IsDeviceOfDeletedLine, OutcomeMatchesUpdate, UpdatesAreReported}
+use Rattle.gateway_core.specs.Reporting.{AnswersToLabelsAreTrue}
 use Rattle.gateway_core.specs.Reporting.{TeachLinesAreTrue}
 use Rattle.gateway_core.proofs.EffectLemmas.{IsRefusal, of_packet, of_line}
 
@@ -74,21 +77,21 @@ same-outcome one line e =
     outcome_in line = Accepted
 
 -- what is rejected changes nothing
-refused-tells : (Gone : Device → Type 0) (state : State) (kind : Kind) (one line : TeachLine) (outcome : Outcome)
-    → IsRefusal outcome → ReportsEffect Gone (teach_effect state kind one) line outcome
-refused-tells Gone state kind one line Accepted is = absurd is
-refused-tells Gone state kind one line Deleted is = absurd is
-refused-tells Gone state kind one line Unsupported is = (refl, refl)
-refused-tells Gone state kind one line outcome.Full is = (refl, refl)
-refused-tells Gone state kind one line General is = (refl, refl)
-refused-tells Gone state kind one line NoProfile is = (refl, refl)
+refused-line : (Gone : Device → Type 0) (state : State) (kind : Kind) (one line : TeachLine) (outcome : Outcome)
+    → IsRefusal outcome → OutcomeMatchesUpdate Gone (teach_report_effect state kind one) line outcome
+refused-line Gone state kind one line Accepted is = absurd is
+refused-line Gone state kind one line Deleted is = absurd is
+refused-line Gone state kind one line Unsupported is = (refl, refl)
+refused-line Gone state kind one line outcome.Full is = (refl, refl)
+refused-line Gone state kind one line General is = (refl, refl)
+refused-line Gone state kind one line NoProfile is = (refl, refl)
 
-told : (Gone : Device → Type 0) (line : TeachLine) (e : Effect) (known : Device) (outcome : Outcome)
+stated : (Gone : Device → Type 0) (line : TeachLine) (e : Effect) (known : Device) (outcome : Outcome)
     → texts (Teach (device_teach_line known outcome) ∷ []) ≡ text (Teach line)
-    → (text (Teach line) ≡ text (Teach (device_teach_line known outcome)) → ReportsEffect Gone e line outcome)
-    → ReportsEffect Gone e line line.outcome
-told Gone line e known outcome is asks =
-    subst (ReportsEffect Gone e line) (same-outcome (device_teach_line known outcome) line is)
+    → (text (Teach line) ≡ text (Teach (device_teach_line known outcome)) → OutcomeMatchesUpdate Gone e line outcome)
+    → OutcomeMatchesUpdate Gone e line line.outcome
+stated Gone line e known outcome is asks =
+    subst (OutcomeMatchesUpdate Gone e line) (same-outcome (device_teach_line known outcome) line is)
     (asks (sym is ∙ append-nil _))
 
 -- ---- a sender that is forgotten over the air
@@ -102,58 +105,64 @@ line-asked : (id : ℕ) (kind : Kind) (query : UteQuery) (outcome : Outcome) →
     → query_teach_line id kind outcome ≡ device_teach_line (asked_of id query) outcome
 line-asked id kind query outcome is = ap (λ k. query_teach_line id k outcome) is
 
-deleted-tells : (state : State) (packet : Packet) (t : Telegram) (line : TeachLine) → telegram_of packet ≡ Ok t
+deleted-line : (state : State) (packet : Packet) (t : Telegram) (line : TeachLine) → telegram_of packet ≡ Ok t
     → AsksDeletion (teach_in_of t)
     → texts (delete_effect state (teach_in_of t) t.sender).desk ≡ text (Teach line)
-    → ReportsEffect (IsDeleted state (Received packet)) (delete_effect state (teach_in_of t) t.sender) line line.outcome
-deleted-tells state packet t line carried (query, asked, wants) e =
-    told (IsDeleted state (Received packet)) line (delete_effect state (teach_in_of t) t.sender)
+    → OutcomeMatchesUpdate (IsDeviceOfDeletedLine state (Received packet))
+    (delete_effect state (teach_in_of t) t.sender) line line.outcome
+deleted-line state packet t line carried (query, asked, wants) e =
+    stated (IsDeviceOfDeletedLine state (Received packet)) line (delete_effect state (teach_in_of t) t.sender)
     (asked_of t.sender query)
     Deleted
     (ap (λ l. texts (Teach l ∷ [])) (sym (line-asked t.sender (teach_in_of t) query Deleted asked)) ∙ e)
     (λ is. (asked_of t.sender query, is, (t, carried, refl, query, asked, wants, refl, refl), refl))
 
-packet-tells : (state : State) (line : TeachLine) (packet : Packet)
+packet-line : (state : State) (line : TeachLine) (packet : Packet)
     → texts (packet_effect state packet).desk ≡ text (Teach line)
-    → ReportsEffect (IsDeleted state (Received packet)) (packet_effect state packet) line line.outcome
-packet-tells state line packet =
-    let Gone = IsDeleted state (Received packet) in
-    of_packet (λ e. texts e.desk ≡ text (Teach line) → ReportsEffect Gone e line line.outcome) state packet (record {
+    → OutcomeMatchesUpdate (IsDeviceOfDeletedLine state (Received packet))
+    (packet_effect state packet) line line.outcome
+packet-line state line packet =
+    let Gone = IsDeviceOfDeletedLine state (Received packet) in
+    of_packet (λ e. texts e.desk ≡ text (Teach line) → OutcomeMatchesUpdate Gone e line line.outcome) state packet
+    (record {
       telegrams = λ t carried. record {
         unsays = λ asked disposition is e. absurd (no_line line e);
         reads = λ known read e. absurd (other-line (Reading read) line (λ never. never) e);
         admits = λ hears eep maker learned planned e.
             let known : Device = record { id = t.sender; eep = eep; maker = maker; label = [] } in
-            told Gone line (accept_effect state (teach_in_of t) known) known Accepted e (λ is. (known, is, refl));
-        removes = λ learning asks e. deleted-tells state packet t line carried asks e;
+            stated Gone line (accept_effect state (teach_in_of t) known) known Accepted e (λ is. (known, is, refl));
+        removes = λ learning asks e. deleted-line state packet t line carried asks e;
         refuses = λ hears need other is e.
-            subst (ReportsEffect Gone (teach_effect state (teach_in_of t) other) line) (same-outcome other line e)
-            (refused-tells Gone state (teach_in_of t) other line other.outcome is);
+            subst (OutcomeMatchesUpdate Gone (teach_report_effect state (teach_in_of t) other) line)
+            (same-outcome other line e)
+            (refused-line Gone state (teach_in_of t) other line other.outcome is);
       };
       passes = λ disposition is e. absurd (no_line line e);
       hears = λ response e. absurd (other-line (ResponseLine response) line (λ never. never) e);
     })
 
-line-tells : (state : State) (line : TeachLine) (ordered : List ℕ)
+order-line : (state : State) (line : TeachLine) (ordered : List ℕ)
     → texts (line_effect state ordered).desk ≡ text (Teach line)
-    → ReportsEffect (IsDeleted state (Ordered ordered)) (line_effect state ordered) line line.outcome
-line-tells state line ordered =
-    let Gone = IsDeleted state (Ordered ordered) in
-    of_line (λ e. texts e.desk ≡ text (Teach line) → ReportsEffect Gone e line line.outcome) state ordered (record {
+    → OutcomeMatchesUpdate (IsDeviceOfDeletedLine state (Ordered ordered)) (line_effect state ordered) line line.outcome
+order-line state line ordered =
+    let Gone = IsDeviceOfDeletedLine state (Ordered ordered) in
+    of_line (λ e. texts e.desk ≡ text (Teach line) → OutcomeMatchesUpdate Gone e line line.outcome) state ordered
+    (record {
       denies = λ name e. absurd (other-line (Error name) line (λ never. never) e);
       finds = λ name e. absurd (other-line (Error name) line (λ never. never) e);
       opens = λ mode is e. absurd (other-line Done line (λ never. never) e);
       sends = λ asked bytes e. absurd (other-line Done line (λ never. never) e);
       lists = λ e. absurd (listing-other (all_of state.devices) line e);
       reports = λ e. absurd (other-line (StatusLine state.counts state.mode) line (λ never. never) e);
-      adds = λ known spells e. told Gone line (learn_effect known) known Accepted e (λ is. (known, is, refl));
-      drops = λ known has e. told Gone line (forget_effect known) known Deleted e (λ is. (known, is, has, refl));
+      adds = λ known spells e. stated Gone line (ordered_learn_effect known) known Accepted e (λ is. (known, is, refl));
+      drops = λ known has e. stated Gone line (ordered_forget_effect known) known Deleted e
+          (λ is. (known, is, has, refl));
       relabels = λ id label is known e. absurd (other-line Done line (λ never. never) e);
     })
 
 pub teach_lines_are_true : TeachLinesAreTrue
-teach_lines_are_true state (Received packet) Applied line e = (refl, packet-tells state line packet e)
-teach_lines_are_true state (Ordered ordered) Applied line e = (refl, line-tells state line ordered e)
+teach_lines_are_true state (Received packet) Applied line e = (refl, packet-line state line packet e)
+teach_lines_are_true state (Ordered ordered) Applied line e = (refl, order-line state line ordered e)
 teach_lines_are_true state input (Failed cause) line e = absurd (cause-other cause line e)
 teach_lines_are_true state input (FailedAtCommit cause) line e = absurd (cause-other cause line e)
 
@@ -161,11 +170,11 @@ teach_lines_are_true state input (FailedAtCommit cause) line e = absurd (cause-o
 
 -- an effect with an update reports it by a teach line
 abbrev Answers : (Device → Type 0) → Effect → Type 0
-Answers Gone e = (line : TeachLine) × (texts e.desk ≡ text (Teach line)) × ReportsEffect Gone e line line.outcome
+Answers Gone e = (line : TeachLine) × (texts e.desk ≡ text (Teach line)) × OutcomeMatchesUpdate Gone e line line.outcome
 
 deleted-answers : (state : State) (packet : Packet) (t : Telegram) → telegram_of packet ≡ Ok t
     → AsksDeletion (teach_in_of t)
-    → Answers (IsDeleted state (Received packet)) (delete_effect state (teach_in_of t) t.sender)
+    → Answers (IsDeviceOfDeletedLine state (Received packet)) (delete_effect state (teach_in_of t) t.sender)
 deleted-answers state packet t carried (query, asked, wants) = (
   device_teach_line (asked_of t.sender query) Deleted,
   append-nil _ ∙ ap (λ l. text (Teach l)) (line-asked t.sender (teach_in_of t) query Deleted asked),
@@ -174,9 +183,10 @@ deleted-answers state packet t carried (query, asked, wants) = (
 
 packet-answers : (state : State) (packet : Packet) (update : DeviceUpdate)
     → (packet_effect state packet).update ≡ Some update
-    → Answers (IsDeleted state (Received packet)) (packet_effect state packet)
+    → Answers (IsDeviceOfDeletedLine state (Received packet)) (packet_effect state packet)
 packet-answers state packet update =
-    of_packet (λ e. e.update ≡ Some update → Answers (IsDeleted state (Received packet)) e) state packet (record {
+    of_packet (λ e. e.update ≡ Some update → Answers (IsDeviceOfDeletedLine state (Received packet)) e) state packet
+    (record {
       telegrams = λ t carried. record {
         unsays = λ asked disposition is e. absurd cc;
         reads = λ known line e. absurd cc;
@@ -197,10 +207,10 @@ Labels state line e update =
     × (update ≡ relabel_update id label) × (texts e.desk ≡ text Done)
 
 line-answers : (state : State) (line : List ℕ) (update : DeviceUpdate) → (line_effect state line).update ≡ Some update
-    → Answers (IsDeleted state (Ordered line)) (line_effect state line)
+    → Answers (IsDeviceOfDeletedLine state (Ordered line)) (line_effect state line)
     ⊎ Labels state line (line_effect state line) update
 line-answers state line update =
-    let Gone = IsDeleted state (Ordered line) in
+    let Gone = IsDeviceOfDeletedLine state (Ordered line) in
     of_line (λ e. e.update ≡ Some update → Answers Gone e ⊎ Labels state line e update) state line (record {
       denies = λ name e. absurd cc;
       finds = λ name e. absurd cc;
@@ -242,21 +252,23 @@ tenth text = slice_index_or text 10 0
 
 -- the answer to a line that spells a label, and its update
 label-done : (id : ℕ) (label : List ℕ) (long : Bool) (known : Option Device)
-    → let e : Effect = if long then error_effect error.TooLong else if_known known (λ it. relabel_effect id label) in
+    → let e : Effect = if long then error_effect error.TooLong else if_learned_else_error known
+    (λ it. relabel_effect id label) in
     texts e.desk ≡ text Done → IsSome known × (e.update ≡ Some (relabel_update id label))
 label-done id label true known e = absurd (not-done error.TooLong e)
 label-done id label false None e = absurd (not-done error.UnknownDevice e)
 label-done id label false (Some it) e = (refl, refl)
 
 label-unknown : (id : ℕ) (label : List ℕ) (long : Bool) (known : Option Device)
-    → let e : Effect = if long then error_effect error.TooLong else if_known known (λ it. relabel_effect id label) in
+    → let e : Effect = if long then error_effect error.TooLong else if_learned_else_error known
+    (λ it. relabel_effect id label) in
     texts e.desk ≡ text (Error error.UnknownDevice) → (known ≡ None) × (e.update ≡ None)
 label-unknown id label true known e = let at : 116 ≡ 117 = ap tenth e in absurd (omega (arith, at))
 label-unknown id label false None e = (refl, refl)
 label-unknown id label false (Some it) e = let at : 107 ≡ 117 = ap tenth e in absurd (omega (arith, at))
 
 label-answers : (id : ℕ) (label : List ℕ) (known : Option Device)
-    → let e = if_known known (λ it. relabel_effect id label) in
+    → let e = if_learned_else_error known (λ it. relabel_effect id label) in
     (texts e.desk ≡ text Done) ⊎ (texts e.desk ≡ text (Error error.UnknownDevice))
 label-answers id label None = inr (append-nil _)
 label-answers id label (Some it) = inl (append-nil _)
@@ -269,8 +281,8 @@ cause-not-unknown : (cause : Cause) → cause_text cause ≡ text (Error error.U
 cause-not-unknown Memory e = let at : 109 ≡ 117 = ap tenth e in absurd (omega (arith, at))
 cause-not-unknown Store e = let at : 115 ≡ 117 = ap tenth e in absurd (omega (arith, at))
 
-pub labels_are_acknowledged : LabelsAreAcknowledged
-labels_are_acknowledged state line id label is = record {
+pub answers_to_labels_are_true : AnswersToLabelsAreTrue
+answers_to_labels_are_true state line id label is = record {
   done = done;
   unknown = unknown;
   answers = λ short.

@@ -4,8 +4,8 @@ use Rattle.learned_devices.specs.DeviceStoreState.{DeviceStoreState}
 use Rattle.gateway_core.specs.Step.{State, Input, Answer}
 use Rattle.gateway_core.specs.Run.{InputResult, Applied, Failed, FailedAtCommit, Run, failure_cause, failure_answer}
 use Rattle.gateway_core.specs.Run.{answer_for_result}
-use Rattle.gateway_core.specs.Run.{state_after_result, SameFailures}
-use Rattle.gateway_core.specs.CrashStates.{no_crash_states, crash_states, IsCrashConsistent}
+use Rattle.gateway_core.specs.Run.{state_after_result, SameFailuresGiveSameAnswers}
+use Rattle.gateway_core.specs.CrashStates.{nothing_committed_yet, crash_states, IsCrashConsistent}
 use Rattle.gateway_core.specs.Handling.{HandlerValue, Handles}
 use Rattle.gateway_core.proofs.CrashLemmas.{crash_consistency_composes, safe-weaker}
 
@@ -33,7 +33,7 @@ module _ {S : Type 0} (stored : S → DeviceStoreState) where
   handles-nothing handler = record {
     base = refl;
     clean = λ honest. honest;
-    registries = λ honest before. before;
+    recoverable = λ honest before. before;
     went = λ honest start at. record {
       results = [];
       last = start;
@@ -49,7 +49,7 @@ module _ {S : Type 0} (stored : S → DeviceStoreState) where
   handles-append old mid new inputs more answers after first second = record {
     base = second.base ∙ first.base;
     clean = λ honest. first.clean (second.clean honest);
-    registries = λ honest before. second.registries honest (first.registries (second.clean honest) before);
+    recoverable = λ honest before. second.recoverable honest (first.recoverable (second.clean honest) before);
     went = λ honest start at.
         let a = first.went (second.clean honest) start at in
         let b = second.went honest a.last a.at in
@@ -62,7 +62,7 @@ module _ {S : Type 0} (stored : S → DeviceStoreState) where
           crash = λ left may. crash_consistency_composes Before start a.last inputs more a.results b.results answers
               left a.run
               (safe-weaker (stored mid.registry).may_recover
-              (IsCrashConsistent Before (crash_states no_crash_states start inputs a.results))
+              (IsCrashConsistent Before (crash_states nothing_committed_yet start inputs a.results))
               a.crash _ left (b.crash left may));
         };
   }
@@ -92,21 +92,23 @@ state-alike state input Applied (FailedAtCommit b) e = absurd cc
 state-alike state input (Failed a) Applied e = absurd cc
 state-alike state input (FailedAtCommit a) Applied e = absurd cc
 
-pub same_failures : SameFailures
-same_failures old left right [] [] [] [] [] alike x y = (refl, x ∙ sym y)
-same_failures old left right (input ∷ inputs) (result ∷ results) (other ∷ others) (a ∷ answers) (b ∷ more) alike
-    (_, e, x)
-    (_, f, y) =
+pub same_failures_give_same_answers : SameFailuresGiveSameAnswers
+same_failures_give_same_answers old left right [] [] [] [] [] alike x y = (refl, x ∙ sym y)
+same_failures_give_same_answers old left right (input ∷ inputs) (result ∷ results) (other ∷ others) (a ∷ answers)
+    (b ∷ more) alike (_, e, x) (_, f, y) =
     let cause : failure_cause result ≡ failure_cause other = cc in
     let from = subst (λ s. Run s inputs others more right) (state-alike old input result other cause) y in
-    let rest = same_failures (state_after_result old input result) left right inputs results others answers more
+    let rest = same_failures_give_same_answers
+    (state_after_result old input result) left right inputs results others answers more
     (cc) x from in
     (ap (λ c. c ∷ answers) (e ∙ answer-alike old input result other cause ∙ sym f) ∙ ap (λ cs. b ∷ cs) rest.0, rest.1)
-same_failures old left right [] [] [] [] (b ∷ more) alike x y = absurd y
-same_failures old left right [] [] [] (a ∷ answers) more alike x y = absurd x
-same_failures old left right [] [] (other ∷ others) answers more alike x y = absurd y
-same_failures old left right [] (result ∷ results) others answers more alike x y = absurd x
-same_failures old left right (input ∷ inputs) [] others answers more alike x y = absurd x
-same_failures old left right (input ∷ inputs) (result ∷ results) [] answers more alike x y = absurd y
-same_failures old left right (input ∷ inputs) (result ∷ results) (other ∷ others) [] more alike x y = absurd x
-same_failures old left right (input ∷ inputs) (result ∷ results) (other ∷ others) (a ∷ answers) [] alike x y = absurd y
+same_failures_give_same_answers old left right [] [] [] [] (b ∷ more) alike x y = absurd y
+same_failures_give_same_answers old left right [] [] [] (a ∷ answers) more alike x y = absurd x
+same_failures_give_same_answers old left right [] [] (other ∷ others) answers more alike x y = absurd y
+same_failures_give_same_answers old left right [] (result ∷ results) others answers more alike x y = absurd x
+same_failures_give_same_answers old left right (input ∷ inputs) [] others answers more alike x y = absurd x
+same_failures_give_same_answers old left right (input ∷ inputs) (result ∷ results) [] answers more alike x y = absurd y
+same_failures_give_same_answers old left right (input ∷ inputs) (result ∷ results) (other ∷ others) [] more alike x y =
+    absurd x
+same_failures_give_same_answers old left right (input ∷ inputs) (result ∷ results) (other ∷ others) (a ∷ answers) []
+    alike x y = absurd y

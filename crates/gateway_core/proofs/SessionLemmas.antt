@@ -11,14 +11,15 @@ use Rattle.learned_devices.specs.Devices.{DeviceData, Devices, Operation, Learn,
 use Rattle.learned_devices.specs.Devices.{kept_label, data_after}
 use Rattle.learned_devices.specs.Devices.{apply_update, device, learn_update, forget_update, relabel_update}
 use Rattle.learned_devices.proofs.ForCallers.{get-entered}
-use Rattle.gateway_core.specs.Step.{State, Input, Answer, update_of, with_update, state_after}
+use Rattle.gateway_core.specs.Step.{State, Input, Answer, update_of, with_update, state_if_applied}
 use Rattle.gateway_core.specs.Run.{InputResult, Applied, Failed, FailedAtCommit, state_after_result, Run}
-use Rattle.gateway_core.specs.Promises.{Promises, Preserves}
-use Rattle.gateway_core.specs.CrashStates.{CrashStates, no_crash_states, after_committed_update, with_pending_update}
+use Rattle.gateway_core.specs.Promises.{Promises, IsPromiseKeptBy}
+use Rattle.gateway_core.specs.CrashStates.{CrashStates, nothing_committed_yet, after_committed_update}
+use Rattle.gateway_core.specs.CrashStates.{with_pending_update}
 use Rattle.gateway_core.specs.CrashStates.{crash_states_after_result}
 use Rattle.gateway_core.specs.CrashStates.{crash_states, IsCrashConsistent}
 use Rattle.gateway_core.specs.Sessions.{Session, initial_state, with_interrupted, IsSession, AreSessions}
-use Rattle.gateway_core.specs.Sessions.{possible_update, DoesNotOverride, NoneOverrides, InterruptedDoesNotOverride}
+use Rattle.gateway_core.specs.Sessions.{possible_update, IsNotOverriddenBy, NoneOverrides, InterruptedDoesNotOverride}
 use Rattle.gateway_core.specs.Sessions.{SessionDoesNotOverride, UpdatesSurviveRestarts}
 use Rattle.gateway_core.proofs.EffectLemmas.{of_effect}
 use Rattle.gateway_core.proofs.CrashLemmas.{left_by-append}
@@ -45,7 +46,7 @@ get-other devices update q h =
 -- ---- guarantees
 
 -- an operation that keeps the guarantee
-leaves : (operation other : Operation) (known : Option DeviceData) → Preserves operation other
+leaves : (operation other : Operation) (known : Option DeviceData) → IsPromiseKeptBy operation other
     → Promises operation known
     → Promises operation (data_after known other)
 leaves (Learn eep maker) (Learn e m) known l p =
@@ -73,7 +74,7 @@ leaves Forget (Learn eep maker) known l p = absurd l
 leaves (Relabel label) Forget known l p = absurd l
 
 -- an update that keeps the guarantee, or is of another sender
-get-agreeing : (devices : Devices) (it update : DeviceUpdate) → DoesNotOverride it (Some update)
+get-agreeing : (devices : Devices) (it update : DeviceUpdate) → IsNotOverriddenBy it (Some update)
     → Promises it.operation (get devices it.sender)
     → Promises it.operation (get (apply_update devices update) it.sender)
 get-agreeing devices it update (inl apart) p =
@@ -144,11 +145,11 @@ module _ (Before : Devices → Type 0) (it : DeviceUpdate) where
     pub now : Promises it.operation (get devices it.sender)
     pub safe : (d : Devices) → IsCrashConsistent Before left d → Promises it.operation (get d it.sender)
 
-  after_told : (left : CrashStates) (devices : Devices) (o : Option DeviceUpdate) → DoesNotOverride it o
+  after_reported : (left : CrashStates) (devices : Devices) (o : Option DeviceUpdate) → IsNotOverriddenBy it o
       → Kept left devices
       → Kept (after_committed_update left devices o) (with_update devices o)
-  after_told left devices None other kept = kept
-  after_told left devices (Some update) other kept =
+  after_reported left devices None other kept = kept
+  after_reported left devices (Some update) other kept =
       let now = get-agreeing devices it update other kept.now in
       record {
         now = now;
@@ -162,7 +163,7 @@ module _ (Before : Devices → Type 0) (it : DeviceUpdate) where
             ];
       }
 
-  after_pending : (left : CrashStates) (devices : Devices) (o : Option DeviceUpdate) → DoesNotOverride it o
+  after_pending : (left : CrashStates) (devices : Devices) (o : Option DeviceUpdate) → IsNotOverriddenBy it o
       → Kept left devices
       → Kept (with_pending_update left devices o) devices
   after_pending left devices None other kept = kept
@@ -180,10 +181,10 @@ module _ (Before : Devices → Type 0) (it : DeviceUpdate) where
   }
 
   after_one : (left : CrashStates) (state : State) (input : Input) (result : InputResult)
-      → DoesNotOverride it (possible_update state input result)
+      → IsNotOverriddenBy it (possible_update state input result)
       → Kept left state.devices → Kept (crash_states_after_result left state input result)
       (state_after_result state input result).devices
-  after_one left state input Applied other kept = after_told left state.devices (update_of state input) other kept
+  after_one left state input Applied other kept = after_reported left state.devices (update_of state input) other kept
   after_one left state input (Failed cause) other kept = kept
   after_one left state input (FailedAtCommit cause) other kept =
       after_pending left state.devices (update_of state input) other kept
@@ -215,7 +216,7 @@ life_keeps : (it : DeviceUpdate) (session : Session) → IsSession session → S
 life_keeps it session is spares found =
     let Before = λ (d : Devices). d ≡ session.found in
     let start = initial_state session.base session.found in
-    let first : Kept Before it no_crash_states session.found =
+    let first : Kept Before it nothing_committed_yet session.found =
     record {
       now = found;
       safe = λ d safe. elim safe [
@@ -224,10 +225,10 @@ life_keeps it session is spares found =
       ];
     } in
     let all =
-    after_all Before it no_crash_states start session.last session.inputs session.results session.answers is.run
+    after_all Before it nothing_committed_yet start session.last session.inputs session.results session.answers is.run
     spares.0
     first in
-    (after_stop Before it (crash_states no_crash_states start session.inputs session.results) session.last
+    (after_stop Before it (crash_states nothing_committed_yet start session.inputs session.results) session.last
     session.interrupted
     spares.1
     all).safe session.left is.safe
@@ -255,11 +256,11 @@ run_on old mid last (input ∷ inputs) others [] more answers all run whole = ab
 run_on old mid last (input ∷ inputs) others (result ∷ results) more [] all run whole = absurd run
 
 -- the guarantee of an acknowledged update holds in every crash state
-told_kept : (Before : Devices → Type 0) (left : CrashStates) (devices : Devices) (o : Option DeviceUpdate)
+reported_kept : (Before : Devices → Type 0) (left : CrashStates) (devices : Devices) (o : Option DeviceUpdate)
     (update : DeviceUpdate)
     → o ≡ Some update → IsPromised devices update
     → Kept Before update (after_committed_update left devices o) (with_update devices o)
-told_kept Before left devices o update is promised =
+reported_kept Before left devices o update is promised =
     let now = subst (Promises update.operation) (sym (get-same devices update)) promised in
     let kept : Kept Before update (after_committed_update left devices (Some update))
     (with_update devices (Some update)) =
@@ -277,43 +278,50 @@ told_kept Before left devices o update is promised =
     subst (λ o. Kept Before update (after_committed_update left devices o) (with_update devices o)) (sym is) kept
 
 pub updates_survive_restarts : UpdatesSurviveRestarts
-updates_survive_restarts session update sessions last is tells spares are =
+updates_survive_restarts session update sessions last is acknowledged spares are =
     let Before = λ (d : Devices). d ≡ session.found in
     let start = initial_state session.base session.found in
     let P = λ (inputs : List Input) (results : List InputResult). Run start inputs results session.answers session.last
     in
-    let whole : Run start (tells.before ++ tells.input ∷ tells.after)
-    (tells.results ++ Applied ∷ tells.more) session.answers session.last =
-    subst (λ results. P (tells.before ++ tells.input ∷ tells.after) results) tells.results_are
-    (subst (λ inputs. P inputs session.results) tells.inputs_are is.run) in
+    let whole : Run start (acknowledged.before ++ acknowledged.input ∷ acknowledged.after)
+    (acknowledged.results ++ Applied ∷ acknowledged.more) session.answers session.last =
+    subst (λ results. P (acknowledged.before ++ acknowledged.input
+    ∷ acknowledged.after) results) acknowledged.results_are
+    (subst (λ inputs. P inputs session.results) acknowledged.inputs_are is.run) in
     let rest =
-    run_on start tells.at session.last tells.before (tells.input ∷ tells.after) tells.results
-    (Applied ∷ tells.more) tells.answers session.answers tells.run whole in
-    let early = crash_states no_crash_states start tells.before tells.results in
+    run_on start acknowledged.at session.last acknowledged.before
+    (acknowledged.input ∷ acknowledged.after) acknowledged.results
+    (Applied ∷ acknowledged.more) acknowledged.answers session.answers acknowledged.run whole in
+    let early = crash_states nothing_committed_yet start acknowledged.before acknowledged.results in
     let one =
-    told_kept Before early tells.at.devices (update_of tells.at tells.input) update tells.asks
-    (input-promises tells.at tells.input update tells.asks) in
-    let behind = told_run tells.at session.last tells.input tells.after tells.more rest.0 rest.1 in
+    reported_kept Before early acknowledged.at.devices
+    (update_of acknowledged.at acknowledged.input) update acknowledged.asks
+    (input-promises acknowledged.at acknowledged.input update acknowledged.asks) in
+    let behind = reported_run acknowledged.at session.last acknowledged.input acknowledged.after acknowledged.more
+    rest.0 rest.1 in
     let all =
-    after_all Before update _ (state_after tells.at tells.input) session.last tells.after tells.more
-    behind.0 behind.1 tells.spared one in
-    let same : crash_states no_crash_states start session.inputs session.results
-    ≡ crash_states (crash_states_after_result early tells.at tells.input Applied)
-    (state_after tells.at tells.input) tells.after
-    tells.more =
-    ap (λ inputs. crash_states no_crash_states start inputs session.results) tells.inputs_are
-    ∙ ap (λ results. crash_states no_crash_states start (tells.before ++ tells.input ∷ tells.after) results)
-    tells.results_are
-    ∙ left_by-append no_crash_states start tells.at tells.before (tells.input ∷ tells.after) tells.results
-    (Applied ∷ tells.more) tells.answers tells.run in
-    let kept = after_stop Before update _ session.last session.interrupted tells.crash all in
+    after_all Before update _
+    (state_if_applied acknowledged.at acknowledged.input) session.last acknowledged.after acknowledged.more
+    behind.0 behind.1 acknowledged.spared one in
+    let same : crash_states nothing_committed_yet start session.inputs session.results
+    ≡ crash_states (crash_states_after_result early acknowledged.at acknowledged.input Applied)
+    (state_if_applied acknowledged.at acknowledged.input) acknowledged.after
+    acknowledged.more =
+    ap (λ inputs. crash_states nothing_committed_yet start inputs session.results) acknowledged.inputs_are
+    ∙ ap (λ results. crash_states nothing_committed_yet start
+    (acknowledged.before ++ acknowledged.input ∷ acknowledged.after) results)
+    acknowledged.results_are
+    ∙ left_by-append nothing_committed_yet start acknowledged.at acknowledged.before
+    (acknowledged.input ∷ acknowledged.after) acknowledged.results
+    (Applied ∷ acknowledged.more) acknowledged.answers acknowledged.run in
+    let kept = after_stop Before update _ session.last session.interrupted acknowledged.crash all in
     lives_keep_found update session.left sessions last are spares
     (kept.safe session.left (subst (λ l. IsCrashConsistent Before (with_interrupted l session.last session.interrupted)
     session.left) same is.safe))
   where
-    told_run : (at last : State) (input : Input) (later : List Input) (more : List InputResult)
+    reported_run : (at last : State) (input : Input) (later : List Input) (more : List InputResult)
         (answers : List Answer)
         → Run at (input ∷ later) (Applied ∷ more) answers last
-        → (others : List Answer) × Run (state_after at input) later more others last
-    told_run at last input later more (a ∷ answers) run = (answers, run.2)
-    told_run at last input later more [] run = absurd run
+        → (others : List Answer) × Run (state_if_applied at input) later more others last
+    reported_run at last input later more (a ∷ answers) run = (answers, run.2)
+    reported_run at last input later more [] run = absurd run

@@ -9,8 +9,8 @@ use Rattle.teach_in.specs.declared.mode.Mode.{Mode}
 use Rattle.teach_in.specs.declared.mode.Mode.TheVariants.{Closed, Learn, LearnAnswer, LearnAs}
 use Rattle.teach_in.specs.Telegrams.{teach_in_of}
 use Rattle.teach_in.proofs.ForCallers.{IsOpen, Hears, hears-open, AsksDeletion}
-use Rattle.gateway_core.specs.Step.{State, Effect, packet_effect, mode_after_learning}
-use Rattle.gateway_core.specs.Windows.{PacketsChangeInWindows}
+use Rattle.gateway_core.specs.Step.{State, Effect, packet_effect, mode_set_by_learning}
+use Rattle.gateway_core.specs.Windows.{PacketsLearnOnlyInWindows}
 use Rattle.gateway_core.proofs.EffectLemmas.{of_packet}
 
 not-closed : (mode : Mode) → IsOpen mode → mode ≢ Closed
@@ -20,7 +20,7 @@ not-closed LearnAnswer learning = λ is. absurd cc
 not-closed (LearnAs eep) learning = λ is. absurd cc
 
 -- only the mode for one sender is closed
-one-alone : (now mode : Mode) → mode_after_learning now ≡ Some mode → (eep : Eep) × (now ≡ LearnAs eep)
+one-alone : (now mode : Mode) → mode_set_by_learning now ≡ Some mode → (eep : Eep) × (now ≡ LearnAs eep)
 one-alone (LearnAs eep) mode set = (eep, refl)
 one-alone Closed mode set = absurd cc
 one-alone Learn mode set = absurd cc
@@ -31,23 +31,23 @@ abbrev Stays : Effect → Type 0
 Stays e = (e.update ≡ None) × (e.mode ≡ None)
 
 -- the sender is learned, and a window for one is closed
-abbrev Learns : State → Packet → Effect → Type 0
-Learns state packet e =
+abbrev LearnsInWindow : State → Packet → Effect → Type 0
+LearnsInWindow state packet e =
     (t : Telegram) × (telegram_of packet ≡ Ok t) × (known : Device) × (known.id ≡ t.sender)
     × (e.update ≡ Some (learn_update known)) × (state.mode ≢ Closed) × Hears state.mode (teach_in_of t)
-    × (e.mode ≡ mode_after_learning state.mode)
+    × (e.mode ≡ mode_set_by_learning state.mode)
 
 -- the sender is forgotten, as it asks
-abbrev Forgets : State → Packet → Effect → Type 0
-Forgets state packet e =
+abbrev ForgetsInWindow : State → Packet → Effect → Type 0
+ForgetsInWindow state packet e =
     (t : Telegram) × (telegram_of packet ≡ Ok t) × AsksDeletion (teach_in_of t)
     × (e.update ≡ Some (forget_update t.sender)) × ((state.mode ≡ Learn) ⊎ (state.mode ≡ LearnAnswer)) × (e.mode ≡ None)
 
 packet-changes : (state : State) (packet : Packet)
-    → Learns state packet (packet_effect state packet)
-    ⊎ (Forgets state packet (packet_effect state packet) ⊎ Stays (packet_effect state packet))
+    → LearnsInWindow state packet (packet_effect state packet)
+    ⊎ (ForgetsInWindow state packet (packet_effect state packet) ⊎ Stays (packet_effect state packet))
 packet-changes state packet =
-    of_packet (λ e. Learns state packet e ⊎ (Forgets state packet e ⊎ Stays e)) state packet (record {
+    of_packet (λ e. LearnsInWindow state packet e ⊎ (ForgetsInWindow state packet e ⊎ Stays e)) state packet (record {
       telegrams = λ t carried. record {
         unsays = λ asked disposition is. inr (inr (refl, refl));
         reads = λ known line. inr (inr (refl, refl));
@@ -62,8 +62,8 @@ packet-changes state packet =
       hears = λ response. inr (inr (refl, refl));
     })
 
-pub packets_change_in_windows : PacketsChangeInWindows
-packets_change_in_windows state packet =
+pub packets_learn_only_in_windows : PacketsLearnOnlyInWindows
+packets_learn_only_in_windows state packet =
     elim (packet-changes state packet) [
       | inl (t, is, known, sender, update, learning, hears, closes) ↦ inl (record {
         telegram = t;
@@ -72,8 +72,8 @@ packets_change_in_windows state packet =
         is_sender = sender;
         update = update;
         learning = learning;
-        heard = λ query asked. subst (Hears state.mode) asked hears;
-        closes = λ eep is. closes ∙ ap mode_after_learning is;
+        ute_needs_window_for_all = λ query asked. subst (Hears state.mode) asked hears;
+        closes = λ eep is. closes ∙ ap mode_set_by_learning is;
         stays = λ mode set. one-alone state.mode mode (sym closes ∙ set);
       })
       | inr (inl (t, is, (query, asked, deletes), update, learning, stays)) ↦ inr (inl (record {
@@ -83,7 +83,7 @@ packets_change_in_windows state packet =
         asked = asked;
         deletes = deletes;
         update = update;
-        learning = learning;
+        open_for_all = learning;
         stays = stays;
       }))
       | inr (inr stays) ↦ inr (inr stays)

@@ -4,19 +4,19 @@ use Rattle.std.specs.List.{AllByRecursion}
 use Rattle.std.specs.FinMap.{get}
 use Rattle.learned_devices.specs.declared.Device.{Device}
 use Rattle.learned_devices.specs.Devices.{Devices}
-use Rattle.learned_devices.specs.Ranges.{AreInRange, IsDeviceInRange}
+use Rattle.learned_devices.specs.Ranges.{AreInRange, HasDeviceNumbersInRange}
 use Rattle.teach_in.specs.declared.outcome.Outcome.TheVariants.{Accepted, Deleted}
 use Rattle.json_lines.specs.Lines.{HasNumbersInRange, Teach, TeachLine, text}
-use Rattle.gateway_core.specs.Step.{State, Input, Answer, update_of, state_after, device_teach_line}
+use Rattle.gateway_core.specs.Step.{State, Input, Answer, update_of, state_if_applied, device_teach_line}
 use Rattle.gateway_core.specs.Run.{InputResult, Run, Applied}
 use Rattle.gateway_core.specs.Sessions.{AreSessions, IsSession, Session, SessionDoesNotOverride, NoneOverrides}
 use Rattle.gateway_core.specs.Sessions.{InterruptedDoesNotOverride, initial_state}
 use Rattle.gateway_core.specs.Promises.{Promises}
-use Rattle.gateway_core.specs.Ranges.{ConsistsOfBytes}
-use Rattle.gateway_core.specs.Reporting.{acknowledged_update}
+use Rattle.gateway_core.specs.Ranges.{PacketBodyIsBytes}
+use Rattle.gateway_core.specs.Reporting.{accepted_or_deleted_update}
 
 -- at one index, a session answered an input with this teach line
-pub record Acknowledges (session : Session) (line : TeachLine) : Type 0 where
+pub record AnswersWithTeachLine (session : Session) (line : TeachLine) : Type 0 where
   pub before : List Input
   pub input : Input
   pub after : List Input
@@ -37,26 +37,30 @@ pub record Acknowledges (session : Session) (line : TeachLine) : Type 0 where
 -- the text of this device's line. Every later session finds the update, until an input that changes that sender
 -- otherwise is applied, fails at its commit, or is interrupted by a crash. If the devices found are in range and the
 -- data of packets are bytes, the device is in range, and a line in range is the line of this device.
-pub record IsDurable (session : Session) (line : TeachLine) (answered : Acknowledges session line) : Type 0 where
+pub record IsDurable (session : Session) (line : TeachLine)
+    (answered : AnswersWithTeachLine session line) : Type 0 where
   pub at : State
   pub known : Device
   pub run : Run (initial_state session.base session.found) answered.before answered.results answered.answers at
   pub taken : answered.result ≡ Applied
-  pub asks : update_of at answered.input ≡ Some (acknowledged_update line.outcome known)
+  pub asks : update_of at answered.input ≡ Some (accepted_or_deleted_update line.outcome known)
   pub same_text : text (Teach line) ≡ text (Teach (device_teach_line known line.outcome))
-  pub keeps : NoneOverrides (acknowledged_update line.outcome known) (state_after at answered.input)
+  pub later_sessions_keep : NoneOverrides (accepted_or_deleted_update line.outcome known)
+      (state_if_applied at answered.input)
       answered.after answered.more
-      → InterruptedDoesNotOverride (acknowledged_update line.outcome known) session.last session.interrupted
+      → InterruptedDoesNotOverride (accepted_or_deleted_update line.outcome known) session.last session.interrupted
       → (sessions : List Session) (last : Devices)
-      → AllByRecursion (SessionDoesNotOverride (acknowledged_update line.outcome known)) sessions
+      → AllByRecursion (SessionDoesNotOverride (accepted_or_deleted_update line.outcome known)) sessions
       → AreSessions session.left sessions last
-      → Promises (acknowledged_update line.outcome known).operation
-      (get last (acknowledged_update line.outcome known).sender)
-  pub in_range : AreInRange session.found → AllByRecursion ConsistsOfBytes session.inputs → IsDeviceInRange known
-  pub line_is : AreInRange session.found → AllByRecursion ConsistsOfBytes session.inputs → HasNumbersInRange line
+      → Promises (accepted_or_deleted_update line.outcome known).operation
+      (get last (accepted_or_deleted_update line.outcome known).sender)
+  pub in_range : AreInRange session.found → AllByRecursion PacketBodyIsBytes session.inputs
+      → HasDeviceNumbersInRange known
+  pub is_line_of_device : AreInRange session.found → AllByRecursion PacketBodyIsBytes session.inputs
+      → HasNumbersInRange line
       → line ≡ device_teach_line known line.outcome
 
-abbrev pub AcknowledgedIsDurable : Type 0
-AcknowledgedIsDurable =
-    (session : Session) (line : TeachLine) → IsSession session → (answered : Acknowledges session line)
+abbrev pub AcceptedOrDeletedIsDurable : Type 0
+AcceptedOrDeletedIsDurable =
+    (session : Session) (line : TeachLine) → IsSession session → (answered : AnswersWithTeachLine session line)
     → (line.outcome ≡ Accepted) ⊎ (line.outcome ≡ Deleted) → IsDurable session line answered

@@ -16,11 +16,11 @@ pub record GatewayValue (S : Type 0) : Type 0 where
   pub rest : List ℕ
 
 -- a handler with this base ID over this registry, with the mode closed and all counters 0
-abbrev pub new_handler : {S : Type 0} → ℕ → S → HandlerValue S
+abbrev pub new_handler : {S : Type 0} → (base : ℕ) → S → HandlerValue S
 new_handler base registry = record { base = base; mode = Closed; counts = zero_counts; registry = registry }
 
 -- a gateway with such a handler, before its first byte
-abbrev pub new_gateway_value : {S : Type 0} → ℕ → S → GatewayValue S
+abbrev pub new_gateway_value : {S : Type 0} → (base : ℕ) → S → GatewayValue S
 new_gateway_value base registry = record { handler = new_handler base registry; ready = []; rest = [] }
 
 -- a call, with its argument and its answer
@@ -48,7 +48,7 @@ module _ {S : Type 0} (stored : S → DeviceStoreState) where
       × Handles stored old.handler (Ordered line ∷ []) (answer ∷ []) new.handler
 
   -- the calls take the gateway from old to new, one after another
-  abbrev pub Transitions : GatewayValue S → List Call → GatewayValue S → Type 0
+  abbrev pub Transitions : (old : GatewayValue S) → List Call → (new : GatewayValue S) → Type 0
   Transitions old [] new = new ≡ old
   Transitions old (call ∷ calls) new = (mid : GatewayValue S) × Transition old call mid × Transitions mid calls new
 

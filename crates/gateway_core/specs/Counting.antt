@@ -5,23 +5,24 @@ use Rattle.json_lines.specs.declared.counts.Counter.TheVariants as count
 use Rattle.teach_in.specs.declared.why.Why.{Why}
 use Rattle.teach_in.specs.declared.why.Why.TheVariants as why
 use Rattle.json_lines.specs.Counts.{increment}
-use Rattle.json_lines.specs.Lines.{DeskLine, Reading, ReadingLine, Response, ResponseLine, TeachLine, Teach, text}
+use Rattle.json_lines.specs.Lines.{DeskLine, Reading, ReadingLine, ModuleResponse, ResponseLine, TeachLine, Teach, text}
 use Rattle.json_lines.specs.PacketLines.{packet_text}
 use Rattle.gateway_core.specs.declared.disposition.Disposition.{Disposition}
-use Rattle.gateway_core.specs.Dispositions.{without_device, count_for, packet_line_of}
+use Rattle.gateway_core.specs.Dispositions.{without_device, counter_for, packet_line_of}
 use Rattle.gateway_core.specs.Run.{InputResult, Applied, Failed, FailedAtCommit, answer_for_result, state_after_result}
-use Rattle.gateway_core.specs.Step.{State, Received, Ordered, answer_to, count_of, effect}
+use Rattle.gateway_core.specs.Step.{State, Received, Ordered, answer_if_applied, counter_if_applied, effect}
 
 -- An applied packet increments one counter: that of teach-in exactly when it is answered with a teach line. A line
 -- increments none.
-pub record AppliedAreCounted : Type 0 where
-  pub packets : (state : State) (packet : Packet) → IsSome (count_of state (Received packet))
-  pub teach : (state : State) (packet : Packet) (line : TeachLine)
-      → (answer_to state (Received packet)).desk ≡ text (Teach line)
-      → count_of state (Received packet) ≡ Some count.Teach
-  pub taught : (state : State) (packet : Packet) → count_of state (Received packet) ≡ Some count.Teach
-      → (line : TeachLine) × ((answer_to state (Received packet)).desk ≡ text (Teach line))
-  pub lines : (state : State) (line : List ℕ) → count_of state (Ordered line) ≡ None
+pub record AppliedPacketsAreCounted : Type 0 where
+  pub packets : (state : State) (packet : Packet) → IsSome (counter_if_applied state (Received packet))
+  pub teach_line_is_counted : (state : State) (packet : Packet) (line : TeachLine)
+      → (answer_if_applied state (Received packet)).desk ≡ text (Teach line)
+      → counter_if_applied state (Received packet) ≡ Some count.Teach
+  pub counted_has_teach_line : (state : State) (packet : Packet)
+      → counter_if_applied state (Received packet) ≡ Some count.Teach
+      → (line : TeachLine) × ((answer_if_applied state (Received packet)).desk ≡ text (Teach line))
+  pub lines : (state : State) (line : List ℕ) → counter_if_applied state (Ordered line) ≡ None
 
 -- the disposition of a packet with this result
 abbrev pub disposition_for_result : State → Packet → InputResult → Option Disposition
@@ -33,7 +34,7 @@ disposition_for_result state packet (FailedAtCommit cause) = Some (without_devic
 -- response, the outcome for a sender, or nothing for any other word
 abbrev pub MatchesDeskLines : Why → List DeskLine → Type 0
 MatchesDeskLines why.Read lines = (line : ReadingLine) × (lines ≡ Reading line ∷ [])
-MatchesDeskLines why.Response lines = (line : Response) × (lines ≡ ResponseLine line ∷ [])
+MatchesDeskLines why.Response lines = (line : ModuleResponse) × (lines ≡ ResponseLine line ∷ [])
 MatchesDeskLines (why.TeachIn outcome) lines = (line : TeachLine) × (line.outcome ≡ outcome) × (lines ≡ Teach line ∷ [])
 MatchesDeskLines why.Refused lines = ⊥
 MatchesDeskLines why lines = lines ≡ []
@@ -48,7 +49,7 @@ pub record IsExplained (state : State) (packet : Packet) (result : InputResult) 
   pub says : result ≡ Applied → MatchesDeskLines disposition.why (effect state (Received packet)).desk
   pub taken : (result ≡ Applied) ↔ (¬ (disposition.why ≡ why.Refused))
   pub counts : (state_after_result state (Received packet) result).counts
-      ≡ increment state.counts (count_for disposition.why)
+      ≡ increment state.counts (counter_for disposition.why)
 
 -- this explains each packet, applied or failed, and no line of the desk
 pub record ExplanationsAreCounted : Type 0 where

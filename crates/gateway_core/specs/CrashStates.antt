@@ -9,8 +9,8 @@ pub record CrashStates : Type 0 where
   pub has_commit : Bool
   pub maps : List Devices
 
-abbrev pub no_crash_states : CrashStates
-no_crash_states = record { has_commit = false; maps = [] }
+abbrev pub nothing_committed_yet : CrashStates
+nothing_committed_yet = record { has_commit = false; maps = [] }
 
 -- a committed update leaves only the devices with it
 abbrev pub after_committed_update : CrashStates → Devices → Option DeviceUpdate → CrashStates
@@ -37,12 +37,12 @@ crash_states left state (input ∷ inputs) (result ∷ results) =
     results
 crash_states left state inputs results = left
 
-abbrev pub IsOneOf : List Devices → Devices → Type 0
+abbrev pub IsOneOf : (possible : List Devices) → Devices → Type 0
 IsOneOf [] devices = ⊥
 IsOneOf (first ∷ others) devices = (devices ≡ first) ⊎ IsOneOf others devices
 
 -- the devices are one of those left, or nothing was committed and a crash could leave them before
-abbrev pub IsCrashConsistent : (Devices → Type 0) → CrashStates → Devices → Type 0
+abbrev pub IsCrashConsistent : (Before : Devices → Type 0) → CrashStates → (left : Devices) → Type 0
 IsCrashConsistent Before left devices = IsOneOf left.maps devices ⊎ ((left.has_commit ≡ false) × Before devices)
 
 -- crash consistency composes: if each of two consecutive lists of inputs is crash-consistent, so is their concatenation
@@ -51,6 +51,6 @@ CrashConsistencyComposes Before =
     (old mid : State) (inputs others : List Input) (results more : List InputResult) (answers : List Answer)
     (devices : Devices)
     → Run old inputs results answers mid
-    → IsCrashConsistent (IsCrashConsistent Before (crash_states no_crash_states old inputs results))
-    (crash_states no_crash_states mid others more) devices
-    → IsCrashConsistent Before (crash_states no_crash_states old (inputs ++ others) (results ++ more)) devices
+    → IsCrashConsistent (IsCrashConsistent Before (crash_states nothing_committed_yet old inputs results))
+    (crash_states nothing_committed_yet mid others more) devices
+    → IsCrashConsistent Before (crash_states nothing_committed_yet old (inputs ++ others) (results ++ more)) devices

@@ -34,8 +34,9 @@ use Rattle.gateway_core.specs.declared.disposition.Disposition.{Disposition}
 -- ---- reasons
 
 -- of a packet that carries no telegram and is no response
-abbrev pub why_other : Packet → Why
-why_other packet = if packet.kind == 1 then NoTelegram else if packet.kind == 2 then EmptyResponse else OtherType
+abbrev pub why_no_telegram_or_response : Packet → Why
+why_no_telegram_or_response packet =
+    if packet.kind == 1 then NoTelegram else if packet.kind == 2 then EmptyResponse else OtherType
 
 -- of a telegram that is filtered out
 abbrev pub why_filtered : FilterReason → Why
@@ -44,10 +45,10 @@ why_filtered reason.ForOthers = ForOthers
 
 -- Of a telegram whose plan is to do nothing: data, whose sender was looked up and is not learned, or a teach-in
 -- telegram. The mode does not matter for data.
-abbrev pub why_silent : Bool → Mode → Why
-why_silent true mode = UnknownSender
-why_silent false Closed = WindowClosed
-why_silent false mode = OtherMode
+abbrev pub why_nothing_done : (is_data_of_unknown : Bool) → Mode → Why
+why_nothing_done true mode = UnknownSender
+why_nothing_done false Closed = WindowClosed
+why_nothing_done false mode = OtherMode
 
 -- of data that the profile of its sender cannot read; an unsupported profile reads nothing
 abbrev pub why_unread : Unreadable → Why
@@ -57,23 +58,23 @@ why_unread unreadable.WrongLength = WrongLength
 why_unread unreadable.OtherMessage = OtherMessage
 
 -- the counter that a packet increments
-abbrev pub count_for : Why → Counter
-count_for Refused = count.Refused
-count_for Response = count.Response
-count_for (TeachIn outcome) = count.Teach
-count_for Read = count.Reading
-count_for EmptyResponse = count.Ignored
-count_for OtherType = count.Ignored
-count_for NoTelegram = count.Ignored
-count_for FromBroadcast = count.Ignored
-count_for ForOthers = count.Ignored
-count_for TeachInReply = count.Ignored
-count_for WindowClosed = count.Ignored
-count_for OtherMode = count.Ignored
-count_for UnknownSender = count.Ignored
-count_for WrongKind = count.Ignored
-count_for WrongLength = count.Ignored
-count_for OtherMessage = count.Ignored
+abbrev pub counter_for : Why → Counter
+counter_for Refused = count.Refused
+counter_for Response = count.Response
+counter_for (TeachIn outcome) = count.Teach
+counter_for Read = count.Reading
+counter_for EmptyResponse = count.Ignored
+counter_for OtherType = count.Ignored
+counter_for NoTelegram = count.Ignored
+counter_for FromBroadcast = count.Ignored
+counter_for ForOthers = count.Ignored
+counter_for TeachInReply = count.Ignored
+counter_for WindowClosed = count.Ignored
+counter_for OtherMode = count.Ignored
+counter_for UnknownSender = count.Ignored
+counter_for WrongKind = count.Ignored
+counter_for WrongLength = count.Ignored
+counter_for OtherMessage = count.Ignored
 
 -- ---- the disposition of a packet: the reason, and what is known about its sender
 
@@ -88,26 +89,26 @@ for_device known why = record { why = why; eep = Some known.eep; maker = known.m
 -- ---- the line that explains a packet
 
 -- the profile and maker in a teach-in telegram, if it has them
-abbrev pub query_eep : Teach → Option Eep
-query_eep (FourByte query) = Some query.eep
-query_eep (Ute query) = Some query.eep
-query_eep kind = None
+abbrev pub eep_in_query : Teach → Option Eep
+eep_in_query (FourByte query) = Some query.eep
+eep_in_query (Ute query) = Some query.eep
+eep_in_query kind = None
 
-abbrev pub query_maker : Teach → Option ℕ
-query_maker (FourByte query) = Some query.maker
-query_maker (Ute query) = Some query.maker
-query_maker kind = None
+abbrev pub maker_in_query : Teach → Option ℕ
+maker_in_query (FourByte query) = Some query.maker
+maker_in_query (Ute query) = Some query.maker
+maker_in_query kind = None
 
 -- what is shown of a telegram with this role in teach-in: about its sender the data of its query, otherwise what is
 -- known
 abbrev pub shown_telegram : Telegram → Teach → Disposition → ShownTelegram
 shown_telegram t kind disposition =
-    shown_of t (option_or (query_eep kind) disposition.eep) (option_or (query_maker kind) disposition.maker)
+    shown_of t (option_or (eep_in_query kind) disposition.eep) (option_or (maker_in_query kind) disposition.maker)
 
 -- the contents of a packet: its telegram, if it carries one
 abbrev pub shown_packet : Packet → Result Telegram TelegramFault → Disposition → ShownPacket
 shown_packet packet (Ok t) disposition = shown.Telegram (shown_telegram t (teach_in_of t) disposition)
-shown_packet packet (Err fault) disposition = shown.Other packet.kind (length packet.body)
+shown_packet packet (Err fault) disposition = shown.WithoutTelegram packet.kind (length packet.body)
 
 abbrev pub packet_line_of : Packet → Disposition → PacketLine
 packet_line_of packet disposition =

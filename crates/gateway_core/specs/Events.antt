@@ -10,11 +10,11 @@ pub data Event : Type 0 where
   Line : (line : List ℕ) → Event
 
 -- the packets that some bytes complete after a stream: those of the longer stream, without those of the stream itself
-abbrev pub new_packets : List ℕ → List ℕ → List Packet
+abbrev pub new_packets : (stream bytes : List ℕ) → List Packet
 new_packets stream bytes = drop (length (packets_in stream)) (packets_in (stream ++ bytes))
 
 -- the inputs of the events after a stream: a chunk stands for the packets that it completes, a line for itself
-abbrev pub inputs_of : List ℕ → List Event → List Input
+abbrev pub inputs_of : (stream : List ℕ) → List Event → List Input
 inputs_of stream [] = []
 inputs_of stream (Chunk bytes ∷ events) = map Received (new_packets stream bytes) ++ inputs_of (stream ++ bytes) events
 inputs_of stream (Line line ∷ events) = Ordered line ∷ inputs_of stream events
@@ -26,13 +26,13 @@ bytes_in (Chunk bytes ∷ events) = bytes ++ bytes_in events
 bytes_in (Line line ∷ events) = bytes_in events
 
 -- the lines
-abbrev pub lines_in : List Event → List (List ℕ)
-lines_in [] = []
-lines_in (Chunk bytes ∷ events) = lines_in events
-lines_in (Line line ∷ events) = line ∷ lines_in events
+abbrev pub desk_lines_in : List Event → List (List ℕ)
+desk_lines_in [] = []
+desk_lines_in (Chunk bytes ∷ events) = desk_lines_in events
+desk_lines_in (Line line ∷ events) = line ∷ desk_lines_in events
 
 -- some bytes before the first of some texts
-abbrev pub prepend_to_first : List ℕ → List (List ℕ) → List (List ℕ)
+abbrev pub prepend_to_first : (bytes : List ℕ) → List (List ℕ) → List (List ℕ)
 prepend_to_first bytes [] = bytes ∷ []
 prepend_to_first bytes (text ∷ texts) = (bytes ++ text) ∷ texts
 
@@ -45,7 +45,7 @@ bytes_between (Line line ∷ events) = [] ∷ bytes_between events
 -- the inputs do not depend on how the bytes between two lines are split into chunks
 abbrev pub InputsDoNotDependOnChunks : Type 0
 InputsDoNotDependOnChunks = (stream : List ℕ) (events others : List Event) →
-    lines_in events ≡ lines_in others → bytes_between events ≡ bytes_between others
+    desk_lines_in events ≡ desk_lines_in others → bytes_between events ≡ bytes_between others
     → inputs_of stream events ≡ inputs_of stream others
 
 -- and if the same inputs fail for the same causes, the answers and the last state do not depend on it either
@@ -53,6 +53,7 @@ abbrev pub AnswersDoNotDependOnChunks : Type 0
 AnswersDoNotDependOnChunks =
     (stream : List ℕ) (events others : List Event) (old left right : State) (results after : List InputResult)
     (answers more : List Answer)
-    → lines_in events ≡ lines_in others → bytes_between events ≡ bytes_between others → FailAlike results after
+    → desk_lines_in events ≡ desk_lines_in others → bytes_between events ≡ bytes_between others
+    → FailAlike results after
     → Run old (inputs_of stream events) results answers left → Run old (inputs_of stream others) after more right
     → (answers ≡ more) × (left ≡ right)

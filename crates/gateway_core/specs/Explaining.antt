@@ -22,7 +22,7 @@ use Rattle.teach_in.specs.declared.plans.Plan.TheVariants.{Add, Forget, Refuse}
 use Rattle.teach_in.specs.Plans.{plan_of}
 use Rattle.teach_in.specs.Profiles.{supported}
 use Rattle.teach_in.specs.Telegrams.{teach_in_of}
-use Rattle.teach_in.specs.Ute.{request_in, deletion, not_used}
+use Rattle.teach_in.specs.Ute.{request_in, deletion, unused_request}
 use Rattle.teach_in.specs.declared.why.Why.{Why}
 use Rattle.teach_in.specs.declared.why.Why.TheVariants as why
 use Rattle.json_lines.specs.PacketLines.{packet_text}
@@ -31,9 +31,9 @@ use Rattle.json_lines.specs.declared.packet.PacketLine.{PacketLine}
 use Rattle.json_lines.specs.declared.packet.ShownPacket.{ShownPacket}
 use Rattle.json_lines.specs.declared.packet.ShownPacket.TheVariants as shown_as
 use Rattle.gateway_core.specs.declared.disposition.Disposition.{Disposition}
-use Rattle.gateway_core.specs.Dispositions.{query_eep, query_maker}
+use Rattle.gateway_core.specs.Dispositions.{eep_in_query, maker_in_query}
 use Rattle.gateway_core.specs.Profiles.{read_by}
-use Rattle.gateway_core.specs.Step.{State, Received, answer_to, update_of, is_learned}
+use Rattle.gateway_core.specs.Step.{State, Received, answer_if_applied, update_of, is_learned}
 
 -- the packet carries this telegram, which is addressed to us
 pub record IsNotFilteredOut (state : State) (packet : Packet) (t : Telegram) : Type 0 where
@@ -41,12 +41,12 @@ pub record IsNotFilteredOut (state : State) (packet : Packet) (t : Telegram) : T
   pub heard : is_filtered_out state.base t ≡ false
 
 -- a teach-in telegram that is not a reply
-abbrev pub IsTeachIn : Teach → Type 0
-IsTeachIn Contact = ⊤
-IsTeachIn Bare = ⊤
-IsTeachIn (FourByte query) = ⊤
-IsTeachIn (Ute query) = ⊤
-IsTeachIn kind = ⊥
+abbrev pub IsTeachInRequest : Teach → Type 0
+IsTeachInRequest Contact = ⊤
+IsTeachInRequest Bare = ⊤
+IsTeachInRequest (FourByte query) = ⊤
+IsTeachInRequest (Ute query) = ⊤
+IsTeachInRequest kind = ⊥
 
 -- data of a learned device
 pub record IsDataOf (state : State) (packet : Packet) (t : Telegram) (known : Device) : Type 0 where
@@ -55,90 +55,94 @@ pub record IsDataOf (state : State) (packet : Packet) (t : Telegram) (known : De
   pub is_known : device_of state.devices t.sender ≡ Some known
 
 -- the disposition has the profile and maker of this device, or of none
-abbrev pub NamesDevice : Disposition → Option Device → Type 0
-NamesDevice disposition None = (disposition.eep ≡ None) × (disposition.maker ≡ None)
-NamesDevice disposition (Some known) = (disposition.eep ≡ Some known.eep) × (disposition.maker ≡ known.maker)
+abbrev pub HasProfileAndMakerOf : Disposition → Option Device → Type 0
+HasProfileAndMakerOf disposition None = (disposition.eep ≡ None) × (disposition.maker ≡ None)
+HasProfileAndMakerOf disposition (Some known) = (disposition.eep ≡ Some known.eep) × (disposition.maker ≡ known.maker)
 
 -- the table of plans has this plan for the sender of the telegram, by the mode and by whether it is learned
 abbrev pub IsPlanned : State → Telegram → Plan → Type 0
 IsPlanned state t plan = plan_of t state.mode (is_learned state.devices t.sender) ≡ plan
 
 -- the desk's profile does not fit a teach-in telegram, by its RORG; no profile fits a UTE query
-abbrev pub DoesNotFitRole : Eep → Teach → Type 0
-DoesNotFitRole eep Contact = eep.rorg ≢ 0xD5
-DoesNotFitRole eep Bare = eep.rorg ≢ 0xA5
-DoesNotFitRole eep (FourByte query) = eep.rorg ≢ 0xA5
-DoesNotFitRole eep (Ute query) = ⊤
-DoesNotFitRole eep kind = ⊥
+abbrev pub RorgDoesNotFitTeachIn : Eep → Teach → Type 0
+RorgDoesNotFitTeachIn eep Contact = eep.rorg ≢ 0xD5
+RorgDoesNotFitTeachIn eep Bare = eep.rorg ≢ 0xA5
+RorgDoesNotFitTeachIn eep (FourByte query) = eep.rorg ≢ 0xA5
+RorgDoesNotFitTeachIn eep (Ute query) = ⊤
+RorgDoesNotFitTeachIn eep kind = ⊥
 
 -- data of a learned device that its profile cannot read, for one of these faults
-abbrev pub IsUnreadable : State → Packet → Disposition → (Unreadable → Type 0) → Type 0
-IsUnreadable state packet disposition Why =
+abbrev pub IsUnreadableData : State → Packet → Disposition → (Unreadable → Type 0) → Type 0
+IsUnreadableData state packet disposition Why =
     (t : Telegram) × (known : Device) × (fault : Unreadable) × IsDataOf state packet t known
-    × (read_by known.eep t ≡ Err fault) × Why fault × NamesDevice disposition (Some known)
+    × (read_by known.eep t ≡ Err fault) × Why fault × HasProfileAndMakerOf disposition (Some known)
 
 -- the meaning of the word, and whose profile and maker the disposition has
-abbrev pub Means : State → Packet → Disposition → Why → Type 0
-Means state packet disposition why.Refused = ⊥
-Means state packet disposition why.Response =
-    (packet.kind ≡ 2) × (0 < length packet.body) × NamesDevice disposition None
-Means state packet disposition why.EmptyResponse = (packet.kind ≡ 2) × (packet.body ≡ []) × NamesDevice disposition None
-Means state packet disposition why.OtherType = (packet.kind ≢ 1) × (packet.kind ≢ 2) × NamesDevice disposition None
-Means state packet disposition why.NoTelegram =
-    (packet.kind ≡ 1) × IsErr (telegram_of packet) × NamesDevice disposition None
-Means state packet disposition why.FromBroadcast =
-    (t : Telegram) × (telegram_of packet ≡ Ok t) × (t.sender ≡ 0xFFFF_FFFF) × NamesDevice disposition None
-Means state packet disposition why.ForOthers =
+abbrev pub WhyIsTrue : State → Packet → Disposition → Why → Type 0
+WhyIsTrue state packet disposition why.Refused = ⊥
+WhyIsTrue state packet disposition why.Response =
+    (packet.kind ≡ 2) × (0 < length packet.body) × HasProfileAndMakerOf disposition None
+WhyIsTrue state packet disposition why.EmptyResponse =
+    (packet.kind ≡ 2) × (packet.body ≡ []) × HasProfileAndMakerOf disposition None
+WhyIsTrue state packet disposition why.OtherType =
+    (packet.kind ≢ 1) × (packet.kind ≢ 2) × HasProfileAndMakerOf disposition None
+WhyIsTrue state packet disposition why.NoTelegram =
+    (packet.kind ≡ 1) × IsErr (telegram_of packet) × HasProfileAndMakerOf disposition None
+WhyIsTrue state packet disposition why.FromBroadcast =
+    (t : Telegram) × (telegram_of packet ≡ Ok t) × (t.sender ≡ 0xFFFF_FFFF) × HasProfileAndMakerOf disposition None
+WhyIsTrue state packet disposition why.ForOthers =
     (t : Telegram) × (telegram_of packet ≡ Ok t) × (t.sender ≢ 0xFFFF_FFFF) × (t.dest ≢ 0xFFFF_FFFF)
-    × (is_gateway_id state.base t.dest ≡ false) × NamesDevice disposition None
-Means state packet disposition why.TeachInReply =
-    (t : Telegram) × IsNotFilteredOut state packet t × (teach_in_of t ≡ Answer) × NamesDevice disposition None
-Means state packet disposition why.WindowClosed =
-    (t : Telegram) × IsNotFilteredOut state packet t × IsTeachIn (teach_in_of t) × (state.mode ≡ Closed)
-    × NamesDevice disposition None
-Means state packet disposition why.OtherMode =
-    (t : Telegram) × IsNotFilteredOut state packet t × IsTeachIn (teach_in_of t)
-    × ((eep : Eep) × (state.mode ≡ LearnAs eep) × DoesNotFitRole eep (teach_in_of t)) × NamesDevice disposition None
-Means state packet disposition why.UnknownSender =
+    × (is_gateway_id state.base t.dest ≡ false) × HasProfileAndMakerOf disposition None
+WhyIsTrue state packet disposition why.TeachInReply =
+    (t : Telegram) × IsNotFilteredOut state packet t × (teach_in_of t ≡ Answer) × HasProfileAndMakerOf disposition None
+WhyIsTrue state packet disposition why.WindowClosed =
+    (t : Telegram) × IsNotFilteredOut state packet t × IsTeachInRequest (teach_in_of t) × (state.mode ≡ Closed)
+    × HasProfileAndMakerOf disposition None
+WhyIsTrue state packet disposition why.OtherMode =
+    (t : Telegram) × IsNotFilteredOut state packet t × IsTeachInRequest (teach_in_of t)
+    × ((eep : Eep) × (state.mode ≡ LearnAs eep) × RorgDoesNotFitTeachIn eep (teach_in_of t))
+    × HasProfileAndMakerOf disposition None
+WhyIsTrue state packet disposition why.UnknownSender =
     (t : Telegram) × IsNotFilteredOut state packet t × (teach_in_of t ≡ Plain)
     × (device_of state.devices t.sender ≡ None)
-    × (update_of state (Received packet) ≡ None) × NamesDevice disposition None
-Means state packet disposition why.Read =
+    × (update_of state (Received packet) ≡ None) × HasProfileAndMakerOf disposition None
+WhyIsTrue state packet disposition why.Read =
     (t : Telegram) × (known : Device) × (readings : List Entry) × IsDataOf state packet t known
-    × (read_by known.eep t ≡ Ok readings) × NamesDevice disposition (Some known)
-Means state packet disposition why.WrongKind =
-    IsUnreadable state packet disposition (λ fault. fault ≡ unreadable.WrongKind)
-Means state packet disposition why.WrongLength =
-    IsUnreadable state packet disposition (λ fault. fault ≡ unreadable.WrongLength)
-Means state packet disposition why.OtherMessage =
-    IsUnreadable state packet disposition (λ fault. (fault ≡ unreadable.OtherMessage)
+    × (read_by known.eep t ≡ Ok readings) × HasProfileAndMakerOf disposition (Some known)
+WhyIsTrue state packet disposition why.WrongKind =
+    IsUnreadableData state packet disposition (λ fault. fault ≡ unreadable.WrongKind)
+WhyIsTrue state packet disposition why.WrongLength =
+    IsUnreadableData state packet disposition (λ fault. fault ≡ unreadable.WrongLength)
+WhyIsTrue state packet disposition why.OtherMessage =
+    IsUnreadableData state packet disposition (λ fault. (fault ≡ unreadable.OtherMessage)
     ⊎ (fault ≡ unreadable.NotSupported))
-Means state packet disposition (why.TeachIn Accepted) =
+WhyIsTrue state packet disposition (why.TeachIn Accepted) =
     (t : Telegram) × (known : Device) × IsNotFilteredOut state packet t × (known.id ≡ t.sender) × (state.mode ≢ Closed)
     × IsPlanned state t (Add known) × (update_of state (Received packet) ≡ Some (learn_update known))
-    × NamesDevice disposition (Some known)
-Means state packet disposition (why.TeachIn Deleted) =
+    × HasProfileAndMakerOf disposition (Some known)
+WhyIsTrue state packet disposition (why.TeachIn Deleted) =
     (t : Telegram) × (query : UteQuery) × IsNotFilteredOut state packet t × (state.mode ≢ Closed)
     × (teach_in_of t ≡ Ute query)
     × (request_in query ≡ deletion) × IsPlanned state t (Forget t.sender)
     × (update_of state (Received packet) ≡ Some (forget_update t.sender))
-    × NamesDevice disposition None
-Means state packet disposition (why.TeachIn Full) =
+    × HasProfileAndMakerOf disposition None
+WhyIsTrue state packet disposition (why.TeachIn Full) =
     (t : Telegram) × (known : Device) × IsNotFilteredOut state packet t × (known.id ≡ t.sender) × (state.mode ≢ Closed)
     × IsPlanned state t (Add known) × (is_full state.devices t.sender ≡ true)
-    × (update_of state (Received packet) ≡ None) × NamesDevice disposition None
-Means state packet disposition (why.TeachIn Unsupported) =
+    × (update_of state (Received packet) ≡ None) × HasProfileAndMakerOf disposition None
+WhyIsTrue state packet disposition (why.TeachIn Unsupported) =
     (t : Telegram) × (eep : Eep) × IsNotFilteredOut state packet t × (state.mode ≢ Closed)
-    × (query_eep (teach_in_of t) ≡ Some eep) × (supported eep ≡ false) × IsPlanned state t (Refuse Unsupported)
-    × (update_of state (Received packet) ≡ None) × NamesDevice disposition None
-Means state packet disposition (why.TeachIn General) =
+    × (eep_in_query (teach_in_of t) ≡ Some eep) × (supported eep ≡ false) × IsPlanned state t (Refuse Unsupported)
+    × (update_of state (Received packet) ≡ None) × HasProfileAndMakerOf disposition None
+WhyIsTrue state packet disposition (why.TeachIn General) =
     (t : Telegram) × (query : UteQuery) × IsNotFilteredOut state packet t × (state.mode ≢ Closed)
     × (teach_in_of t ≡ Ute query)
-    × (request_in query ≡ not_used) × IsPlanned state t (Refuse General)
-    × (update_of state (Received packet) ≡ None) × NamesDevice disposition None
-Means state packet disposition (why.TeachIn NoProfile) =
+    × (request_in query ≡ unused_request) × IsPlanned state t (Refuse General)
+    × (update_of state (Received packet) ≡ None) × HasProfileAndMakerOf disposition None
+WhyIsTrue state packet disposition (why.TeachIn NoProfile) =
     (t : Telegram) × IsNotFilteredOut state packet t × (state.mode ≢ Closed) × (teach_in_of t ≡ Bare)
-    × IsPlanned state t (Refuse NoProfile) × (update_of state (Received packet) ≡ None) × NamesDevice disposition None
+    × IsPlanned state t (Refuse NoProfile) × (update_of state (Received packet) ≡ None)
+    × HasProfileAndMakerOf disposition None
 
 -- A telegram is shown with its parts, and with the profile and maker of its query, if it is one, otherwise with those
 -- of the disposition.
@@ -149,24 +153,24 @@ pub record IsShown (t : Telegram) (disposition : Disposition) (shown : ShownTele
   pub rorg : shown.rorg ≡ t.rorg
   pub payload : shown.payload ≡ t.payload
   pub status : shown.status ≡ t.status
-  pub eep : shown.eep ≡ option_or (query_eep (teach_in_of t)) disposition.eep
-  pub maker : shown.maker ≡ option_or (query_maker (teach_in_of t)) disposition.maker
+  pub eep : shown.eep ≡ option_or (eep_in_query (teach_in_of t)) disposition.eep
+  pub maker : shown.maker ≡ option_or (maker_in_query (teach_in_of t)) disposition.maker
 
 -- the line shows the telegram that the packet carries, or the packet's type and the length of its data
 abbrev pub Shows : Packet → Disposition → ShownPacket → Type 0
 Shows packet disposition (shown_as.Telegram shown) =
     (t : Telegram) × (telegram_of packet ≡ Ok t) × IsShown t disposition shown
-Shows packet disposition (shown_as.Other kind size) =
+Shows packet disposition (shown_as.WithoutTelegram kind size) =
     IsErr (telegram_of packet) × (kind ≡ packet.kind) × (size ≡ length packet.body)
 
 -- the line that explains an applied packet shows the packet, and its word is true
 pub record IsTrulyExplained (state : State) (packet : Packet) : Type 0 where
   pub disposition : Disposition
   pub line : PacketLine
-  pub explained : (answer_to state (Received packet)).explained ≡ packet_text line
+  pub explained : (answer_if_applied state (Received packet)).explained ≡ packet_text line
   pub word : line.why ≡ disposition.why
   pub shows : Shows packet disposition line.packet
-  pub means : Means state packet disposition disposition.why
+  pub means : WhyIsTrue state packet disposition disposition.why
 
 abbrev pub ExplanationsAreTrue : Type 0
 ExplanationsAreTrue = (state : State) (packet : Packet) → IsTrulyExplained state packet

@@ -7,7 +7,7 @@ use Rattle.teach_in.specs.declared.mode.Mode.{Mode}
 use Rattle.json_lines.specs.declared.counts.Counts.{Counts}
 use Rattle.gateway_core.specs.Step.{State, Input, Answer}
 use Rattle.gateway_core.specs.Run.{InputResult, Run}
-use Rattle.gateway_core.specs.CrashStates.{no_crash_states, crash_states, IsCrashConsistent}
+use Rattle.gateway_core.specs.CrashStates.{nothing_committed_yet, crash_states, IsCrashConsistent}
 
 -- the base ID of the radio module, the mode, the counters, and the device store
 pub record HandlerValue (S : Type 0) : Type 0 where
@@ -22,8 +22,8 @@ HasState stored v s =
     (v.base ≡ s.base) × (v.mode ≡ s.mode) × (stored v.registry).holds s.devices × (v.counts ≡ s.counts)
 
 -- while the medium has returned what was written and the device store is open, the gateway knows some state
-abbrev pub HasSomeState : {S : Type 0} → (S → DeviceStoreState) → HandlerValue S → Type 0
-HasSomeState stored v = (stored v.registry).honest → (start : State) × HasState stored v start
+abbrev pub HasStateWhileHonest : {S : Type 0} → (S → DeviceStoreState) → HandlerValue S → Type 0
+HasStateWhileHonest stored v = (stored v.registry).honest → (start : State) × HasState stored v start
 
 module _ {S : Type 0} (stored : S → DeviceStoreState) where
   -- From the first state, the inputs are handled with these answers and some results. The gateway then knows the last
@@ -35,7 +35,8 @@ module _ {S : Type 0} (stored : S → DeviceStoreState) where
     pub run : Run start inputs results answers last
     pub at : HasState stored new last
     pub crash : (left : Devices) → (stored new.registry).may_recover left
-        → IsCrashConsistent (stored old.registry).may_recover (crash_states no_crash_states start inputs results) left
+        → IsCrashConsistent (stored old.registry).may_recover
+        (crash_states nothing_committed_yet start inputs results) left
 
   -- the inputs are handled with these answers, whatever the gateway knew
   pub record Handles (old : HandlerValue S) (inputs : List Input) (answers : List Answer)
@@ -43,7 +44,7 @@ module _ {S : Type 0} (stored : S → DeviceStoreState) where
     pub base : new.base ≡ old.base
     pub clean : (stored new.registry).honest → (stored old.registry).honest
     -- the device store stays sound
-    pub registries : (stored new.registry).honest → (stored old.registry).sound
+    pub recoverable : (stored new.registry).honest → (stored old.registry).sound
         → (stored new.registry).sound
     pub went : (stored new.registry).honest → (start : State) → HasState stored old start
         → HandlesFrom old start inputs answers new

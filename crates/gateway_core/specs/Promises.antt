@@ -10,11 +10,11 @@ Promises (Relabel label) known = (it : DeviceData) × (known ≡ Some it) × (it
 
 -- The second operation on the same sender keeps the guarantee of the first: an equal one does, a label keeps what was
 -- learned or forgotten, and learning again keeps the label.
-abbrev pub Preserves : Operation → Operation → Type 0
-Preserves (Learn eep maker) (Learn other by) = (other ≡ eep) × (by ≡ maker)
-Preserves (Learn eep maker) (Relabel label) = Unit {0}
-Preserves Forget Forget = Unit {0}
-Preserves Forget (Relabel label) = Unit {0}
-Preserves (Relabel label) (Relabel other) = other ≡ label
-Preserves (Relabel label) (Learn eep maker) = Unit {0}
-Preserves operation other = ⊥
+abbrev pub IsPromiseKeptBy : (operation other : Operation) → Type 0
+IsPromiseKeptBy (Learn eep maker) (Learn other by) = (other ≡ eep) × (by ≡ maker)
+IsPromiseKeptBy (Learn eep maker) (Relabel label) = Unit {0}
+IsPromiseKeptBy Forget Forget = Unit {0}
+IsPromiseKeptBy Forget (Relabel label) = Unit {0}
+IsPromiseKeptBy (Relabel label) (Relabel other) = other ≡ label
+IsPromiseKeptBy (Relabel label) (Learn eep maker) = Unit {0}
+IsPromiseKeptBy operation other = ⊥

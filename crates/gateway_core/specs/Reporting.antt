@@ -17,44 +17,46 @@ use Rattle.actuator_commands.specs.Limits.{max_line}
 use Rattle.actuator_commands.specs.declared.orders.Order.{Order}
 use Rattle.actuator_commands.specs.declared.orders.Order.TheVariants.{Base, Label}
 use Rattle.actuator_commands.specs.Orders.{order_of}
-use Rattle.actuator_commands.specs.Packets.{order_telegram, recipient}
+use Rattle.actuator_commands.specs.Packets.{order_telegram, recipient_id}
 use Rattle.json_lines.specs.declared.error_lines.ErrorName.TheVariants.{UnknownDevice}
 use Rattle.json_lines.specs.Lines.{TeachLine, Teach, Done, Error, text}
-use Rattle.gateway_core.specs.Step.{State, Input, Received, Ordered, Effect, effect, device_teach_line, answer_to}
+use Rattle.gateway_core.specs.Step.{State, Input, Received, Ordered, Effect, effect, device_teach_line}
+use Rattle.gateway_core.specs.Step.{answer_if_applied}
 use Rattle.gateway_core.specs.Step.{update_of}
 use Rattle.gateway_core.specs.Step.{base_id_request, recipient_device}
 use Rattle.gateway_core.specs.Run.{InputResult, Applied, answer_for_result}
 
 -- A device that is reported as deleted: as stored if the desk ordered it; over the air with the profile and maker of
 -- its query, learned or not.
-abbrev pub IsDeleted : State → Input → Device → Type 0
-IsDeleted state (Ordered line) known = device_of state.devices known.id ≡ Some known
-IsDeleted state (Received packet) known =
+abbrev pub IsDeviceOfDeletedLine : State → Input → Device → Type 0
+IsDeviceOfDeletedLine state (Ordered line) known = device_of state.devices known.id ≡ Some known
+IsDeviceOfDeletedLine state (Received packet) known =
     (t : Telegram) × (telegram_of packet ≡ Ok t) × (known.id ≡ t.sender)
     × (query : UteQuery) × (teach_in_of t ≡ Ute query) × (request_in query ≡ deletion)
     × (known.eep ≡ query.eep) × (known.maker ≡ Some query.maker)
 
 -- What a line with this outcome reports of an effect: it learns a device, forgets one for which this holds, or changes
 -- neither the devices nor the mode.
-abbrev pub ReportsEffect : (Device → Type 0) → Effect → TeachLine → Outcome → Type 0
-ReportsEffect Gone e line Accepted =
+abbrev pub OutcomeMatchesUpdate : (MayBeDeleted : Device → Type 0) → Effect → TeachLine → Outcome → Type 0
+OutcomeMatchesUpdate Gone e line Accepted =
     (known : Device) × (text (Teach line) ≡ text (Teach (device_teach_line known Accepted)))
     × (e.update ≡ Some (learn_update known))
-ReportsEffect Gone e line Deleted =
+OutcomeMatchesUpdate Gone e line Deleted =
     (known : Device) × (text (Teach line) ≡ text (Teach (device_teach_line known Deleted)))
     × Gone known × (e.update ≡ Some (forget_update known.id))
-ReportsEffect Gone e line outcome = (e.update ≡ None) × (e.mode ≡ None)
+OutcomeMatchesUpdate Gone e line outcome = (e.update ≡ None) × (e.mode ≡ None)
 
 -- the update of this device that a line with `accepted` or `deleted` reports
-abbrev pub acknowledged_update : Outcome → Device → DeviceUpdate
-acknowledged_update Accepted known = learn_update known
-acknowledged_update outcome known = forget_update known.id
+abbrev pub accepted_or_deleted_update : Outcome → Device → DeviceUpdate
+accepted_or_deleted_update Accepted known = learn_update known
+accepted_or_deleted_update outcome known = forget_update known.id
 
 -- only an applied input is answered with a teach line, which reports what it does
 abbrev pub TeachLinesAreTrue : Type 0
 TeachLinesAreTrue = (state : State) (input : Input) (result : InputResult) (line : TeachLine)
     → (answer_for_result state input result).desk ≡ text (Teach line)
-    → (result ≡ Applied) × ReportsEffect (IsDeleted state input) (effect state input) line line.outcome
+    → (result ≡ Applied) × OutcomeMatchesUpdate (IsDeviceOfDeletedLine state input)
+    (effect state input) line line.outcome
 
 -- The input is a line that labels a learned device, this is the update, and the desk receives `ok`.
 pub record AcknowledgesLabel (state : State) (input : Input) (update : DeviceUpdate) : Type 0 where
@@ -65,20 +67,20 @@ pub record AcknowledgesLabel (state : State) (input : Input) (update : DeviceUpd
   pub spelled : order_of line ≡ Ok (Label id label)
   pub is_known : IsSome (device_of state.devices id)
   pub gives : update ≡ relabel_update id label
-  pub reported : (answer_to state input).desk ≡ text Done
+  pub reported : (answer_if_applied state input).desk ≡ text Done
 
 -- and an applied input that asks for an update is answered with the line that reports it, or with `ok` if it sets a
 -- label
 abbrev pub UpdatesAreReported : Type 0
 UpdatesAreReported = (state : State) (input : Input) (update : DeviceUpdate) → update_of state input ≡ Some update
     → ((line : TeachLine) × ((answer_for_result state input Applied).desk ≡ text (Teach line))
-    × ReportsEffect (IsDeleted state input) (effect state input) line line.outcome)
+    × OutcomeMatchesUpdate (IsDeviceOfDeletedLine state input) (effect state input) line line.outcome)
     ⊎ AcknowledgesLabel state input update
 
 -- A line that spells a label and is answered `ok` is applied and labels a learned device; one answered `unknown_device`
 -- is applied and changes nothing, and no device with its ID is learned. Each that is applied and not too long gets one
 -- of these answers.
-pub record LabelIsAcknowledged (state : State) (line : List ℕ) (id : ℕ) (label : List ℕ) : Type 0 where
+pub record LabelAnswersAreTrue (state : State) (line : List ℕ) (id : ℕ) (label : List ℕ) : Type 0 where
   pub done : (result : InputResult) → (answer_for_result state (Ordered line) result).desk ≡ text Done
       → (result ≡ Applied) × IsSome (device_of state.devices id)
       × (update_of state (Ordered line) ≡ Some (relabel_update id label))
@@ -86,17 +88,17 @@ pub record LabelIsAcknowledged (state : State) (line : List ℕ) (id : ℕ) (lab
       ≡ text (Error UnknownDevice)
       → (result ≡ Applied) × (device_of state.devices id ≡ None) × (update_of state (Ordered line) ≡ None)
   pub answers : length line ≤ max_line
-      → ((answer_to state (Ordered line)).desk ≡ text Done)
-      ⊎ ((answer_to state (Ordered line)).desk ≡ text (Error UnknownDevice))
+      → ((answer_if_applied state (Ordered line)).desk ≡ text Done)
+      ⊎ ((answer_if_applied state (Ordered line)).desk ≡ text (Error UnknownDevice))
 
-abbrev pub LabelsAreAcknowledged : Type 0
-LabelsAreAcknowledged = (state : State) (line : List ℕ) (id : ℕ) (label : List ℕ) → order_of line ≡ Ok (Label id label)
-    → LabelIsAcknowledged state line id label
+abbrev pub AnswersToLabelsAreTrue : Type 0
+AnswersToLabelsAreTrue = (state : State) (line : List ℕ) (id : ℕ) (label : List ℕ) → order_of line ≡ Ok (Label id label)
+    → LabelAnswersAreTrue state line id label
 
 -- the telegram that replies to a query with this outcome for its sender, in a window for all senders: to a 4BS query in
 -- the mode `LearnAnswer`, and to a UTE query that waits for a reply
-abbrev pub IsReply : State → Telegram → Outcome → Telegram → Type 0
-IsReply state t outcome reply =
+abbrev pub IsReplyTelegram : State → (t : Telegram) → Outcome → (reply : Telegram) → Type 0
+IsReplyTelegram state t outcome reply =
     ((query : FourByteQuery) × (teach_in_of t ≡ FourByte query) × (state.mode ≡ LearnAnswer)
     × (four_byte_reply query outcome state.base ≡ Some reply))
     ⊎ ((query : UteQuery) × (teach_in_of t ≡ Ute query) × (wants_reply query ≡ true)
@@ -111,9 +113,9 @@ pub record RepliesTo (state : State) (input : Input) (bytes : List ℕ) : Type 0
   pub telegram : Telegram
   pub carried : telegram_of packet ≡ Ok telegram
   pub line : TeachLine
-  pub reported : (answer_to state input).desk ≡ text (Teach line)
+  pub reported : (answer_if_applied state input).desk ≡ text (Teach line)
   pub reply : Telegram
-  pub says : IsReply state telegram line.outcome reply
+  pub says : IsReplyTelegram state telegram line.outcome reply
   pub sent_as : bytes ≡ spelling (radio_packet reply)
 
 -- the packet that an order sends: the request for the base ID, or the order's telegram
@@ -121,7 +123,7 @@ abbrev pub IsSentByOrder : State → Order → Packet → Type 0
 IsSentByOrder state order packet =
     ((order ≡ Base) × (packet ≡ base_id_request))
     ⊎ ((t : Telegram) × (packet ≡ radio_packet t)
-    × (order_telegram order (recipient_device state.devices (recipient order)) state.base ≡ Some (Ok t)))
+    × (order_telegram order (recipient_device state.devices (recipient_id order)) state.base ≡ Some (Ok t)))
 
 -- The bytes are the packet of an order that a line spells, and the desk receives `ok`.
 pub record SendsAsOrdered (state : State) (input : Input) (bytes : List ℕ) : Type 0 where
@@ -129,13 +131,13 @@ pub record SendsAsOrdered (state : State) (input : Input) (bytes : List ℕ) : T
   pub ordered : input ≡ Ordered line
   pub order : Order
   pub spelled : order_of line ≡ Ok order
-  pub reported : (answer_to state input).desk ≡ text Done
+  pub reported : (answer_if_applied state input).desk ≡ text Done
   pub packet : Packet
   pub is_packet : IsSentByOrder state order packet
   pub sent_as : bytes ≡ spelling packet
 
 -- only an applied input sends bytes by radio, as a reply or as the desk has ordered
-abbrev pub RadioIsReported : Type 0
-RadioIsReported = (state : State) (input : Input) (result : InputResult) (bytes : List ℕ)
+abbrev pub RadioIsReplyOrOrdered : Type 0
+RadioIsReplyOrOrdered = (state : State) (input : Input) (result : InputResult) (bytes : List ℕ)
     → (answer_for_result state input result).radio ≡ Some bytes
     → (result ≡ Applied) × (RepliesTo state input bytes ⊎ SendsAsOrdered state input bytes)

@@ -1,4 +1,4 @@
--- Runs: many inputs, some of which may fail.
+-- Runs: sequences of inputs, each of which is applied or fails.
 use Rattle.std.specs.Prelude.{◌≡◌, IsSome, ℕ, ◌+◌, ◌^◌, ◌<◌, List, [], ◌∷◌, map, Option, Some, None}
 use Rattle.json_lines.specs.declared.counts.Counter.TheVariants as count
 use Rattle.json_lines.specs.declared.error_lines.ErrorName.TheVariants as error
@@ -6,9 +6,10 @@ use Rattle.teach_in.specs.declared.why.Why.TheVariants as why
 use Rattle.json_lines.specs.Counts.{increment, saturated_sum}
 use Rattle.json_lines.specs.Lines.{Error, text}
 use Rattle.gateway_core.specs.Dispositions.{without_device}
-use Rattle.gateway_core.specs.Step.{State, Input, Answer, with_packet_line, packet_line_for, text_answer, answer_to}
+use Rattle.gateway_core.specs.Step.{State, Input, Answer, with_packet_line, packet_line_for, text_answer}
+use Rattle.gateway_core.specs.Step.{answer_if_applied}
 use Rattle.gateway_core.specs.Step.{update_of, need_of}
-use Rattle.gateway_core.specs.Step.{state_after}
+use Rattle.gateway_core.specs.Step.{state_if_applied}
 use Rattle.gateway_core.specs.Step.{Cause, Memory, Store, MayFailFor}
 
 -- An input is applied, or it fails: `FailedAtCommit` if the call of the device store that commits its update failed,
@@ -35,7 +36,7 @@ failure_answer input cause =
 
 -- the answer to an input with this result
 abbrev pub answer_for_result : State → Input → InputResult → Answer
-answer_for_result state input Applied = answer_to state input
+answer_for_result state input Applied = answer_if_applied state input
 answer_for_result state input (Failed cause) = failure_answer input cause
 answer_for_result state input (FailedAtCommit cause) = failure_answer input cause
 
@@ -45,12 +46,12 @@ state_after_failure state = record state { counts = increment state.counts count
 
 -- the state after an input with this result
 abbrev pub state_after_result : State → Input → InputResult → State
-state_after_result state input Applied = state_after state input
+state_after_result state input Applied = state_if_applied state input
 state_after_result state input (Failed cause) = state_after_failure state
 state_after_result state input (FailedAtCommit cause) = state_after_failure state
 
 -- the inputs are handled one after another, with these results and answers
-abbrev pub Run : State → List Input → List InputResult → List Answer → State → Type 0
+abbrev pub Run : (old : State) → List Input → List InputResult → List Answer → (new : State) → Type 0
 Run old [] [] [] new = new ≡ old
 Run old (input ∷ inputs) (result ∷ results) (answer ∷ answers) new =
     MayHaveResult old input result × (answer ≡ answer_for_result old input result)
@@ -64,12 +65,12 @@ failure_cause (Failed cause) = Some cause
 failure_cause (FailedAtCommit cause) = Some cause
 
 -- the same inputs fail, each for the same cause, whether at its commit or before
-abbrev pub FailAlike : List InputResult → List InputResult → Type 0
+abbrev pub FailAlike : (results others : List InputResult) → Type 0
 FailAlike results others = map failure_cause results ≡ map failure_cause others
 
 -- if the same inputs fail for the same causes, the answers and the last state are the same
-abbrev pub SameFailures : Type 0
-SameFailures =
+abbrev pub SameFailuresGiveSameAnswers : Type 0
+SameFailuresGiveSameAnswers =
     (old left right : State) (inputs : List Input) (results others : List InputResult) (answers more : List Answer)
     → FailAlike results others
     → Run old inputs results answers left → Run old inputs others more right → (answers ≡ more) × (left ≡ right)

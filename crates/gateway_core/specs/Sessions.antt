@@ -5,10 +5,10 @@ use Rattle.std.specs.FinMap.{get}
 use Rattle.learned_devices.specs.Devices.{Devices, DeviceUpdate}
 use Rattle.teach_in.specs.declared.mode.Mode.TheVariants.{Closed}
 use Rattle.json_lines.specs.Counts.{zero_counts}
-use Rattle.gateway_core.specs.Step.{State, Input, Answer, update_of, state_after}
+use Rattle.gateway_core.specs.Step.{State, Input, Answer, update_of, state_if_applied}
 use Rattle.gateway_core.specs.Run.{InputResult, Applied, Failed, FailedAtCommit, state_after_result, Run}
-use Rattle.gateway_core.specs.Promises.{Promises, Preserves}
-use Rattle.gateway_core.specs.CrashStates.{CrashStates, no_crash_states, with_pending_update, crash_states}
+use Rattle.gateway_core.specs.Promises.{Promises, IsPromiseKeptBy}
+use Rattle.gateway_core.specs.CrashStates.{CrashStates, nothing_committed_yet, with_pending_update, crash_states}
 use Rattle.gateway_core.specs.CrashStates.{IsCrashConsistent}
 
 -- the base ID, the devices found, the inputs with their results and answers, the state after them, the input in
@@ -24,7 +24,7 @@ pub record Session : Type 0 where
   pub left : Devices
 
 -- a session begins with the devices found, with the mode closed and all counters 0
-abbrev pub initial_state : ℕ → Devices → State
+abbrev pub initial_state : (base : ℕ) → Devices → State
 initial_state base devices = record { base = base; mode = Closed; counts = zero_counts; devices = devices }
 
 -- the update of the input in progress may be there or not
@@ -35,12 +35,12 @@ with_interrupted left state (Some input) = with_pending_update left state.device
 pub record IsSession (session : Session) : Type 0 where
   pub run : Run (initial_state session.base session.found) session.inputs session.results session.answers session.last
   pub safe : IsCrashConsistent (λ devices. devices ≡ session.found)
-      (with_interrupted (crash_states no_crash_states (initial_state session.base session.found) session.inputs
+      (with_interrupted (crash_states nothing_committed_yet (initial_state session.base session.found) session.inputs
       session.results) session.last session.interrupted)
       session.left
 
 -- each session finds what the one before left
-abbrev pub AreSessions : Devices → List Session → Devices → Type 0
+abbrev pub AreSessions : (found : Devices) → List Session → (last : Devices) → Type 0
 AreSessions found [] last = last ≡ found
 AreSessions found (session ∷ sessions) last =
     (session.found ≡ found) × IsSession session × AreSessions session.left sessions last
@@ -52,27 +52,27 @@ possible_update state input (Failed cause) = None
 possible_update state input (FailedAtCommit cause) = update_of state input
 
 -- the update, if any, is of another sender, or keeps what this one guarantees
-abbrev pub DoesNotOverride : DeviceUpdate → Option DeviceUpdate → Type 0
-DoesNotOverride it None = Unit {0}
-DoesNotOverride it (Some update) = (update.sender ≢ it.sender) ⊎ Preserves it.operation update.operation
+abbrev pub IsNotOverriddenBy : DeviceUpdate → Option DeviceUpdate → Type 0
+IsNotOverriddenBy it None = Unit {0}
+IsNotOverriddenBy it (Some update) = (update.sender ≢ it.sender) ⊎ IsPromiseKeptBy it.operation update.operation
 
 -- each input that changes the sender keeps what this update guarantees, whether it is applied or fails at its commit
 abbrev pub NoneOverrides : DeviceUpdate → State → List Input → List InputResult → Type 0
 NoneOverrides it state (input ∷ inputs) (result ∷ results) =
-    DoesNotOverride it (possible_update state input result)
+    IsNotOverriddenBy it (possible_update state input result)
     × NoneOverrides it (state_after_result state input result) inputs results
 NoneOverrides it state inputs results = Unit {0}
 
 abbrev pub InterruptedDoesNotOverride : DeviceUpdate → State → Option Input → Type 0
 InterruptedDoesNotOverride it state None = Unit {0}
-InterruptedDoesNotOverride it state (Some input) = DoesNotOverride it (update_of state input)
+InterruptedDoesNotOverride it state (Some input) = IsNotOverriddenBy it (update_of state input)
 
 abbrev pub SessionDoesNotOverride : DeviceUpdate → Session → Type 0
 SessionDoesNotOverride it session = NoneOverrides it (initial_state session.base session.found) session.inputs
     session.results × InterruptedDoesNotOverride it session.last session.interrupted
 
 -- the session acknowledged the update, and then nothing in it overrode what that guarantees
-pub record AcknowledgesUpdate (session : Session) (update : DeviceUpdate) : Type 0 where
+pub record AcknowledgesAndKeeps (session : Session) (update : DeviceUpdate) : Type 0 where
   pub before : List Input
   pub input : Input
   pub after : List Input
@@ -84,13 +84,13 @@ pub record AcknowledgesUpdate (session : Session) (update : DeviceUpdate) : Type
   pub results_are : session.results ≡ results ++ Applied ∷ more
   pub run : Run (initial_state session.base session.found) before results answers at
   pub asks : update_of at input ≡ Some update
-  pub spared : NoneOverrides update (state_after at input) after more
+  pub spared : NoneOverrides update (state_if_applied at input) after more
   pub crash : InterruptedDoesNotOverride update session.last session.interrupted
 
 -- theorem `updates_survive_restarts`: every later session finds what an acknowledged update guarantees, until an input
 -- overrides it
 abbrev pub UpdatesSurviveRestarts : Type 0
 UpdatesSurviveRestarts = (session : Session) (update : DeviceUpdate) (sessions : List Session) (last : Devices) →
-    IsSession session → AcknowledgesUpdate session update → AllByRecursion (SessionDoesNotOverride update) sessions
+    IsSession session → AcknowledgesAndKeeps session update → AllByRecursion (SessionDoesNotOverride update) sessions
     → AreSessions session.left sessions last
     → Promises update.operation (get last update.sender)

@@ -34,7 +34,7 @@ use Rattle.actuator_commands.specs.declared.orders.OrderFault.{OrderFault}
 use Rattle.actuator_commands.specs.declared.orders.OrderFault.TheVariants.{Syntax, Range, UnknownDevice, WrongProfile}
 use Rattle.actuator_commands.specs.Limits.{max_line}
 use Rattle.actuator_commands.specs.Orders.{order_of}
-use Rattle.actuator_commands.specs.Packets.{order_telegram, recipient}
+use Rattle.actuator_commands.specs.Packets.{order_telegram, recipient_id}
 use Rattle.json_lines.specs.declared.counts.Counter.{Counter}
 use Rattle.json_lines.specs.declared.counts.Counts.{Counts}
 use Rattle.json_lines.specs.declared.error_lines.ErrorName.{ErrorName}
@@ -44,11 +44,11 @@ use Rattle.json_lines.specs.declared.packet.PacketLine.{PacketLine}
 use Rattle.teach_in.specs.declared.why.Why.{Why}
 use Rattle.teach_in.specs.declared.why.Why.TheVariants as why
 use Rattle.json_lines.specs.Lines.{DeskLine, Reading, Teach as TeachOf, StatusLine, ResponseLine, Done, Error}
-use Rattle.json_lines.specs.Lines.{TeachLine, Response, list_lines, texts}
+use Rattle.json_lines.specs.Lines.{TeachLine, ModuleResponse, list_lines, texts}
 use Rattle.gateway_core.specs.declared.disposition.Disposition.{Disposition}
-use Rattle.gateway_core.specs.Dispositions.{without_device, count_for, query_eep, explanation, packet_line_of}
-use Rattle.gateway_core.specs.Dispositions.{query_maker, for_device}
-use Rattle.gateway_core.specs.Dispositions.{why_filtered, why_silent, why_other, why_unread}
+use Rattle.gateway_core.specs.Dispositions.{without_device, counter_for, eep_in_query, explanation, packet_line_of}
+use Rattle.gateway_core.specs.Dispositions.{maker_in_query, for_device}
+use Rattle.gateway_core.specs.Dispositions.{why_filtered, why_nothing_done, why_no_telegram_or_response, why_unread}
 use Rattle.gateway_core.specs.Profiles.{read_by}
 use Rattle.gateway_core.specs.Responses.{response_in}
 
@@ -98,8 +98,8 @@ no_effect = record { radio = None; desk = []; disposition = None; update = None;
 
 -- the effect of a device that is to be learned: the first if the maximum number of others is learned, otherwise the
 -- second
-abbrev pub effect_unless_full : Devices → Device → Effect → Effect → Effect
-effect_unless_full devices known full done = if is_full devices known.id then full else done
+abbrev pub if_full_of_others_else : Devices → Device → (full done : Effect) → Effect
+if_full_of_others_else devices known full done = if is_full devices known.id then full else done
 
 -- the line that reports the outcome for a device
 abbrev pub device_teach_line : Device → Outcome → TeachLine
@@ -108,20 +108,21 @@ device_teach_line known outcome = record { eep = Some known.eep; id = known.id; 
 -- ---- a packet
 
 -- the need, by whether the device store is asked
-abbrev pub needs_store_if : Bool → Need
-needs_store_if asked = if asked then NeedsStore else NeedsNothing
+abbrev pub needs_store_if : (asks_store : Bool) → Need
+needs_store_if asks_store = if asks_store then NeedsStore else NeedsNothing
 
 -- A packet without a line for the desk. The device store was asked for its sender, or not.
-abbrev pub silent_effect : Bool → Disposition → Effect
-silent_effect asked disposition = record no_effect { disposition = Some disposition; need = needs_store_if asked }
+abbrev pub silent_effect : (asks_store : Bool) → Disposition → Effect
+silent_effect asks_store disposition =
+    record no_effect { disposition = Some disposition; need = needs_store_if asks_store }
 
 -- it is ignored, for this reason
 abbrev pub ignored_effect : Why → Effect
 ignored_effect why = silent_effect false (without_device why)
 
 -- one line for the desk about a packet
-abbrev pub packet_line_effect : Need → Disposition → DeskLine → Effect
-packet_line_effect need disposition line =
+abbrev pub packet_desk_line_effect : Need → Disposition → DeskLine → Effect
+packet_desk_line_effect need disposition line =
     record no_effect { desk = line ∷ []; disposition = Some disposition; need = need }
 
 -- the kind of a telegram: the first of these five cases. Own choice
@@ -141,31 +142,32 @@ abbrev pub data_case : Option Device → TelegramCase
 data_case (Some known) = LearnedData known
 data_case None = UnknownData
 
-abbrev pub teach_case : Teach → Option Device → TelegramCase
-teach_case teach.Answer known = TeachInAnswer
-teach_case teach.Contact known = TeachInTelegram
-teach_case teach.Bare known = TeachInTelegram
-teach_case (teach.FourByte query) known = TeachInTelegram
-teach_case (teach.Ute query) known = TeachInTelegram
-teach_case teach.Plain known = data_case known
+abbrev pub case_by_role : Teach → Option Device → TelegramCase
+case_by_role teach.Answer known = TeachInAnswer
+case_by_role teach.Contact known = TeachInTelegram
+case_by_role teach.Bare known = TeachInTelegram
+case_by_role (teach.FourByte query) known = TeachInTelegram
+case_by_role (teach.Ute query) known = TeachInTelegram
+case_by_role teach.Plain known = data_case known
 
 abbrev pub case_of : State → Telegram → TelegramCase
 case_of state t =
-    if is_filtered_out state.base t then FilteredOut else teach_case (teach_in_of t) (device_of state.devices t.sender)
+    if is_filtered_out state.base t then FilteredOut else case_by_role (teach_in_of t)
+    (device_of state.devices t.sender)
 
 -- the reading line for a telegram of this device, if its profile can read it
 abbrev pub reading_effect : Telegram → Device → Result (List Entry) Unreadable → Effect
 reading_effect t known (Err fault) = silent_effect true (for_device known (why_unread fault))
 reading_effect t known (Ok readings) =
-    packet_line_effect NeedsStore (for_device known why.Read)
+    packet_desk_line_effect NeedsStore (for_device known why.Read)
     (Reading (record { dbm = t.dbm; eep = known.eep; id = t.sender; readings = readings }))
 
 -- the reply by radio for this outcome of a telegram's sender: to a UTE query that waits for one, and to a 4BS query in
 -- the mode `LearnAnswer`. For 4BS, the mode is own choice
-abbrev pub reply_of : ℕ → Mode → Teach → Outcome → Option Telegram
-reply_of base mode (teach.Ute query) outcome = if wants_reply query then ute_reply query outcome base else None
-reply_of base LearnAnswer (teach.FourByte query) outcome = four_byte_reply query outcome base
-reply_of base mode kind outcome = None
+abbrev pub reply_telegram_of : (base : ℕ) → Mode → Teach → Outcome → Option Telegram
+reply_telegram_of base mode (teach.Ute query) outcome = if wants_reply query then ute_reply query outcome base else None
+reply_telegram_of base LearnAnswer (teach.FourByte query) outcome = four_byte_reply query outcome base
+reply_telegram_of base mode kind outcome = None
 
 -- the bytes of the packet in which a telegram is sent, if there is one
 abbrev pub radio_of : Option Telegram → Option (List ℕ)
@@ -173,50 +175,53 @@ radio_of = option_map (λ t. spelling (radio_packet t))
 
 -- the outcome for a telegram's sender, for which the device store was asked: reported to the desk, and replied to the
 -- sender
-abbrev pub teach_effect : State → Teach → TeachLine → Effect
-teach_effect state kind line =
-    record (packet_line_effect NeedsStore (without_device (why.TeachIn line.outcome)) (TeachOf line)) {
-      radio = radio_of (reply_of state.base state.mode kind line.outcome);
+abbrev pub teach_report_effect : State → Teach → TeachLine → Effect
+teach_report_effect state kind line =
+    record (packet_desk_line_effect NeedsStore (without_device (why.TeachIn line.outcome)) (TeachOf line)) {
+      radio = radio_of (reply_telegram_of state.base state.mode kind line.outcome);
     }
 
 -- the mode that learns with the desk's profile is for one sender. Own choice
-abbrev pub mode_after_learning : Mode → Option Mode
-mode_after_learning (LearnAs eep) = Some Closed
-mode_after_learning mode = None
+abbrev pub mode_set_by_learning : Mode → Option Mode
+mode_set_by_learning (LearnAs eep) = Some Closed
+mode_set_by_learning mode = None
 
 -- the sender is learned
 abbrev pub accept_effect : State → Teach → Device → Effect
 accept_effect state kind known =
-    record (teach_effect state kind (device_teach_line known Accepted)) {
+    record (teach_report_effect state kind (device_teach_line known Accepted)) {
       disposition = Some (for_device known (why.TeachIn Accepted));
       update = Some (learn_update known);
-      mode = mode_after_learning state.mode;
+      mode = mode_set_by_learning state.mode;
     }
 
 -- the line with the outcome for a sender that this telegram does not teach in, with the profile and maker of its query,
 -- if any
-abbrev pub query_teach_line : ℕ → Teach → Outcome → TeachLine
-query_teach_line id kind outcome = record { eep = query_eep kind; id = id; maker = query_maker kind; outcome = outcome }
+abbrev pub query_teach_line : (id : ℕ) → Teach → Outcome → TeachLine
+query_teach_line id kind outcome =
+    record { eep = eep_in_query kind; id = id; maker = maker_in_query kind; outcome = outcome }
 
 -- the sender is forgotten, whether it is learned or not
-abbrev pub delete_effect : State → Teach → ℕ → Effect
+abbrev pub delete_effect : State → Teach → (id : ℕ) → Effect
 delete_effect state kind id =
-    record (teach_effect state kind (query_teach_line id kind Deleted)) { update = Some (forget_update id) }
+    record (teach_report_effect state kind (query_teach_line id kind Deleted)) { update = Some (forget_update id) }
 
 -- the effect of the plan for the sender of a telegram, for which the device store was asked or not
-abbrev pub plan_effect : State → Telegram → Bool → Plan → Effect
-plan_effect state t asked Silent = silent_effect asked (without_device (why_silent asked state.mode))
-plan_effect state t asked (Add known) =
-    effect_unless_full state.devices known (teach_effect state (teach_in_of t) (device_teach_line known outcome.Full))
+abbrev pub plan_effect : State → Telegram → (asks_store : Bool) → Plan → Effect
+plan_effect state t asks_store Silent =
+    silent_effect asks_store (without_device (why_nothing_done asks_store state.mode))
+plan_effect state t asks_store (Add known) =
+    if_full_of_others_else state.devices known
+    (teach_report_effect state (teach_in_of t) (device_teach_line known outcome.Full))
     (accept_effect state (teach_in_of t) known)
-plan_effect state t asked (Forget id) = delete_effect state (teach_in_of t) id
-plan_effect state t asked (Refuse outcome) =
-    record (teach_effect state (teach_in_of t) (query_teach_line t.sender (teach_in_of t) outcome)) {
-      need = if asked then NeedsStore else NeedsMemory;
+plan_effect state t asks_store (Forget id) = delete_effect state (teach_in_of t) id
+plan_effect state t asks_store (Refuse outcome) =
+    record (teach_report_effect state (teach_in_of t) (query_teach_line t.sender (teach_in_of t) outcome)) {
+      need = if asks_store then NeedsStore else NeedsMemory;
     }
 
 -- whether a sender is learned
-abbrev pub is_learned : Devices → ℕ → Bool
+abbrev pub is_learned : Devices → (id : ℕ) → Bool
 is_learned devices id = is_some (device_of devices id)
 
 abbrev pub case_effect : State → Telegram → TelegramCase → Effect
@@ -231,10 +236,10 @@ abbrev pub telegram_effect : State → Telegram → Effect
 telegram_effect state t = case_effect state t (case_of state t)
 
 -- a packet without a telegram is a response, or is ignored. Own choice
-abbrev pub non_telegram_effect : Packet → Option Response → Effect
-non_telegram_effect packet None = ignored_effect (why_other packet)
+abbrev pub non_telegram_effect : Packet → Option ModuleResponse → Effect
+non_telegram_effect packet None = ignored_effect (why_no_telegram_or_response packet)
 non_telegram_effect packet (Some response) =
-    packet_line_effect NeedsMemory (without_device why.Response) (ResponseLine response)
+    packet_desk_line_effect NeedsMemory (without_device why.Response) (ResponseLine response)
 
 abbrev pub packet_effect_from : State → Packet → Result Telegram TelegramFault → Effect
 packet_effect_from state packet (Ok t) = telegram_effect state t
@@ -250,8 +255,9 @@ abbrev pub error_effect : ErrorName → Effect
 error_effect name = record no_effect { desk = Error name ∷ [] }
 
 -- a packet is sent; the device store was asked for a device, or not
-abbrev pub send_effect : Bool → List ℕ → Effect
-send_effect asked bytes = record no_effect { radio = Some bytes; desk = Done ∷ []; need = needs_store_if asked }
+abbrev pub send_effect : (asks_store : Bool) (bytes : List ℕ) → Effect
+send_effect asks_store bytes =
+    record no_effect { radio = Some bytes; desk = Done ∷ []; need = needs_store_if asks_store }
 
 -- the mode is set
 abbrev pub mode_effect : Mode → Effect
@@ -262,25 +268,25 @@ abbrev pub lines_effect : Need → List DeskLine → Effect
 lines_effect need lines = record no_effect { desk = lines; need = need }
 
 -- a device that the desk names is learned, forgotten or labelled
-abbrev pub learn_effect : Device → Effect
-learn_effect known = record (lines_effect NeedsStore (TeachOf (device_teach_line known Accepted) ∷ []))
+abbrev pub ordered_learn_effect : Device → Effect
+ordered_learn_effect known = record (lines_effect NeedsStore (TeachOf (device_teach_line known Accepted) ∷ []))
     { update = Some (learn_update known) }
 
-abbrev pub forget_effect : Device → Effect
-forget_effect known = record (lines_effect NeedsStore (TeachOf (device_teach_line known Deleted) ∷ []))
+abbrev pub ordered_forget_effect : Device → Effect
+ordered_forget_effect known = record (lines_effect NeedsStore (TeachOf (device_teach_line known Deleted) ∷ []))
     { update = Some (forget_update known.id) }
 
-abbrev pub relabel_effect : ℕ → List ℕ → Effect
+abbrev pub relabel_effect : (id : ℕ) (label : List ℕ) → Effect
 relabel_effect id label = record (lines_effect NeedsStore (Done ∷ [])) { update = Some (relabel_update id label) }
 
 -- the effect of an order about a device that has to be learned
-abbrev pub if_known : Option Device → (Device → Effect) → Effect
-if_known None effect_of = lines_effect NeedsStore (Error error.UnknownDevice ∷ [])
-if_known (Some known) effect_of = effect_of known
+abbrev pub if_learned_else_error : Option Device → (Device → Effect) → Effect
+if_learned_else_error None effect_of = lines_effect NeedsStore (Error error.UnknownDevice ∷ [])
+if_learned_else_error (Some known) effect_of = effect_of known
 
 -- the effect of an order with a profile, if that is supported
-abbrev pub if_supported : Eep → Effect → Effect
-if_supported eep effect = if supported eep then effect else error_effect error.UnsupportedProfile
+abbrev pub if_supported_else_error : Eep → Effect → Effect
+if_supported_else_error eep effect = if supported eep then effect else error_effect error.UnsupportedProfile
 
 abbrev pub order_error_name : OrderFault → ErrorName
 order_error_name Syntax = error.Syntax
@@ -290,11 +296,11 @@ order_error_name WrongProfile = error.WrongProfile
 
 -- The effect of an order to devices: its telegram is sent, or an error reports why there is none. The last case is that
 -- of no order to devices, since each of these has a telegram or a fault.
-abbrev pub send_result_effect : Bool → Option (Result Telegram OrderFault) → Effect
-send_result_effect asked (Some (Ok t)) = send_effect asked (spelling (radio_packet t))
-send_result_effect asked (Some (Err fault)) =
-    record (error_effect (order_error_name fault)) { need = needs_store_if asked }
-send_result_effect asked None = record no_effect { need = needs_store_if asked }
+abbrev pub send_result_effect : (asks_store : Bool) → Option (Result Telegram OrderFault) → Effect
+send_result_effect asks_store (Some (Ok t)) = send_effect asks_store (spelling (radio_packet t))
+send_result_effect asks_store (Some (Err fault)) =
+    record (error_effect (order_error_name fault)) { need = needs_store_if asks_store }
+send_result_effect asks_store None = record no_effect { need = needs_store_if asks_store }
 
 -- the stored device of an order
 abbrev pub recipient_device : Devices → Option ℕ → Option Device
@@ -303,8 +309,8 @@ recipient_device devices (Some id) = device_of devices id
 
 abbrev pub sending_order_effect : State → Order → Effect
 sending_order_effect state order =
-    send_result_effect (is_some (recipient order))
-    (order_telegram order (recipient_device state.devices (recipient order)) state.base)
+    send_result_effect (is_some (recipient_id order))
+    (order_telegram order (recipient_device state.devices (recipient_id order)) state.base)
 
 -- the packet that asks the radio module for its base ID (EnOcean Serial Protocol 3, "CO_RD_IDBASE")
 abbrev pub base_id_request : Packet
@@ -316,20 +322,22 @@ abbrev pub order_effect : State → Result Order OrderFault → Effect
 order_effect state (Err fault) = error_effect (order_error_name fault)
 order_effect state (Ok LearnOn) = mode_effect Learn
 order_effect state (Ok LearnOnAnswer) = mode_effect LearnAnswer
-order_effect state (Ok (order.LearnAs eep)) = if_supported eep (mode_effect (LearnAs eep))
+order_effect state (Ok (order.LearnAs eep)) = if_supported_else_error eep (mode_effect (LearnAs eep))
 order_effect state (Ok LearnOff) = mode_effect Closed
 order_effect state (Ok (order.Add id eep)) =
     let known : Device = record { id = id; eep = eep; maker = None; label = [] } in
-    if_supported eep (effect_unless_full state.devices known (lines_effect NeedsStore (Error error.Full ∷ []))
-    (learn_effect known))
-order_effect state (Ok (Remove id)) = if_known (device_of state.devices id) forget_effect
-order_effect state (Ok (Label id label)) = if_known (device_of state.devices id) (λ known. relabel_effect id label)
+    if_supported_else_error eep
+    (if_full_of_others_else state.devices known (lines_effect NeedsStore (Error error.Full ∷ []))
+    (ordered_learn_effect known))
+order_effect state (Ok (Remove id)) = if_learned_else_error (device_of state.devices id) ordered_forget_effect
+order_effect state (Ok (Label id label)) =
+    if_learned_else_error (device_of state.devices id) (λ known. relabel_effect id label)
 order_effect state (Ok ListAll) = lines_effect NeedsStore (list_lines (all_of state.devices))
 order_effect state (Ok Status) = lines_effect NeedsMemory (StatusLine state.counts state.mode ∷ [])
 order_effect state (Ok Base) = send_effect false (spelling base_id_request)
 order_effect state (Ok order) = sending_order_effect state order
 
-abbrev pub line_effect : State → List ℕ → Effect
+abbrev pub line_effect : State → (line : List ℕ) → Effect
 line_effect state line =
     if nat_lt max_line (length line) then error_effect error.TooLong else order_effect state (order_of line)
 
@@ -346,11 +354,11 @@ pub record Answer : Type 0 where
   pub desk : List ℕ
 
 -- the answer to an input that is no packet, or to a packet before it is explained
-abbrev pub text_answer : List ℕ → Answer
+abbrev pub text_answer : (text : List ℕ) → Answer
 text_answer text = record { radio = None; explained = []; desk = text }
 
-abbrev pub answer_from_effect : Effect → Answer
-answer_from_effect effect = record { radio = effect.radio; explained = []; desk = texts effect.desk }
+abbrev pub unexplained_answer : Effect → Answer
+unexplained_answer effect = record { radio = effect.radio; explained = []; desk = texts effect.desk }
 
 -- the line that explains an input, by its disposition: a packet has one, an order has none
 abbrev pub packet_line_for : Input → Option Disposition → Option PacketLine
@@ -358,24 +366,24 @@ packet_line_for (Received packet) disposition = option_map (packet_line_of packe
 packet_line_for (Ordered line) disposition = None
 
 -- the answer with this text, or with this line, as its explanation
-abbrev pub with_explanation : List ℕ → Answer → Answer
+abbrev pub with_explanation : (text : List ℕ) → Answer → Answer
 with_explanation text answer = record answer { explained = text }
 
 abbrev pub with_packet_line : Option PacketLine → Answer → Answer
 with_packet_line line = with_explanation (explanation line)
 
 -- the answer to an applied input
-abbrev pub answer_to : State → Input → Answer
-answer_to state input =
-    with_packet_line (packet_line_for input (effect state input).disposition) (answer_from_effect (effect state input))
+abbrev pub answer_if_applied : State → Input → Answer
+answer_if_applied state input =
+    with_packet_line (packet_line_for input (effect state input).disposition) (unexplained_answer (effect state input))
 
 -- the counter that a disposition increments
-abbrev pub count_in : Option Disposition → Option Counter
-count_in = option_map (λ disposition. count_for disposition.why)
+abbrev pub counter_in : Option Disposition → Option Counter
+counter_in = option_map (λ disposition. counter_for disposition.why)
 
 -- the counter that an applied input increments: each packet increments one, an order none. Own choice
-abbrev pub count_of : State → Input → Option Counter
-count_of state input = count_in (effect state input).disposition
+abbrev pub counter_if_applied : State → Input → Option Counter
+counter_if_applied state input = counter_in (effect state input).disposition
 
 -- the update that an input asks for: of one sender
 abbrev pub update_of : State → Input → Option DeviceUpdate
@@ -398,11 +406,11 @@ abbrev pub with_mode : Mode → Option Mode → Mode
 with_mode mode set = unwrap_or set mode
 
 -- the state after an applied input
-abbrev pub state_after : State → Input → State
-state_after state input =
+abbrev pub state_if_applied : State → Input → State
+state_if_applied state input =
     record {
       base = state.base;
       mode = with_mode state.mode (new_mode_of state input);
-      counts = increment_if_any state.counts (count_of state input);
+      counts = increment_if_any state.counts (counter_if_applied state input);
       devices = with_update state.devices (update_of state input);
     }

@@ -22,7 +22,7 @@ pub record LearnsSender (state : State) (packet : Packet) : Type 0 where
   pub is_sender : known.id ≡ telegram.sender
   pub update : update_of state (Received packet) ≡ Some (learn_update known)
   pub learning : state.mode ≢ Closed
-  pub heard : (query : UteQuery) → teach_in_of telegram ≡ Ute query
+  pub ute_needs_window_for_all : (query : UteQuery) → teach_in_of telegram ≡ Ute query
       → (state.mode ≡ Learn) ⊎ (state.mode ≡ LearnAnswer)
   pub closes : (eep : Eep) → state.mode ≡ LearnAs eep → new_mode_of state (Received packet) ≡ Some Closed
   pub stays : (mode : Mode) → new_mode_of state (Received packet) ≡ Some mode
@@ -36,12 +36,12 @@ pub record ForgetsSender (state : State) (packet : Packet) : Type 0 where
   pub asked : teach_in_of telegram ≡ Ute query
   pub deletes : request_in query ≡ deletion
   pub update : update_of state (Received packet) ≡ Some (forget_update telegram.sender)
-  pub learning : (state.mode ≡ Learn) ⊎ (state.mode ≡ LearnAnswer)
+  pub open_for_all : (state.mode ≡ Learn) ⊎ (state.mode ≡ LearnAnswer)
   pub stays : new_mode_of state (Received packet) ≡ None
 
 -- a packet does one of these, or it changes neither the devices nor the mode
-abbrev pub PacketsChangeInWindows : Type 0
-PacketsChangeInWindows = (state : State) (packet : Packet)
+abbrev pub PacketsLearnOnlyInWindows : Type 0
+PacketsLearnOnlyInWindows = (state : State) (packet : Packet)
     → LearnsSender state packet
     ⊎ (ForgetsSender state packet
     ⊎ ((update_of state (Received packet) ≡ None) × (new_mode_of state (Received packet) ≡ None)))

@@ -2,7 +2,7 @@
 ghost use Rattle.std.specs.Prelude.{◌≡◌};
 ghost use Rattle.esp3_frames.specs.Outcome.{packet_of};
 ghost use Rattle.gateway_core.specs.Dispositions;
-ghost use Rattle.gateway_core.specs.Dispositions.{without_device, query_eep, query_maker};
+ghost use Rattle.gateway_core.specs.Dispositions.{without_device, eep_in_query, maker_in_query};
 
 use erp1_telegrams::{Eep, FilterReason};
 use esp3_frames::PacketRef;
@@ -45,7 +45,7 @@ impl Disposition {
 
     // The counter that the packet increments.
     pub(crate) fn count(&self) -> Counter
-        ensures { result ≡ Dispositions.count_for self.now.why }
+        ensures { result ≡ Dispositions.counter_for self.now.why }
     {
         match self.why {
             Why::Refused => Counter::Refused,
@@ -69,8 +69,8 @@ impl Disposition {
 }
 
 // Why a packet that carries no telegram and is no response is ignored.
-pub(crate) fn why_other(packet: &PacketRef<'_>) -> Why
-    ensures { result ≡ Dispositions.why_other (packet_of packet.now) }
+pub(crate) fn why_no_telegram_or_response(packet: &PacketRef<'_>) -> Why
+    ensures { result ≡ Dispositions.why_no_telegram_or_response (packet_of packet.now) }
 {
     match packet.kind {
         RADIO_ERP1 => Why::NoTelegram,
@@ -89,8 +89,8 @@ pub(crate) fn why_filtered(reason: FilterReason) -> Why
 }
 
 // Why nothing is done about the sender of a data telegram, if `is_data`, or of a teach-in telegram.
-pub(crate) fn why_silent(is_data: bool, mode: Mode) -> Why
-    ensures { result ≡ Dispositions.why_silent is_data mode }
+pub(crate) fn why_nothing_done(is_data: bool, mode: Mode) -> Why
+    ensures { result ≡ Dispositions.why_nothing_done is_data mode }
 {
     match (is_data, mode) {
         (true, _) => Why::UnknownSender,
@@ -111,9 +111,9 @@ pub(crate) fn why_unread(fault: Unreadable) -> Why
 }
 
 // The profile and maker in a teach-in telegram, if it has them.
-pub(crate) fn query_device(teach: &Teach) -> (Option<Eep>, Option<u16>)
-    ensures eep { result.0 ≡ query_eep teach.now }
-    ensures maker { result.1 ≡ query_maker teach.now }
+pub(crate) fn eep_and_maker_in_query(teach: &Teach) -> (Option<Eep>, Option<u16>)
+    ensures eep { result.0 ≡ eep_in_query teach.now }
+    ensures maker { result.1 ≡ maker_in_query teach.now }
 {
     match teach {
         Teach::FourByte(query) => (Some(query.eep()), Some(query.maker())),

@@ -54,11 +54,11 @@ pub struct GatewayOver<S> {
 
 impl<S> Model for GatewayOver<S> {
     ghost use Rattle.gateway_core.specs.Calls.{GatewayValue};
-    ghost use Rattle.gateway_core.specs.private.Codes.{value_code};
+    ghost use Rattle.gateway_core.specs.private.Codes.{gateway_code};
 
     ghost Value = { GatewayValue S };
 
-    ghost coded = { value_code S.code };
+    ghost coded = { gateway_code S.code };
 
     ghost view = { λ gateway.
         record {
@@ -121,13 +121,13 @@ impl<S: DeviceStore> GatewayOver<S> {
         ensures up_to { self.new.ready ≡ [] → result ≡ length bytes.now }
         ensures before { (k : ℕ) → k < result → packets_in (self.old.rest ++ take k bytes.now) ≡ [] }
     {
-        self.framer.push_run(bytes)
+        self.framer.push_until_ready(bytes)
     }
 
     /// Handles the packet at the front of the next bytes of the serial line, without a copy, as `bytes` and then
     /// `handle_next` do. Returns it and its length in bytes, or `None`, with nothing taken, if the gateway already
     /// holds a byte or no whole packet is at the front.
-    pub fn handle_first(&mut self, bytes: &[u8]) -> Option<(HandledPacket, usize)>
+    pub fn handle_front_packet(&mut self, bytes: &[u8]) -> Option<(HandledPacket, usize)>
         requires { self.old.ready ≡ [] }
         ensures within { IfSome result (λ r. (0 < r.1) × (r.1 ≤ length bytes.now)) }
         ensures taken { IfSome result (λ r. (mid : GatewayValue S)

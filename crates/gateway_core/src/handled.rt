@@ -7,7 +7,7 @@ ghost use Rattle.erp1_telegrams.specs.declared.telegram.TelegramFault.{TelegramF
 ghost use Rattle.teach_in.specs.Telegrams.{teach_in_of};
 ghost use Rattle.gateway_core.specs.Dispositions.{packet_line_of};
 
-use crate::disposition::{Disposition, query_device};
+use crate::disposition::{Disposition, eep_and_maker_in_query};
 use crate::reply::Reply;
 use erp1_telegrams::Telegram;
 use esp3_frames::PacketRef;
@@ -32,7 +32,7 @@ pub(crate) fn line_of_telegram(
     requires { teach.now ≡ teach_in_of telegram }
     ensures { (packet : Packet) → telegram_of packet ≡ Ok telegram → result ≡ packet_line_of packet disposition }
 {
-    let (eep, maker) = query_device(teach);
+    let (eep, maker) = eep_and_maker_in_query(teach);
     PacketLine {
         packet: ShownPacket::Telegram(ShownTelegram {
             telegram,
@@ -44,13 +44,13 @@ pub(crate) fn line_of_telegram(
 }
 
 // The line that explains a packet without a telegram.
-pub(crate) fn line_of_other(packet: &PacketRef<'_>, disposition: Disposition) -> PacketLine
+pub(crate) fn line_without_telegram(packet: &PacketRef<'_>, disposition: Disposition) -> PacketLine
     requires { length packet.now.body.now ≤ max_data }
     ensures { (fault : TelegramFault) → telegram_of (packet_of packet.now) ≡ Err fault
         → result ≡ packet_line_of (packet_of packet.now) disposition }
 {
     PacketLine {
-        packet: ShownPacket::Other {
+        packet: ShownPacket::WithoutTelegram {
             kind: packet.kind,
             size: packet.body.len() as u16,
         },

@@ -7,7 +7,8 @@ ghost use Rattle.gateway_core.specs.Calls.{new_handler};
 ghost use Rattle.gateway_core.specs.Handling.{Handles};
 ghost use Rattle.gateway_core.specs.Replies.{answer_of, packet_answer};
 ghost use Rattle.gateway_core.specs.Step.{Ordered, Received, with_mode};
-ghost use Rattle.gateway_core.specs.private.Attempts.{disposition_from, answer_from, counts_from, mode_from};
+ghost use Rattle.gateway_core.specs.private.Attempts.{disposition_or_failed, unexplained_answer_from, counts_from};
+ghost use Rattle.gateway_core.specs.private.Attempts.{mode_from};
 
 mod effect;
 mod learn_forget;
@@ -18,8 +19,8 @@ mod teach;
 
 use crate::disposition::Disposition;
 use crate::failure::Failure;
-use crate::handled::{HandledPacket, line_of_other, line_of_telegram};
-use crate::handler::effect::{PacketEffect, ReplyEffect, error_reply};
+use crate::handled::{HandledPacket, line_of_telegram, line_without_telegram};
+use crate::handler::effect::{PacketEffect, ReplyAndMode, error_reply};
 use crate::reply::Reply;
 use erp1_telegrams::read;
 use esp3_frames::PacketRef;
@@ -83,9 +84,9 @@ impl<S: DeviceStore> Handler<S> {
     }
 
     // Counts a packet, handled or failed, sets the mode, and returns the reply and the disposition.
-    fn packet_reply(&mut self, tried: Result<PacketEffect, Failure>) -> (Reply, Disposition)
-        ensures answer { answer_of result.0 ≡ answer_from tried }
-        ensures disposition { Some result.1 ≡ disposition_from tried }
+    fn finish_packet(&mut self, tried: Result<PacketEffect, Failure>) -> (Reply, Disposition)
+        ensures answer { answer_of result.0 ≡ unexplained_answer_from tried }
+        ensures disposition { Some result.1 ≡ disposition_or_failed tried }
         ensures base { self.new.base ≡ self.old.base }
         ensures mode { self.new.mode ≡ mode_from self.old.mode tried }
         ensures counts { self.new.counts ≡ counts_from self.old.counts tried }
@@ -95,7 +96,7 @@ impl<S: DeviceStore> Handler<S> {
             Ok(
                 PacketEffect {
                     disposition,
-                    effect: ReplyEffect { mode, reply },
+                    effect: ReplyAndMode { mode, reply },
                 },
             ) => (disposition, mode, reply),
             Err(failure) => (
@@ -110,15 +111,15 @@ impl<S: DeviceStore> Handler<S> {
     }
 
     // Counts an order that failed, sets the mode, and returns the reply.
-    fn order_reply(&mut self, tried: Result<ReplyEffect, Failure>) -> Reply
-        ensures answer { answer_of result ≡ answer_from tried }
+    fn finish_order(&mut self, tried: Result<ReplyAndMode, Failure>) -> Reply
+        ensures answer { answer_of result ≡ unexplained_answer_from tried }
         ensures base { self.new.base ≡ self.old.base }
         ensures mode { self.new.mode ≡ mode_from self.old.mode tried }
         ensures counts { self.new.counts ≡ counts_from self.old.counts tried }
         ensures registry { self.new.registry ≡ self.old.registry }
     {
         match tried {
-            Ok(ReplyEffect { mode, reply }) => {
+            Ok(ReplyAndMode { mode, reply }) => {
                 self.set_mode_if_any(mode);
                 reply
             }
@@ -144,14 +145,14 @@ impl<S: DeviceStore> Handler<S> {
             self.new }
     {
         let Ok(telegram) = read(packet) else {
-            let tried = self.try_other(packet);
-            let (reply, disposition) = self.packet_reply(tried);
-            let line = line_of_other(packet, disposition);
+            let tried = self.try_non_telegram(packet);
+            let (reply, disposition) = self.finish_packet(tried);
+            let line = line_without_telegram(packet, disposition);
             return HandledPacket { reply, line };
         };
         let teach = classify(&telegram);
         let tried = self.try_telegram(&telegram, &teach);
-        let (reply, disposition) = self.packet_reply(tried);
+        let (reply, disposition) = self.finish_packet(tried);
         let line = line_of_telegram(telegram, &teach, disposition);
         HandledPacket { reply, line }
     }
@@ -161,6 +162,6 @@ impl<S: DeviceStore> Handler<S> {
         ensures { Handles S.store_state self.old (Ordered line.now ∷ []) (answer_of result ∷ []) self.new }
     {
         let tried = self.try_line(line);
-        self.order_reply(tried)
+        self.finish_order(tried)
     }
 }

@@ -4,22 +4,22 @@ ghost use Rattle.esp3_frames.specs.Frames.{packets_in, rest_of};
 ghost use Rattle.learned_devices.specs.Devices.{Devices};
 ghost use Rattle.gateway_core.specs.SessionCalls.{CallsAreSessions, ClosesEndSessions, CrashesEndSessions};
 ghost use Rattle.gateway_core.specs.Calls.{CallsAreARun, BytesOneByOne};
-ghost use Rattle.gateway_core.specs.Counting.{ExplanationsAreCounted, AppliedAreCounted};
+ghost use Rattle.gateway_core.specs.Counting.{ExplanationsAreCounted, AppliedPacketsAreCounted};
 ghost use Rattle.gateway_core.specs.Events.{AnswersDoNotDependOnChunks, InputsDoNotDependOnChunks, Event, new_packets};
 ghost use Rattle.gateway_core.specs.Events.{bytes_in, inputs_of};
 ghost use Rattle.gateway_core.specs.Explaining.{ExplanationsAreTrue};
 ghost use Rattle.gateway_core.specs.Handling.{Handles, HandlerValue};
 ghost use Rattle.gateway_core.specs.Sessions.{UpdatesSurviveRestarts};
 ghost use Rattle.gateway_core.specs.Prefixes.{SessionsLeavePrefixes, CrashStatesArePrefixes, AcknowledgedAreInPrefix};
-ghost use Rattle.gateway_core.specs.Ranges.{InputsAreOfBytes, LeavesInRange, StaysInRange};
+ghost use Rattle.gateway_core.specs.Ranges.{InputsAreOfBytes, SessionsLeaveDevicesInRange, StaysInRange};
 ghost use Rattle.gateway_core.specs.Ranges.{ReportsInRange};
-ghost use Rattle.gateway_core.specs.Run.{FailuresAreCounted, SameFailures};
+ghost use Rattle.gateway_core.specs.Run.{FailuresAreCounted, SameFailuresGiveSameAnswers};
 ghost use Rattle.gateway_core.specs.Step.{Answer, Input};
 ghost use Rattle.gateway_core.specs.CrashStates.{IsOneOf, CrashConsistencyComposes};
-ghost use Rattle.gateway_core.specs.Reporting.{UpdatesAreReported, LabelsAreAcknowledged, RadioIsReported};
+ghost use Rattle.gateway_core.specs.Reporting.{UpdatesAreReported, AnswersToLabelsAreTrue, RadioIsReplyOrOrdered};
 ghost use Rattle.gateway_core.specs.Reporting.{TeachLinesAreTrue};
-ghost use Rattle.gateway_core.specs.Acknowledgements.{AcknowledgedIsDurable};
-ghost use Rattle.gateway_core.specs.Windows.{PacketsChangeInWindows};
+ghost use Rattle.gateway_core.specs.Acknowledgements.{AcceptedOrDeletedIsDurable};
+ghost use Rattle.gateway_core.specs.Windows.{PacketsLearnOnlyInWindows};
 
 use learned_devices::DeviceStore;
 
@@ -45,8 +45,8 @@ pub fn handles_join<S: DeviceStore>()
 {}
 
 /// If the same inputs fail for the same causes, at their commits or before, the answers are the same.
-pub fn same_failures()
-    ensures { SameFailures }
+pub fn same_failures_give_same_answers()
+    ensures { SameFailuresGiveSameAnswers }
 {}
 
 /// If the same inputs fail for the same causes, the answers do not depend on how the bytes between two lines are split
@@ -62,8 +62,8 @@ pub fn failures_are_counted()
 
 /// An applied packet increments one counter, that of teach-in exactly when it is answered with a teach line. A line
 /// increments none, even if it is answered with a teach line.
-pub fn applied_are_counted()
-    ensures { AppliedAreCounted }
+pub fn applied_packets_are_counted()
+    ensures { AppliedPacketsAreCounted }
 {}
 
 /// One line explains each packet, applied or failed, and gives the reason in one word: `read` exactly when the desk
@@ -125,8 +125,8 @@ pub fn updates_survive_restarts()
 /// An update acknowledged with `accepted` or `deleted` holds in every later session, until an input changes that
 /// sender otherwise. If the devices found are in range and the data of packets are bytes, the device is in range, and a
 /// line in range is the line of this device.
-pub fn acknowledged_is_durable()
-    ensures { AcknowledgedIsDurable }
+pub fn accepted_or_deleted_is_durable()
+    ensures { AcceptedOrDeletedIsDurable }
 {}
 
 /// The packets of a stream of bytes consist of bytes. Then a state in range stays in range, a session that found
@@ -135,8 +135,8 @@ pub fn acknowledged_is_durable()
 pub fn numbers_stay_in_range()
     ensures items { InputsAreOfBytes }
     ensures stays { StaysInRange }
-    ensures leaves { LeavesInRange }
-    ensures tells { ReportsInRange }
+    ensures leaves { SessionsLeaveDevicesInRange }
+    ensures reports { ReportsInRange }
 {}
 
 /// A crash state is what was known after a prefix of the inputs, perhaps with the update of the next one, if the call
@@ -167,36 +167,36 @@ pub fn updates_are_reported()
 
 /// A line that spells a label labels a learned device if it is answered `ok`; if it is answered `unknown_device`, no
 /// such device is learned, and nothing changes. If it is applied and not too long, it gets one of these answers.
-pub fn labels_are_acknowledged()
-    ensures { LabelsAreAcknowledged }
+pub fn answers_to_labels_are_true()
+    ensures { AnswersToLabelsAreTrue }
 {}
 
 /// Only an applied input sends bytes by radio. Those of a packet are the reply to its query, with the outcome of the
 /// teach line, in a window for all senders: to a 4BS query in the mode `LearnAnswer`, or to a UTE query that waits for
 /// a reply. Those of a line are the packet of its order, which is answered `ok`.
-pub fn radio_is_reported()
-    ensures { RadioIsReported }
+pub fn radio_is_reply_or_ordered()
+    ensures { RadioIsReplyOrOrdered }
 {}
 
 /// A packet changes the devices only in an open window: it learns its sender, or forgets its sender if it is a query
 /// for that and the window is for all senders. It changes the mode only if it learns and the window is for one sender,
 /// which then closes.
-pub fn packets_change_in_windows()
-    ensures { PacketsChangeInWindows }
+pub fn packets_learn_only_in_windows()
+    ensures { PacketsLearnOnlyInWindows }
 {}
 
 /// After the calls of a session, a crash leaves what a session may leave.
-pub fn calls_are_sessions<S: DeviceStore>()
+pub fn crash_after_calls_is_end<S: DeviceStore>()
     ensures { CallsAreSessions S.store_state }
 {}
 
 /// From the write of the next input on, also after its commit and before its answer, a crash leaves what a session
 /// that crashed in that input may leave.
-pub fn crashes_end_sessions<S: DeviceStore>()
+pub fn crash_in_input_is_end<S: DeviceStore>()
     ensures { CrashesEndSessions S.store_state }
 {}
 
 /// A session leaves what is known at its end, however it is closed.
-pub fn closes_end_sessions<S: DeviceStore>()
+pub fn closed_session_leaves_last<S: DeviceStore>()
     ensures { ClosesEndSessions S.store_state }
 {}

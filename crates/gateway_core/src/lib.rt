@@ -19,5 +19,5 @@ pub use erp1_telegrams::is_base_id;
 pub use gateway::{GatewayOver, StartFault};
 pub use handled::HandledPacket;
 pub use learned_devices::DeviceStore;
-pub use reply::{Desk, Reply};
+pub use reply::{DeskText, Reply};
 pub use sqlite_gateway::Gateway;

@@ -7,7 +7,7 @@ use json_lines::Line;
 
 /// The text for the desk.
 #[derive(Drop)]
-pub enum Desk {
+pub enum DeskText {
     /// Nothing.
     Nothing,
     /// A text that never changes.
@@ -22,18 +22,18 @@ pub struct Reply {
     /// The bytes to send by radio, as a serial packet.
     pub radio: Option<ArrayVec<u8, 64>>,
     /// The text for the desk.
-    pub desk: Desk,
+    pub desk: DeskText,
 }
 
-impl Desk {
+impl DeskText {
     /// The bytes of the text for the desk: no line, one, or several.
     pub fn as_bytes(&self) -> &[u8]
         ensures { result.now ≡ desk_bytes self.now }
     {
         match self {
-            Desk::Nothing => &[],
-            Desk::Fixed(text) => text,
-            Desk::Owned(line) => line.as_bytes(),
+            DeskText::Nothing => &[],
+            DeskText::Fixed(text) => text,
+            DeskText::Owned(line) => line.as_bytes(),
         }
     }
 }

@@ -5,7 +5,7 @@ use Rattle.gateway_core.specs.Step.{Input, Answer}
 use Rattle.gateway_core.specs.Handling.{HandlerValue, Handles}
 use Rattle.gateway_core.proofs.ForCallers.{handles-nothing, handles-append}
 use Rattle.gateway_loop.specs.OutputSpecs.{OutputSpec}
-use Rattle.gateway_loop.specs.Processing.{Answers, AnswersPart}
+use Rattle.gateway_loop.specs.Processing.{Answers, LastAnswerCutShort}
 
 module _ {S : Type 0} (stored : S → DeviceStoreState) {O : Type 0} (output : OutputSpec O) where
   pub answers_nothing : (state : HandlerValue S) (o : O) → Answers stored state state [] (output.puts o o)
@@ -28,14 +28,15 @@ module _ {S : Type 0} (stored : S → DeviceStoreState) {O : Type 0} (output : O
 
   pub part_one : (old new : HandlerValue S) (item : Input) (answer : Answer) (o now : O)
       → Handles stored old (item ∷ []) (answer ∷ []) new → output.breaks o now [] answer
-      → AnswersPart stored old new (item ∷ []) (output.breaks o now)
+      → LastAnswerCutShort stored old new (item ∷ []) (output.breaks o now)
   part_one old new item answer o now handled out =
       record { answers = []; last = answer; handled = handled; out = out }
 
   -- whole answers, and then one that was not written completely
   pub answers-part : (old mid new : HandlerValue S) (items more : List Input) (o mids now : O)
-      → Answers stored old mid items (output.puts o mids) → AnswersPart stored mid new more (output.breaks mids now)
-      → AnswersPart stored old new (items ++ more) (output.breaks o now)
+      → Answers stored old mid items (output.puts o mids)
+      → LastAnswerCutShort stored mid new more (output.breaks mids now)
+      → LastAnswerCutShort stored old new (items ++ more) (output.breaks o now)
   answers-part old mid new items more o mids now first second = record {
     answers = first.answers ++ second.answers;
     last = second.last;

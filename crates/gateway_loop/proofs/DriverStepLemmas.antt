@@ -16,7 +16,7 @@ use Rattle.gateway_core.proofs.ForCallers.{rest_behind}
 use Rattle.json_lines.specs.Counts.{saturated_sum}
 use Rattle.gateway_loop.specs.OutputSpecs.{OutputSpec}
 use Rattle.gateway_loop.specs.declared.driver.Driver.{Driver}
-use Rattle.gateway_loop.specs.Processing.{IsDrained, IsEventPrefix, Answers, AnswersPart}
+use Rattle.gateway_loop.specs.Processing.{HasNoReadyPacket, IsWholeOrChunkPrefix, Answers, LastAnswerCutShort}
 use Rattle.gateway_loop.specs.private.DriverSteps.{Drains, DrainsPart, DriverBreaks, Takes}
 use Rattle.gateway_core.proofs.ForCallers.{count_on}
 use Rattle.gateway_loop.proofs.AnswerLemmas.{answers_nothing, answers_one, answers-append, part_one, answers-part}
@@ -87,12 +87,13 @@ module _ {O S : Type 0} (stored : S → DeviceStoreState) (output : OutputSpec O
   -- ---- a chunk
 
   -- bytes, and the packets that they make ready
-  inputs_of-bytes : (old mid : GatewayValue S) (run : List ℕ) → IsDrained old → Transition stored old (Bytes run) mid
+  inputs_of-bytes : (old mid : GatewayValue S) (run : List ℕ) → HasNoReadyPacket old
+      → Transition stored old (Bytes run) mid
       → inputs_of old.rest (Chunk run ∷ []) ≡ map Received mid.ready
   inputs_of-bytes old mid run idle (none, state, ready, rest) =
       inputs_of-chunk old.rest run idle.rest ∙ ap (λ (ps : List Packet). map Received ps) (sym ready)
 
-  pub takes_nothing : (old : Driver O S) → IsDrained old.gateway.now → old.items < 2 ^ 64
+  pub takes_nothing : (old : Driver O S) → HasNoReadyPacket old.gateway.now → old.items < 2 ^ 64
       → Takes stored output old old (Chunk [] ∷ [])
   takes_nothing old idle fits =
       let rest = old.gateway.now.rest in
@@ -106,7 +107,7 @@ module _ {O S : Type 0} (stored : S → DeviceStoreState) (output : OutputSpec O
       }
 
   -- a run of bytes, and the packets that it completes
-  pub takes_run : (old new : Driver O S) (mid : GatewayValue S) (run : List ℕ) → IsDrained old.gateway.now
+  pub takes_run : (old new : Driver O S) (mid : GatewayValue S) (run : List ℕ) → HasNoReadyPacket old.gateway.now
       → Transition stored old.gateway.now (Bytes run) mid → new.gateway.now.ready ≡ []
       → Drains stored mid new.gateway.now (output.puts old.reply_sink new.reply_sink) old.items new.items
       → Takes stored output old new (Chunk run ∷ [])
@@ -155,7 +156,7 @@ module _ {O S : Type 0} (stored : S → DeviceStoreState) (output : OutputSpec O
 
   -- an answer is not written completely, at the packets of a run of bytes
   pub breaks_in_run : (old new : Driver O S) (mid : GatewayValue S) (run later chunk : List ℕ)
-      → IsDrained old.gateway.now
+      → HasNoReadyPacket old.gateway.now
       → Transition stored old.gateway.now (Bytes run) mid
       → DrainsPart stored mid new.gateway.now (output.breaks old.reply_sink new.reply_sink)
       → chunk ≡ run ++ later → DriverBreaks stored output old new [] (Chunk chunk)
@@ -176,13 +177,14 @@ module _ {O S : Type 0} (stored : S → DeviceStoreState) (output : OutputSpec O
         rest = drained.rest ∙ moved.3 ∙ ap (λ w. rest_of (rest ++ w)) (sym (append-nil run));
         answered =
             let P : HandlerValue S
-            → Type 0 = λ s. AnswersPart stored s ended.handler new_packets (output.breaks old.reply_sink new.reply_sink)
+            → Type 0 = λ s. LastAnswerCutShort stored s ended.handler new_packets
+            (output.breaks old.reply_sink new.reply_sink)
             in
             subst P moved.1 drained.answered;
       }
 
   -- a prefix of a chunk is a chunk
-  begun-chunk : (chunk : List ℕ) (begun : Event) → IsEventPrefix (Chunk chunk) begun
+  begun-chunk : (chunk : List ℕ) (begun : Event) → IsWholeOrChunkPrefix (Chunk chunk) begun
       → (run : List ℕ) × (begun ≡ Chunk run) × (later : List ℕ) × (chunk ≡ run ++ later)
   begun-chunk chunk (Chunk run) (later, is) = (run, refl, later, is)
   begun-chunk chunk (Line line) begins = absurd begins
@@ -224,10 +226,11 @@ module _ {O S : Type 0} (stored : S → DeviceStoreState) (output : OutputSpec O
 
   -- ---- an order
 
-  rest_stays : (old new : GatewayValue S) → IsDrained old → new.rest ≡ old.rest → new.rest ≡ rest_of (old.rest ++ [])
+  rest_stays : (old new : GatewayValue S) → HasNoReadyPacket old → new.rest ≡ old.rest
+      → new.rest ≡ rest_of (old.rest ++ [])
   rest_stays old new idle e = e ∙ (frames_of-may_become old.rest idle.rest).1 ∙ ap rest_of (sym (append-nil old.rest))
 
-  pub takes_order : (old new : Driver O S) (line : List ℕ) (answer : Answer) → IsDrained old.gateway.now
+  pub takes_order : (old new : Driver O S) (line : List ℕ) (answer : Answer) → HasNoReadyPacket old.gateway.now
       → Transition stored old.gateway.now (Order line answer) new.gateway.now
       → output.puts old.reply_sink new.reply_sink (answer ∷ []) → new.items ≡ saturated_sum old.items 1
       → Takes stored output old new (Line line ∷ [])
@@ -242,7 +245,7 @@ module _ {O S : Type 0} (stored : S → DeviceStoreState) (output : OutputSpec O
     counted = counted;
   }
 
-  pub breaks_at_order : (old new : Driver O S) (line : List ℕ) (answer : Answer) → IsDrained old.gateway.now
+  pub breaks_at_order : (old new : Driver O S) (line : List ℕ) (answer : Answer) → HasNoReadyPacket old.gateway.now
       → Transition stored old.gateway.now (Order line answer) new.gateway.now
       → output.breaks old.reply_sink new.reply_sink [] answer
       → DriverBreaks stored output old new [] (Line line)

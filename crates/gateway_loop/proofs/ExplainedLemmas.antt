@@ -3,8 +3,8 @@ use Rattle.std.proofs.Common.{◌≡◌, ℕ, List, [], ◌∷◌, ◌++◌, Opt
 use Rattle.std.specs.Io.KnownBytes.{Appends}
 use Rattle.std.specs.List.{flat_map}
 use Rattle.gateway_core.specs.Step.{Answer}
-use Rattle.gateway_loop.specs.Explained.{IsExplained, IsExplainedAfter, ExplanationsStandApart}
-use Rattle.gateway_loop.specs.Written.{radio_text}
+use Rattle.gateway_loop.specs.Explained.{DifferByExplanations, DifferByExplanationsAfter, ExplanationsStandApart}
+use Rattle.gateway_loop.specs.Written.{radio_chunk_line}
 
 -- each answer has some text before the one for the desk
 module _ (before : Answer → List ℕ) where
@@ -15,7 +15,7 @@ module _ (before : Answer → List ℕ) where
   explained_of answer = before answer ++ (answer.explained ++ answer.desk)
 
   explained-text : (answers : List Answer)
-      → IsExplained before answers (flat_map plain_of answers) (flat_map explained_of answers)
+      → DifferByExplanations before answers (flat_map plain_of answers) (flat_map explained_of answers)
   explained-text [] = (refl, refl)
   explained-text (answer ∷ answers) =
       let front = before answer in
@@ -31,7 +31,8 @@ module _ (before : Answer → List ℕ) where
       )
 
   behind : (answers : List Answer) (held plain explained : List ℕ) → plain ≡ held ++ flat_map plain_of answers
-      → explained ≡ held ++ flat_map explained_of answers → IsExplainedAfter before answers held plain explained
+      → explained ≡ held ++ flat_map explained_of answers
+      → DifferByExplanationsAfter before answers held plain explained
   behind answers held plain explained first second = record {
     added = flat_map plain_of answers;
     more = flat_map explained_of answers;
@@ -48,7 +49,7 @@ appended old new held now text is so grown = rw (is, so) at grown
 pub explanations_stand_apart : ExplanationsStandApart
 explanations_stand_apart = record {
   replay = λ answers held plain explained first second.
-      behind (λ answer. radio_text answer.radio) answers held plain explained first second;
+      behind (λ answer. radio_chunk_line answer.radio) answers held plain explained first second;
   desk = λ answers old new other held plain explained one two before is so.
       behind (λ answer. []) answers held plain explained
       (appended old.1.held new.1.held held plain _ before is one.1.text)

@@ -10,7 +10,7 @@ use Rattle.std.proofs.lemmas.List.Concat.{flat_map-append}
 use Rattle.learned_devices.specs.DeviceStoreState.{DeviceStoreState}
 use Rattle.learned_devices.specs.Devices.{Devices}
 use Rattle.gateway_core.specs.Step.{Input, Answer, Received, Ordered}
-use Rattle.gateway_core.specs.CrashStates.{IsCrashConsistent, no_crash_states, crash_states}
+use Rattle.gateway_core.specs.CrashStates.{IsCrashConsistent, nothing_committed_yet, crash_states}
 use Rattle.gateway_core.specs.Sessions.{Session, initial_state}
 use Rattle.gateway_core.specs.Handling.{HandlerValue, Handles, HasState}
 use Rattle.gateway_core.specs.Calls.{GatewayValue}
@@ -23,15 +23,16 @@ use Rattle.gateway_loop.specs.declared.runs.RunFault.{RunFault}
 use Rattle.gateway_loop.specs.declared.runs.RunFault.TheVariants.{Read, Write, TooManyTurns}
 use Rattle.gateway_loop.specs.declared.runs.Summary.{Summary}
 use Rattle.gateway_loop.specs.Headline.{AsSpecified, BrokenOff, IsNew, IsPrefix, ReplaySpecified}
-use Rattle.gateway_loop.specs.Headline.{ReplaysAsSpecified, ServesAsSpecified, lines_of, radio_of}
+use Rattle.gateway_loop.specs.Headline.{ReplaysAsSpecified, ServesAsSpecified, all_desk_text, all_radio_bytes}
 use Rattle.gateway_loop.specs.LiveGateway.{BreaksTurn, Serves, ServesUntil, ServesUntilRead, ServesUntilWrite}
-use Rattle.gateway_loop.specs.LiveGateway.{LiveValue, NextReadFails, events_with, live_value, serial_reads_with}
-use Rattle.gateway_loop.specs.Processing.{Breaks, IsEventPrefix}
+use Rattle.gateway_loop.specs.LiveGateway.{LiveValue, NextReadFails, events_and_chunk, live_value}
+use Rattle.gateway_loop.specs.LiveGateway.{serial_reads_and_chunk}
+use Rattle.gateway_loop.specs.Processing.{Breaks, IsWholeOrChunkPrefix}
 use Rattle.gateway_loop.specs.Script.{script, with_lf}
 use Rattle.gateway_loop.specs.ScriptReplay.{Replays, ReplaysEnded, ReplaysUntil, ReplaysUntilWrite, replay_value}
 use Rattle.gateway_loop.specs.Turns.{Turn, desk_reads, events_of_turns, serial_reads}
 use Rattle.gateway_loop.specs.LiveOutputs.{radio_bytes, live_output}
-use Rattle.gateway_loop.specs.Written.{WritesPart, desk_text, text_of, written}
+use Rattle.gateway_loop.specs.Written.{AppendsCutReplayText, desk_text, text_of, written}
 use Rattle.gateway_loop.proofs.LineLemmas.{script-behind}
 use Rattle.gateway_loop.proofs.TurnLemmas.{events_of_piece, serial_reads-more, desk_reads-more}
 
@@ -86,13 +87,13 @@ with_piece read None = read
 with_piece read (Some chunk) = read ++ record { chunk = chunk; desk = [] } ∷ []
 
 events-with_piece : (read : List Turn) (chunk : Option (List ℕ))
-    → events_of_turns (with_piece read chunk) ≡ events_with read chunk
+    → events_of_turns (with_piece read chunk) ≡ events_and_chunk read chunk
 unfolding with_piece
 events-with_piece read None = refl
 events-with_piece read (Some chunk) = events_of_piece read chunk
 
 serial_reads-with_piece : (read : List Turn) (chunk : Option (List ℕ))
-    → serial_reads (with_piece read chunk) ≡ serial_reads_with read chunk
+    → serial_reads (with_piece read chunk) ≡ serial_reads_and_chunk read chunk
 unfolding with_piece
 serial_reads-with_piece read None = refl
 serial_reads-with_piece read (Some chunk) = serial_reads-more read (record { chunk = chunk; desk = [] })
@@ -112,7 +113,7 @@ record BringsMore (items started : List Input) : Type 0 where
   more : List Input
   whole : items ≡ started ++ more
 
-begun_brings : (s : List ℕ) (event started : Event) (later : List Event) → IsEventPrefix event started
+begun_brings : (s : List ℕ) (event started : Event) (later : List Event) → IsWholeOrChunkPrefix event started
     → BringsMore (inputs_of s (event ∷ later)) (inputs_of s (started ∷ []))
 begun_brings s (Chunk bytes) (Chunk some) later (m, is) =
     let first = map Received (new_packets s some) in
@@ -160,7 +161,7 @@ module _ {S : Type 0} (state : S → DeviceStoreState) where
     begins_at = (
       ap (λ (v : GatewayValue S). v.handler.base) began.value,
       ap (λ (v : GatewayValue S). v.handler.mode) began.value,
-      began.known,
+      began.holds_found,
       ap (λ (v : GatewayValue S). v.handler.counts) began.value,
     )
 
@@ -175,9 +176,9 @@ module _ {S : Type 0} (state : S → DeviceStoreState) where
           last = went.last;
           run = went.run;
           are_out = is_out;
-          known = went.at;
-          registries = handled.registries clean began.registries;
-          left = λ left may.
+          has_last_state = went.at;
+          recoverable = handled.recoverable clean began.recoverable;
+          crash_leaves_prefix = λ left may.
               let session : Session = record {
                 base = base;
                 found = found;
@@ -189,8 +190,8 @@ module _ {S : Type 0} (state : S → DeviceStoreState) where
                 left = left;
               } in
               let safe : IsCrashConsistent (λ d. d ≡ found)
-              (crash_states no_crash_states (initial_state base found) items went.results) left =
-              safe-weaker (state old.handler.registry).may_recover (λ d. d ≡ found) began.left _ left
+              (crash_states nothing_committed_yet (initial_state base found) items went.results) left =
+              safe-weaker (state old.handler.registry).may_recover (λ d. d ≡ found) began.crash_leaves_found _ left
               (went.crash left may) in
               elim (sessions_leave_prefixes session (record { run = went.run; safe = safe })) [
                 | inl is ↦ is
@@ -254,7 +255,7 @@ module _ {S : Type 0} (state : S → DeviceStoreState) where
         let out = λ (answers : List Answer). text ≡ written explains answers in
         record {
           text = text;
-          is_held = grown held text (sink.held old.2) (sink.held new.2) held_is its.out;
+          text_is_appended = grown held text (sink.held old.2) (sink.held new.2) held_is its.out;
           specified = (
             gone.is ∙ ap Some ended,
             subst (λ i. AsSpecified state base found (inputs_of [] (script i)) out new.0.handler) whole
@@ -277,7 +278,7 @@ module _ {S : Type 0} (state : S → DeviceStoreState) where
         ∙ append_assoc ended done.processed.is.tail gone.rest) ∙ script-behind ended more done.processed.is.ends in
         record {
           text = text;
-          is_held = grown held text (sink.held old.2) (sink.held new.2) held_is its.out;
+          text_is_appended = grown held text (sink.held old.2) (sink.held new.2) held_is its.out;
           specified = played_first base found old.0 new.0.handler began clean (script ended) (script more)
               (script input)
               whole its.answers (λ answers. IsPrefix text (written explains answers)) its.handled (whole_prefix text);
@@ -285,7 +286,7 @@ module _ {S : Type 0} (state : S → DeviceStoreState) where
 
     -- an answer to an input of one event
     event_broken : (events : List Event) (event : Event)
-        → Breaks state old.0 new.0 events event (WritesPart explains (sink.held old.2) (sink.held new.2))
+        → Breaks state old.0 new.0 events event (AppendsCutReplayText explains (sink.held old.2) (sink.held new.2))
         → (base : ℕ) (found : Devices) (input held : List ℕ) (later : List Event) → IsNew state base found old.0
         → sink.held old.2 ≡ Some held → (state new.0.handler.registry).honest
         → script input ≡ events ++ event ∷ later
@@ -297,7 +298,7 @@ module _ {S : Type 0} (state : S → DeviceStoreState) where
         let text = written explains its.answers ++ part.part in
         record {
           text = text;
-          is_held = grown held text (sink.held old.2) (sink.held new.2) held_is part.grown;
+          text_is_appended = grown held text (sink.held old.2) (sink.held new.2) held_is part.grown;
           specified = broken_off base found old.0 new.0 events event later (script input) began clean whole b
               (λ answers. IsPrefix text (written explains answers))
               (part_prefix (text_of explains) its.answers its.last part.part part.missing part.whole);
@@ -346,8 +347,8 @@ module _ {S : Type 0} (state : S → DeviceStoreState) where
         let of_serial = lost serial _ (serial_in.left old.1) (serial_in.left new.1) serial_is done.serial.gave.all in
         let of_desk = lost desk _ (desk_in.left old.2) (desk_in.left new.2) desk_is done.desk.gave.all in
         let its = done.processed.answered in
-        let radio = radio_of its.answers in
-        let lines = lines_of explains its.answers in
+        let radio = all_radio_bytes its.answers in
+        let lines = all_desk_text explains its.answers in
         record {
           turns = done.read;
           serial_rest = of_serial.rest;
@@ -364,7 +365,8 @@ module _ {S : Type 0} (state : S → DeviceStoreState) where
             done.serial,
             done.desk,
             processed base found old.0 new.0.handler began clean (events_of_turns done.read) its.answers
-                (λ answers. (radio ≡ radio_of answers) × (lines ≡ lines_of explains answers)) its.handled (refl, refl),
+                (λ answers. (radio ≡ all_radio_bytes answers) × (lines ≡ all_desk_text explains answers)) its.handled
+                (refl, refl),
           );
         }
 
@@ -374,8 +376,8 @@ module _ {S : Type 0} (state : S → DeviceStoreState) where
       lines : List ℕ
       radio_out : Appends (serial_out.held old.3) (serial_out.held new.3) radio
       lines_out : Appends (desk_out.held old.4) (desk_out.held new.4) lines
-      radio_is : IsPrefix radio (radio_of (answers ++ last ∷ []))
-      lines_are : IsPrefix lines (lines_of explains (answers ++ last ∷ []))
+      radio_is : IsPrefix radio (all_radio_bytes (answers ++ last ∷ []))
+      lines_are : IsPrefix lines (all_desk_text explains (answers ++ last ∷ []))
 
     part_is_out : (answers : List Answer) (last : Answer) → (live_output explains).breaks (at old).sinks (at new).sinks
         answers last
@@ -386,8 +388,8 @@ module _ {S : Type 0} (state : S → DeviceStoreState) where
         elim breaks [
           | inl (radio, lines) ↦
               record {
-                radio = radio_of answers ++ radio.text.part;
-                lines = lines_of explains answers;
+                radio = all_radio_bytes answers ++ radio.text.part;
+                lines = all_desk_text explains answers;
                 radio_out = radio.text.grown;
                 lines_out = lines.text;
                 radio_is = part_prefix of_radio answers last radio.text.part radio.text.missing radio.text.whole;
@@ -395,11 +397,11 @@ module _ {S : Type 0} (state : S → DeviceStoreState) where
               }
           | inr (radio, lines) ↦
               record {
-                radio = radio_of (answers ++ last ∷ []);
-                lines = lines_of explains answers ++ lines.text.part;
+                radio = all_radio_bytes (answers ++ last ∷ []);
+                lines = all_desk_text explains answers ++ lines.text.part;
                 radio_out = radio.text;
                 lines_out = lines.text.grown;
-                radio_is = whole_prefix (radio_of (answers ++ last ∷ []));
+                radio_is = whole_prefix (all_radio_bytes (answers ++ last ∷ []));
                 lines_are = part_prefix of_lines answers last lines.text.part lines.text.missing lines.text.whole;
               }
         ]
@@ -407,17 +409,17 @@ module _ {S : Type 0} (state : S → DeviceStoreState) where
     -- what was read of the two sources before a fault
     abbrev Took : List Turn → Option (List ℕ) → Type 0
     Took read chunk =
-        Consumes (serial_in.left old.1) (serial_in.left new.1) (concat (serial_reads_with read chunk))
+        Consumes (serial_in.left old.1) (serial_in.left new.1) (concat (serial_reads_and_chunk read chunk))
         × Consumes (desk_in.left old.2) (desk_in.left new.2) (concat (desk_reads read))
 
     abbrev Out : List ℕ → List ℕ → List Answer → Type 0
-    Out radio lines answers = IsPrefix radio (radio_of answers) × IsPrefix lines (lines_of explains answers)
+    Out radio lines answers = IsPrefix radio (all_radio_bytes answers) × IsPrefix lines (all_desk_text explains answers)
 
     until_fault : (fault : RunFault) (count : ℕ) (read : List Turn) (chunk : Option (List ℕ)) (radio lines : List ℕ)
         → Took read chunk → Appends (serial_out.held old.3) (serial_out.held new.3) radio
         → Appends (desk_out.held old.4) (desk_out.held new.4) lines
         → ((base : ℕ) (found : Devices) → IsNew state base found old.0 → (state new.0.handler.registry).honest
-        → BrokenOff state base found (inputs_of [] (events_with read chunk)) (Out radio lines) new.0.handler)
+        → BrokenOff state base found (inputs_of [] (events_and_chunk read chunk)) (Out radio lines) new.0.handler)
         → ServesAsSpecified state serial_in desk_in serial_out desk_out explains (Err fault) old new count
     until_fault fault count read chunk radio lines took radio_out lines_out broken base found serial desk sent printed
         began serial_is desk_is sent_is printed_is clean =
@@ -449,12 +451,12 @@ module _ {S : Type 0} (state : S → DeviceStoreState) where
         → ServesAsSpecified state serial_in desk_in serial_out desk_out explains (Err Read) old new count
     read_failed count done =
         let its = done.processed.answered in
-        until_fault Read count done.read done.chunk (radio_of its.answers) (lines_of explains its.answers)
+        until_fault Read count done.read done.chunk (all_radio_bytes its.answers) (all_desk_text explains its.answers)
         (took done.read done.chunk done.fails) its.out.0.text its.out.1.text
         (λ base found began clean. played_first base found old.0 new.0.handler began clean
-        (events_with done.read done.chunk) [] (events_with done.read done.chunk)
-        (sym (append-nil (events_with done.read done.chunk))) its.answers _ its.handled
-        (whole_prefix (radio_of its.answers), whole_prefix (lines_of explains its.answers)))
+        (events_and_chunk done.read done.chunk) [] (events_and_chunk done.read done.chunk)
+        (sym (append-nil (events_and_chunk done.read done.chunk))) its.answers _ its.handled
+        (whole_prefix (all_radio_bytes its.answers), whole_prefix (all_desk_text explains its.answers)))
       where
         took : (read : List Turn) (chunk : Option (List ℕ)) → NextReadFails (at old) (at new) read chunk → Took read
             chunk
@@ -470,21 +472,22 @@ module _ {S : Type 0} (state : S → DeviceStoreState) where
 
         at_event : (read : List Turn) (chunk : Option (List ℕ)) → Took read chunk → (events later : List Event)
             (event : Event)
-            → events_with read chunk ≡ events ++ event ∷ later → Breaks state old.0 new.0 events event breaks
+            → events_and_chunk read chunk ≡ events ++ event ∷ later → Breaks state old.0 new.0 events event breaks
             → ServesAsSpecified state serial_in desk_in serial_out desk_out explains (Err Write) old new count
         at_event read chunk took events later event whole b =
             let part = part_is_out b.answered.answers b.answered.last b.answered.out in
             until_fault Write count read chunk part.radio part.lines took part.radio_out part.lines_out
-            (λ base found began clean. broken_off base found old.0 new.0 events event later (events_with read chunk)
+            (λ base found began clean. broken_off base found old.0 new.0 events event later
+            (events_and_chunk read chunk)
             began
             clean whole b (Out part.radio part.lines) (part.radio_is, part.lines_are))
 
         by : (chunk : Option (List ℕ))
-            → Consumes (serial_in.left old.1) (serial_in.left new.1) (concat (serial_reads_with done.read chunk))
+            → Consumes (serial_in.left old.1) (serial_in.left new.1) (concat (serial_reads_and_chunk done.read chunk))
             → BreaksTurn state old.0 new.0 done.read chunk breaks
             → ServesAsSpecified state serial_in desk_in serial_out desk_out explains (Err Write) old new count
         by None serial broken =
-            let events = events_with broken.before (Some broken.last.chunk) ++ broken.done in
+            let events = events_and_chunk broken.before (Some broken.last.chunk) ++ broken.done in
             at_event done.read None (serial, done.desk.gave.all) events broken.later broken.order broken.whole
             broken.broken
         by (Some chunk) serial broken =

@@ -8,9 +8,9 @@ use Rattle.std.proofs.lemmas.List.Splits.{slice_split_none, slice_split_at, leng
 use Rattle.std.proofs.lemmas.Bool.{ne_eqb}
 use Rattle.std.proofs.lemmas.Bool.Decides.{eqb_tells}
 use Rattle.gateway_core.specs.Events.{Event}
-use Rattle.gateway_loop.specs.Script.{HasNoLf, event_of, script, with_lf}
+use Rattle.gateway_loop.specs.Script.{HasNoLf, event_of_script_line, script, with_lf}
 use Rattle.gateway_loop.specs.private.Lines.{events_by}
-use Rattle.gateway_loop.specs.declared.line_loop.Lines.TheVariants.{ScriptLines}
+use Rattle.gateway_loop.specs.declared.line_loop.LineSource.TheVariants.{ScriptLines}
 
 lines_of_parts-cons : (x : List ℕ) (parts : List (List ℕ)) → 0 < length parts
     → lines_of_parts (x ∷ parts) ≡ strip_carriage_return x ∷ lines_of_parts parts
@@ -28,17 +28,19 @@ lines-first line more one =
 
 -- the first line of a script that LF ends
 pub script-first : (line more : List ℕ) → HasNoLf line
-    → script (line ++ 10 ∷ more) ≡ event_of (strip_carriage_return line) ∷ script more
-script-first line more one = ap (λ (ls : List (List ℕ)). map event_of ls) (lines-first line more one)
+    → script (line ++ 10 ∷ more) ≡ event_of_script_line (strip_carriage_return line) ∷ script more
+script-first line more one = ap (λ (ls : List (List ℕ)). map event_of_script_line ls) (lines-first line more one)
 
 -- the line of a script without LF
-pub script-last : (tail : List ℕ) → HasNoLf tail → script tail ≡ (if length tail == 0 then [] else event_of tail ∷ [])
+pub script-last : (tail : List ℕ) → HasNoLf tail
+    → script tail ≡ (if length tail == 0 then [] else event_of_script_line tail ∷ [])
 script-last tail one =
-    ap (λ parts. map event_of (lines_of_parts parts)) (slice_split_none (λ b. b == 10) tail (test_of_one_line tail one))
+    ap (λ parts. map event_of_script_line (lines_of_parts parts))
+    (slice_split_none (λ b. b == 10) tail (test_of_one_line tail one))
     ∙ by (length tail == 0) tail
   where
     by : (b : Bool) (tail : List ℕ)
-        → map event_of (if b then [] else tail ∷ []) ≡ (if b then [] else event_of tail ∷ [])
+        → map event_of_script_line (if b then [] else tail ∷ []) ≡ (if b then [] else event_of_script_line tail ∷ [])
     by true tail = refl
     by false tail = refl
 
@@ -53,7 +55,7 @@ script-ended (l ∷ ls) more each =
     let first : HasNoLf l = each 0 [] (omega arith) in
     let others : All HasNoLf ls = λ k d h. each (suc k) d (omega arith) in
     ap script shape ∙ script-first l rest first
-    ∙ ap (λ (es : List Event). event_of (strip_carriage_return l) ∷ es) (script-ended ls more others)
+    ∙ ap (λ (es : List Event). event_of_script_line (strip_carriage_return l) ∷ es) (script-ended ls more others)
 
 pub ended_of_lines : (ls : List (List ℕ))
     → (flat_map with_lf ls ≡ []) ⊎ ((front : List ℕ) × (flat_map with_lf ls ≡ with_lf front))

@@ -12,20 +12,20 @@ use Rattle.std.proofs.lemmas.List.Elements.{All-append, All-nil}
 use Rattle.std.proofs.lemmas.List.{map-append, nil_from_length, length-take}
 use Rattle.learned_devices.specs.DeviceStoreState.{DeviceStoreState}
 use Rattle.gateway_loop.specs.declared.driver.Driver.{Driver}
-use Rattle.gateway_loop.specs.declared.line_loop.Lines.{Lines}
+use Rattle.gateway_loop.specs.declared.line_loop.LineSource.{LineSource}
 use Rattle.gateway_loop.specs.declared.line_loop.LineDispatcher.{LineDispatcher}
 use Rattle.gateway_loop.specs.OutputSpecs.{OutputSpec}
-use Rattle.gateway_loop.specs.Script.{HasNoLf, event_of, script, with_lf}
-use Rattle.gateway_loop.specs.Processing.{IsDrained}
+use Rattle.gateway_loop.specs.Script.{HasNoLf, event_of_script_line, script, with_lf}
+use Rattle.gateway_loop.specs.Processing.{HasNoReadyPacket}
 use Rattle.gateway_loop.specs.private.DriverSteps.{DriverBreaks, Takes, TakesOrBreaks, TakesOrStops}
 use Rattle.gateway_loop.specs.private.LineLoop.{TakesBytes, StopsAtLine}
-use Rattle.gateway_loop.specs.private.Lines.{max_partial_line, KeepsPartialLine, event_by, events_by}
+use Rattle.gateway_loop.specs.private.Lines.{max_partial_line, KeepsTruncatedLine, event_of_line_from, events_by}
 use Rattle.gateway_loop.proofs.ListLemmas.{take_take}
 use Rattle.gateway_loop.proofs.LongLineLemmas.{kept_last_line_alike}
 use Rattle.gateway_loop.proofs.ProcessingLemmas.{takes_none, takes-append, plays-break}
 use Rattle.gateway_loop.proofs.LineLemmas.{only_line, script-last}
 
-pub keeps_none : KeepsPartialLine [] []
+pub keeps_none : KeepsTruncatedLine [] []
 keeps_none = record { one = All-nil (λ byte. byte ≢ 10); is = refl }
 
 -- what is kept of more bytes
@@ -34,21 +34,22 @@ pub kept_more : (tail kept bytes : List ℕ) → kept ≡ take max_partial_line 
 kept_more tail kept bytes is = ap (λ s. take max_partial_line (s ++ bytes)) is ∙ take_take max_partial_line tail bytes
 
 -- if nothing is kept, nothing arrived
-pub none_came : (tail kept : List ℕ) → KeepsPartialLine tail kept → length kept ≡ 0 → tail ≡ []
+pub none_came : (tail kept : List ℕ) → KeepsTruncatedLine tail kept → length kept ≡ 0 → tail ≡ []
 none_came tail kept keeps none =
     nil_from_length tail (omega (arith, none, ap length keeps.is, length-take max_partial_line tail))
 
 -- bytes that end no line
-keeps_more : (tail kept bytes : List ℕ) → HasNoLf bytes → KeepsPartialLine tail kept
-    → KeepsPartialLine (tail ++ bytes) (take max_partial_line (kept ++ bytes))
+keeps_more : (tail kept bytes : List ℕ) → HasNoLf bytes → KeepsTruncatedLine tail kept
+    → KeepsTruncatedLine (tail ++ bytes) (take max_partial_line (kept ++ bytes))
 keeps_more tail kept bytes none keeps = record {
   one = All-append (λ byte. byte ≢ 10) tail bytes keeps.one none;
   is = kept_more tail kept bytes keeps.is;
 }
 
-events_by-append : (lines : Lines) (first second : List (List ℕ))
+events_by-append : (lines : LineSource) (first second : List (List ℕ))
     → events_by lines (first ++ second) ≡ events_by lines first ++ events_by lines second
-events_by-append lines first second = map-append (λ line. event_by lines (strip_carriage_return line)) first second
+events_by-append lines first second =
+    map-append (λ line. event_of_line_from lines (strip_carriage_return line)) first second
 
 -- bytes after bytes that end some lines
 pub whole_behind : (a b : List ℕ) (first second : List (List ℕ)) (rest last : List ℕ)
@@ -60,15 +61,15 @@ whole_behind a b first second rest last whole more =
     ∙ sym (append_assoc (flat_map with_lf first) (flat_map with_lf second) last)
     ∙ ap (λ s. s ++ last) (sym (flat_map-append with_lf first second))
 
-module _ {O S : Type 0} (stored : S → DeviceStoreState) (output : OutputSpec O) (lines : Lines) where
+module _ {O S : Type 0} (stored : S → DeviceStoreState) (output : OutputSpec O) (lines : LineSource) where
   abbrev pub first_player : {old new : LineDispatcher O S} {bytes : List ℕ}
       → TakesBytes stored output lines old new bytes
       → LineDispatcher O S
   first_player {old = old} taken = old
 
-  pub bytes_none : (old : LineDispatcher O S) (tail : List ℕ) → IsDrained old.driver.gateway.now
+  pub bytes_none : (old : LineDispatcher O S) (tail : List ℕ) → HasNoReadyPacket old.driver.gateway.now
       → old.driver.items < 2 ^ 64
-      → KeepsPartialLine tail old.partial → TakesBytes stored output lines old old (tail ++ [])
+      → KeepsTruncatedLine tail old.partial → TakesBytes stored output lines old old (tail ++ [])
   bytes_none old tail idle fits keeps = record {
     ended = [];
     rest = tail;
@@ -104,7 +105,7 @@ module _ {O S : Type 0} (stored : S → DeviceStoreState) (output : OutputSpec O
     broken =
         rw (events_by-append lines p.ended q.ended)
         (plays-break stored output old.driver mid.driver new.driver (events_by lines p.ended) (events_by lines q.ended)
-        (event_by lines (strip_carriage_return q.line)) p.taken.processed q.broken);
+        (event_of_line_from lines (strip_carriage_return q.line)) p.taken.processed q.broken);
   }
 
   pub bytes_without_end : (old mid new : LineDispatcher O S) (bytes more : List ℕ) → HasNoLf more
@@ -122,7 +123,8 @@ module _ {O S : Type 0} (stored : S → DeviceStoreState) (output : OutputSpec O
   -- one line that LF ends, some bytes of which arrived before
   pub line_taken : (old new : LineDispatcher O S) (tail bytes : List ℕ) → HasNoLf tail → HasNoLf bytes
       → new.partial ≡ []
-      → Takes stored output old.driver new.driver (event_by lines (strip_carriage_return (tail ++ bytes)) ∷ [])
+      → Takes stored output old.driver new.driver
+      (event_of_line_from lines (strip_carriage_return (tail ++ bytes)) ∷ [])
       → TakesBytes stored output lines old new (tail ++ (bytes ++ 10 ∷ []))
   line_taken old new tail bytes one more none takes = record {
     ended = (tail ++ bytes) ∷ [];
@@ -136,7 +138,8 @@ module _ {O S : Type 0} (stored : S → DeviceStoreState) (output : OutputSpec O
 
   -- and an answer that is not written completely at it, whatever follows
   pub line_stops : (old new : LineDispatcher O S) (tail bytes more : List ℕ) → HasNoLf tail → HasNoLf bytes
-      → DriverBreaks stored output old.driver new.driver [] (event_by lines (strip_carriage_return (tail ++ bytes)))
+      → DriverBreaks stored output old.driver new.driver []
+      (event_of_line_from lines (strip_carriage_return (tail ++ bytes)))
       → StopsAtLine stored output lines old new (tail ++ (bytes ++ 10 ∷ more))
   line_stops old new tail bytes more one others broken = record {
     ended = [];
@@ -151,14 +154,14 @@ module _ {O S : Type 0} (stored : S → DeviceStoreState) (output : OutputSpec O
 module _ {O S : Type 0} (stored : S → DeviceStoreState) (output : OutputSpec O) where
   -- the line of a script that its end ends, in place of the script
   pub last_line : {A E : Type 0} (r : Result A E) (old new : Driver O S) (tail kept : List ℕ)
-      → KeepsPartialLine tail kept
-      → (length kept ≡ 0 → ⊥) → TakesOrBreaks stored output r old new (event_of kept)
+      → KeepsTruncatedLine tail kept
+      → (length kept ≡ 0 → ⊥) → TakesOrBreaks stored output r old new (event_of_script_line kept)
       → TakesOrStops stored output r old new (script tail)
   last_line r old new tail kept keeps some given =
       let there : (length tail == 0) ≡ false =
       ne_eqb (length tail) 0 (λ h. some (omega (arith, h, ap length keeps.is, length-take max_partial_line tail))) in
-      let is : script tail ≡ event_of tail ∷ [] =
-      script-last tail keeps.one ∙ ap (λ b. if b then [] else event_of tail ∷ []) there in
+      let is : script tail ≡ event_of_script_line tail ∷ [] =
+      script-last tail keeps.one ∙ ap (λ b. if b then [] else event_of_script_line tail ∷ []) there in
       MatchResult-weaker r (kept_last_line_alike stored output r old new kept tail keeps.is given)
       (λ _ takes. rw is takes)
-      (λ _ broken. record { events = []; event = event_of tail; whole = is; broken = broken })
+      (λ _ broken. record { events = []; event = event_of_script_line tail; whole = is; broken = broken })

@@ -16,14 +16,14 @@ use Rattle.esp3_frames.specs.Packet.{Packet}
 use Rattle.gateway_core.specs.Calls.{GatewayValue}
 use Rattle.gateway_core.specs.Events.{Event, Chunk, Line, inputs_of, bytes_in}
 use Rattle.esp3_frames.specs.Frames.{rest_of}
-use Rattle.gateway_loop.specs.Script.{event_of, chunk_or_line}
+use Rattle.gateway_loop.specs.Script.{event_of_script_line, chunk_if_decoded}
 use Rattle.gateway_loop.specs.declared.driver.Driver.{Driver}
 use Rattle.gateway_loop.specs.OutputSpecs.{OutputSpec}
-use Rattle.gateway_loop.specs.Processing.{AnswersPart, Breaks, IsEventPrefix}
+use Rattle.gateway_loop.specs.Processing.{LastAnswerCutShort, Breaks, IsWholeOrChunkPrefix}
 use Rattle.gateway_loop.specs.private.DriverSteps.{Takes, TakesOrBreaks}
-use Rattle.gateway_loop.specs.private.Lines.{max_partial_line, event_by}
-use Rattle.gateway_loop.specs.declared.line_loop.Lines.{Lines}
-use Rattle.gateway_loop.specs.declared.line_loop.Lines.TheVariants.{ScriptLines, DeskLines}
+use Rattle.gateway_loop.specs.private.Lines.{max_partial_line, event_of_line_from}
+use Rattle.gateway_loop.specs.declared.line_loop.LineSource.{LineSource}
+use Rattle.gateway_loop.specs.declared.line_loop.LineSource.TheVariants.{ScriptLines, DeskLines}
 
 -- no packet stands for an order
 no_packets : (line : List ℕ) (packets : List Packet) → (Ordered line ∷ []) ≡ map Received packets → ⊥
@@ -42,16 +42,17 @@ one_item line item packets e = record { same = cc; none = cc }
 two_items : (line : List ℕ) (item other : Input) (items : List Input) → (Ordered line ∷ []) ≡ item ∷ other ∷ items → ⊥
 two_items line item other items e = cc
 
-event_of-long : (line : List ℕ) → max_line < length line → event_of line ≡ Line line
-event_of-long line h =
-    ap (λ b. if b && starts_with nat_eq line (codes "S ") then chunk_or_line line (decode_of (drop 2 line)) else Line
+event_of_script_line-long : (line : List ℕ) → max_line < length line → event_of_script_line line ≡ Line line
+event_of_script_line-long line h =
+    ap (λ b. if b && starts_with nat_eq line (codes "S ") then chunk_if_decoded line (decode_of (drop 2 line)) else Line
     line)
     (lt-leb (length line) max_line h)
 
 -- for any kind of lines
-event_by-long : (lines : Lines) (line : List ℕ) → max_line < length line → event_by lines line ≡ Line line
-event_by-long ScriptLines line h = event_of-long line h
-event_by-long DeskLines line h = refl
+event_of_line_from-long : (lines : LineSource) (line : List ℕ) → max_line < length line
+    → event_of_line_from lines line ≡ Line line
+event_of_line_from-long ScriptLines line h = event_of_script_line-long line h
+event_of_line_from-long DeskLines line h = refl
 
 length-strip : (line : List ℕ) → length line ≤ length (strip_carriage_return line) + 1
 length-strip line =
@@ -65,15 +66,16 @@ module _ {S : Type 0} (stored : S → DeviceStoreState) where
   -- a break at one order, in its parts
   record OneBroken (old new : GatewayValue S) (line : List ℕ) (breaks : List Answer → Answer → Type 0) : Type 0 where
     pub none : map Received new.ready ≡ []
-    pub answered : AnswersPart stored old.handler new.handler (Ordered line ∷ []) breaks
+    pub answered : LastAnswerCutShort stored old.handler new.handler (Ordered line ∷ []) breaks
 
   at_order : (old new : GatewayValue S) (line : List ℕ) (items : List Input) (breaks : List Answer → Answer → Type 0)
-      → (Ordered line ∷ []) ≡ items ++ map Received new.ready → AnswersPart stored old.handler new.handler items breaks
+      → (Ordered line ∷ []) ≡ items ++ map Received new.ready
+      → LastAnswerCutShort stored old.handler new.handler items breaks
       → OneBroken old new line breaks
   at_order old new line [] breaks e part = absurd (no_packets line new.ready e)
   at_order old new line (item ∷ []) breaks e part =
       let one = one_item line item new.ready e in
-      let P : Input → Type 0 = λ i. AnswersPart stored old.handler new.handler (i ∷ []) breaks in
+      let P : Input → Type 0 = λ i. LastAnswerCutShort stored old.handler new.handler (i ∷ []) breaks in
       record { none = one.none; answered = subst P one.same part }
   at_order old new line (item ∷ other ∷ items) breaks e part =
       absurd (two_items line item other (items ++ map Received new.ready) e)
@@ -81,8 +83,9 @@ module _ {S : Type 0} (stored : S → DeviceStoreState) where
   breaks_long : (old new : GatewayValue S) (short long : List ℕ) (breaks : List Answer → Answer → Type 0)
       (begun : Event)
       (items : List Input) → max_line < length short → max_line < length long
-      → IsEventPrefix (Line short) begun → inputs_of old.rest (begun ∷ []) ≡ items ++ map Received new.ready
-      → new.rest ≡ rest_of (old.rest ++ bytes_in (begun ∷ [])) → AnswersPart stored old.handler new.handler items breaks
+      → IsWholeOrChunkPrefix (Line short) begun → inputs_of old.rest (begun ∷ []) ≡ items ++ map Received new.ready
+      → new.rest ≡ rest_of (old.rest ++ bytes_in (begun ∷ []))
+      → LastAnswerCutShort stored old.handler new.handler items breaks
       → Breaks stored old new [] (Line long) breaks
   breaks_long old new short long breaks (Chunk bytes) items a b begins stand rest part = absurd begins
   breaks_long old new short long breaks (Line line) items a b begins stand rest part =
@@ -128,22 +131,22 @@ module _ {O S : Type 0} (stored : S → DeviceStoreState) (output : OutputSpec O
         counted = takes.counted;
       }
 
-  long_lines_alike : (lines : Lines) (short long : List ℕ) → max_line < length short → max_line < length long
-      → TakesOrBreaks stored output r old new (event_by lines short)
-      → TakesOrBreaks stored output r old new (event_by lines long)
+  long_lines_alike : (lines : LineSource) (short long : List ℕ) → max_line < length short → max_line < length long
+      → TakesOrBreaks stored output r old new (event_of_line_from lines short)
+      → TakesOrBreaks stored output r old new (event_of_line_from lines long)
   long_lines_alike lines short long a b given =
       let P : Event → Type 0 = λ e. TakesOrBreaks stored output r old new e in
-      subst P (sym (event_by-long lines long b))
-      (MatchResult-weaker r (subst P (event_by-long lines short a) given)
+      subst P (sym (event_of_line_from-long lines long b))
+      (MatchResult-weaker r (subst P (event_of_line_from-long lines short a) given)
       (λ _ takes. takes_long short long a b takes)
       (λ _ broken. breaks_long stored old.gateway.now new.gateway.now short long
       (output.breaks old.reply_sink new.reply_sink)
       broken.begun broken.inputs a b broken.begins broken.stand broken.rest broken.answered))
 
   -- what is kept of a line that LF ends stands for the line
-  pub kept_line_alike : (lines : Lines) (kept line : List ℕ) → kept ≡ take max_partial_line line
-      → TakesOrBreaks stored output r old new (event_by lines (strip_carriage_return kept))
-      → TakesOrBreaks stored output r old new (event_by lines (strip_carriage_return line))
+  pub kept_line_alike : (lines : LineSource) (kept line : List ℕ) → kept ≡ take max_partial_line line
+      → TakesOrBreaks stored output r old new (event_of_line_from lines (strip_carriage_return kept))
+      → TakesOrBreaks stored output r old new (event_of_line_from lines (strip_carriage_return line))
   kept_line_alike lines kept line e given =
       elim (cases_lt max_partial_line (length line)) [
         | inl far ↦ long_lines_alike lines (strip_carriage_return kept) (strip_carriage_return line)
@@ -151,19 +154,20 @@ module _ {O S : Type 0} (stored : S → DeviceStoreState) (output : OutputSpec O
             (omega (arith, far, length-strip line)) given
         | inr near ↦
             let P : List ℕ → Type 0 =
-            λ l. TakesOrBreaks stored output r old new (event_by lines (strip_carriage_return l)) in
+            λ l. TakesOrBreaks stored output r old new (event_of_line_from lines (strip_carriage_return l)) in
             subst P (e ∙ take_all max_partial_line line near) given
       ]
 
   -- and so does what is kept of a line that the end of the script ends
   pub kept_last_line_alike : (kept line : List ℕ) → kept ≡ take max_partial_line line
-      → TakesOrBreaks stored output r old new (event_of kept) → TakesOrBreaks stored output r old new (event_of line)
+      → TakesOrBreaks stored output r old new (event_of_script_line kept)
+      → TakesOrBreaks stored output r old new (event_of_script_line line)
   kept_last_line_alike kept line e given =
       elim (cases_lt max_partial_line (length line)) [
         | inl far ↦
             long_lines_alike ScriptLines kept line (omega (arith, far, ap length e, length-take max_partial_line line))
             (omega (arith, far)) given
         | inr near ↦
-            let P : List ℕ → Type 0 = λ l. TakesOrBreaks stored output r old new (event_of l) in
+            let P : List ℕ → Type 0 = λ l. TakesOrBreaks stored output r old new (event_of_script_line l) in
             subst P (e ∙ take_all max_partial_line line near) given
       ]

@@ -10,12 +10,12 @@ use Rattle.gateway_core.specs.Events.{Event, inputs_of, bytes_in}
 use Rattle.gateway_core.proofs.ForCallers.{count_on, items_behind, rest_behind}
 use Rattle.gateway_loop.specs.declared.driver.Driver.{Driver}
 use Rattle.gateway_loop.specs.OutputSpecs.{OutputSpec}
-use Rattle.gateway_loop.specs.Processing.{IsDrained}
+use Rattle.gateway_loop.specs.Processing.{HasNoReadyPacket}
 use Rattle.gateway_loop.specs.private.DriverSteps.{DriverBreaks, DriverProcesses, Takes}
 use Rattle.gateway_loop.proofs.AnswerLemmas.{answers_nothing, answers-append, answers-part}
 
 module _ {O S : Type 0} (stored : S → DeviceStoreState) (output : OutputSpec O) where
-  pub plays_nothing : (old : Driver O S) → IsDrained old.gateway.now → DriverProcesses stored output old old []
+  pub plays_nothing : (old : Driver O S) → HasNoReadyPacket old.gateway.now → DriverProcesses stored output old old []
   plays_nothing old idle =
       let gateway = old.gateway.now in
       record {
@@ -68,7 +68,8 @@ module _ {O S : Type 0} (stored : S → DeviceStoreState) (output : OutputSpec O
             second.inputs old.reply_sink mid.reply_sink new.reply_sink first.answered second.answered;
       }
 
-  pub takes_none : (old : Driver O S) → IsDrained old.gateway.now → old.items < 2 ^ 64 → Takes stored output old old []
+  pub takes_none : (old : Driver O S) → HasNoReadyPacket old.gateway.now → old.items < 2 ^ 64
+      → Takes stored output old old []
   takes_none old idle fits = record { processed = plays_nothing old idle; counted = omega arith }
 
   pub takes-append : (old mid new : Driver O S) (events more : List Event) → Takes stored output old mid events

@@ -10,20 +10,20 @@ use Rattle.std.proofs.lemmas.List.{length-take}
 use Rattle.std.proofs.lemmas.List.Concat.{concat_is, flat_map-append}
 use Rattle.byte_io.specs.declared.tally.Failed.{Failed}
 use Rattle.byte_io.specs.Counts.{count_call, saturated_increment}
-use Rattle.gateway_loop.specs.Reads.{AreReads, IsRead, MakesReads, OneReadFails, AllReadsSucceed}
+use Rattle.gateway_loop.specs.Reads.{AreReads, IsNextRead, MakesAtMostReads, OneMoreReadFails, AllReadsSucceed}
 use Rattle.byte_io.specs.ReadLimit.{max_read}
 use Rattle.gateway_loop.specs.Streams.{SourceValue}
 use Rattle.gateway_loop.proofs.CallCountLemmas.{made_at, made_more, made_none}
 
 -- one more read after others
 reads_and : (left : Option (List ℕ)) (before : List ℕ) (reads : List (List ℕ)) (bytes : List ℕ)
-    → AreReads left before reads → IsRead left (before ++ concat reads) bytes
+    → AreReads left before reads → IsNextRead left (before ++ concat reads) bytes
     → AreReads left before (reads ++ bytes ∷ [])
-reads_and left before [] bytes each read = (subst (λ b. IsRead left b bytes) (append-nil before) read, tt)
+reads_and left before [] bytes each read = (subst (λ b. IsNextRead left b bytes) (append-nil before) read, tt)
 reads_and left before (first ∷ reads) bytes each read = (
   each.0,
   reads_and left (before ++ first) reads bytes each.1
-      (subst (λ b. IsRead left b bytes) (sym (append_assoc before first (concat reads))) read),
+      (subst (λ b. IsNextRead left b bytes) (sym (append_assoc before first (concat reads))) read),
 )
 
 -- a read that returns nothing comes only after everything was read
@@ -55,9 +55,9 @@ pub reads_more : (old mid new : SourceValue) (reads : List (List ℕ)) (n : ℕ)
     → AllReadsSucceed old mid reads
     → n ≤ length buffer → length buffer ≡ max_read → ReadConsumes {E = Failed} mid.left new.left (Ok n) buffer
     → new.counts ≡ count_call {E = Failed} mid.counts (Ok n) → AllReadsSucceed old new (reads ++ take n buffer ∷ [])
-reads_more old mid new reads n buffer p within room (some, end) told =
+reads_more old mid new reads n buffer p within room (some, end) reported =
     let bytes = take n buffer in
-    let read : IsRead old.left (concat reads) bytes = record {
+    let read : IsNextRead old.left (concat reads) bytes = record {
       short = omega (arith, room, length-take n buffer);
       empty = λ none. all_read old.left mid.left new.left (concat reads) bytes p.gave.all some none
           (end (empty_take n buffer within none) (omega (arith, room)));
@@ -71,30 +71,31 @@ reads_more old mid new reads n buffer p within room (some, end) told =
       };
       made =
           made_at old.counts new.counts (length reads + 1) _ (sym (length-append reads (bytes ∷ [])))
-          (made_more old.counts mid.counts new.counts (length reads) p.made (ap (λ t. t.calls) told));
-      well = ap (λ t. t.failed) told ∙ p.well;
+          (made_more old.counts mid.counts new.counts (length reads) p.made (ap (λ t. t.calls) reported));
+      well = ap (λ t. t.failed) reported ∙ p.well;
     }
 
 -- one more read, of those that are allowed
 pub one_read_more : (old mid new : SourceValue) (reads : List (List ℕ)) (n turn turns : ℕ) (buffer : List ℕ)
     → AllReadsSucceed old mid reads → length reads ≡ turn → turn < turns → n ≤ length buffer → length buffer ≡ max_read
     → ReadConsumes {E = Failed} mid.left new.left (Ok n) buffer → new.counts ≡ count_call {E = Failed} mid.counts (Ok n)
-    → MakesReads old new turns
-one_read_more old mid new reads n turn turns buffer p count below within room bytes told = (
+    → MakesAtMostReads old new turns
+one_read_more old mid new reads n turn turns buffer p count below within room bytes reported = (
   reads ++ take n buffer ∷ [],
   inl (
-    reads_more old mid new reads n buffer p within room bytes told,
+    reads_more old mid new reads n buffer p within room bytes reported,
     omega (arith, count, below, length-append reads (take n buffer ∷ [])),
   ),
 )
 
 pub reads_fail : (old mid new : SourceValue) (reads : List (List ℕ)) (error : Failed) → AllReadsSucceed old mid reads
-    → Keeps mid.left new.left → new.counts ≡ count_call {E = Failed} mid.counts (Err error) → OneReadFails old new reads
-reads_fail old mid new reads error p kept told = record {
+    → Keeps mid.left new.left → new.counts ≡ count_call {E = Failed} mid.counts (Err error)
+    → OneMoreReadFails old new reads
+reads_fail old mid new reads error p kept reported = record {
   gave = record {
     all = Consumes-kept old.left mid.left new.left (concat reads) p.gave.all kept;
     each = p.gave.each;
   };
-  made = made_more old.counts mid.counts new.counts (length reads) p.made (ap (λ t. t.calls) told);
-  failed = ap (λ t. t.failed) told ∙ ap saturated_increment p.well;
+  made = made_more old.counts mid.counts new.counts (length reads) p.made (ap (λ t. t.calls) reported);
+  failed = ap (λ t. t.failed) reported ∙ ap saturated_increment p.well;
 }

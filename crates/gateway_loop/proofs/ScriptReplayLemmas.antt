@@ -7,28 +7,29 @@ use Rattle.gateway_core.specs.Calls.{GatewayValue}
 use Rattle.gateway_core.specs.Events.{Event}
 use Rattle.byte_io.specs.declared.sink.Sink as sinks
 use Rattle.gateway_loop.specs.declared.driver.Driver.{Driver}
-use Rattle.gateway_loop.specs.declared.line_loop.Lines.TheVariants.{ScriptLines}
+use Rattle.gateway_loop.specs.declared.line_loop.LineSource.TheVariants.{ScriptLines}
 use Rattle.gateway_loop.specs.declared.line_loop.LineDispatcher.{LineDispatcher}
-use Rattle.gateway_loop.specs.declared.replay_text.ReplayText.{ReplayText}
+use Rattle.gateway_loop.specs.declared.replay_text.ReplayOutput.{ReplayOutput}
 use Rattle.gateway_loop.specs.private.LineLoop.{StopsAtLine, TakesBytes}
-use Rattle.gateway_loop.specs.private.Lines.{event_by, events_by}
+use Rattle.gateway_loop.specs.private.Lines.{event_of_line_from, events_by}
 use Rattle.gateway_loop.specs.OutputSpecs.{OutputSpec}
-use Rattle.gateway_loop.specs.Processing.{Breaks, Processes, ProcessesEnded, BreaksAtLastEvent, BreaksAtLastLine}
+use Rattle.gateway_loop.specs.Processing.{Breaks, Processes, ProcessesEnded, BreaksAtLastEvent, BreaksAtEndedLine}
 use Rattle.gateway_loop.specs.Script.{script, with_lf}
 use Rattle.gateway_loop.specs.private.DriverSteps.{DriverBreaks, DriverProcesses, Takes}
-use Rattle.gateway_loop.specs.Written.{WritesAll, WritesPart, replay_output}
+use Rattle.gateway_loop.specs.Written.{AppendsReplayText, AppendsCutReplayText, replay_output_of}
 use Rattle.gateway_loop.proofs.LineLemmas.{ended_of_lines, script-ended, script-first}
 use Rattle.gateway_loop.proofs.ProcessingLemmas.{plays-break, takes-append}
 
 module _ {W S : Type 0} (stored : S → DeviceStoreState) (sink : sinks.Ghosts W) where
-  abbrev output : OutputSpec (ReplayText W)
-  output = replay_output sink
+  abbrev output : OutputSpec (ReplayOutput W)
+  output = replay_output_of sink
 
-  module _ (entry now : Driver (ReplayText W) S) (gateway : GatewayValue S) (writer : W) (e : gateway ≡ now.gateway.now)
+  module _ (entry now : Driver (ReplayOutput W) S) (gateway : GatewayValue S) (writer : W)
+      (e : gateway ≡ now.gateway.now)
       (f : writer ≡ now.reply_sink.sink.now) where
     pub plays_written : (events : List Event) → DriverProcesses stored output entry now events
         → Processes stored entry.gateway.now gateway events
-        (WritesAll entry.reply_sink.explains (sink.held entry.reply_sink.sink.now) (sink.held writer))
+        (AppendsReplayText entry.reply_sink.explains (sink.held entry.reply_sink.sink.now) (sink.held writer))
     plays_written events p = rw (e, f) (record {
       answered = record { answers = p.answered.answers; handled = p.answered.handled; out = p.answered.out.1.text };
       rest = p.rest;
@@ -37,7 +38,7 @@ module _ {W S : Type 0} (stored : S → DeviceStoreState) (sink : sinks.Ghosts W
 
     broken : (events : List Event) (event : Event) → DriverBreaks stored output entry now events event
         → Breaks stored entry.gateway.now gateway events event
-        (WritesPart entry.reply_sink.explains (sink.held entry.reply_sink.sink.now) (sink.held writer))
+        (AppendsCutReplayText entry.reply_sink.explains (sink.held entry.reply_sink.sink.now) (sink.held writer))
     broken events event p = rw (e, f) (record {
       begun = p.begun;
       begins = p.begins;
@@ -56,11 +57,11 @@ module _ {W S : Type 0} (stored : S → DeviceStoreState) (sink : sinks.Ghosts W
     })
 
     -- at the last event after some that were processed
-    pub part_at_end : (old : Driver (ReplayText W) S) (input : List ℕ) (events more : List Event)
+    pub part_at_end : (old : Driver (ReplayOutput W) S) (input : List ℕ) (events more : List Event)
         → script input ≡ events ++ more → DriverProcesses stored output entry old events
         → BreaksAtLastEvent stored old.gateway.now now.gateway.now more (output.breaks old.reply_sink now.reply_sink)
         → BreaksAtLastEvent stored entry.gateway.now gateway (script input)
-        (WritesPart entry.reply_sink.explains (sink.held entry.reply_sink.sink.now) (sink.held writer))
+        (AppendsCutReplayText entry.reply_sink.explains (sink.held entry.reply_sink.sink.now) (sink.held writer))
     part_at_end old input events more is p q = record {
       events = events ++ q.events;
       event = q.event;
@@ -71,14 +72,14 @@ module _ {W S : Type 0} (stored : S → DeviceStoreState) (sink : sinks.Ghosts W
           (plays-break stored output entry old now events q.events q.event p q.broken);
     }
 
-  module _ (entry now : LineDispatcher (ReplayText W) S) (input : List ℕ) where
+  module _ (entry now : LineDispatcher (ReplayOutput W) S) (input : List ℕ) where
     -- the events of a script whose lines are known
     pub script_of_bytes : (p : TakesBytes stored output ScriptLines entry now input)
         → script input ≡ events_by ScriptLines p.ended ++ script p.rest
     script_of_bytes p = ap script p.whole ∙ script-ended p.ended p.rest p.each
 
     -- a whole script, with the line that its end ends
-    pub script_taken : (new : Driver (ReplayText W) S) → (p : TakesBytes stored output ScriptLines entry now input)
+    pub script_taken : (new : Driver (ReplayOutput W) S) → (p : TakesBytes stored output ScriptLines entry now input)
         → Takes stored output now.driver new (script p.rest) → Takes stored output entry.driver new (script input)
     script_taken new p last =
         rw (script_of_bytes p)
@@ -90,7 +91,8 @@ module _ {W S : Type 0} (stored : S → DeviceStoreState) (sink : sinks.Ghosts W
       -- a fault before the end of a script
       pub plays_ended : TakesBytes stored output ScriptLines entry now input
           → ProcessesEnded stored entry.driver.gateway.now gateway input
-          (WritesAll entry.driver.reply_sink.explains (sink.held entry.driver.reply_sink.sink.now) (sink.held writer))
+          (AppendsReplayText entry.driver.reply_sink.explains (sink.held entry.driver.reply_sink.sink.now)
+          (sink.held writer))
       plays_ended p =
           let ended = flat_map with_lf p.ended in
           let is : script ended ≡ events_by ScriptLines p.ended =
@@ -107,8 +109,9 @@ module _ {W S : Type 0} (stored : S → DeviceStoreState) (sink : sinks.Ghosts W
 
       -- and a fault at one of its lines
       pub part_at_line : StopsAtLine stored output ScriptLines entry now input
-          → BreaksAtLastLine stored entry.driver.gateway.now gateway input
-          (WritesPart entry.driver.reply_sink.explains (sink.held entry.driver.reply_sink.sink.now) (sink.held writer))
+          → BreaksAtEndedLine stored entry.driver.gateway.now gateway input
+          (AppendsCutReplayText entry.driver.reply_sink.explains (sink.held entry.driver.reply_sink.sink.now)
+          (sink.held writer))
       part_at_line s =
           let ended = flat_map with_lf s.ended in
           record {
@@ -117,7 +120,7 @@ module _ {W S : Type 0} (stored : S → DeviceStoreState) (sink : sinks.Ghosts W
             whole = s.whole ∙ sym (append_assoc ended s.line (10 ∷ s.more))
                 ∙ sym (append_assoc (ended ++ s.line) (10 ∷ []) s.more);
             events = events_by ScriptLines s.ended;
-            event = event_by ScriptLines (strip_carriage_return s.line);
+            event = event_of_line_from ScriptLines (strip_carriage_return s.line);
             is = ap script (append_assoc ended s.line (10 ∷ [])) ∙ script-ended s.ended (s.line ++ 10 ∷ []) s.each
                 ∙ ap (λ (es : List Event). events_by ScriptLines s.ended ++ es) (script-first s.line [] s.one);
             broken = broken entry.driver now.driver gateway writer e f _ _ s.broken;

@@ -5,7 +5,7 @@ use Rattle.std.specs.Io.KnownBytes.{Appends}
 use Rattle.gateway_core.specs.Step.{Answer}
 use Rattle.byte_io.specs.Counts.{CallsMatchResult}
 use Rattle.byte_io.specs.Writes.{Writes}
-use Rattle.gateway_loop.specs.OutputSpecs.{Puts, OutputSpec, output_by_flag}
+use Rattle.gateway_loop.specs.OutputSpecs.{PutsOrBreaks, OutputSpec, output_by_flag}
 use Rattle.gateway_loop.specs.Streams.{SinkValue}
 use Rattle.gateway_loop.specs.TextOutput.{PutsText, BreaksText}
 
@@ -20,6 +20,7 @@ puts_one (Err failed) says old new answer text went = record { text = text; went
 
 -- the flag stays
 pub puts_by : {V A E : Type 0} (output : Bool → OutputSpec V) (r : Result A E) (old new : Bool × V) (answer : Answer)
-    → new.0 ≡ old.0 → Puts (output old.0) r old.1 new.1 answer → Puts (output_by_flag output) r old new answer
+    → new.0 ≡ old.0 → PutsOrBreaks (output old.0) r old.1 new.1 answer
+    → PutsOrBreaks (output_by_flag output) r old new answer
 puts_by output (Ok done) old new answer same out = (same, out)
 puts_by output (Err failed) old new answer same out = (same, out)

@@ -13,16 +13,17 @@ use Rattle.std.proofs.lemmas.List.Splits.{slice_split_none, slice_split_at, leng
 use Rattle.learned_devices.specs.DeviceStoreState.{DeviceStoreState}
 use Rattle.gateway_core.specs.Events.{Event, Chunk, Line}
 use Rattle.gateway_loop.specs.Script.{HasNoLf, with_lf}
-use Rattle.gateway_loop.specs.declared.line_loop.Lines.TheVariants.{DeskLines}
+use Rattle.gateway_loop.specs.declared.line_loop.LineSource.TheVariants.{DeskLines}
 use Rattle.gateway_loop.specs.declared.driver.Driver.{Driver}
 use Rattle.gateway_loop.specs.declared.line_loop.LineDispatcher.{LineDispatcher}
 use Rattle.gateway_loop.specs.OutputSpecs.{OutputSpec}
-use Rattle.gateway_loop.specs.Processing.{IsDrained}
+use Rattle.gateway_loop.specs.Processing.{HasNoReadyPacket}
 use Rattle.gateway_loop.specs.LiveGateway.{BreaksAtOrder}
 use Rattle.gateway_loop.specs.private.DriverSteps.{DriverBreaks, Takes}
 use Rattle.gateway_loop.specs.private.LineLoop.{TakesBytes, StopsAtLine}
-use Rattle.gateway_loop.specs.private.Lines.{KeepsPartialLine, event_by, events_by}
-use Rattle.gateway_loop.specs.Turns.{Turn, desk_reads, ended_lines, events_after, events_of_turns, orders, serial_reads}
+use Rattle.gateway_loop.specs.private.Lines.{KeepsTruncatedLine, event_of_line_from, events_by}
+use Rattle.gateway_loop.specs.Turns.{Turn, desk_reads, lines_ended_by_lf, events_of_turns_after, events_of_turns}
+use Rattle.gateway_loop.specs.Turns.{desk_line_events, serial_reads}
 use Rattle.gateway_loop.proofs.LineLoopLemmas.{keeps_none, whole_behind}
 use Rattle.gateway_loop.proofs.LineLemmas.{test_of_one_line}
 use Rattle.gateway_loop.proofs.ProcessingLemmas.{takes_none, takes-append, plays-break}
@@ -36,25 +37,27 @@ all_but_last x (y ∷ more) some =
 
 -- ---- the desk's orders
 
-ended_lines-first : (line more : List ℕ) → HasNoLf line
-    → ended_lines (line ++ 10 ∷ more) ≡ line ∷ ended_lines more
-ended_lines-first line more one =
+lines_ended_by_lf-first : (line more : List ℕ) → HasNoLf line
+    → lines_ended_by_lf (line ++ 10 ∷ more) ≡ line ∷ lines_ended_by_lf more
+lines_ended_by_lf-first line more one =
     ap (λ (parts : List (List ℕ)). take (length parts - 1) parts)
     (slice_split_at (λ b. b == 10) line 10 more (test_of_one_line line one) refl)
     ∙ all_but_last line (slice_split (λ b. b == 10) more) (omega (arith, length-slice_split (λ b. b == 10) more))
 
 orders-first : (line more : List ℕ) → HasNoLf line
-    → orders (line ++ 10 ∷ more) ≡ event_by DeskLines (strip_carriage_return line) ∷ orders more
+    → desk_line_events (line ++ 10 ∷ more) ≡ event_of_line_from DeskLines (strip_carriage_return line)
+    ∷ desk_line_events more
 orders-first line more one =
-    ap (λ (ls : List (List ℕ)). map (λ line. Line (strip_carriage_return line)) ls) (ended_lines-first line more one)
+    ap (λ (ls : List (List ℕ)). map (λ line. Line (strip_carriage_return line)) ls)
+    (lines_ended_by_lf-first line more one)
 
-orders-none : (tail : List ℕ) → HasNoLf tail → orders tail ≡ []
+orders-none : (tail : List ℕ) → HasNoLf tail → desk_line_events tail ≡ []
 orders-none tail one =
     ap (λ (parts : List (List ℕ)). map (λ line. Line (strip_carriage_return line)) (take (length parts - 1) parts))
     (slice_split_none (λ b. b == 10) tail (test_of_one_line tail one))
 
 orders-ended : (ls : List (List ℕ)) (more : List ℕ) → All HasNoLf ls
-    → orders (flat_map with_lf ls ++ more) ≡ events_by DeskLines ls ++ orders more
+    → desk_line_events (flat_map with_lf ls ++ more) ≡ events_by DeskLines ls ++ desk_line_events more
 orders-ended [] more each = refl
 orders-ended (l ∷ ls) more each =
     let rest = flat_map with_lf ls ++ more in
@@ -62,27 +65,30 @@ orders-ended (l ∷ ls) more each =
     append_assoc (l ++ 10 ∷ []) (flat_map with_lf ls) more ∙ append_assoc l (10 ∷ []) rest in
     let first : HasNoLf l = each 0 [] (omega arith) in
     let others : All HasNoLf ls = λ k d h. each (suc k) d (omega arith) in
-    ap orders shape ∙ orders-first l rest first
-    ∙ ap (λ (es : List Event). event_by DeskLines (strip_carriage_return l) ∷ es) (orders-ended ls more others)
+    ap desk_line_events shape ∙ orders-first l rest first
+    ∙ ap (λ (es : List Event). event_of_line_from DeskLines (strip_carriage_return l) ∷ es)
+    (orders-ended ls more others)
 
 -- the orders that bytes of the desk complete after whole lines and a partial one
 orders-behind : (before desk : List ℕ) (ls more : List (List ℕ)) (rest other : List ℕ)
     → before ≡ flat_map with_lf ls ++ rest → All HasNoLf ls → HasNoLf rest
     → rest ++ desk ≡ flat_map with_lf more ++ other → All HasNoLf more
-    → drop (length (orders before)) (orders (before ++ desk)) ≡ events_by DeskLines more ++ orders other
+    → drop (length (desk_line_events before)) (desk_line_events (before ++ desk)) ≡ events_by DeskLines more
+    ++ desk_line_events other
 orders-behind before desk ls more rest other whole each one behind others =
-    let old : orders before ≡ events_by DeskLines ls =
-    ap orders whole ∙ orders-ended ls rest each ∙ ap (λ (es : List Event). events_by DeskLines ls ++ es)
+    let old : desk_line_events before ≡ events_by DeskLines ls =
+    ap desk_line_events whole ∙ orders-ended ls rest each ∙ ap (λ (es : List Event). events_by DeskLines ls ++ es)
     (orders-none rest one) ∙ append-nil (events_by DeskLines ls) in
     let joined : before ++ desk ≡ flat_map with_lf ls ++ (flat_map with_lf more ++ other) =
     ap (λ s. s ++ desk) whole ∙ append_assoc (flat_map with_lf ls) rest desk
     ∙ ap (λ s. flat_map with_lf ls ++ s) behind in
-    let now : orders (before ++ desk) ≡ events_by DeskLines ls ++ (events_by DeskLines more ++ orders other) =
-    ap orders joined ∙ orders-ended ls (flat_map with_lf more ++ other) each
+    let now : desk_line_events (before ++ desk) ≡ events_by DeskLines ls ++
+    (events_by DeskLines more ++ desk_line_events other) =
+    ap desk_line_events joined ∙ orders-ended ls (flat_map with_lf more ++ other) each
     ∙ ap (λ (es : List Event). events_by DeskLines ls ++ es) (orders-ended more other others) in
-    ap (λ (es : List Event). drop (length es) (orders (before ++ desk))) old
+    ap (λ (es : List Event). drop (length es) (desk_line_events (before ++ desk))) old
     ∙ ap (λ (es : List Event). drop (length (events_by DeskLines ls)) es) now
-    ∙ drop-append_seam (events_by DeskLines ls) (events_by DeskLines more ++ orders other)
+    ∙ drop-append_seam (events_by DeskLines ls) (events_by DeskLines more ++ desk_line_events other)
 
 -- ---- the events of one more turn
 
@@ -91,29 +97,32 @@ abbrev pub desk_bytes : List Turn → List ℕ
 desk_bytes turns = flat_map (λ turn. turn.desk) turns
 
 abbrev last_turn : List ℕ → Turn → List Event
-last_turn before turn = Chunk turn.chunk ∷ drop (length (orders before)) (orders (before ++ turn.desk))
+last_turn before turn =
+    Chunk turn.chunk ∷ drop (length (desk_line_events before)) (desk_line_events (before ++ turn.desk))
 
-events_after-more : (before : List ℕ) (read : List Turn) (turn : Turn)
-    → events_after before (read ++ turn ∷ []) ≡ events_after before read ++ last_turn (before ++ desk_bytes read) turn
-events_after-more before [] turn =
+events_of_turns_after-more : (before : List ℕ) (read : List Turn) (turn : Turn)
+    → events_of_turns_after before (read ++ turn ∷ []) ≡ events_of_turns_after before read ++ last_turn
+    (before ++ desk_bytes read) turn
+events_of_turns_after-more before [] turn =
     append-nil (last_turn before turn) ∙ ap (λ b. last_turn b turn) (sym (append-nil before))
-events_after-more before (first ∷ read) turn =
+events_of_turns_after-more before (first ∷ read) turn =
     let now = before ++ first.desk in
     let own = last_turn before first in
-    ap (λ (es : List Event). own ++ es) (events_after-more now read turn)
-    ∙ sym (append_assoc own (events_after now read) (last_turn (now ++ desk_bytes read) turn))
-    ∙ ap (λ b. (own ++ events_after now read) ++ last_turn b turn) (append_assoc before first.desk (desk_bytes read))
+    ap (λ (es : List Event). own ++ es) (events_of_turns_after-more now read turn)
+    ∙ sym (append_assoc own (events_of_turns_after now read) (last_turn (now ++ desk_bytes read) turn))
+    ∙ ap (λ b. (own ++ events_of_turns_after now read) ++ last_turn b turn)
+    (append_assoc before first.desk (desk_bytes read))
 
 -- a turn that read nothing of the desk
 pub events_of_piece : (read : List Turn) (chunk : List ℕ)
     → events_of_turns (read ++ record { chunk = chunk; desk = [] } ∷ []) ≡ events_of_turns read ++ Chunk chunk ∷ []
 events_of_piece read chunk =
     let before = desk_bytes read in
-    let none : drop (length (orders before)) (orders (before ++ [])) ≡ [] =
-    ap (λ s. drop (length (orders before)) (orders s)) (append-nil before)
-    ∙ ap (λ (es : List Event). drop (length (orders before)) es) (sym (append-nil (orders before)))
-    ∙ drop-append_seam (orders before) [] in
-    events_after-more [] read (record { chunk = chunk; desk = [] })
+    let none : drop (length (desk_line_events before)) (desk_line_events (before ++ [])) ≡ [] =
+    ap (λ s. drop (length (desk_line_events before)) (desk_line_events s)) (append-nil before)
+    ∙ ap (λ (es : List Event). drop (length (desk_line_events before)) es) (sym (append-nil (desk_line_events before)))
+    ∙ drop-append_seam (desk_line_events before) [] in
+    events_of_turns_after-more [] read (record { chunk = chunk; desk = [] })
     ∙ ap (λ (es : List Event). events_of_turns read ++ Chunk chunk ∷ es) none
 
 desk_bytes-more : (read : List Turn) (turn : Turn) → desk_bytes (read ++ turn ∷ []) ≡ desk_bytes read ++ turn.desk
@@ -138,14 +147,14 @@ module _ {O S : Type 0} (stored : S → DeviceStoreState) (output : OutputSpec O
     pub rest : List ℕ
     pub whole : desk_bytes read ≡ flat_map with_lf ended ++ rest
     pub each : All HasNoLf ended
-    pub keeps : KeepsPartialLine rest new.partial
+    pub keeps : KeepsTruncatedLine rest new.partial
     pub taken : Takes stored output old.driver new.driver (events_of_turns read)
 
   abbrev pub first_player : {old new : LineDispatcher O S} {read : List Turn} → TakesTurns old new read
       → LineDispatcher O S
   first_player {old = old} taken = old
 
-  pub turns_none : (old : LineDispatcher O S) → IsDrained old.driver.gateway.now → old.driver.items < 2 ^ 64
+  pub turns_none : (old : LineDispatcher O S) → HasNoReadyPacket old.driver.gateway.now → old.driver.items < 2 ^ 64
       → old.partial ≡ []
       → TakesTurns old old []
   turns_none old idle fits none = record {
@@ -184,13 +193,14 @@ module _ {O S : Type 0} (stored : S → DeviceStoreState) (output : OutputSpec O
       → TakesTurns stored output entry new (read ++ record { chunk = chunk; desk = desk } ∷ [])
   turn_taken mid new desk q r =
       let turn : Turn = record { chunk = chunk; desk = desk } in
-      let new_packets : drop (length (orders (desk_bytes read))) (orders (desk_bytes read ++ desk))
+      let new_packets : drop (length (desk_line_events (desk_bytes read))) (desk_line_events (desk_bytes read ++ desk))
       ≡ events_by DeskLines r.ended =
       orders-behind (desk_bytes read) desk p.ended r.ended p.rest r.rest p.whole p.each p.keeps.one r.whole r.each
       ∙ ap (λ (es : List Event). events_by DeskLines r.ended ++ es) (orders-none r.rest r.keeps.one)
       ∙ append-nil (events_by DeskLines r.ended) in
       let is : events_of_turns (read ++ turn ∷ []) ≡ begun ++ events_by DeskLines r.ended =
-      events_after-more [] read turn ∙ ap (λ (es : List Event). events_of_turns read ++ Chunk chunk ∷ es) new_packets
+      events_of_turns_after-more [] read turn
+      ∙ ap (λ (es : List Event). events_of_turns read ++ Chunk chunk ∷ es) new_packets
       ∙ sym (append_assoc (events_of_turns read) (Chunk chunk ∷ []) (events_by DeskLines r.ended)) in
       record {
         ended = p.ended ++ r.ended;
@@ -212,10 +222,10 @@ module _ {O S : Type 0} (stored : S → DeviceStoreState) (output : OutputSpec O
       → BreaksAtOrder stored entry.driver.gateway.now new.driver.gateway.now
       (read ++ record { chunk = chunk; desk = desk } ∷ []) (output.breaks entry.driver.reply_sink new.driver.reply_sink)
   order_stops mid new desk q s =
-      let event = event_by DeskLines (strip_carriage_return s.line) in
-      let later = orders s.more in
+      let event = event_of_line_from DeskLines (strip_carriage_return s.line) in
+      let later = desk_line_events s.more in
       let done = events_by DeskLines s.ended in
-      let new_packets : drop (length (orders (desk_bytes read))) (orders (desk_bytes read ++ desk))
+      let new_packets : drop (length (desk_line_events (desk_bytes read))) (desk_line_events (desk_bytes read ++ desk))
       ≡ done ++ event ∷ later =
       orders-behind (desk_bytes read) desk p.ended s.ended p.rest (s.line ++ 10 ∷ s.more) p.whole p.each p.keeps.one
       s.whole s.each ∙ ap (λ (es : List Event). done ++ es) (orders-first s.line s.more s.one) in
@@ -226,7 +236,7 @@ module _ {O S : Type 0} (stored : S → DeviceStoreState) (output : OutputSpec O
         done = done;
         order = event;
         later = later;
-        whole = events_after-more [] read (record { chunk = chunk; desk = desk })
+        whole = events_of_turns_after-more [] read (record { chunk = chunk; desk = desk })
             ∙ ap (λ (es : List Event). events_of_turns read ++ Chunk chunk ∷ es) new_packets
             ∙ sym (append_assoc (events_of_turns read) (Chunk chunk ∷ []) (done ++ event ∷ later))
             ∙ sym (append_assoc begun done (event ∷ later));

@@ -5,12 +5,12 @@ use Rattle.std.proofs.Common.{ap, ◌∙◌, inl, inr}
 use Rattle.byte_io.specs.Counts.{Counts, NoneFailedOrEmpty, OnlyFailedOnce, OnlyEmptyOnce, saturated_increment}
 
 -- one call failed or returned 0 bytes
-abbrev pub OneFailedOrEmpty : Counts → Counts → Type 0
+abbrev pub OneFailedOrEmpty : (old new : Counts) → Type 0
 OneFailedOrEmpty old new = OnlyFailedOnce old new ⊎ OnlyEmptyOnce old new
 
 -- all calls succeeded, except for one that may have returned 0 bytes
-abbrev pub AtMostOneEmpty : Counts → Counts → Type 0
-AtMostOneEmpty old new = NoneFailedOrEmpty old new ⊎ OnlyEmptyOnce old new
+abbrev pub NoneFailedAtMostOneEmpty : (old new : Counts) → Type 0
+NoneFailedAtMostOneEmpty old new = NoneFailedOrEmpty old new ⊎ OnlyEmptyOnce old new
 
 pub none_failed_in_both : (old mid new : Counts) → NoneFailedOrEmpty old mid → NoneFailedOrEmpty mid new
     → NoneFailedOrEmpty old new

@@ -3,36 +3,37 @@ use Rattle.std.specs.Prelude.{◌≡◌, ℕ, true, false, List, [], ◌∷◌, 
 use Rattle.gateway_core.specs.Step.{Answer}
 use Rattle.gateway_loop.specs.Streams.{SinkValue}
 use Rattle.gateway_loop.specs.LiveOutputs.{live_output}
-use Rattle.gateway_loop.specs.Written.{WritesAll, radio_text}
+use Rattle.gateway_loop.specs.Written.{AppendsReplayText, radio_chunk_line}
 
 -- Both texts are those of the answers, each with some text before the one for the desk; the second also has the line
 -- that explains the packet between the two.
-abbrev pub IsExplained : (Answer → List ℕ) → List Answer → List ℕ → List ℕ → Type 0
-IsExplained before [] plain explained = (plain ≡ []) × (explained ≡ [])
-IsExplained before (answer ∷ answers) plain explained =
+abbrev pub DifferByExplanations : (Answer → List ℕ) → List Answer → (plain explained : List ℕ) → Type 0
+DifferByExplanations before [] plain explained = (plain ≡ []) × (explained ≡ [])
+DifferByExplanations before (answer ∷ answers) plain explained =
     (rest more : List ℕ) × (plain ≡ before answer ++ (answer.desk ++ rest))
     × (explained ≡ before answer ++ (answer.explained ++ (answer.desk ++ more)))
-    × IsExplained before answers rest more
+    × DifferByExplanations before answers rest more
 
 -- The same for what was written after what a sink held.
-pub record IsExplainedAfter (before : Answer → List ℕ) (answers : List Answer) (held plain explained : List ℕ)
+pub record DifferByExplanationsAfter (before : Answer → List ℕ) (answers : List Answer) (held plain explained : List ℕ)
     : Type 0 where
   pub added : List ℕ
   pub more : List ℕ
   pub plain_is : plain ≡ held ++ added
   pub explained_is : explained ≡ held ++ more
-  pub lines : IsExplained before answers added more
+  pub lines : DifferByExplanations before answers added more
 
 -- theorem `explanations_stand_apart`: explaining adds the lines that explain packets, each directly before the text for
 -- the desk, and changes nothing else in what a replay writes, or a live gateway to the desk and to the serial line
 pub record ExplanationsStandApart : Type 0 where
   pub replay : (answers : List Answer) (held plain explained : List ℕ)
-      → WritesAll false (Some held) (Some plain) answers → WritesAll true (Some held) (Some explained) answers
-      → IsExplainedAfter (λ answer. radio_text answer.radio) answers held plain explained
+      → AppendsReplayText false (Some held) (Some plain) answers
+      → AppendsReplayText true (Some held) (Some explained) answers
+      → DifferByExplanationsAfter (λ answer. radio_chunk_line answer.radio) answers held plain explained
   pub desk : (answers : List Answer) (old new other : SinkValue × SinkValue) (held plain explained : List ℕ)
       → (live_output false).puts old new answers → (live_output true).puts old other answers
       → old.1.held ≡ Some held → new.1.held ≡ Some plain → other.1.held ≡ Some explained
-      → IsExplainedAfter (λ answer. []) answers held plain explained
+      → DifferByExplanationsAfter (λ answer. []) answers held plain explained
   pub serial : (answers : List Answer) (old new other : SinkValue × SinkValue) (held plain explained : List ℕ)
       → (live_output false).puts old new answers → (live_output true).puts old other answers
       → old.0.held ≡ Some held → new.0.held ≡ Some plain → other.0.held ≡ Some explained → plain ≡ explained

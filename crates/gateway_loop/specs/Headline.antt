@@ -33,11 +33,11 @@ pub record ReadInTurns (turns : List Turn) (serial serial_rest desk desk_rest : 
   pub desk_is : desk ≡ concat (desk_reads turns) ++ desk_rest
 
 -- the radio bytes of the answers, and their lines for the desk
-abbrev pub radio_of : List Answer → List ℕ
-radio_of answers = flat_map (λ answer. radio_bytes answer.radio) answers
+abbrev pub all_radio_bytes : List Answer → List ℕ
+all_radio_bytes answers = flat_map (λ answer. radio_bytes answer.radio) answers
 
-abbrev pub lines_of : Bool → List Answer → List ℕ
-lines_of explains answers = flat_map (desk_text explains) answers
+abbrev pub all_desk_text : (explains : Bool) → List Answer → List ℕ
+all_desk_text explains answers = flat_map (desk_text explains) answers
 
 -- `S` is a gateway's device store, and `stored` what it keeps.
 module _ {S : Type 0} (stored : S → DeviceStoreState) where
@@ -45,9 +45,9 @@ module _ {S : Type 0} (stored : S → DeviceStoreState) where
   -- arrived. A crash leaves only these devices.
   pub record IsNew (base : ℕ) (found : Devices) (gateway : GatewayValue S) : Type 0 where
     pub value : gateway ≡ new_gateway_value base gateway.handler.registry
-    pub known : (stored gateway.handler.registry).holds found
-    pub registries : (stored gateway.handler.registry).sound
-    pub left : (left : Devices) → (stored gateway.handler.registry).may_recover left → left ≡ found
+    pub holds_found : (stored gateway.handler.registry).holds found
+    pub recoverable : (stored gateway.handler.registry).sound
+    pub crash_leaves_found : (left : Devices) → (stored gateway.handler.registry).may_recover left → left ≡ found
 
   -- From the devices found, the inputs were handled one by one. Each took the step of the definitions, or failed. Only
   -- an input that needs memory or the device store can fail; then only the counter of failed inputs changed. The
@@ -62,9 +62,9 @@ module _ {S : Type 0} (stored : S → DeviceStoreState) where
     pub last : State
     pub run : Run (initial_state base found) inputs results answers last
     pub are_out : out answers
-    pub known : HasState stored new last
-    pub registries : (stored new.registry).sound
-    pub left : (left : Devices) → (stored new.registry).may_recover left
+    pub has_last_state : HasState stored new last
+    pub recoverable : (stored new.registry).sound
+    pub crash_leaves_prefix : (left : Devices) → (stored new.registry).may_recover left
         → AfterPrefix (initial_state base found) inputs results left
 
   -- the same for some prefix of the inputs, and no other input was handled
@@ -84,7 +84,7 @@ module _ {S : Type 0} (stored : S → DeviceStoreState) where
       (new : GatewayValue S × R × W)
       : Type 0 where
     pub text : List ℕ
-    pub is_held : sink.held new.2 ≡ Some (held ++ text)
+    pub text_is_appended : sink.held new.2 ≡ Some (held ++ text)
     pub specified : MatchResult result
         (λ _. (source.left new.1 ≡ Some [])
         × AsSpecified base found (inputs_of [] (script input)) (λ answers. text ≡ written explains answers)
@@ -92,8 +92,8 @@ module _ {S : Type 0} (stored : S → DeviceStoreState) where
         (λ _. BrokenOff base found (inputs_of [] (script input)) (λ answers. IsPrefix text (written explains answers))
         new.0.handler)
 
-  abbrev pub ReplaysAsSpecified : {R W : Type 0} → sources.Ghosts R → sinks.Ghosts W → Bool → Result Summary RunFault
-      → GatewayValue S × R × W → GatewayValue S × R × W → Type 0
+  abbrev pub ReplaysAsSpecified : {R W : Type 0} → sources.Ghosts R → sinks.Ghosts W → (explains : Bool)
+      → Result Summary RunFault → (old new : GatewayValue S × R × W) → Type 0
   ReplaysAsSpecified source sink explains result old new =
       (base : ℕ) (found : Devices) (input held : List ℕ) → IsNew base found old.0 → source.left old.1 ≡ Some input
       → sink.held old.2 ≡ Some held → (stored new.0.handler.registry).honest
@@ -122,14 +122,14 @@ module _ {S : Type 0} (stored : S → DeviceStoreState) where
         × AllReadsSucceed (source_value serial_in old.1) (source_value serial_in new.1) (serial_reads turns)
         × AllReadsSucceed (source_value desk_in old.2) (source_value desk_in new.2) (desk_reads turns)
         × AsSpecified base found (inputs_of [] (events_of_turns turns))
-        (λ answers. (radio ≡ radio_of answers) × (lines ≡ lines_of explains answers)) new.0.handler)
+        (λ answers. (radio ≡ all_radio_bytes answers) × (lines ≡ all_desk_text explains answers)) new.0.handler)
         (λ _. BrokenOff base found (inputs_of [] (events_of_turns turns))
-        (λ answers. IsPrefix radio (radio_of answers) × IsPrefix lines (lines_of explains answers)) new.0.handler)
+        (λ answers. IsPrefix radio (all_radio_bytes answers)
+        × IsPrefix lines (all_desk_text explains answers)) new.0.handler)
 
   abbrev pub ServesAsSpecified : {P Q R D : Type 0} → sources.Ghosts P → sources.Ghosts Q → sinks.Ghosts R
-      → sinks.Ghosts D → Bool → Result Summary RunFault → GatewayValue S × P × Q × R × D
-      → GatewayValue S × P × Q × R × D → ℕ
-      → Type 0
+      → sinks.Ghosts D → (explains : Bool) → Result Summary RunFault
+      → (old new : GatewayValue S × P × Q × R × D) (count : ℕ) → Type 0
   ServesAsSpecified serial_in desk_in serial_out desk_out explains result old new count =
       (base : ℕ) (found : Devices) (serial desk sent printed : List ℕ) → IsNew base found old.0
       → serial_in.left old.1 ≡ Some serial → desk_in.left old.2 ≡ Some desk

@@ -12,7 +12,7 @@ use Rattle.gateway_loop.specs.declared.runs.RunFault.{RunFault}
 use Rattle.gateway_loop.specs.declared.runs.RunFault.TheVariants.{Read, Write, TooManyTurns}
 use Rattle.gateway_loop.specs.declared.runs.Summary.{Summary}
 use Rattle.gateway_loop.specs.Processing.{Breaks, Processes}
-use Rattle.gateway_loop.specs.Reads.{OneReadFails, AllReadsSucceed}
+use Rattle.gateway_loop.specs.Reads.{OneMoreReadFails, AllReadsSucceed}
 use Rattle.gateway_loop.specs.Streams.{SinkValue, SourceValue, sink_value, source_value}
 use Rattle.gateway_loop.specs.Turns.{Turn, desk_reads, events_of_turns, serial_reads}
 use Rattle.gateway_loop.specs.LiveOutputs.{live_output}
@@ -34,35 +34,35 @@ live_value serial_in desk_in serial_out desk_out now = record {
 }
 
 -- The reads of the serial line, and the events, if a chunk was read after some turns, or nothing yet.
-abbrev pub serial_reads_with : List Turn → Option (List ℕ) → List (List ℕ)
-serial_reads_with turns None = serial_reads turns
-serial_reads_with turns (Some chunk) = serial_reads turns ++ chunk ∷ []
+abbrev pub serial_reads_and_chunk : List Turn → Option (List ℕ) → List (List ℕ)
+serial_reads_and_chunk turns None = serial_reads turns
+serial_reads_and_chunk turns (Some chunk) = serial_reads turns ++ chunk ∷ []
 
-abbrev pub events_with : List Turn → Option (List ℕ) → List Event
-events_with turns None = events_of_turns turns
-events_with turns (Some chunk) = events_of_turns turns ++ Chunk chunk ∷ []
+abbrev pub events_and_chunk : List Turn → Option (List ℕ) → List Event
+events_and_chunk turns None = events_of_turns turns
+events_and_chunk turns (Some chunk) = events_of_turns turns ++ Chunk chunk ∷ []
 
 module _ {S : Type 0} (old new : LiveValue S) where
   -- After the turns the next read failed: of the serial line, or, after a chunk, of the desk.
   abbrev pub NextReadFails : List Turn → Option (List ℕ) → Type 0
   NextReadFails turns None =
-      OneReadFails old.serial new.serial (serial_reads turns) × AllReadsSucceed old.desk new.desk (desk_reads turns)
+      OneMoreReadFails old.serial new.serial (serial_reads turns) × AllReadsSucceed old.desk new.desk (desk_reads turns)
   NextReadFails turns (Some chunk) =
       AllReadsSucceed old.serial new.serial (serial_reads turns ++ chunk ∷ [])
-      × OneReadFails old.desk new.desk (desk_reads turns)
+      × OneMoreReadFails old.desk new.desk (desk_reads turns)
 
   -- this many reads of each source were made, no read failed, and all writes succeeded
   pub record AllSucceeded (turns : ℕ) : Type 0 where
-    pub serial_read : new.serial.counts.calls ≡ old.serial.counts.calls + turns
-    pub desk_read : new.desk.counts.calls ≡ old.desk.counts.calls + turns
-    pub serial_written : NoneFailedOrEmpty old.sinks.0.counts new.sinks.0.counts
-    pub desk_written : NoneFailedOrEmpty old.sinks.1.counts new.sinks.1.counts
-    pub serial_well : NoneFailed old.serial.counts new.serial.counts
-    pub desk_well : NoneFailed old.desk.counts new.desk.counts
+    pub serial_reads_made : new.serial.counts.calls ≡ old.serial.counts.calls + turns
+    pub desk_reads_made : new.desk.counts.calls ≡ old.desk.counts.calls + turns
+    pub serial_writes_succeeded : NoneFailedOrEmpty old.sinks.0.counts new.sinks.0.counts
+    pub desk_writes_succeeded : NoneFailedOrEmpty old.sinks.1.counts new.sinks.1.counts
+    pub no_serial_read_failed : NoneFailed old.serial.counts new.serial.counts
+    pub no_desk_read_failed : NoneFailed old.desk.counts new.desk.counts
 
 -- the counters can count this many more reads of both sources, and, for all four, one more call that fails and one more
 -- that returns 0 bytes
-pub record HasRoomForTurns {S : Type 0} (now : LiveValue S) (turns : ℕ) : Type 0 where
+pub record CanCountTurns {S : Type 0} (now : LiveValue S) (turns : ℕ) : Type 0 where
   pub serial_in : HasCountRoom now.serial.counts turns
   pub desk_in : HasCountRoom now.desk.counts turns
   pub serial_out : HasCountRoom now.sinks.0.counts 0
@@ -78,13 +78,13 @@ module _ {S : Type 0} (stored : S → DeviceStoreState) where
     pub done : List Event
     pub order : Event
     pub later : List Event
-    pub whole : events_of_turns turns ≡ (events_with before (Some last.chunk) ++ done) ++ order ∷ later
-    pub broken : Breaks stored old new (events_with before (Some last.chunk) ++ done) order breaks
+    pub whole : events_of_turns turns ≡ (events_and_chunk before (Some last.chunk) ++ done) ++ order ∷ later
+    pub broken : Breaks stored old new (events_and_chunk before (Some last.chunk) ++ done) order breaks
 
   -- An answer was not written completely: to a packet of the chunk after the turns, or otherwise to an order of the
   -- last turn.
-  abbrev pub BreaksTurn : GatewayValue S → GatewayValue S → List Turn → Option (List ℕ)
-      → (List Answer → Answer → Type 0) → Type 0
+  abbrev pub BreaksTurn : (old new : GatewayValue S) → List Turn → Option (List ℕ) → (List Answer → Answer → Type 0)
+      → Type 0
   BreaksTurn old new turns (Some chunk) breaks = Breaks stored old new (events_of_turns turns) (Chunk chunk) breaks
   BreaksTurn old new turns None breaks = BreaksAtOrder old new turns breaks
 
@@ -106,26 +106,26 @@ module _ {S T : Type 0} (stored : S → DeviceStoreState) (at : T → LiveValue 
     pub read : List Turn
     pub chunk : Option (List ℕ)
     pub fails : NextReadFails (at old) (at new) read chunk
-    pub processed : Processes stored (at old).gateway (at new).gateway (events_with read chunk)
+    pub processed : Processes stored (at old).gateway (at new).gateway (events_and_chunk read chunk)
         ((live_output explains).puts (at old).sinks (at new).sinks)
 
   -- no read failed, and an answer was not written completely
   pub record ServesUntilWrite (old new : T) : Type 0 where
     pub read : List Turn
     pub chunk : Option (List ℕ)
-    pub serial : AllReadsSucceed (at old).serial (at new).serial (serial_reads_with read chunk)
+    pub serial : AllReadsSucceed (at old).serial (at new).serial (serial_reads_and_chunk read chunk)
     pub desk : AllReadsSucceed (at old).desk (at new).desk (desk_reads read)
     pub broken : BreaksTurn stored (at old).gateway (at new).gateway read chunk
         ((live_output explains).breaks (at old).sinks (at new).sinks)
 
   -- what was done before a fault; `TooManyTurns` is never returned
-  abbrev pub ServesUntil : T → T → RunFault → Type 0
+  abbrev pub ServesUntil : (old new : T) → RunFault → Type 0
   ServesUntil old new Read = ServesUntilRead old new
   ServesUntil old new Write = ServesUntilWrite old new
   ServesUntil old new TooManyTurns = ⊥
 
 module _ {S T : Type 0} (at : T → LiveValue S) where
   -- if the calls can be counted, `Ok` is returned exactly when all turns were made and all calls succeeded
-  abbrev pub SucceedsIffAllTurns : {A E : Type 0} → Result A E → T → T → ℕ → Type 0
+  abbrev pub SucceedsIffAllTurns : {A E : Type 0} → Result A E → (old new : T) (turns : ℕ) → Type 0
   SucceedsIffAllTurns result old new turns =
-      HasRoomForTurns (at old) turns → (IsOk result ↔ AllSucceeded (at old) (at new) turns)
+      CanCountTurns (at old) turns → (IsOk result ↔ AllSucceeded (at old) (at new) turns)

@@ -13,7 +13,7 @@ radio_bytes None = []
 radio_bytes (Some bytes) = bytes
 
 -- for each answer the radio bytes go to the serial line, and then its text to the desk
-abbrev pub live_output : Bool → OutputSpec (SinkValue × SinkValue)
+abbrev pub live_output : (explains : Bool) → OutputSpec (SinkValue × SinkValue)
 live_output explains =
     paired_output (text_output (λ answer. radio_bytes answer.radio)) (text_output (desk_text explains))
 

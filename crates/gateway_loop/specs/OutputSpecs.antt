@@ -7,8 +7,8 @@ use Rattle.gateway_core.specs.Step.{Answer}
 -- puts: exactly these answers were written from the first state to the second. breaks: these answers were written, and
 -- one more at most in part. Both continue from the current state of an output.
 pub record OutputSpec (O : Type 0) : Type 1 where
-  pub puts : O → O → List Answer → Type 0
-  pub breaks : O → O → List Answer → Answer → Type 0
+  pub puts : (old new : O) (answers : List Answer) → Type 0
+  pub breaks : (old new : O) (complete : List Answer) (cut : Answer) → Type 0
   pub nothing : (old : O) → puts old old []
   pub more : (old mid new : O) (first second : List Answer) → puts old mid first → puts mid new second
       → puts old new (first ++ second)
@@ -16,8 +16,8 @@ pub record OutputSpec (O : Type 0) : Type 1 where
       → breaks mid new second last → breaks old new (first ++ second) last
 
 -- one answer was written, or at most a part of it
-abbrev pub Puts : {O A E : Type 0} → OutputSpec O → Result A E → O → O → Answer → Type 0
-Puts output result old new answer =
+abbrev pub PutsOrBreaks : {O A E : Type 0} → OutputSpec O → Result A E → (old new : O) → Answer → Type 0
+PutsOrBreaks output result old new answer =
     MatchResult result (λ _. output.puts old new (answer ∷ [])) (λ _. output.breaks old new [] answer)
 
 -- an output, given as one of the value that it shows
@@ -32,22 +32,23 @@ output_by_view view output = record {
 
 -- An output has a constant flag: it determines which of two outputs the answers go to.
 module _ {V : Type 0} (output : Bool → OutputSpec V) where
-  abbrev pub PutsBy : Bool × V → Bool × V → List Answer → Type 0
-  PutsBy old new answers = (new.0 ≡ old.0) × (output old.0).puts old.1 new.1 answers
+  abbrev pub PutsByFlag : (old new : Bool × V) → List Answer → Type 0
+  PutsByFlag old new answers = (new.0 ≡ old.0) × (output old.0).puts old.1 new.1 answers
 
-  abbrev pub BreaksBy : Bool × V → Bool × V → List Answer → Answer → Type 0
-  BreaksBy old new answers last = (new.0 ≡ old.0) × (output old.0).breaks old.1 new.1 answers last
+  abbrev pub BreaksByFlag : (old new : Bool × V) → List Answer → Answer → Type 0
+  BreaksByFlag old new answers last = (new.0 ≡ old.0) × (output old.0).breaks old.1 new.1 answers last
 
-  pub more_by : (old mid new : Bool × V) (first second : List Answer) → PutsBy old mid first → PutsBy mid new second
-      → PutsBy old new (first ++ second)
-  more_by old mid new first second (same, a) (still, b) = (
+  pub more_by_flag : (old mid new : Bool × V) (first second : List Answer) → PutsByFlag old mid first
+      → PutsByFlag mid new second
+      → PutsByFlag old new (first ++ second)
+  more_by_flag old mid new first second (same, a) (still, b) = (
     still ∙ same,
     (output old.0).more old.1 mid.1 new.1 first second a (subst (λ flag. (output flag).puts mid.1 new.1 second) same b),
   )
 
-  pub broken_by : (old mid new : Bool × V) (first second : List Answer) (last : Answer) → PutsBy old mid first
-      → BreaksBy mid new second last → BreaksBy old new (first ++ second) last
-  broken_by old mid new first second last (same, a) (still, b) = (
+  pub broken_by_flag : (old mid new : Bool × V) (first second : List Answer) (last : Answer) → PutsByFlag old mid first
+      → BreaksByFlag mid new second last → BreaksByFlag old new (first ++ second) last
+  broken_by_flag old mid new first second last (same, a) (still, b) = (
     still ∙ same,
     (output old.0).broken old.1 mid.1 new.1 first second last a
         (subst (λ flag. (output flag).breaks mid.1 new.1 second last) same b),
@@ -55,32 +56,32 @@ module _ {V : Type 0} (output : Bool → OutputSpec V) where
 
   abbrev pub output_by_flag : OutputSpec (Bool × V)
   output_by_flag = record {
-    puts = PutsBy;
-    breaks = BreaksBy;
+    puts = PutsByFlag;
+    breaks = BreaksByFlag;
     nothing = λ old. (refl, (output old.0).nothing old.1);
-    more = more_by;
-    broken = broken_by;
+    more = more_by_flag;
+    broken = broken_by_flag;
   }
 
 -- Each answer goes to two outputs, to the second after the first.
 module _ {A B : Type 0} (one : OutputSpec A) (other : OutputSpec B) where
-  abbrev pub PutsBoth : A × B → A × B → List Answer → Type 0
+  abbrev pub PutsBoth : (old new : A × B) → List Answer → Type 0
   PutsBoth old new answers = one.puts old.0 new.0 answers × other.puts old.1 new.1 answers
 
   -- the last answer is written incompletely to the first output and not to the second, or whole to the first and
   -- incompletely to the second
-  abbrev pub BreaksBoth : A × B → A × B → List Answer → Answer → Type 0
-  BreaksBoth old new answers last =
+  abbrev pub BreaksInPair : (old new : A × B) → List Answer → Answer → Type 0
+  BreaksInPair old new answers last =
       (one.breaks old.0 new.0 answers last × other.puts old.1 new.1 answers)
       ⊎ (one.puts old.0 new.0 (answers ++ last ∷ []) × other.breaks old.1 new.1 answers last)
 
-  pub both_broken : (old mid new : A × B) (first second : List Answer) (last : Answer) → PutsBoth old mid first
-      → BreaksBoth mid new second last → BreaksBoth old new (first ++ second) last
-  both_broken old mid new first second last a (inl b) = inl (
+  pub pair_broken : (old mid new : A × B) (first second : List Answer) (last : Answer) → PutsBoth old mid first
+      → BreaksInPair mid new second last → BreaksInPair old new (first ++ second) last
+  pair_broken old mid new first second last a (inl b) = inl (
     one.broken old.0 mid.0 new.0 first second last a.0 b.0,
     other.more old.1 mid.1 new.1 first second a.1 b.1,
   )
-  both_broken old mid new first second last a (inr b) = inr (
+  pair_broken old mid new first second last a (inr b) = inr (
     subst (one.puts old.0 new.0) (sym (append_assoc first second (last ∷ [])))
         (one.more old.0 mid.0 new.0 first (second ++ last ∷ []) a.0 b.0),
     other.broken old.1 mid.1 new.1 first second last a.1 b.1,
@@ -89,11 +90,11 @@ module _ {A B : Type 0} (one : OutputSpec A) (other : OutputSpec B) where
   abbrev pub paired_output : OutputSpec (A × B)
   paired_output = record {
     puts = PutsBoth;
-    breaks = BreaksBoth;
+    breaks = BreaksInPair;
     nothing = λ old. (one.nothing old.0, other.nothing old.1);
     more = λ old mid new first second a b. (
       one.more old.0 mid.0 new.0 first second a.0 b.0,
       other.more old.1 mid.1 new.1 first second a.1 b.1,
     );
-    broken = both_broken;
+    broken = pair_broken;
   }

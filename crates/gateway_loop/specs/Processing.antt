@@ -7,18 +7,18 @@ use Rattle.gateway_core.specs.Step.{Input, Received, Answer}
 use Rattle.gateway_core.specs.Handling.{HandlerValue, Handles}
 use Rattle.gateway_core.specs.Calls.{GatewayValue}
 use Rattle.gateway_core.specs.Events.{Event, Chunk, Line, inputs_of, bytes_in}
-use Rattle.gateway_loop.specs.Script.{IsUpToLastLf, script, with_lf}
+use Rattle.gateway_loop.specs.Script.{HasPartToLastLf, script, with_lf}
 
 -- no packet is ready, and the rest may become one
-pub record IsDrained {S : Type 0} (gateway : GatewayValue S) : Type 0 where
+pub record HasNoReadyPacket {S : Type 0} (gateway : GatewayValue S) : Type 0 where
   pub ready : gateway.ready ≡ []
   pub rest : MayBecomePacket gateway.rest
 
 -- a line, or a prefix of a chunk
-abbrev pub IsEventPrefix : Event → Event → Type 0
-IsEventPrefix (Chunk bytes) (Chunk some) = (more : List ℕ) × (bytes ≡ some ++ more)
-IsEventPrefix (Line line) (Line other) = other ≡ line
-IsEventPrefix event other = ⊥
+abbrev pub IsWholeOrChunkPrefix : (event other : Event) → Type 0
+IsWholeOrChunkPrefix (Chunk bytes) (Chunk some) = (more : List ℕ) × (bytes ≡ some ++ more)
+IsWholeOrChunkPrefix (Line line) (Line other) = other ≡ line
+IsWholeOrChunkPrefix event other = ⊥
 
 -- Below, `puts` says that exactly these answers were written, and `breaks` that they were, and one more incompletely.
 module _ {S : Type 0} (stored : S → DeviceStoreState) where
@@ -29,7 +29,8 @@ module _ {S : Type 0} (stored : S → DeviceStoreState) where
     pub out : puts answers
 
   -- the inputs were handled, but the last answer was not written completely
-  pub record AnswersPart (old new : HandlerValue S) (inputs : List Input) (breaks : List Answer → Answer → Type 0)
+  pub record LastAnswerCutShort (old new : HandlerValue S) (inputs : List Input)
+      (breaks : List Answer → Answer → Type 0)
       : Type 0 where
     pub answers : List Answer
     pub last : Answer
@@ -40,7 +41,7 @@ module _ {S : Type 0} (stored : S → DeviceStoreState) where
   pub record Processes (old new : GatewayValue S) (events : List Event) (puts : List Answer → Type 0) : Type 0 where
     pub answered : Answers old.handler new.handler (inputs_of old.rest events) puts
     pub rest : new.rest ≡ rest_of (old.rest ++ bytes_in events)
-    pub idle : IsDrained new
+    pub idle : HasNoReadyPacket new
 
   -- after these events, one event was begun, and an answer to one of its inputs was not written completely: the inputs
   -- so far were handled, and the packets that the event's bytes completed after them are ready
@@ -48,23 +49,23 @@ module _ {S : Type 0} (stored : S → DeviceStoreState) where
       (breaks : List Answer → Answer → Type 0)
       : Type 0 where
     pub begun : Event
-    pub begins : IsEventPrefix event begun
+    pub begins : IsWholeOrChunkPrefix event begun
     pub inputs : List Input
     pub own : List Input
     pub behind : inputs ≡ inputs_of old.rest events ++ own
     pub some : 0 < length own
     pub stand : inputs_of old.rest (events ++ begun ∷ []) ≡ inputs ++ map Received new.ready
     pub rest : new.rest ≡ rest_of (old.rest ++ bytes_in (events ++ begun ∷ []))
-    pub answered : AnswersPart old.handler new.handler inputs breaks
+    pub answered : LastAnswerCutShort old.handler new.handler inputs breaks
 
   -- the lines that LF ends in what was read were processed
   pub record ProcessesEnded (old new : GatewayValue S) (input : List ℕ) (puts : List Answer → Type 0) : Type 0 where
     pub ended : List ℕ
-    pub is : IsUpToLastLf input ended
+    pub is : HasPartToLastLf input ended
     pub processed : Processes old new (script ended) puts
 
   -- an answer was not written completely, at the last event of a prefix of what was read that ends with LF
-  pub record BreaksAtLastLine (old new : GatewayValue S) (input : List ℕ) (breaks : List Answer → Answer → Type 0)
+  pub record BreaksAtEndedLine (old new : GatewayValue S) (input : List ℕ) (breaks : List Answer → Answer → Type 0)
       : Type 0 where
     pub part : List ℕ
     pub more : List ℕ

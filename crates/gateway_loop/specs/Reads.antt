@@ -8,14 +8,14 @@ use Rattle.gateway_loop.specs.Streams.{SourceValue}
 
 -- The bytes of one read: `left` is what the source had left before all reads, if that is known, and `before` what the
 -- reads before this one returned. A read returns nothing only if they returned everything.
-pub record IsRead (left : Option (List ℕ)) (before bytes : List ℕ) : Type 0 where
+pub record IsNextRead (left : Option (List ℕ)) (before bytes : List ℕ) : Type 0 where
   pub short : length bytes ≤ max_read
   pub empty : bytes ≡ [] → IfSome left (λ all. all ≡ before)
 
 -- each of these is a read after those before it
-abbrev pub AreReads : Option (List ℕ) → List ℕ → List (List ℕ) → Type 0
+abbrev pub AreReads : Option (List ℕ) → (before : List ℕ) → List (List ℕ) → Type 0
 AreReads left before [] = ⊤
-AreReads left before (bytes ∷ more) = IsRead left before bytes × AreReads left (before ++ bytes) more
+AreReads left before (bytes ∷ more) = IsNextRead left before bytes × AreReads left (before ++ bytes) more
 
 -- each of these is a read, and together they returned exactly what the source lost
 pub record GivesBytes (old new : SourceValue) (reads : List (List ℕ)) : Type 0 where
@@ -29,13 +29,13 @@ pub record AllReadsSucceed (old new : SourceValue) (reads : List (List ℕ)) : T
   pub well : NoneFailed old.counts new.counts
 
 -- one read more than these was made, and one failed
-pub record OneReadFails (old new : SourceValue) (reads : List (List ℕ)) : Type 0 where
+pub record OneMoreReadFails (old new : SourceValue) (reads : List (List ℕ)) : Type 0 where
   pub gave : GivesBytes old new reads
   pub made : CallsMade old.counts new.counts (length reads + 1)
   pub failed : FailedOnceMore old.counts new.counts
 
 -- at most this many reads were made; perhaps one failed, and returned nothing
-abbrev pub MakesReads : SourceValue → SourceValue → ℕ → Type 0
-MakesReads old new most =
+abbrev pub MakesAtMostReads : (old new : SourceValue) (most : ℕ) → Type 0
+MakesAtMostReads old new most =
     (reads : List (List ℕ)) × ((AllReadsSucceed old new reads × (length reads ≤ most))
-    ⊎ (OneReadFails old new reads × (length reads + 1 ≤ most)))
+    ⊎ (OneMoreReadFails old new reads × (length reads + 1 ≤ most)))

@@ -10,31 +10,31 @@ use Rattle.actuator_commands.specs.Limits.{max_line}
 use Rattle.gateway_core.specs.Events.{Event, Chunk, Line}
 
 -- the bytes that the digits of a line spell, or otherwise the line
-abbrev pub chunk_or_line : List ℕ → Result (List ℕ) FromHexError → Event
-chunk_or_line line (Ok bytes) = Chunk bytes
-chunk_or_line line (Err fault) = Line line
+abbrev pub chunk_if_decoded : (line : List ℕ) → Result (List ℕ) FromHexError → Event
+chunk_if_decoded line (Ok bytes) = Chunk bytes
+chunk_if_decoded line (Err fault) = Line line
 
 -- `S`, one space and an even number of hexadecimal digits are a serial chunk, unless the line is too long
-abbrev pub event_of : List ℕ → Event
-event_of line =
-    if nat_le (length line) max_line && starts_with nat_eq line (codes "S ") then chunk_or_line line
+abbrev pub event_of_script_line : (line : List ℕ) → Event
+event_of_script_line line =
+    if nat_le (length line) max_line && starts_with nat_eq line (codes "S ") then chunk_if_decoded line
     (decode_of (drop 2 line))
     else Line line
 
 -- a line ends with LF, or CR LF, or the end of the script
-abbrev pub script : List ℕ → List Event
-script input = map event_of (lines input)
+abbrev pub script : (input : List ℕ) → List Event
+script input = map event_of_script_line (lines input)
 
 -- it contains no LF
-abbrev pub HasNoLf : List ℕ → Type 0
+abbrev pub HasNoLf : (bytes : List ℕ) → Type 0
 HasNoLf bytes = All (λ byte. byte ≢ 10) bytes
 
 -- a line, with LF after it
-abbrev pub with_lf : List ℕ → List ℕ
+abbrev pub with_lf : (line : List ℕ) → List ℕ
 with_lf line = line ++ 10 ∷ []
 
 -- `ended` is what was read up to and including its last LF
-pub record IsUpToLastLf (input ended : List ℕ) : Type 0 where
+pub record HasPartToLastLf (input ended : List ℕ) : Type 0 where
   pub tail : List ℕ
   pub whole : input ≡ ended ++ tail
   pub ends : (ended ≡ []) ⊎ ((front : List ℕ) × (ended ≡ with_lf front))

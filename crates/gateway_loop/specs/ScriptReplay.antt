@@ -10,10 +10,10 @@ use Rattle.byte_io.specs.declared.source.Source as sources
 use Rattle.gateway_loop.specs.declared.runs.RunFault.{RunFault}
 use Rattle.gateway_loop.specs.declared.runs.RunFault.TheVariants.{Read, Write, TooManyTurns}
 use Rattle.gateway_loop.specs.declared.runs.Summary.{Summary}
-use Rattle.gateway_loop.specs.Processing.{Processes, ProcessesEnded, BreaksAtLastEvent, BreaksAtLastLine}
+use Rattle.gateway_loop.specs.Processing.{Processes, ProcessesEnded, BreaksAtLastEvent, BreaksAtEndedLine}
 use Rattle.gateway_loop.specs.Script.{script}
 use Rattle.gateway_loop.specs.Streams.{SinkValue, SourceValue, sink_value, source_value}
-use Rattle.gateway_loop.specs.Written.{WritesAll, WritesPart}
+use Rattle.gateway_loop.specs.Written.{AppendsReplayText, AppendsCutReplayText}
 
 -- the state of a replay
 pub record ReplayValue (S : Type 0) : Type 0 where
@@ -34,7 +34,7 @@ module _ {S T : Type 0} (stored : S → DeviceStoreState) (at : T → ReplayValu
     pub read : Consumes (at old).source.left (at new).source.left input
     pub at_end : IsAtEnd (at new).source.left
     pub processed : Processes stored (at old).gateway (at new).gateway (script input)
-        (WritesAll explains (at old).sink.held (at new).sink.held)
+        (AppendsReplayText explains (at old).sink.held (at new).sink.held)
     pub counted : summary.items ≡ min (length (inputs_of (at old).gateway.rest (script input))) (2 ^ 64 - 1)
 
   -- the lines that LF ends in what was read were replayed
@@ -42,20 +42,20 @@ module _ {S T : Type 0} (stored : S → DeviceStoreState) (at : T → ReplayValu
     pub input : List ℕ
     pub read : Consumes (at old).source.left (at new).source.left input
     pub processed : ProcessesEnded stored (at old).gateway (at new).gateway input
-        (WritesAll explains (at old).sink.held (at new).sink.held)
+        (AppendsReplayText explains (at old).sink.held (at new).sink.held)
 
   -- a write failed at a line that LF ends in what was read, and all reads returned something
   pub record BreaksAtLine (old new : T) (input : List ℕ) : Type 0 where
     pub reads : NoneFailedOrEmpty (at old).source.counts (at new).source.counts
-    pub broken : BreaksAtLastLine stored (at old).gateway (at new).gateway input
-        (WritesPart explains (at old).sink.held (at new).sink.held)
+    pub broken : BreaksAtEndedLine stored (at old).gateway (at new).gateway input
+        (AppendsCutReplayText explains (at old).sink.held (at new).sink.held)
 
   -- a write failed at the last event of the script, and one read returned nothing
   pub record BreaksAtEnd (old new : T) (input : List ℕ) : Type 0 where
     pub reads : OnlyEmptyOnce (at old).source.counts (at new).source.counts
     pub at_end : IsAtEnd (at new).source.left
     pub broken : BreaksAtLastEvent stored (at old).gateway (at new).gateway (script input)
-        (WritesPart explains (at old).sink.held (at new).sink.held)
+        (AppendsCutReplayText explains (at old).sink.held (at new).sink.held)
 
   -- a write failed
   pub record ReplaysUntilWrite (old new : T) : Type 0 where
@@ -64,7 +64,7 @@ module _ {S T : Type 0} (stored : S → DeviceStoreState) (at : T → ReplayValu
     pub broken : BreaksAtLine old new input ⊎ BreaksAtEnd old new input
 
   -- what was done before a fault
-  abbrev pub ReplaysUntil : T → T → RunFault → Type 0
+  abbrev pub ReplaysUntil : (old new : T) → RunFault → Type 0
   ReplaysUntil old new Read = ReplaysEnded old new
   ReplaysUntil old new Write = ReplaysUntilWrite old new
   ReplaysUntil old new TooManyTurns = ReplaysEnded old new
@@ -72,7 +72,7 @@ module _ {S T : Type 0} (stored : S → DeviceStoreState) (at : T → ReplayValu
 module _ {S T : Type 0} (at : T → ReplayValue S) where
   -- If the calls can be counted, `TooManyTurns` is returned exactly when this many reads were made and all calls
   -- succeeded.
-  abbrev pub FailsIffTooManyTurns : {A : Type 0} → Result A RunFault → T → T → ℕ → Type 0
+  abbrev pub FailsIffTooManyTurns : {A : Type 0} → Result A RunFault → (old new : T) (turns : ℕ) → Type 0
   FailsIffTooManyTurns result old new turns =
       HasCountRoom (at old).source.counts turns → HasCountRoom (at old).sink.counts 0
       → ((result ≡ Err TooManyTurns) ↔ (((at new).source.counts.calls ≡ (at old).source.counts.calls + turns)

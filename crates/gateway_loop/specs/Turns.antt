@@ -17,21 +17,22 @@ abbrev pub desk_reads : List Turn → List (List ℕ)
 desk_reads turns = map (λ turn. turn.desk) turns
 
 -- the bytes before each LF, from the LF before it
-abbrev pub ended_lines : List ℕ → List (List ℕ)
-ended_lines bytes =
+abbrev pub lines_ended_by_lf : (bytes : List ℕ) → List (List ℕ)
+lines_ended_by_lf bytes =
     let parts = slice_split (λ byte. byte == 10) bytes in take (length parts - 1) parts
 
 -- the orders of the desk: its lines that LF ends. One CR before LF is not part of a line
-abbrev pub orders : List ℕ → List Event
-orders bytes = map (λ line. Line (strip_carriage_return line)) (ended_lines bytes)
+abbrev pub desk_line_events : (bytes : List ℕ) → List Event
+desk_line_events bytes = map (λ line. Line (strip_carriage_return line)) (lines_ended_by_lf bytes)
 
 -- For each turn its chunk, and then the orders that its desk bytes complete: those in the desk's bytes so far, without
 -- those in the bytes before the turn.
-abbrev pub events_after : List ℕ → List Turn → List Event
-events_after before [] = []
-events_after before (turn ∷ turns) =
+abbrev pub events_of_turns_after : (before : List ℕ) → List Turn → List Event
+events_of_turns_after before [] = []
+events_of_turns_after before (turn ∷ turns) =
     let now = before ++ turn.desk in
-    Chunk turn.chunk ∷ (drop (length (orders before)) (orders now) ++ events_after now turns)
+    Chunk turn.chunk ∷ (drop (length (desk_line_events before)) (desk_line_events now)
+    ++ events_of_turns_after now turns)
 
 abbrev pub events_of_turns : List Turn → List Event
-events_of_turns turns = events_after [] turns
+events_of_turns turns = events_of_turns_after [] turns

@@ -24,7 +24,7 @@ static DIGIT_VALUES: [u8; 256] = [
 ];
 
 // The value of a digit, or 0x10 for another byte.
-fn digit_value(digit: u8) -> u8
+fn hex_digit_or_16(digit: u8) -> u8
     ensures { hex_digit_value digit ≡ (if nat_lt result 16 then Some result else None) }
 {
     DIGIT_VALUES[digit as usize]
@@ -32,7 +32,7 @@ fn digit_value(digit: u8) -> u8
 
 /// Writes the bytes that hexadecimal digits spell, two digits for each. Returns false if a byte is not a digit or the
 /// number of digits is odd; then some bytes may be written.
-pub fn decode(digits: &[u8], bytes: &mut [u8]) -> bool
+pub fn try_decode_hex(digits: &[u8], bytes: &mut [u8]) -> bool
     requires { length bytes.old ≡ length digits.now / 2 }
     ensures { MatchBool result (decode_of digits.now ≡ Ok bytes.new) (IsErr (decode_of digits.now)) }
 {
@@ -42,8 +42,8 @@ pub fn decode(digits: &[u8], bytes: &mut [u8]) -> bool
     // One test after the loop costs less than one for each byte.
     let mut seen = 0;
     for i in 0..bytes.len() {
-        let high = digit_value(digits[2 * i]);
-        let low = digit_value(digits[2 * i + 1]);
+        let high = hex_digit_or_16(digits[2 * i]);
+        let low = hex_digit_or_16(digits[2 * i + 1]);
         seen |= high | low;
         bytes[i] = high << 4 | low;
     }

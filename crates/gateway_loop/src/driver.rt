@@ -7,12 +7,12 @@ ghost use Rattle.actuator_commands.specs.Limits.{max_line};
 ghost use Rattle.gateway_core.specs.Events.{Line as LineEvent, Chunk as ChunkEvent};
 ghost use Rattle.gateway_core.specs.Replies.{answer_of, packet_answer};
 ghost use Rattle.gateway_loop.specs.private.DriverSteps.{Drains, DrainsPart, DriverBreaks, Takes, TakesOrBreaks};
-ghost use Rattle.gateway_loop.specs.OutputSpecs.{Puts};
-ghost use Rattle.gateway_loop.specs.Processing.{IsDrained};
-ghost use Rattle.gateway_loop.specs.Script.{event_of, chunk_or_line};
+ghost use Rattle.gateway_loop.specs.OutputSpecs.{PutsOrBreaks};
+ghost use Rattle.gateway_loop.specs.Processing.{HasNoReadyPacket};
+ghost use Rattle.gateway_loop.specs.Script.{event_of_script_line, chunk_if_decoded};
 
-use crate::digits::decode;
-use crate::line_limits::MAX_CHUNK;
+use crate::digits::try_decode_hex;
+use crate::line_limits::MAX_SCRIPT_CHUNK;
 use crate::reply_sink::ReplySink;
 use byte_io::Failed;
 use gateway_core::{DeviceStore, GatewayOver, HandledPacket, MAX_LINE, Reply};
@@ -29,7 +29,7 @@ pub struct Driver<'g, O, S: DeviceStore> {
 impl<O: ReplySink, S: DeviceStore> Driver<'_, O, S> {
     /// Takes a chunk of the serial stream, and answers each packet that it completes.
     pub fn process_chunk(&mut self, chunk: &[u8]) -> Result<(), Failed>
-        requires { IsDrained self.old.gateway.now }
+        requires { HasNoReadyPacket self.old.gateway.now }
         ensures gateway { self.new.gateway.ghost_name ≡ self.old.gateway.ghost_name }
         ensures loans { O.loans self.new.reply_sink ≡ O.loans self.old.reply_sink }
         ensures taken { TakesOrBreaks S.store_state O.output result self.old self.new (ChunkEvent chunk.now) }
@@ -38,15 +38,15 @@ impl<O: ReplySink, S: DeviceStore> Driver<'_, O, S> {
         let _start = self.items;
         let mut count = 0;
         while count < chunk.len() {
-            count += self.process_run(&chunk[count..])?;
+            count += self.process_front(&chunk[count..])?;
         }
         Ok(())
     }
 
     /// Takes the whole packet at the front of these bytes, or, if there is none, the bytes up to the one that makes
     /// packets ready. Answers the packets that they complete, and returns how many bytes it took.
-    fn process_run(&mut self, bytes: &[u8]) -> Result<usize, Failed>
-        requires idle { IsDrained self.old.gateway.now }
+    fn process_front(&mut self, bytes: &[u8]) -> Result<usize, Failed>
+        requires idle { HasNoReadyPacket self.old.gateway.now }
         requires some { 0 < length bytes.now }
         ensures gateway { self.new.gateway.ghost_name ≡ self.old.gateway.ghost_name }
         ensures loans { O.loans self.new.reply_sink ≡ O.loans self.old.reply_sink }
@@ -57,19 +57,19 @@ impl<O: ReplySink, S: DeviceStore> Driver<'_, O, S> {
     {
         // The proof needs that the count is a `u64`.
         let _start = self.items;
-        if let Some((handled, count)) = self.gateway.handle_first(bytes) {
+        if let Some((handled, count)) = self.gateway.handle_front_packet(bytes) {
             self.answer_packet(&handled)?;
             return Ok(count);
         }
         let count = self.gateway.bytes(bytes);
         if self.gateway.is_ready() {
-            self.drain()?;
+            self.answer_ready_packets()?;
         }
         Ok(count)
     }
 
     /// Answers the ready packets.
-    fn drain(&mut self) -> Result<(), Failed>
+    fn answer_ready_packets(&mut self) -> Result<(), Failed>
         ensures gateway { self.new.gateway.ghost_name ≡ self.old.gateway.ghost_name }
         ensures loans { O.loans self.new.reply_sink ≡ O.loans self.old.reply_sink }
         ensures ready { OnOk result (self.new.gateway.now.ready ≡ []) }
@@ -88,7 +88,7 @@ impl<O: ReplySink, S: DeviceStore> Driver<'_, O, S> {
 
     /// Takes an order of the desk, without its line end, and answers it.
     pub fn process_order(&mut self, line: &[u8]) -> Result<(), Failed>
-        requires { IsDrained self.old.gateway.now }
+        requires { HasNoReadyPacket self.old.gateway.now }
         ensures gateway { self.new.gateway.ghost_name ≡ self.old.gateway.ghost_name }
         ensures loans { O.loans self.new.reply_sink ≡ O.loans self.old.reply_sink }
         ensures taken { TakesOrBreaks S.store_state O.output result self.old self.new (LineEvent line.now) }
@@ -99,32 +99,32 @@ impl<O: ReplySink, S: DeviceStore> Driver<'_, O, S> {
 
     /// Takes a line of a script, without its end.
     pub fn process_script_line(&mut self, line: &[u8]) -> Result<(), Failed>
-        requires { IsDrained self.old.gateway.now }
+        requires { HasNoReadyPacket self.old.gateway.now }
         ensures gateway { self.new.gateway.ghost_name ≡ self.old.gateway.ghost_name }
         ensures loans { O.loans self.new.reply_sink ≡ O.loans self.old.reply_sink }
-        ensures taken { TakesOrBreaks S.store_state O.output result self.old self.new (event_of line.now) }
+        ensures taken { TakesOrBreaks S.store_state O.output result self.old self.new (event_of_script_line line.now) }
     {
         if line.starts_with(b"S ".as_slice()) && line.len() <= MAX_LINE {
-            self.process_hex_line(line)
+            self.process_chunk_or_order(line)
         } else {
             self.process_order(line)
         }
     }
 
     /// Takes a line that begins with `S` and a space: as a chunk if digits follow, otherwise as an order.
-    fn process_hex_line(&mut self, line: &[u8]) -> Result<(), Failed>
-        requires idle { IsDrained self.old.gateway.now }
+    fn process_chunk_or_order(&mut self, line: &[u8]) -> Result<(), Failed>
+        requires idle { HasNoReadyPacket self.old.gateway.now }
         requires long { 2 ≤ length line.now }
         requires short { length line.now ≤ max_line }
         ensures gateway { self.new.gateway.ghost_name ≡ self.old.gateway.ghost_name }
         ensures loans { O.loans self.new.reply_sink ≡ O.loans self.old.reply_sink }
         ensures taken { TakesOrBreaks S.store_state O.output result self.old self.new
-            (chunk_or_line line.now (decode_of (drop 2 line.now))) }
+            (chunk_if_decoded line.now (decode_of (drop 2 line.now))) }
     {
         let digits = &line[2..];
-        let mut bytes = [0u8; MAX_CHUNK];
+        let mut bytes = [0u8; MAX_SCRIPT_CHUNK];
         let chunk = &mut bytes[..digits.len() / 2];
-        if decode(digits, chunk) {
+        if try_decode_hex(digits, chunk) {
             self.process_chunk(chunk)
         } else {
             self.process_order(line)
@@ -143,7 +143,7 @@ impl<O: ReplySink, S: DeviceStore> Driver<'_, O, S> {
         ensures kept { self.new.gateway.now ≡ self.old.gateway.now }
         ensures loans { O.loans self.new.reply_sink ≡ O.loans self.old.reply_sink }
         ensures counted { self.new.items ≡ saturated_increment self.old.items }
-        ensures put { Puts O.output result self.old.reply_sink self.new.reply_sink (packet_answer handled.now) }
+        ensures put { PutsOrBreaks O.output result self.old.reply_sink self.new.reply_sink (packet_answer handled.now) }
     {
         self.count_input();
         self.reply_sink.put(Some(&handled.line), &handled.reply)
@@ -155,7 +155,7 @@ impl<O: ReplySink, S: DeviceStore> Driver<'_, O, S> {
         ensures kept { self.new.gateway.now ≡ self.old.gateway.now }
         ensures loans { O.loans self.new.reply_sink ≡ O.loans self.old.reply_sink }
         ensures counted { self.new.items ≡ saturated_increment self.old.items }
-        ensures put { Puts O.output result self.old.reply_sink self.new.reply_sink (answer_of reply.now) }
+        ensures put { PutsOrBreaks O.output result self.old.reply_sink self.new.reply_sink (answer_of reply.now) }
     {
         self.count_input();
         self.reply_sink.put(None, reply)

@@ -3,8 +3,8 @@ ghost use Rattle.std.specs.Prelude.{◌≡◌, [], ◌++◌, ℕ, List, OnOk, On
 ghost use Rattle.std.specs.Str.Lines.{strip_carriage_return};
 ghost use Rattle.gateway_loop.specs.private.DriverSteps.{TakesOrBreaks, TakesOrStops};
 ghost use Rattle.gateway_loop.specs.private.LineLoop.{StopsAtLine, TakesBytes};
-ghost use Rattle.gateway_loop.specs.private.Lines.{KeepsPartialLine, event_by};
-ghost use Rattle.gateway_loop.specs.Processing.{IsDrained};
+ghost use Rattle.gateway_loop.specs.private.Lines.{KeepsTruncatedLine, event_of_line_from};
+ghost use Rattle.gateway_loop.specs.Processing.{HasNoReadyPacket};
 ghost use Rattle.gateway_loop.specs.Script.{script};
 
 use crate::driver::Driver;
@@ -16,7 +16,7 @@ use memchr::memchr;
 
 /// The kind of lines.
 #[derive(Clone, Copy)]
-pub enum Lines {
+pub enum LineSource {
     /// Lines of a script: serial chunks and orders.
     ScriptLines,
     /// Lines of the desk: orders.
@@ -33,21 +33,21 @@ pub struct LineDispatcher<'g, O, S: DeviceStore> {
 // In the postconditions below `tail` is everything read so far of the partial line.
 impl<O: ReplySink, S: DeviceStore> LineDispatcher<'_, O, S> {
     /// Takes the next bytes, and so each line that ends in them.
-    pub fn process_bytes(&mut self, lines: Lines, bytes: &[u8]) -> Result<(), Failed>
-        requires { IsDrained self.old.driver.gateway.now }
+    pub fn process_bytes(&mut self, lines: LineSource, bytes: &[u8]) -> Result<(), Failed>
+        requires { HasNoReadyPacket self.old.driver.gateway.now }
         ensures gateway { self.new.driver.gateway.ghost_name ≡ self.old.driver.gateway.ghost_name }
         ensures loans { O.loans self.new.driver.reply_sink ≡ O.loans self.old.driver.reply_sink }
-        ensures idle { OnOk result (IsDrained self.new.driver.gateway.now) }
-        ensures taken { OnOk result ((tail : List ℕ) → KeepsPartialLine tail self.old.partial →
+        ensures idle { OnOk result (HasNoReadyPacket self.new.driver.gateway.now) }
+        ensures taken { OnOk result ((tail : List ℕ) → KeepsTruncatedLine tail self.old.partial →
             TakesBytes S.store_state O.output lines self.old self.new (tail ++ bytes.now)) }
-        ensures stopped { OnErr result ((tail : List ℕ) → KeepsPartialLine tail self.old.partial →
+        ensures stopped { OnErr result ((tail : List ℕ) → KeepsTruncatedLine tail self.old.partial →
             StopsAtLine S.store_state O.output lines self.old self.new (tail ++ bytes.now)) }
     {
         // The proof needs that the count is a `u64`.
         let _start = self.driver.items;
         let mut rest = bytes;
         while let Some(end) = memchr(b'\n', rest) {
-            self.process_ended_lines(lines, &rest[..end])?;
+            self.process_ended_line(lines, &rest[..end])?;
             rest = &rest[end + 1..];
         }
         self.partial.extend(rest);
@@ -55,31 +55,35 @@ impl<O: ReplySink, S: DeviceStore> LineDispatcher<'_, O, S> {
     }
 
     /// Takes the line that LF ends after these bytes.
-    fn process_ended_lines(&mut self, lines: Lines, bytes: &[u8]) -> Result<(), Failed>
-        requires { IsDrained self.old.driver.gateway.now }
+    fn process_ended_line(&mut self, lines: LineSource, bytes: &[u8]) -> Result<(), Failed>
+        requires { HasNoReadyPacket self.old.driver.gateway.now }
         ensures gateway { self.new.driver.gateway.ghost_name ≡ self.old.driver.gateway.ghost_name }
         ensures loans { O.loans self.new.driver.reply_sink ≡ O.loans self.old.driver.reply_sink }
-        ensures idle { OnOk result (IsDrained self.new.driver.gateway.now) }
+        ensures idle { OnOk result (HasNoReadyPacket self.new.driver.gateway.now) }
         ensures emptied { OnOk result (self.new.partial ≡ []) }
-        ensures taken { (tail : List ℕ) → KeepsPartialLine tail self.old.partial →
+        ensures taken { (tail : List ℕ) → KeepsTruncatedLine tail self.old.partial →
             TakesOrBreaks S.store_state O.output result self.old.driver self.new.driver
-            (event_by lines (strip_carriage_return (tail ++ bytes.now))) }
+            (event_of_line_from lines (strip_carriage_return (tail ++ bytes.now))) }
     {
         if self.partial.as_slice().is_empty() {
-            return process_line(&mut self.driver, lines, strip(bytes));
+            return process_line(&mut self.driver, lines, strip_carriage_return(bytes));
         }
         self.partial.extend(bytes);
-        process_line(&mut self.driver, lines, strip(self.partial.as_slice()))?;
+        process_line(
+            &mut self.driver,
+            lines,
+            strip_carriage_return(self.partial.as_slice()),
+        )?;
         self.partial.clear();
         Ok(())
     }
 
     /// Takes the line that the end of a script ends, if there is one.
-    pub fn process_last_line(&mut self) -> Result<(), Failed>
-        requires { IsDrained self.old.driver.gateway.now }
+    pub fn process_last_script_line(&mut self) -> Result<(), Failed>
+        requires { HasNoReadyPacket self.old.driver.gateway.now }
         ensures gateway { self.new.driver.gateway.ghost_name ≡ self.old.driver.gateway.ghost_name }
         ensures loans { O.loans self.new.driver.reply_sink ≡ O.loans self.old.driver.reply_sink }
-        ensures taken { (tail : List ℕ) → KeepsPartialLine tail self.old.partial →
+        ensures taken { (tail : List ℕ) → KeepsTruncatedLine tail self.old.partial →
             TakesOrStops S.store_state O.output result self.old.driver self.new.driver (script tail) }
     {
         // The proof needs that the count is a `u64`.
@@ -93,7 +97,7 @@ impl<O: ReplySink, S: DeviceStore> LineDispatcher<'_, O, S> {
 }
 
 /// A line without the CR at its end, if there is one.
-fn strip(line: &[u8]) -> &[u8]
+fn strip_carriage_return(line: &[u8]) -> &[u8]
     ensures { result.now ≡ strip_carriage_return line.now }
 {
     match line.last() {
@@ -105,16 +109,17 @@ fn strip(line: &[u8]) -> &[u8]
 /// Takes a line without its end.
 fn process_line<O: ReplySink, S: DeviceStore>(
     driver: &mut Driver<'_, O, S>,
-    lines: Lines,
+    lines: LineSource,
     line: &[u8],
 ) -> Result<(), Failed>
-    requires { IsDrained driver.old.gateway.now }
+    requires { HasNoReadyPacket driver.old.gateway.now }
     ensures gateway { driver.new.gateway.ghost_name ≡ driver.old.gateway.ghost_name }
     ensures loans { O.loans driver.new.reply_sink ≡ O.loans driver.old.reply_sink }
-    ensures taken { TakesOrBreaks S.store_state O.output result driver.old driver.new (event_by lines line.now) }
+    ensures taken { TakesOrBreaks S.store_state O.output result driver.old driver.new
+        (event_of_line_from lines line.now) }
 {
     match lines {
-        Lines::ScriptLines => driver.process_script_line(line),
-        Lines::DeskLines => driver.process_order(line),
+        LineSource::ScriptLines => driver.process_script_line(line),
+        LineSource::DeskLines => driver.process_order(line),
     }
 }

@@ -5,7 +5,7 @@ ghost use Rattle.gateway_loop.specs.Headline.{ServesAsSpecified};
 ghost use Rattle.gateway_loop.specs.LiveGateway.{Serves, ServesUntil, SucceedsIffAllTurns, live_value};
 
 use crate::driver::Driver;
-use crate::line_loop::{LineDispatcher, Lines};
+use crate::line_loop::{LineDispatcher, LineSource};
 use crate::live_outputs::LiveOutputs;
 use crate::partial_line::PartialLine;
 use crate::runs::{RunFault, Summary};
@@ -79,7 +79,7 @@ pub fn live<P: Source, Q: Source, R: Sink, D: Sink, S: DeviceStore>(
         let Ok(length) = desk_in.read(&mut buffer) else {
             return Err(RunFault::Read);
         };
-        let Ok(()) = dispatcher.process_bytes(Lines::DeskLines, &buffer[..length]) else {
+        let Ok(()) = dispatcher.process_bytes(LineSource::DeskLines, &buffer[..length]) else {
             return Err(RunFault::Write);
         };
     }

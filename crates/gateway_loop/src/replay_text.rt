@@ -2,7 +2,7 @@
 ghost use Rattle.std.specs.Prelude.{[], ◌∷◌, ◌≤◌, Some, length};
 ghost use Rattle.byte_io.specs.Counts.{CallsMatchResult};
 ghost use Rattle.byte_io.specs.Writes.{Writes};
-ghost use Rattle.gateway_loop.specs.Written.{radio_text, replay_output};
+ghost use Rattle.gateway_loop.specs.Written.{radio_chunk_line, replay_output_of};
 
 use crate::desk_text::write_desk_text;
 use crate::reply_sink::ReplySink;
@@ -13,14 +13,14 @@ use json_lines::PacketLine;
 /// The text of a replay: for each reply its radio bytes, if any, as a serial chunk, then the line that explains its
 /// packet, if packets are explained, and then the text for the desk.
 #[derive(Drop)]
-pub struct ReplayText<'w, W> {
+pub struct ReplayOutput<'w, W> {
     pub sink: &'w mut W,
     /// Whether packets are explained.
     pub explains: bool,
 }
 
-impl<W: Sink> ReplySink for ReplayText<'_, W> {
-    ghost output = { replay_output W.Sink };
+impl<W: Sink> ReplySink for ReplayOutput<'_, W> {
+    ghost output = { replay_output_of W.Sink };
 
     ghost loans = { λ text. text.sink.ghost_name ∷ [] };
 
@@ -35,7 +35,7 @@ impl<W: Sink> ReplySink for ReplayText<'_, W> {
 /// Writes bytes as a serial chunk: `S` and a space, hexadecimal digits, LF.
 fn write_chunk<W: Sink>(writer: &mut W, bytes: &[u8]) -> Result<(), Failed>
     requires { length bytes.now ≤ 64 }
-    ensures written { Writes (W.held writer.old) (W.held writer.new) result (radio_text (Some bytes.now)) }
+    ensures written { Writes (W.held writer.old) (W.held writer.new) result (radio_chunk_line (Some bytes.now)) }
     ensures counted { CallsMatchResult result (W.counts writer.old) (W.counts writer.new) }
 {
     let mut buffer = [0u8; 128];

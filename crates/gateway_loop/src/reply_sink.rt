@@ -3,7 +3,7 @@ ghost use Rattle.std.specs.Prelude.{◌≡◌, ℕ, List};
 ghost use Rattle.std.specs.Option.{option_copied};
 ghost use Rattle.gateway_core.specs.Replies.{answer_of};
 ghost use Rattle.gateway_core.specs.Step.{with_packet_line};
-ghost use Rattle.gateway_loop.specs.OutputSpecs.{Puts, OutputSpec};
+ghost use Rattle.gateway_loop.specs.OutputSpecs.{PutsOrBreaks, OutputSpec};
 
 use byte_io::Failed;
 use gateway_core::Reply;
@@ -21,6 +21,6 @@ pub trait ReplySink {
     /// On `Failed`, at most a proper prefix was written.
     fn put(&mut self, line: Option<&PacketLine>, reply: &Reply) -> Result<(), Failed>
         ensures loans { loans self.new ≡ loans self.old }
-        ensures put { Puts output result self.old self.new
+        ensures put { PutsOrBreaks output result self.old self.new
             (with_packet_line (option_copied line.entry) (answer_of reply.now)) };
 }

@@ -1,16 +1,16 @@
 //! The loop that replays a script.
 ghost use Rattle.std.specs.Prelude.{◌≡◌, Err, [], IfErr, IfOk, OnOk};
 ghost use Rattle.byte_io.specs.Counts.{OnlyEmptyOnce, OnlyFailedOnce, NoneFailedOrEmpty};
-ghost use Rattle.gateway_loop.specs.CallCounts.{OneFailedOrEmpty, AtMostOneEmpty};
+ghost use Rattle.gateway_loop.specs.CallCounts.{OneFailedOrEmpty, NoneFailedAtMostOneEmpty};
 ghost use Rattle.gateway_loop.specs.Headline.{ReplaysAsSpecified};
-ghost use Rattle.gateway_loop.specs.Reads.{MakesReads};
+ghost use Rattle.gateway_loop.specs.Reads.{MakesAtMostReads};
 ghost use Rattle.gateway_loop.specs.ScriptReplay.{Replays, ReplaysUntil, FailsIffTooManyTurns, replay_value};
 ghost use Rattle.gateway_loop.specs.Streams.{source_value};
 
 use crate::driver::Driver;
-use crate::line_loop::{LineDispatcher, Lines};
+use crate::line_loop::{LineDispatcher, LineSource};
 use crate::partial_line::PartialLine;
-use crate::replay_text::ReplayText;
+use crate::replay_text::ReplayOutput;
 use crate::runs::{RunFault, Summary};
 use byte_io::{MAX_READ, Sink, Source};
 use gateway_core::{DeviceStore, GatewayOver};
@@ -46,12 +46,12 @@ pub fn replay<R: Source, W: Sink, S: DeviceStore>(
         (gateway.old, reader.old, writer.old) (gateway.new, reader.new, writer.new)) }
 
     // How the reads and the writes went.
-    ensures reads { MakesReads (source_value R.Source reader.old) (source_value R.Source reader.new) turns }
+    ensures reads { MakesAtMostReads (source_value R.Source reader.old) (source_value R.Source reader.new) turns }
     ensures ended { OnOk result (OnlyEmptyOnce (R.counts reader.old) (R.counts reader.new)
         × NoneFailedOrEmpty (W.counts writer.old) (W.counts writer.new)) }
     ensures read { result ≡ Err RunFault.Read → OnlyFailedOnce (R.counts reader.old) (R.counts reader.new)
         × NoneFailedOrEmpty (W.counts writer.old) (W.counts writer.new) }
-    ensures write { result ≡ Err RunFault.Write → AtMostOneEmpty (R.counts reader.old) (R.counts reader.new)
+    ensures write { result ≡ Err RunFault.Write → NoneFailedAtMostOneEmpty (R.counts reader.old) (R.counts reader.new)
         × OneFailedOrEmpty (W.counts writer.old) (W.counts writer.new) }
     ensures too_many { FailsIffTooManyTurns (replay_value R.Source W.Sink) result (gateway.old, reader.old, writer.old)
         (gateway.new, reader.new, writer.new) turns }
@@ -60,7 +60,7 @@ pub fn replay<R: Source, W: Sink, S: DeviceStore>(
     prove!(!is_ready);
     let mut dispatcher = LineDispatcher {
         driver: Driver {
-            reply_sink: ReplayText {
+            reply_sink: ReplayOutput {
                 sink: writer,
                 explains,
             },
@@ -76,14 +76,14 @@ pub fn replay<R: Source, W: Sink, S: DeviceStore>(
             Err(_) => return Err(RunFault::Read),
         };
         if length == 0 {
-            let Ok(()) = dispatcher.process_last_line() else {
+            let Ok(()) = dispatcher.process_last_script_line() else {
                 return Err(RunFault::Write);
             };
             return Ok(Summary {
                 items: dispatcher.driver.items,
             });
         }
-        let Ok(()) = dispatcher.process_bytes(Lines::ScriptLines, &buffer[..length]) else {
+        let Ok(()) = dispatcher.process_bytes(LineSource::ScriptLines, &buffer[..length]) else {
             return Err(RunFault::Write);
         };
     }

@@ -9,24 +9,25 @@ use Rattle.gateway_core.specs.Step.{Input, Answer}
 use Rattle.gateway_core.specs.Handling.{HandlerValue, Handles}
 use Rattle.gateway_core.specs.SessionCalls.{ClosedSessionLeaves, SessionMayLeave}
 use Rattle.gateway_core.specs.Events.{inputs_of}
-use Rattle.gateway_core.proofs.ForCallers.{calls_are_sessions, closes_end_sessions}
+use Rattle.gateway_core.proofs.ForCallers.{crash_after_calls_is_end, closed_session_leaves_last}
 use Rattle.gateway_main.specs.Started.{Starts}
 use Rattle.gateway_main.specs.SessionRuns.{RunsAreSessions, BrokenRunsAreSessions, ClosedRunsAreSessions}
 use Rattle.gateway_main.specs.SessionRuns.{BrokenClosedRunsAreSessions}
-use Rattle.gateway_main.specs.SessionRuns.{ClosesEndRegistrySessions, CrashEndsSession}
+use Rattle.gateway_main.specs.SessionRuns.{ClosedSessionsAreFound, CrashLeavesSession}
 
 module _ {C : Type 0} (state : C → State) where
   handled_is_a_life : (database : C) (base : ℕ) (old new : HandlerValue C) (items : List Input)
       (answers : List Answer)
       (began : Starts state database base old) → Handles (registry_state_of state) old items answers new
-      → HasCleanDisk (state new.registry) → CrashEndsSession (state new.registry) base began.found items answers
+      → HasCleanDisk (state new.registry) → CrashLeavesSession (state new.registry) base began.found items answers
   handled_is_a_life database base old new items answers began handled clean trees may =
-      let held = handled.registries clean began.registries trees may in
+      let held = handled.recoverable clean began.registries trees may in
       let left = held.devices in
       let P : ℕ → Type 0 = λ b. SessionMayLeave b began.found items answers None left in (
         left,
         inl (Second, held.holds),
-        subst P began.base_is (calls_are_sessions (registry_state_of state) old new began.found items answers clean
+        subst P began.base_is (crash_after_calls_is_end
+            (registry_state_of state) old new began.found items answers clean
             began.begins handled
             left (trees, may, held.holds)),
       )
@@ -41,9 +42,10 @@ module _ {C : Type 0} (state : C → State) where
       handled_is_a_life database base old.handler new.handler broken.inputs
       (broken.answered.answers ++ broken.answered.last ∷ []) began broken.answered.handled clean
 
-  pub closes_end_registry_sessions : ClosesEndRegistrySessions state
+  pub closes_end_registry_sessions : ClosedSessionsAreFound state
   closes_end_registry_sessions old new opened found next items answers clean begins handled closed opens =
-      let ends = closes_end_sessions (registry_state_of state) old new found items answers clean begins handled in
+      let ends = closed_session_leaves_last
+      (registry_state_of state) old new found items answers clean begins handled in
       let itself : next ≡ ends.0 =
       returned_is_found state new.registry opened ends.0 next clean closed.committed ends.1 opens in
       subst (ClosedSessionLeaves old.base found items answers) (sym itself) ends.2

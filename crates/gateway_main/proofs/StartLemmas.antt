@@ -4,12 +4,12 @@ use Rattle.std.specs.Prelude.{if◌then◌else◌}
 use Rattle.sqlite.specs.State.{State, HasCleanDisk}
 use Rattle.esp3_frames.proofs.ForCallers.{empty_may_become}
 use Rattle.learned_devices.specs.Devices.{Devices}
-use Rattle.device_registry.specs.Holding.{Finds, registry_state_of}
+use Rattle.device_registry.specs.Holding.{OpenFinds, registry_state_of}
 use Rattle.device_registry.specs.Opening.{IsOpened, RefusesAndDrops}
 use Rattle.device_registry.specs.declared.fault.OpenFault.{OpenFault}
 use Rattle.device_registry.specs.declared.fault.OpenFault.TheVariants.{NotARegistry, Failed}
 use Rattle.gateway_core.specs.Calls.{GatewayValue, new_gateway_value}
-use Rattle.gateway_loop.specs.Processing.{IsDrained}
+use Rattle.gateway_loop.specs.Processing.{HasNoReadyPacket}
 use Rattle.gateway_main.specs.Faults.{fault_of_open}
 use Rattle.gateway_loop.specs.Headline.{IsNew}
 use Rattle.gateway_main.specs.Started.{MayFailToStart, Starts}
@@ -17,8 +17,8 @@ use Rattle.gateway_main.specs.declared.fault.Fault.TheVariants.{Store, Memory}
 
 pub idle_at_first : {S : Type 0} (base : ℕ) (registry : S) (new : GatewayValue S)
     → new ≡ new_gateway_value base registry
-    → IsDrained new
-idle_at_first {S} base registry new is = let P : GatewayValue S → Type 0 = λ v. IsDrained v in
+    → HasNoReadyPacket new
+idle_at_first {S} base registry new is = let P : GatewayValue S → Type 0 = λ v. HasNoReadyPacket v in
     subst P (sym is) (record { ready = refl; rest = empty_may_become })
 
 pub starts : {C : Type 0} (state : C → State) (database registry : C) (base : ℕ) (new : GatewayValue C)
@@ -43,18 +43,20 @@ pub new_gateway : {C : Type 0} (state : C → State) (database registry : C) (ba
     → new ≡ new_gateway_value base registry
     → (HasCleanDisk (state registry) → IsOpened (state database) (state registry))
     → HasCleanDisk (state new.handler.registry)
-    → (found : Devices) × Finds (state database).committed.trees found × IsNew (registry_state_of state) base found new
+    → (found : Devices) × OpenFinds (state database).committed.trees found
+    × IsNew (registry_state_of state) base found new
     × IsTrue (state new.handler.registry).is_open
 new_gateway {C} state database registry base new is opened =
     let P : GatewayValue C → Type 0 = λ v. HasCleanDisk (state v.handler.registry)
-    → (found : Devices) × Finds (state database).committed.trees found × IsNew (registry_state_of state) base found v
+    → (found : Devices) × OpenFinds (state database).committed.trees found
+    × IsNew (registry_state_of state) base found v
     × IsTrue (state v.handler.registry).is_open in
     subst P (sym is) (λ clean.
     let it = opened clean in
     let opens = it.opens.1 in (
       it.opens.0,
       opens.found,
-      record { value = refl; known = opens.now; registries = it.registries; left = opens.crash },
+      record { value = refl; holds_found = opens.now; recoverable = it.registries; crash_leaves_found = opens.crash },
       it.ready.shows.is_open,
     ))
 

@@ -18,25 +18,26 @@ use Rattle.gateway_loop.specs.declared.runs.Summary.{Summary}
 use Rattle.gateway_main.specs.Faults.{fault_of_run, fault_of_store}
 
 -- if the arguments of the process are not available: out of memory, or one is not text
-abbrev pub ending_of_arguments : IoErrorKind → Ending
-ending_of_arguments io.OutOfMemory = Failed Memory
-ending_of_arguments _ = NotText
+abbrev pub ending_if_no_arguments : IoErrorKind → Ending
+ending_if_no_arguments io.OutOfMemory = Failed Memory
+ending_if_no_arguments _ = NotText
 
-abbrev pub ending_of_words : ErrorKind → Error → Ending
-ending_of_words OutOfMemory error = Failed Memory
-ending_of_words _ error = ClapOutput error
+abbrev pub ending_of_clap_error : ErrorKind → Error → Ending
+ending_of_clap_error OutOfMemory error = Failed Memory
+ending_of_clap_error _ error = ClapOutput error
 
 -- if the command line is rejected
-abbrev pub ending_of_line : CommandLineFault → Ending
-ending_of_line refused.BadBase = BadBase
-ending_of_line (refused.Words error) = ending_of_words (kind_of error) error
+abbrev pub ending_of_command_line : CommandLineFault → Ending
+ending_of_command_line refused.BadBase = BadBase
+ending_of_command_line (refused.ClapError error) = ending_of_clap_error (kind_of error) error
 
 -- the fault for which nothing ran, otherwise that of the run, otherwise that of closing its database
-abbrev pub first_fault_of : {A : Type 0} → Result (Result Summary RunFault) Fault → Result A StoreError → Result A Fault
-first_fault_of (Err fault) closed = Err fault
-first_fault_of (Ok (Err stopped)) closed = Err (fault_of_run stopped)
-first_fault_of (Ok (Ok summary)) (Err error) = Err (fault_of_store error)
-first_fault_of (Ok (Ok summary)) (Ok closed) = Ok closed
+abbrev pub done_or_first_fault_of : {A : Type 0} → Result (Result Summary RunFault) Fault → Result A StoreError
+    → Result A Fault
+done_or_first_fault_of (Err fault) closed = Err fault
+done_or_first_fault_of (Ok (Err stopped)) closed = Err (fault_of_run stopped)
+done_or_first_fault_of (Ok (Ok summary)) (Err error) = Err (fault_of_store error)
+done_or_first_fault_of (Ok (Ok summary)) (Ok closed) = Ok closed
 
 -- 0 for help and the version; 2 for a command line that is rejected
 abbrev pub status_of_kind : ErrorKind → ℕ

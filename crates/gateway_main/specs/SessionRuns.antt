@@ -2,7 +2,7 @@
 use Rattle.std.specs.Prelude.{ℕ, List, [], ◌∷◌, ◌++◌, None}
 use Rattle.sqlite.specs.State.{State, HasCleanDisk}
 use Rattle.learned_devices.specs.Devices.{Devices}
-use Rattle.device_registry.specs.Holding.{Finds, IsReturnedByClose, Opens, registry_state_of}
+use Rattle.device_registry.specs.Holding.{OpenFinds, IsReturnedByClose, Opens, registry_state_of}
 use Rattle.gateway_core.specs.SessionCalls.{BeginsSession, ClosedSessionLeaves, SessionMayLeave}
 use Rattle.gateway_core.specs.Calls.{GatewayValue}
 use Rattle.gateway_core.specs.Handling.{HandlerValue, Handles}
@@ -13,9 +13,9 @@ use Rattle.gateway_main.specs.Started.{Starts}
 
 -- in whatever a crash leaves, the next open finds devices; a session that found these and handled these inputs may
 -- leave them
-abbrev pub CrashEndsSession : State → ℕ → Devices → List Input → List Answer → Type 0
-CrashEndsSession now base found items answers = (trees : _) → now.may_leave trees
-    → (left : Devices) × Finds trees left × SessionMayLeave base found items answers None left
+abbrev pub CrashLeavesSession : State → (base : ℕ) → Devices → List Input → List Answer → Type 0
+CrashLeavesSession now base found items answers = (trees : _) → now.may_leave trees
+    → (left : Devices) × OpenFinds trees left × SessionMayLeave base found items answers None left
 
 -- `puts` and `breaks` say which answers were written.
 module _ {C : Type 0} (state : C → State) where
@@ -27,7 +27,7 @@ module _ {C : Type 0} (state : C → State) where
       → (began : Starts state database base old.handler)
       → (done : Processes (registry_state_of state) old new events puts)
       → HasCleanDisk (state new.handler.registry)
-      → CrashEndsSession (state new.handler.registry) base began.found (inputs_of old.rest events)
+      → CrashLeavesSession (state new.handler.registry) base began.found (inputs_of old.rest events)
       done.answered.answers
 
   -- The same if a write failed. The last answer may be missing, but its input was handled.
@@ -37,7 +37,7 @@ module _ {C : Type 0} (state : C → State) where
       → (began : Starts state database base old.handler)
       → (broken : Breaks (registry_state_of state) old new events event breaks)
       → HasCleanDisk (state new.handler.registry)
-      → CrashEndsSession (state new.handler.registry) base began.found broken.inputs
+      → CrashLeavesSession (state new.handler.registry) base began.found broken.inputs
       (broken.answered.answers ++ broken.answered.last ∷ [])
 
   -- The session ends by `close`, and the next open finds what it leaves, which is what was known at its end.
@@ -63,8 +63,8 @@ module _ {C : Type 0} (state : C → State) where
 -- ---- theorems about a gateway over a registry
 
 -- on the connection that was closed and returned, an open finds what a closed session leaves
-abbrev pub ClosesEndRegistrySessions : {C : Type 0} → (C → State) → Type 0
-ClosesEndRegistrySessions {C} state =
+abbrev pub ClosedSessionsAreFound : {C : Type 0} → (C → State) → Type 0
+ClosedSessionsAreFound {C} state =
     (old new : HandlerValue C) (opened : C) (found next : Devices) (items : List Input) (answers : List Answer)
     → HasCleanDisk (state new.registry) → BeginsSession (registry_state_of state) old found
     → Handles (registry_state_of state) old items answers new → IsReturnedByClose (state new.registry)

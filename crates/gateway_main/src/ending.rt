@@ -1,7 +1,7 @@
 //! How the program ends, and with which status.
 ghost use Rattle.std.specs.Prelude.{◌≡◌};
 ghost use Rattle.std.specs.IoError.{error_kind};
-ghost use Rattle.gateway_main.specs.Endings.{first_fault_of, ending_of_arguments, status_of};
+ghost use Rattle.gateway_main.specs.Endings.{done_or_first_fault_of, ending_if_no_arguments, status_of};
 
 use crate::fault::Fault;
 use clap::error::ErrorKind;
@@ -33,23 +33,23 @@ impl From<Fault> for Ending {
 }
 
 impl From<CommandLineFault> for Ending {
-    ghost use Rattle.gateway_main.specs.Endings.{ending_of_line};
+    ghost use Rattle.gateway_main.specs.Endings.{ending_of_command_line};
 
-    ghost from_gives = { λ why ending. ending ≡ ending_of_line why };
+    ghost from_gives = { λ why ending. ending ≡ ending_of_command_line why };
 
     fn from(why: CommandLineFault) -> Ending {
         match why {
             CommandLineFault::BadBase => Ending::BadBase,
-            CommandLineFault::Words(error) if error.kind() == ErrorKind::OutOfMemory =>
+            CommandLineFault::ClapError(error) if error.kind() == ErrorKind::OutOfMemory =>
                 Ending::Failed(Fault::Memory),
-            CommandLineFault::Words(error) => Ending::ClapOutput(error),
+            CommandLineFault::ClapError(error) => Ending::ClapOutput(error),
         }
     }
 }
 
 /// The ending if the program's arguments are not available.
 pub fn ending_without_arguments(error: &io::Error) -> Ending
-    ensures { result ≡ ending_of_arguments (error_kind error.now) }
+    ensures { result ≡ ending_if_no_arguments (error_kind error.now) }
 {
     match error.kind() {
         io::ErrorKind::OutOfMemory => Ending::Failed(Fault::Memory),
@@ -58,11 +58,14 @@ pub fn ending_without_arguments(error: &io::Error) -> Ending
 }
 
 /// Result of the run, or the fault that prevented it.
-pub type ServeResult = Result<Result<Summary, RunFault>, Fault>;
+pub type RunResultIfOpened = Result<Result<Summary, RunFault>, Fault>;
 
 /// The result of the gateway's work and of closing its database: a fault of the work takes precedence.
-pub fn first_fault(served: ServeResult, closed: Result<(), sqlite::Error>) -> Result<(), Fault>
-    ensures { result ≡ first_fault_of served closed }
+pub fn done_or_first_fault(
+    served: RunResultIfOpened,
+    closed: Result<(), sqlite::Error>,
+) -> Result<(), Fault>
+    ensures { result ≡ done_or_first_fault_of served closed }
 {
     served??;
     Ok(closed?)

@@ -21,7 +21,7 @@ pub enum Fault {
     Memory,
     /// The serial line, the desk's file or the file of the answers cannot be opened.
     #[error("cannot open")]
-    CannotOpen,
+    CannotOpenFile,
     /// Standard input, the serial line or the desk's file cannot be read.
     #[error("read")]
     Read,

@@ -4,10 +4,10 @@ ghost use Rattle.sqlite.specs.State.{HasCleanDisk};
 ghost use Rattle.erp1_telegrams.specs.Address;
 ghost use Rattle.learned_devices.specs.Devices.{Devices};
 ghost use Rattle.device_registry.specs.Opening.{max_cached};
-ghost use Rattle.device_registry.specs.Holding.{Finds, registry_state_of};
+ghost use Rattle.device_registry.specs.Holding.{OpenFinds, registry_state_of};
 ghost use Rattle.gateway_core.specs.Calls.{new_gateway_value};
 ghost use Rattle.gateway_loop.specs.Headline.{IsNew};
-ghost use Rattle.gateway_loop.specs.Processing.{IsDrained};
+ghost use Rattle.gateway_loop.specs.Processing.{HasNoReadyPacket};
 ghost use Rattle.gateway_main.specs.Started.{MayFailToStart, Starts};
 
 use crate::fault::Fault;
@@ -25,21 +25,21 @@ pub fn start<C: SqlConnection + Drop>(
     alloc: Global,
     conn: C,
     base: u32,
-    remembered: usize,
+    cached_senders: usize,
 ) -> Result<GatewayOver<RegistryOver<C>>, Fault>
     requires base { Address.is_base_id base ≡ true }
-    requires room { (1 ≤ remembered) × (remembered ≤ max_cached) }
+    requires room { (1 ≤ cached_senders) × (cached_senders ≤ max_cached) }
     requires idle { (C.state conn).in_transaction ≡ false }
     // How the headline begins: with the devices that were committed last, over an open connection.
     ensures begins { IfOk result (λ gateway. HasCleanDisk (C.state gateway.handler.registry) → (found : Devices)
-        × Finds (C.state conn).committed.trees found × IsNew (registry_state_of C.state) base found gateway
+        × OpenFinds (C.state conn).committed.trees found × IsNew (registry_state_of C.state) base found gateway
         × IsTrue (C.state gateway.handler.registry).is_open) }
     ensures new { IfOk result (λ gateway. gateway ≡ new_gateway_value base gateway.handler.registry) }
-    ensures idle { IfOk result IsDrained }
+    ensures idle { IfOk result HasNoReadyPacket }
     ensures starts { IfOk result (λ gateway. HasCleanDisk (C.state gateway.handler.registry) →
         Starts C.state conn base gateway.handler) }
     ensures refused { IfErr result (MayFailToStart C.state conn) }
 {
-    let registry = RegistryOver::open_with(alloc, conn, remembered)?;
+    let registry = RegistryOver::open_with(alloc, conn, cached_senders)?;
     Ok(GatewayOver::with_base_id(alloc, registry, base)?)
 }

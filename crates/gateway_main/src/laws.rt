@@ -2,13 +2,13 @@
 //! is the theorem.
 ghost use Rattle.std.specs.Prelude.{Bool, List, Option, ℕ};
 ghost use Rattle.device_registry.specs.Holding.{registry_state_of};
-ghost use Rattle.gateway_core.specs.Handling.{HasSomeState};
+ghost use Rattle.gateway_core.specs.Handling.{HasStateWhileHonest};
 ghost use Rattle.gateway_loop.specs.Streams.{sink_value};
 ghost use Rattle.gateway_loop.specs.LiveOutputs.{live_output};
-ghost use Rattle.gateway_loop.specs.Written.{WritesAll, WritesPart};
+ghost use Rattle.gateway_loop.specs.Written.{AppendsReplayText, AppendsCutReplayText};
 ghost use Rattle.gateway_main.specs.SessionRuns.{BrokenClosedRunsAreSessions, BrokenRunsAreSessions};
 ghost use Rattle.gateway_main.specs.SessionRuns.{ClosedRunsAreSessions};
-ghost use Rattle.gateway_main.specs.SessionRuns.{ClosesEndRegistrySessions, RunsAreSessions};
+ghost use Rattle.gateway_main.specs.SessionRuns.{ClosedSessionsAreFound, RunsAreSessions};
 
 use byte_io::Sink;
 use device_registry::laws::devices_are_held;
@@ -19,7 +19,7 @@ pub use gateway_loop::laws::explanations_stand_apart;
 /// Every gateway over a registry knows a state, while the disk has returned what was written and the connection is
 /// open.
 pub fn gateways_have_a_state<C: SqlConnection>(gateway: &GatewayOver<RegistryOver<C>>)
-    ensures { HasSomeState (registry_state_of C.state) gateway.now.handler }
+    ensures { HasStateWhileHonest (registry_state_of C.state) gateway.now.handler }
 {
     devices_are_held(gateway.store());
 }
@@ -27,16 +27,16 @@ pub fn gateways_have_a_state<C: SqlConnection>(gateway: &GatewayOver<RegistryOve
 /// A session may end by `close`: on the connection that was returned, the next open finds what the session may
 /// leave, which is what was known at its end.
 pub fn closes_end_registry_sessions<C: SqlConnection>()
-    ensures { ClosesEndRegistrySessions C.state }
+    ensures { ClosedSessionsAreFound C.state }
 {}
 
 /// After `replay` or `live`, by a gateway that `start` made, a crash leaves what a session may leave that found the
 /// devices that were committed last and handled the inputs read.
-pub fn runs_are_sessions<R: Sink, D: Sink, C: SqlConnection>()
+pub fn crashed_runs_are_sessions<R: Sink, D: Sink, C: SqlConnection>()
     ensures replay { (explains : Bool) (held now : Option (List ℕ))
-        → RunsAreSessions C.state (WritesAll explains held now) }
+        → RunsAreSessions C.state (AppendsReplayText explains held now) }
     ensures broken_replay { (explains : Bool) (held now : Option (List ℕ))
-        → BrokenRunsAreSessions C.state (WritesPart explains held now) }
+        → BrokenRunsAreSessions C.state (AppendsCutReplayText explains held now) }
     ensures live { (explains : Bool) (serial serial_now : R) (desk desk_now : D)
         → RunsAreSessions C.state ((live_output explains).puts (sink_value R.Sink serial, sink_value D.Sink desk)
         (sink_value R.Sink serial_now, sink_value D.Sink desk_now)) }
@@ -50,9 +50,9 @@ pub fn runs_are_sessions<R: Sink, D: Sink, C: SqlConnection>()
 /// session may leave, which is what was known at its end.
 pub fn closed_runs_are_sessions<R: Sink, D: Sink, C: SqlConnection>()
     ensures replay { (explains : Bool) (held now : Option (List ℕ))
-        → ClosedRunsAreSessions C.state (WritesAll explains held now) }
+        → ClosedRunsAreSessions C.state (AppendsReplayText explains held now) }
     ensures broken_replay { (explains : Bool) (held now : Option (List ℕ))
-        → BrokenClosedRunsAreSessions C.state (WritesPart explains held now) }
+        → BrokenClosedRunsAreSessions C.state (AppendsCutReplayText explains held now) }
     ensures live { (explains : Bool) (serial serial_now : R) (desk desk_now : D)
         → ClosedRunsAreSessions C.state ((live_output explains).puts (sink_value R.Sink serial, sink_value D.Sink desk)
         (sink_value R.Sink serial_now, sink_value D.Sink desk_now)) }

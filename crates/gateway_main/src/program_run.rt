@@ -1,10 +1,12 @@
 //! The program's run.
 ghost use Rattle.std.specs.Prelude.{◌≡◌, false, true};
 ghost use Rattle.erp1_telegrams.specs.Address;
-ghost use Rattle.gateway_loop.specs.Processing.{IsDrained};
+ghost use Rattle.gateway_loop.specs.Processing.{HasNoReadyPacket};
 
 use crate::command_line;
-use crate::ending::{Ending, ServeResult, ending_without_arguments, first_fault, status};
+use crate::ending::{
+    Ending, RunResultIfOpened, done_or_first_fault, ending_without_arguments, status,
+};
 use crate::fault::Fault;
 use crate::gateway_start::start;
 use crate::registry_gateway::{live, replay};
@@ -48,11 +50,11 @@ fn run(rt: &HostRuntime, plan: Plan<'_>) -> Result<(), Fault>
     match plan.db {
         None => {
             let (_, served) = serve(rt, Connection::open_in_memory(rt.alloc())?, plan)?;
-            first_fault(served, Ok(()))
+            done_or_first_fault(served, Ok(()))
         }
         Some(path) => {
             let (conn, served) = serve(rt, Connection::open(rt, path)?, plan)?;
-            first_fault(served, conn.close())
+            done_or_first_fault(served, conn.close())
         }
     }
 }
@@ -62,7 +64,7 @@ fn serve<C: SqlConnection + Drop>(
     rt: &HostRuntime,
     conn: C,
     plan: Plan<'_>,
-) -> Result<(C, ServeResult), Fault>
+) -> Result<(C, RunResultIfOpened), Fault>
     requires base { Address.is_base_id plan.base ≡ true }
     requires idle { (C.state conn).in_transaction ≡ false }
 {
@@ -89,7 +91,7 @@ fn replay_standard<C: SqlConnection>(
     explains: bool,
     reads: u64,
 ) -> Result<Summary, RunFault>
-    requires { IsDrained gateway.old }
+    requires { HasNoReadyPacket gateway.old }
 {
     let mut reader = OverRead::new(rt.stdin());
     let mut writer = OverWrite::new(rt.stdout());
@@ -103,8 +105,8 @@ fn live_on_files<C: SqlConnection>(
     gateway: &mut GatewayOver<RegistryOver<C>>,
     explains: bool,
     turns: u64,
-) -> ServeResult
-    requires { IsDrained gateway.old }
+) -> RunResultIfOpened
+    requires { HasNoReadyPacket gateway.old }
 {
     let (serial, desk, out) = files;
     let serial = open(rt, serial)?;
@@ -130,7 +132,7 @@ fn open(rt: &HostRuntime, file: FileToOpen<'_>) -> Result<File, Fault> {
             .open(rt, file.path),
         Access::WriteAnew => File::create(rt, file.path),
     };
-    opened.map_err(|_| Fault::CannotOpen)
+    opened.map_err(|_| Fault::CannotOpenFile)
 }
 
 /// Prints a fault or a mistake to standard error, or help and the version to standard output.

@@ -6,7 +6,7 @@ use Rattle.std.specs.Prelude.{if◌then◌else◌, ◌==◌}
 use Rattle.std.specs.List.{AllByRecursion}
 use Rattle.std.specs.Fmt.{digits_onto, digits, digit_glyph}
 use Rattle.std.proofs.lemmas.Bool.{lt-ltb, ne_eqb}
-use Rattle.json_lines.specs.Lines.{or_null}
+use Rattle.json_lines.specs.Lines.{text_or_null}
 
 -- what holds for the ten digits holds for each digit of a number
 module _ (P : ℕ → Type 0) (each : (digit : ℕ) → digit < 10 → P (48 + digit)) where
@@ -38,7 +38,7 @@ no-null = (
   ((λ e. absurd (omega (arith, e))), ((λ e. absurd (omega (arith, e))), ((λ e. absurd (omega (arith, e))), tt))),
 )
 
-pub no-maker : (maker : Option ℕ) → NoComma (or_null decimal maker)
+pub no-maker : (maker : Option ℕ) → NoComma (text_or_null decimal maker)
 no-maker None = no-null
 no-maker (Some maker) = no-decimal maker
 

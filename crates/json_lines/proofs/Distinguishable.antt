@@ -3,12 +3,12 @@ use Rattle.std.proofs.Common.{◌≡◌, ◌≢◌, ℕ, List, ◌++◌, drop, c
 use Rattle.std.specs.Prelude.{slice_index_or}
 use Rattle.std.proofs.lemmas.Bool.{eqb-false}
 use Rattle.json_lines.specs.Lines.{DeskLine, Reading}
-use Rattle.json_lines.specs.Lines.{ReadingLine, dbm_text, or_null, text}
+use Rattle.json_lines.specs.Lines.{ReadingLine, dbm_text, text_or_null, text}
 use Rattle.json_lines.specs.PacketLines.{packet_text}
 use Rattle.json_lines.specs.ShownTelegram.{ShownTelegram}
 use Rattle.json_lines.specs.declared.packet.PacketLine.{PacketLine}
 use Rattle.json_lines.specs.declared.packet.ShownPacket.{ShownPacket}
-use Rattle.json_lines.specs.declared.packet.ShownPacket.TheVariants.{Telegram, Other}
+use Rattle.json_lines.specs.declared.packet.ShownPacket.TheVariants.{Telegram, WithoutTelegram}
 use Rattle.teach_in.specs.declared.why.Why.{Why}
 use Rattle.json_lines.proofs.CommaTexts.{behind, behind-comma}
 use Rattle.json_lines.proofs.PacketLineTexts.{strength-alone}
@@ -24,16 +24,16 @@ regrouped first others more =
 reading-goes_on : (line : ReadingLine) (more : List ℕ)
     → slice_index_or (behind (drop 7 (text (Reading line) ++ more))) 1 0 ≡ 101
 reading-goes_on line more =
-    ap (λ (t : List ℕ). slice_index_or (behind t) 1 0) (regrouped (or_null dbm_text line.dbm) _ more)
+    ap (λ (t : List ℕ). slice_index_or (behind t) 1 0) (regrouped (text_or_null dbm_text line.dbm) _ more)
     ∙ ap (λ (t : List ℕ). slice_index_or t 1 0)
-    (behind-comma (or_null dbm_text line.dbm) _ (strength-alone line.dbm))
+    (behind-comma (text_or_null dbm_text line.dbm) _ (strength-alone line.dbm))
 
 telegram-goes_on : (shown : ShownTelegram) (why : Why) (more : List ℕ)
     → slice_index_or (behind (drop 7 (packet_text (record { packet = Telegram shown; why = why }) ++ more))) 1 0 ≡ 100
 telegram-goes_on shown why more =
-    ap (λ (t : List ℕ). slice_index_or (behind t) 1 0) (regrouped (or_null dbm_text shown.dbm) _ more)
+    ap (λ (t : List ℕ). slice_index_or (behind t) 1 0) (regrouped (text_or_null dbm_text shown.dbm) _ more)
     ∙ ap (λ (t : List ℕ). slice_index_or t 1 0)
-    (behind-comma (or_null dbm_text shown.dbm) _ (strength-alone shown.dbm))
+    (behind-comma (text_or_null dbm_text shown.dbm) _ (strength-alone shown.dbm))
 
 third : (s t : List ℕ) → s ≡ t → slice_index_or s 2 0 ≡ slice_index_or t 2 0
 third s t e = ap (λ (u : List ℕ). slice_index_or u 2 0) e
@@ -51,7 +51,7 @@ distinguishable line packet = one line packet.packet packet.why
     one line (Telegram shown) why a b e =
         eqb-false _ 100 refl
         (third (text line ++ a) (packet_text (record { packet = Telegram shown; why = why }) ++ b) e)
-    one (Reading line) (Other kind size) why a b e = eqb-false 100 107 refl (third _ _ e)
-    one line (Other kind size) why a b e =
+    one (Reading line) (WithoutTelegram kind size) why a b e = eqb-false 100 107 refl (third _ _ e)
+    one line (WithoutTelegram kind size) why a b e =
         eqb-false _ 107 refl
-        (third (text line ++ a) (packet_text (record { packet = Other kind size; why = why }) ++ b) e)
+        (third (text line ++ a) (packet_text (record { packet = WithoutTelegram kind size; why = why }) ++ b) e)

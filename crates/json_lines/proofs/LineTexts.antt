@@ -19,10 +19,11 @@ use Rattle.teach_in.specs.declared.outcome.Outcome.{Outcome}
 use Rattle.teach_in.specs.declared.outcome.Outcome.TheVariants.{Accepted, Deleted, Unsupported, Full, General}
 use Rattle.teach_in.specs.declared.outcome.Outcome.TheVariants.{NoProfile}
 use Rattle.json_lines.specs.declared.counts.Counts.{Counts}
-use Rattle.json_lines.specs.Lines.{TeachLine, Response, text, or_null, in_quotes, member_text, object_text}
+use Rattle.json_lines.specs.Lines.{TeachLine, ModuleResponse, text, text_or_null, in_quotes, member_text, object_text}
 use Rattle.json_lines.specs.Lines.{Teach, DeviceLine, ListEnd, StatusLine, ResponseLine}
-use Rattle.json_lines.specs.Lines.{profile_text, outcome_word, mode_word, code_names}
-use Rattle.json_lines.specs.private.LineData.{NeedsNoEscape, IsLineOf, or_null as data_or_null, members, object_of}
+use Rattle.json_lines.specs.Lines.{eep_string, outcome_word, mode_word, code_names}
+use Rattle.json_lines.specs.private.LineData.{NeedsNoEscape, IsLineOf, value_or_null as data_or_null, members}
+use Rattle.json_lines.specs.private.LineData.{object_of}
 use Rattle.json_lines.specs.private.LineData.{number_data}
 use Rattle.json_lines.specs.private.LineData.{profile_data}
 use Rattle.json_lines.specs.private.LineData.{teach_members, device_members, list_members, status_members}
@@ -74,7 +75,7 @@ line_written ms line plain whole sent =
 
 text-or_null : {A : Type 0} (data_of : A → Data) (text_of : A → List ℕ)
     → ((known : A) → compact_text (data_of known) ≡ text_of known)
-    → (known : Option A) → compact_text (data_or_null data_of known) ≡ or_null text_of known
+    → (known : Option A) → compact_text (data_or_null data_of known) ≡ text_or_null text_of known
 text-or_null data_of text_of same None = refl
 text-or_null data_of text_of same (Some known) = same known
 
@@ -83,17 +84,17 @@ no_float-or_null : {A : Type 0} (data_of : A → Data) → ((known : A) → has_
 no_float-or_null data_of whole None = refl
 no_float-or_null data_of whole (Some known) = whole known
 
-text-maker : (maker : Option ℕ) → compact_text (data_or_null number_data maker) ≡ or_null decimal maker
+text-maker : (maker : Option ℕ) → compact_text (data_or_null number_data maker) ≡ text_or_null decimal maker
 text-maker = text-or_null number_data decimal (λ maker. refl)
 
 no_float-maker : (maker : Option ℕ) → has_float (data_or_null number_data maker) ≡ false
 no_float-maker = no_float-or_null number_data (λ maker. refl)
 
-text-profile : (eep : Eep) → compact_text (profile_data eep) ≡ profile_text eep
+text-profile : (eep : Eep) → compact_text (profile_data eep) ≡ eep_string eep
 text-profile eep = ap in_quotes (plain-eep eep)
 
-text-known_profile : (eep : Option Eep) → compact_text (data_or_null profile_data eep) ≡ or_null profile_text eep
-text-known_profile = text-or_null profile_data profile_text text-profile
+text-known_profile : (eep : Option Eep) → compact_text (data_or_null profile_data eep) ≡ text_or_null eep_string eep
+text-known_profile = text-or_null profile_data eep_string text-profile
 
 no_float-known_profile : (eep : Option Eep) → has_float (data_or_null profile_data eep) ≡ false
 no_float-known_profile = no_float-or_null profile_data (λ eep. refl)
@@ -116,7 +117,8 @@ plain-mode LearnAnswer = refl
 plain-mode (LearnAs eep) = plain-learn_as_text eep
 
 text-name : (code : ℕ)
-    → compact_text (data_or_null string (slice_get code_names code)) ≡ or_null in_quotes (slice_get code_names code)
+    → compact_text (data_or_null string (slice_get code_names code)) ≡ text_or_null in_quotes
+    (slice_get code_names code)
 unfolding serde_json_on_literals
 text-name zero = refl
 text-name (suc zero) = refl
@@ -164,7 +166,7 @@ status_written counts mode bytes sent =
     (refl, (refl, (refl, (refl, (refl, (refl, (refl, tt))))))) in
     line_written (status_members counts mode) bytes plain refl sent ∙ same
 
-pub response_written : (response : Response) (line : List ℕ) → IsBytes response.bytes
+pub response_written : (response : ModuleResponse) (line : List ℕ) → IsBytes response.bytes
     → IsLineOf (SendsValue (object_of (response_members response.code (encode_upper response.bytes)))) line
     → line ≡ text (ResponseLine response)
 unfolding serde_json_on_literals

@@ -12,13 +12,13 @@ use Rattle.std.proofs.lemmas.Int.{ints}
 use Rattle.std.proofs.lemmas.List.{append_cancel_left, append_cancel_right}
 use Rattle.hex.specs.Hex.{IsBytes, encode_upper, encode_with, upper_digits}
 use Rattle.erp1_telegrams.specs.declared.eep.Eep.{Eep}
-use Rattle.json_lines.specs.Lines.{byte_text, dbm_text, eep_text, id_text, in_quotes, or_null, profile_text}
-use Rattle.json_lines.specs.PacketLines.{id_string, members_text, packet_text, why_word}
+use Rattle.json_lines.specs.Lines.{byte_text, dbm_text, eep_text, id_text, in_quotes, text_or_null, eep_string}
+use Rattle.json_lines.specs.PacketLines.{id_string, members_text, packet_text, reason_word}
 use Rattle.json_lines.specs.PacketLines.{HasPacketNumbersInRange, HasFieldsInRange}
 use Rattle.json_lines.specs.ShownTelegram.{ShownTelegram}
 use Rattle.json_lines.specs.declared.packet.PacketLine.{PacketLine}
 use Rattle.json_lines.specs.declared.packet.ShownPacket.{ShownPacket}
-use Rattle.json_lines.specs.declared.packet.ShownPacket.TheVariants.{Telegram, Other}
+use Rattle.json_lines.specs.declared.packet.ShownPacket.TheVariants.{Telegram, WithoutTelegram}
 use Rattle.teach_in.specs.declared.why.Why.{Why}
 use Rattle.json_lines.proofs.CommaTexts.{NoComma, no-decimal, no-maker, no-null, peel}
 use Rattle.json_lines.proofs.HexTexts.{byte_bytes, holds_below-at, id_bytes, on_eep}
@@ -77,7 +77,7 @@ same-known : {A : Type 0} (text_of : A → List ℕ) (InRange : A → Type 0) (a
     → IfSome a InRange → IfSome b InRange
     → ((one : A) → InRange one → text_of one ≢ codes "null")
     → ((one other : A) → InRange one → InRange other → text_of one ≡ text_of other → one ≡ other)
-    → or_null text_of a ≡ or_null text_of b → a ≡ b
+    → text_or_null text_of a ≡ text_or_null text_of b → a ≡ b
 same-known text_of InRange None None in_a in_b differs same e = refl
 same-known text_of InRange (Some a) (Some b) in_a in_b differs same e = ap Some (same a b in_a in_b e)
 same-known text_of InRange (Some a) None in_a in_b differs same e = absurd (differs a in_a e)
@@ -123,11 +123,11 @@ pub record Values : Type 0 where
 
 abbrev values : ShownTelegram → Values
 values shown = record {
-  dbm = or_null dbm_text shown.dbm;
-  dest = or_null id_string shown.dest;
-  eep = or_null profile_text shown.eep;
+  dbm = text_or_null dbm_text shown.dbm;
+  dest = text_or_null id_string shown.dest;
+  eep = text_or_null eep_string shown.eep;
   id = id_string shown.id;
-  maker = or_null decimal shown.maker;
+  maker = text_or_null decimal shown.maker;
   payload = in_quotes (encode_upper shown.payload);
   rorg = in_quotes (byte_text shown.rorg);
   status = in_quotes (byte_text shown.status);
@@ -143,15 +143,15 @@ pub record NoCommas (v : Values) : Type 0 where
   pub rorg : NoComma v.rorg
   pub status : NoComma v.status
 
-pub strength-alone : (known : Option ℕ) → NoComma (or_null dbm_text known)
+pub strength-alone : (known : Option ℕ) → NoComma (text_or_null dbm_text known)
 strength-alone None = no-null
 strength-alone (Some byte) = no-signed (pos 0 -ℤ pos byte)
 
-dest-alone : (known : Option ℕ) → NoComma (or_null id_string known)
+dest-alone : (known : Option ℕ) → NoComma (text_or_null id_string known)
 dest-alone None = no-null
 dest-alone (Some id) = no-id id
 
-eep-alone : (known : Option Eep) → NoComma (or_null profile_text known)
+eep-alone : (known : Option Eep) → NoComma (text_or_null eep_string known)
 eep-alone None = no-null
 eep-alone (Some eep) = no-quotes (eep_text eep) (no-eep eep)
 
@@ -211,23 +211,24 @@ telegram-pieces dbm dest eep id maker payload rorg status word =
     (append_assoc _ (codes "}") (codes "\n") ∙ push dbm (codes ",\"dest\":") _ _ dests))
 
 telegram-line : (shown : ShownTelegram) (why : Why)
-    → packet_text (record { packet = Telegram shown; why = why }) ≡ line_of_values (values shown) (why_word why)
+    → packet_text (record { packet = Telegram shown; why = why }) ≡ line_of_values (values shown) (reason_word why)
 telegram-line shown why =
-    telegram-pieces (or_null dbm_text shown.dbm) (or_null id_string shown.dest) (or_null profile_text shown.eep)
-    (id_string shown.id) (or_null decimal shown.maker) (in_quotes (encode_upper shown.payload))
-    (in_quotes (byte_text shown.rorg)) (in_quotes (byte_text shown.status)) (why_word why)
+    telegram-pieces (text_or_null dbm_text shown.dbm) (text_or_null id_string shown.dest)
+    (text_or_null eep_string shown.eep)
+    (id_string shown.id) (text_or_null decimal shown.maker) (in_quotes (encode_upper shown.payload))
+    (in_quotes (byte_text shown.rorg)) (in_quotes (byte_text shown.status)) (reason_word why)
 
 -- a member of two lines, and the text after it
 member : (name a b x y : List ℕ) → NoComma a → NoComma b → name ++ (a ++ 44 ∷ x) ≡ name ++ (b ++ 44 ∷ y)
     → (a ≡ b) × (x ≡ y)
 member name a b x y in_a in_b e = peel a b x y in_a in_b (append_cancel_left name (a ++ 44 ∷ x) (b ++ 44 ∷ y) e)
 
-same-word : (one other : Why) → end_text (why_word one) ≡ end_text (why_word other) → one ≡ other
+same-word : (one other : Why) → end_text (reason_word one) ≡ end_text (reason_word other) → one ≡ other
 same-word one other e =
     one_why one other
-    (append_cancel_right (why_word one) (why_word other) (codes "\"}\n")
-    (append_cancel_left (codes "\"type\":\"packet\",\"why\":\"") (why_word one ++ codes "\"}\n")
-    (why_word other ++ codes "\"}\n") e))
+    (append_cancel_right (reason_word one) (reason_word other) (codes "\"}\n")
+    (append_cancel_left (codes "\"type\":\"packet\",\"why\":\"") (reason_word one ++ codes "\"}\n")
+    (reason_word other ++ codes "\"}\n") e))
 
 pub record SameValues (v w : Values) (one other : Why) : Type 0 where
   pub dbm : v.dbm ≡ w.dbm
@@ -241,7 +242,7 @@ pub record SameValues (v w : Values) (one other : Why) : Type 0 where
   pub why : one ≡ other
 
 same-values : (v w : Values) (one other : Why) → NoCommas v → NoCommas w
-    → line_of_values v (why_word one) ≡ line_of_values w (why_word other) → SameValues v w one other
+    → line_of_values v (reason_word one) ≡ line_of_values w (reason_word other) → SameValues v w one other
 same-values v w one other in_v in_w e =
     let dbm = member (codes "{\"dbm\":") v.dbm w.dbm _ _ in_v.dbm in_w.dbm e in
     let dest = member (codes "\"dest\":") v.dest w.dest _ _ in_v.dest in_w.dest dbm.1 in
@@ -274,7 +275,7 @@ same-shown shown said one other in_shown in_said same =
     (same-known id_string (λ id. id < 2 ^ 32) shown.dest said.dest in_shown.dest in_said.dest
     (λ id below. quoted-differs (id_text id))
     (λ a b in_a in_b e. same-id a b in_a in_b (same-quoted (id_text a) (id_text b) e)) same.dest)
-    (same-known profile_text (λ eep. (eep.rorg < 256) × (eep.func < 256) × (eep.typ < 256)) shown.eep said.eep
+    (same-known eep_string (λ eep. (eep.rorg < 256) × (eep.func < 256) × (eep.typ < 256)) shown.eep said.eep
     in_shown.eep in_said.eep (λ eep range. quoted-differs (eep_text eep))
     (λ a b in_a in_b e. same-eep a b in_a in_b (same-quoted (eep_text a) (eep_text b) e)) same.eep)
     (same-id shown.id said.id in_shown.id in_said.id (same-quoted (id_text shown.id) (id_text said.id) same.id))
@@ -311,9 +312,10 @@ other-pieces kind size word =
     (append_assoc _ (codes "}") (codes "\n") ∙ push kind (codes ",\"size\":") _ _ ends))
 
 other-line : (kind size : ℕ) (why : Why)
-    → packet_text (record { packet = Other kind size; why = why })
-    ≡ codes "{\"kind\":" ++ (decimal kind ++ 44 ∷ (codes "\"size\":" ++ (decimal size ++ 44 ∷ end_text (why_word why))))
-other-line kind size why = other-pieces (decimal kind) (decimal size) (why_word why)
+    → packet_text (record { packet = WithoutTelegram kind size; why = why })
+    ≡ codes "{\"kind\":" ++ (decimal kind ++ 44 ∷
+    (codes "\"size\":" ++ (decimal size ++ 44 ∷ end_text (reason_word why))))
+other-line kind size why = other-pieces (decimal kind) (decimal size) (reason_word why)
 
 -- ---- each line
 
@@ -331,19 +333,19 @@ one_packet_line line other = one line.packet other.packet line.why other.why
         ap (λ t. let x : PacketLine = record { packet = Telegram t; why = why } in x)
         (same-shown a b why by in_a in_b same)
         ∙ ap (λ w. let x : PacketLine = record { packet = Telegram b; why = w } in x) same.why
-    one (Other kind size) (Other type many) why by in_a in_b e =
+    one (WithoutTelegram kind size) (WithoutTelegram type many) why by in_a in_b e =
         let h = sym (other-line kind size why) ∙ e ∙ other-line type many by in
         let kinds = member (codes "{\"kind\":") (decimal kind) (decimal type) _ _ (no-decimal kind) (no-decimal type)
         h in
         let sizes = member (codes "\"size\":") (decimal size) (decimal many) _ _ (no-decimal size) (no-decimal many)
         kinds.1 in
-        ap (λ k. let x : PacketLine = record { packet = Other k size; why = why } in x)
+        ap (λ k. let x : PacketLine = record { packet = WithoutTelegram k size; why = why } in x)
         (decimal_injective kind type (omega (arith, in_a.0)) (omega (arith, in_b.0)) kinds.0)
-        ∙ ap (λ s. let x : PacketLine = record { packet = Other type s; why = why } in x)
+        ∙ ap (λ s. let x : PacketLine = record { packet = WithoutTelegram type s; why = why } in x)
         (decimal_injective size many (omega (arith, in_a.1)) (omega (arith, in_b.1)) sizes.0)
-        ∙ ap (λ w. let x : PacketLine = record { packet = Other type many; why = w } in x)
+        ∙ ap (λ w. let x : PacketLine = record { packet = WithoutTelegram type many; why = w } in x)
         (same-word why by sizes.1)
-    one (Telegram a) (Other kind size) why by in_a in_b e =
+    one (Telegram a) (WithoutTelegram kind size) why by in_a in_b e =
         absurd (eqb-false 100 107 refl (ap (λ (t : List ℕ). slice_index_or t 2 0) e))
-    one (Other kind size) (Telegram b) why by in_a in_b e =
+    one (WithoutTelegram kind size) (Telegram b) why by in_a in_b e =
         absurd (eqb-false 107 100 refl (ap (λ (t : List ℕ). slice_index_or t 2 0) e))

@@ -8,9 +8,9 @@ use Rattle.std.specs.List.{join_by, flat_map}
 use Rattle.std.proofs.lemmas.Grind.{flat_map-append}
 use Rattle.std.proofs.lemmas.Fmt.{length_signed_le}
 use Rattle.json_lines.specs.Lines.{dbm_text, member_text, object_text}
-use Rattle.json_lines.specs.PacketLines.{packet_members, why_members, members_text}
+use Rattle.json_lines.specs.PacketLines.{packet_members, end_members, members_text}
 use Rattle.json_lines.specs.declared.packet.ShownPacket.{ShownPacket}
-use Rattle.json_lines.specs.declared.packet.ShownPacket.TheVariants.{Telegram, Other}
+use Rattle.json_lines.specs.declared.packet.ShownPacket.TheVariants.{Telegram, WithoutTelegram}
 use Rattle.teach_in.specs.declared.why.Why.{Why}
 
 -- a signal strength has a sign and at most three digits
@@ -60,7 +60,7 @@ behind (m ∷ ms) (n ∷ ns) some others = join_by-append member_text (codes ","
 
 some_members : (packet : ShownPacket) → 0 < length (packet_members packet)
 some_members (Telegram telegram) = lit< tt
-some_members (Other kind size) = lit< tt
+some_members (WithoutTelegram kind size) = lit< tt
 
 -- a line, part by part
 braces : (first last all : List ℕ) → all ≡ first ++ (codes "," ++ last)
@@ -68,9 +68,9 @@ braces : (first last all : List ℕ) → all ≡ first ++ (codes "," ++ last)
 braces first last all joined = rw joined (simp append_assoc)
 
 pub line_pieces : (packet : ShownPacket) (why : Why)
-    → (((codes "{" ++ members_text (packet_members packet)) ++ codes ",") ++ members_text (why_members why))
+    → (((codes "{" ++ members_text (packet_members packet)) ++ codes ",") ++ members_text (end_members why))
     ++ codes "}\n"
-    ≡ object_text (packet_members packet ++ why_members why) ++ codes "\n"
+    ≡ object_text (packet_members packet ++ end_members why) ++ codes "\n"
 line_pieces packet why =
-    braces (members_text (packet_members packet)) (members_text (why_members why)) _
-    (behind (packet_members packet) (why_members why) (some_members packet) (lit< tt))
+    braces (members_text (packet_members packet)) (members_text (end_members why)) _
+    (behind (packet_members packet) (end_members why) (some_members packet) (lit< tt))

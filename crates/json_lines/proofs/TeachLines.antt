@@ -11,7 +11,7 @@ use Rattle.hex.specs.Hex.{IsBytes, decode_of, encode_upper, encode_with}
 use Rattle.hex.specs.declared.FromHexError.{FromHexError}
 use Rattle.hex.proofs.HexLemmas.{decode_of-encode_upper}
 use Rattle.erp1_telegrams.specs.declared.eep.Eep.{Eep}
-use Rattle.json_lines.specs.Lines.{HasNumbersInRange, Teach, TeachLine, byte_text, eep_text, id_text, or_null}
+use Rattle.json_lines.specs.Lines.{HasNumbersInRange, Teach, TeachLine, byte_text, eep_text, id_text, text_or_null}
 use Rattle.json_lines.specs.Lines.{text}
 use Rattle.json_lines.proofs.CommaTexts.{all-decimal}
 use Rattle.json_lines.proofs.HexTexts.{byte_bytes, id_bytes}
@@ -61,7 +61,7 @@ not-null n e =
     refl
 
 pub same-maker : (a b : Option ℕ) → IfSome a (λ maker. maker < 2 ^ 16) → IfSome b (λ maker. maker < 2 ^ 16)
-    → or_null decimal a ≡ or_null decimal b → a ≡ b
+    → text_or_null decimal a ≡ text_or_null decimal b → a ≡ b
 same-maker None None in_a in_b e = refl
 same-maker (Some a) (Some b) in_a in_b e =
     ap Some (decimal_injective a b (omega (arith, in_a)) (omega (arith, in_b)) e)
@@ -85,43 +85,43 @@ id-shown-alone : (line : TeachLine)
 unfolding encode_with
 id-shown-alone line = refl
 
-of-parts : (line told : TeachLine) → line.eep ≡ told.eep → line.id ≡ told.id → line.maker ≡ told.maker
-    → line.outcome ≡ told.outcome → line ≡ told
-of-parts line told eep id maker outcome =
+of-parts : (line reported : TeachLine) → line.eep ≡ reported.eep → line.id ≡ reported.id → line.maker ≡ reported.maker
+    → line.outcome ≡ reported.outcome → line ≡ reported
+of-parts line reported eep id maker outcome =
     ap (λ e. record line { eep = e }) eep
-    ∙ ap (λ i. record told { id = i; maker = line.maker; outcome = line.outcome }) id
-    ∙ ap (λ m. record told { maker = m; outcome = line.outcome }) maker
-    ∙ ap (λ o. record told { outcome = o }) outcome
+    ∙ ap (λ i. record reported { id = i; maker = line.maker; outcome = line.outcome }) id
+    ∙ ap (λ m. record reported { maker = m; outcome = line.outcome }) maker
+    ∙ ap (λ o. record reported { outcome = o }) outcome
 
-pub one_teach_line : (line told : TeachLine) → HasNumbersInRange line → HasNumbersInRange told
-    → text (Teach line) ≡ text (Teach told) → line ≡ told
-one_teach_line line told in_line in_told e =
-    one line.eep told.eep in_line.0 in_told.0 (ap (λ (t : List ℕ). t ++ []) e)
+pub one_teach_line : (line reported : TeachLine) → HasNumbersInRange line → HasNumbersInRange reported
+    → text (Teach line) ≡ text (Teach reported) → line ≡ reported
+one_teach_line line reported in_line in_reported e =
+    one line.eep reported.eep in_line.0 in_reported.0 (ap (λ (t : List ℕ). t ++ []) e)
   where
     one : (a b : Option Eep)
         → IfSome a (λ eep. (eep.rorg < 256) × (eep.func < 256) × (eep.typ < 256))
         → IfSome b (λ eep. (eep.rorg < 256) × (eep.func < 256) × (eep.typ < 256))
-        → text (Teach (record line { eep = a })) ++ [] ≡ text (Teach (record told { eep = b })) ++ []
-        → record line { eep = a } ≡ record told { eep = b }
+        → text (Teach (record line { eep = a })) ++ [] ≡ text (Teach (record reported { eep = b })) ++ []
+        → record line { eep = a } ≡ record reported { eep = b }
     one (Some a) (Some b) in_a in_b h =
-        let outcome = (teach-more (record line { eep = Some a }) (record told { eep = Some b }) [] h).0 in
-        of-parts (record line { eep = Some a }) (record told { eep = Some b })
+        let outcome = (teach-more (record line { eep = Some a }) (record reported { eep = Some b }) [] h).0 in
+        of-parts (record line { eep = Some a }) (record reported { eep = Some b })
         (ap Some (same-eep a b in_a in_b
-        (sym (eep-shown a line) ∙ ap (λ (t : List ℕ). take 8 (drop 8 t)) h ∙ eep-shown b told)))
-        (same-id line.id told.id in_line.1 in_told.1
-        (sym (id-shown a line) ∙ ap (λ (t : List ℕ). take 8 (drop 24 t)) h ∙ id-shown b told))
-        (same-maker line.maker told.maker in_line.2 in_told.2
-        (from-maker line.maker told.maker _ _ _ _ (teach-known a line.id line.maker line.outcome [])
-        (teach-known b told.id told.maker told.outcome []) (ap (drop 42) h)).0)
+        (sym (eep-shown a line) ∙ ap (λ (t : List ℕ). take 8 (drop 8 t)) h ∙ eep-shown b reported)))
+        (same-id line.id reported.id in_line.1 in_reported.1
+        (sym (id-shown a line) ∙ ap (λ (t : List ℕ). take 8 (drop 24 t)) h ∙ id-shown b reported))
+        (same-maker line.maker reported.maker in_line.2 in_reported.2
+        (from-maker line.maker reported.maker _ _ _ _ (teach-known a line.id line.maker line.outcome [])
+        (teach-known b reported.id reported.maker reported.outcome []) (ap (drop 42) h)).0)
         outcome
     one None None in_a in_b h =
-        let outcome = (teach-more (record line { eep = None }) (record told { eep = None }) [] h).0 in
-        of-parts (record line { eep = None }) (record told { eep = None }) refl
-        (same-id line.id told.id in_line.1 in_told.1
-        (sym (id-shown-alone line) ∙ ap (λ (t : List ℕ). take 8 (drop 18 t)) h ∙ id-shown-alone told))
-        (same-maker line.maker told.maker in_line.2 in_told.2
-        (from-maker line.maker told.maker _ _ _ _ (teach-unknown line.id line.maker line.outcome [])
-        (teach-unknown told.id told.maker told.outcome []) (ap (drop 36) h)).0)
+        let outcome = (teach-more (record line { eep = None }) (record reported { eep = None }) [] h).0 in
+        of-parts (record line { eep = None }) (record reported { eep = None }) refl
+        (same-id line.id reported.id in_line.1 in_reported.1
+        (sym (id-shown-alone line) ∙ ap (λ (t : List ℕ). take 8 (drop 18 t)) h ∙ id-shown-alone reported))
+        (same-maker line.maker reported.maker in_line.2 in_reported.2
+        (from-maker line.maker reported.maker _ _ _ _ (teach-unknown line.id line.maker line.outcome [])
+        (teach-unknown reported.id reported.maker reported.outcome []) (ap (drop 36) h)).0)
         outcome
     one (Some a) None in_a in_b h =
         let bytes : 34 ≡ 110 = ap (λ (t : List ℕ). slice_index_or t 7 0) h in

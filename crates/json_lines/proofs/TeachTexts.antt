@@ -12,7 +12,7 @@ use Rattle.teach_in.specs.declared.outcome.Outcome.{Outcome}
 use Rattle.teach_in.specs.declared.outcome.Outcome.TheVariants.{Accepted, Deleted, Unsupported, Full, General}
 use Rattle.teach_in.specs.declared.outcome.Outcome.TheVariants.{NoProfile}
 use Rattle.json_lines.specs.Lines.{DeskLine, Teach, DeviceLine}
-use Rattle.json_lines.specs.Lines.{TeachLine, or_null, outcome_word, text, texts}
+use Rattle.json_lines.specs.Lines.{TeachLine, text_or_null, outcome_word, text, texts}
 use Rattle.json_lines.proofs.CommaTexts.{no-maker, peel}
 
 -- ---- from the maker on
@@ -30,15 +30,15 @@ grouped-teach maker word more = simp append_assoc
 
 pub teach-known : (eep : Eep) (id : ℕ) (maker : Option ℕ) (outcome : Outcome) (more : List ℕ)
     → drop 42 (text (Teach (record { eep = Some eep; id = id; maker = maker; outcome = outcome })) ++ more)
-    ≡ or_null decimal maker ++ 44 ∷ (result_text outcome ++ more)
+    ≡ text_or_null decimal maker ++ 44 ∷ (result_text outcome ++ more)
 unfolding encode_with result_text
-teach-known eep id maker outcome more = grouped-teach (or_null decimal maker) (outcome_word outcome) more
+teach-known eep id maker outcome more = grouped-teach (text_or_null decimal maker) (outcome_word outcome) more
 
 pub teach-unknown : (id : ℕ) (maker : Option ℕ) (outcome : Outcome) (more : List ℕ)
     → drop 36 (text (Teach (record { eep = None; id = id; maker = maker; outcome = outcome })) ++ more)
-    ≡ or_null decimal maker ++ 44 ∷ (result_text outcome ++ more)
+    ≡ text_or_null decimal maker ++ 44 ∷ (result_text outcome ++ more)
 unfolding encode_with result_text
-teach-unknown id maker outcome more = grouped-teach (or_null decimal maker) (outcome_word outcome) more
+teach-unknown id maker outcome more = grouped-teach (text_or_null decimal maker) (outcome_word outcome) more
 
 -- ---- the ends of teach lines
 
@@ -68,28 +68,28 @@ same-result a b more e =
     (same, append_cancel_left (result_text b) more [] ends)
 
 -- the maker, and what follows it, in two lines with the same text
-pub from-maker : (a b : Option ℕ) (x y s t : List ℕ) → s ≡ or_null decimal a ++ 44 ∷ x
-    → t ≡ or_null decimal b ++ 44 ∷ y → s ≡ t → (or_null decimal a ≡ or_null decimal b) × (x ≡ y)
+pub from-maker : (a b : Option ℕ) (x y s t : List ℕ) → s ≡ text_or_null decimal a ++ 44 ∷ x
+    → t ≡ text_or_null decimal b ++ 44 ∷ y → s ≡ t → (text_or_null decimal a ≡ text_or_null decimal b) × (x ≡ y)
 from-maker a b x y s t in_s in_t e =
-    peel (or_null decimal a) (or_null decimal b) x y (no-maker a) (no-maker b) (sym in_s ∙ e ∙ in_t)
+    peel (text_or_null decimal a) (text_or_null decimal b) x y (no-maker a) (no-maker b) (sym in_s ∙ e ∙ in_t)
 
 -- ---- one line and more
 
-pub teach-more : (line told : TeachLine) (more : List ℕ) → text (Teach line) ++ more ≡ text (Teach told) ++ []
-    → (line.outcome ≡ told.outcome) × (more ≡ [])
-teach-more line told more e = one line.eep told.eep e
+pub teach-more : (line reported : TeachLine) (more : List ℕ) → text (Teach line) ++ more ≡ text (Teach reported) ++ []
+    → (line.outcome ≡ reported.outcome) × (more ≡ [])
+teach-more line reported more e = one line.eep reported.eep e
   where
     one : (a b : Option Eep)
-        → text (Teach (record line { eep = a })) ++ more ≡ text (Teach (record told { eep = b })) ++ []
-        → (line.outcome ≡ told.outcome) × (more ≡ [])
+        → text (Teach (record line { eep = a })) ++ more ≡ text (Teach (record reported { eep = b })) ++ []
+        → (line.outcome ≡ reported.outcome) × (more ≡ [])
     one (Some a) (Some b) h =
-        same-result line.outcome told.outcome more
-        (from-maker line.maker told.maker _ _ _ _ (teach-known a line.id line.maker line.outcome more)
-        (teach-known b told.id told.maker told.outcome []) (ap (drop 42) h)).1
+        same-result line.outcome reported.outcome more
+        (from-maker line.maker reported.maker _ _ _ _ (teach-known a line.id line.maker line.outcome more)
+        (teach-known b reported.id reported.maker reported.outcome []) (ap (drop 42) h)).1
     one None None h =
-        same-result line.outcome told.outcome more
-        (from-maker line.maker told.maker _ _ _ _ (teach-unknown line.id line.maker line.outcome more)
-        (teach-unknown told.id told.maker told.outcome []) (ap (drop 36) h)).1
+        same-result line.outcome reported.outcome more
+        (from-maker line.maker reported.maker _ _ _ _ (teach-unknown line.id line.maker line.outcome more)
+        (teach-unknown reported.id reported.maker reported.outcome []) (ap (drop 36) h)).1
     one (Some a) None h =
         let bytes : 34 ≡ 110 = ap (λ (t : List ℕ). slice_index_or t 7 0) h in
         absurd (omega (arith, bytes))
@@ -107,14 +107,14 @@ teach-goes_on : (eep : Eep) (line : TeachLine)
 unfolding encode_with
 teach-goes_on eep line = refl
 
-device-more : (known : Device) (told : TeachLine) (more : List ℕ)
-    → text (DeviceLine known) ++ more ≢ text (Teach told) ++ []
-device-more known told more e = one told.eep e
+device-more : (known : Device) (reported : TeachLine) (more : List ℕ)
+    → text (DeviceLine known) ++ more ≢ text (Teach reported) ++ []
+device-more known reported more e = one reported.eep e
   where
-    one : (b : Option Eep) → text (DeviceLine known) ++ more ≢ text (Teach (record told { eep = b })) ++ []
+    one : (b : Option Eep) → text (DeviceLine known) ++ more ≢ text (Teach (record reported { eep = b })) ++ []
     one (Some b) h =
         let bytes : 108 ≡ 109 =
-        sym (device-goes_on known more) ∙ ap (λ (t : List ℕ). slice_index_or t 35 0) h ∙ teach-goes_on b told in
+        sym (device-goes_on known more) ∙ ap (λ (t : List ℕ). slice_index_or t 35 0) h ∙ teach-goes_on b reported in
         absurd (omega (arith, bytes))
     one None h =
         let bytes : 34 ≡ 110 = ap (λ (t : List ℕ). slice_index_or t 7 0) h in
@@ -127,22 +127,23 @@ no_lines (line ∷ lines) e = absurd cc
 
 -- the lines are one teach line, with this outcome
 abbrev pub IsTeachLine : List DeskLine → TeachLine → Type 0
-IsTeachLine lines told = (line : TeachLine) × (lines ≡ Teach line ∷ []) × (line.outcome ≡ told.outcome)
+IsTeachLine lines reported = (line : TeachLine) × (lines ≡ Teach line ∷ []) × (line.outcome ≡ reported.outcome)
 
-fourth : (t : List ℕ) (told : TeachLine) → t ≡ text (Teach told) ++ [] → slice_index_or t 3 0 ≡ 101
-fourth t told e = ap (λ (u : List ℕ). slice_index_or u 3 0) e
+fourth : (t : List ℕ) (reported : TeachLine) → t ≡ text (Teach reported) ++ [] → slice_index_or t 3 0 ≡ 101
+fourth t reported e = ap (λ (u : List ℕ). slice_index_or u 3 0) e
 
 -- the first line is a teach line: the fourth byte of any other except a device's differs
-of_first : (first : DeskLine) (rest : List DeskLine) (told : TeachLine)
-    → text first ++ texts rest ≡ text (Teach told) ++ []
-    → IsTeachLine (first ∷ rest) told
-of_first (Teach line) rest told e =
-    let parts = teach-more line told (texts rest) e in
+of_first : (first : DeskLine) (rest : List DeskLine) (reported : TeachLine)
+    → text first ++ texts rest ≡ text (Teach reported) ++ []
+    → IsTeachLine (first ∷ rest) reported
+of_first (Teach line) rest reported e =
+    let parts = teach-more line reported (texts rest) e in
     (line, ap (λ lines. Teach line ∷ lines) (no_lines rest parts.1), parts.0)
-of_first (DeviceLine known) rest told e = absurd (device-more known told (texts rest) e)
-of_first first rest told e = absurd (eqb-false _ 101 refl (fourth (text first ++ texts rest) told e))
+of_first (DeviceLine known) rest reported e = absurd (device-more known reported (texts rest) e)
+of_first first rest reported e = absurd (eqb-false _ 101 refl (fourth (text first ++ texts rest) reported e))
 
-pub of_teach_lines : (lines : List DeskLine) (told : TeachLine) → texts lines ≡ text (Teach told)
-    → IsTeachLine lines told
-of_teach_lines [] told e = absurd (eqb-false 0 101 refl (fourth [] told (e ∙ sym (append-nil (text (Teach told))))))
-of_teach_lines (first ∷ rest) told e = of_first first rest told (e ∙ sym (append-nil (text (Teach told))))
+pub of_teach_lines : (lines : List DeskLine) (reported : TeachLine) → texts lines ≡ text (Teach reported)
+    → IsTeachLine lines reported
+of_teach_lines [] reported e =
+    absurd (eqb-false 0 101 refl (fourth [] reported (e ∙ sym (append-nil (text (Teach reported))))))
+of_teach_lines (first ∷ rest) reported e = of_first first rest reported (e ∙ sym (append-nil (text (Teach reported))))

@@ -4,7 +4,7 @@ use Rattle.std.specs.Prelude.{if◌then◌else◌}
 use Rattle.std.specs.Str.{bytes_eq}
 use Rattle.teach_in.specs.declared.outcome.Outcome.TheVariants.{Accepted, Deleted, Unsupported, Full, General}
 use Rattle.teach_in.specs.declared.outcome.Outcome.TheVariants.{NoProfile}
-use Rattle.json_lines.specs.PacketLines.{why_word}
+use Rattle.json_lines.specs.PacketLines.{reason_word}
 use Rattle.teach_in.specs.declared.why.Why.{Why}
 use Rattle.teach_in.specs.declared.why.Why.TheVariants.{Refused, Response, EmptyResponse, OtherType, NoTelegram}
 use Rattle.teach_in.specs.declared.why.Why.TheVariants.{FromBroadcast, ForOthers, TeachInReply, TeachIn}
@@ -14,7 +14,7 @@ use Rattle.teach_in.specs.declared.why.Why.TheVariants.{WrongLength, OtherMessag
 -- the first of some reasons with this word, or otherwise the last of all
 with-word : List ℕ → List Why → Why
 with-word word [] = OtherMessage
-with-word word (why ∷ others) = if bytes_eq word (why_word why) then why else with-word word others
+with-word word (why ∷ others) = if bytes_eq word (reason_word why) then why else with-word word others
 
 every : List Why
 every =
@@ -23,7 +23,7 @@ every =
     ∷ WindowClosed
     ∷ OtherMode ∷ Read ∷ UnknownSender ∷ WrongKind ∷ WrongLength ∷ []
 
-back : (why : Why) → with-word (why_word why) every ≡ why
+back : (why : Why) → with-word (reason_word why) every ≡ why
 unfolding with-word every
 back Refused = refl
 back Response = refl
@@ -47,5 +47,5 @@ back WrongKind = refl
 back WrongLength = refl
 back OtherMessage = refl
 
-pub one_why : (why other : Why) → why_word why ≡ why_word other → why ≡ other
+pub one_why : (why other : Why) → reason_word why ≡ reason_word other → why ≡ other
 one_why why other same = sym (back why) ∙ ap (λ word. with-word word every) same ∙ back other

@@ -9,11 +9,11 @@ abbrev pub zero_counts : Counts
 zero_counts = record { ignored = 0; readings = 0; refused = 0; responses = 0; teach = 0 }
 
 -- a counter, plus n, up to its maximum
-abbrev pub saturated_sum : ℕ → ℕ → ℕ
+abbrev pub saturated_sum : (count n : ℕ) → ℕ
 saturated_sum count n = min (count + n) (2 ^ 64 - 1)
 
 -- a counter, plus one
-abbrev pub saturated_increment : ℕ → ℕ
+abbrev pub saturated_increment : (count : ℕ) → ℕ
 saturated_increment count = saturated_sum count 1
 
 -- one counter is incremented, and the others stay

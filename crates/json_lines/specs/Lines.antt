@@ -40,7 +40,7 @@ pub record TeachLine : Type 0 where
 
 -- a response of the radio module: a return code, and the bytes after it (EnOcean Serial Protocol 3, "Packet type 2:
 -- RESPONSE")
-pub record Response : Type 0 where
+pub record ModuleResponse : Type 0 where
   pub code : ℕ
   pub bytes : List ℕ
 
@@ -52,7 +52,7 @@ pub data DeskLine : Type 0 where
   DeviceLine : (known : Device) → DeskLine
   ListEnd : (count : ℕ) → DeskLine
   StatusLine : (counts : Counts) (mode : Mode) → DeskLine
-  ResponseLine : (response : Response) → DeskLine
+  ResponseLine : (response : ModuleResponse) → DeskLine
   Done : DeskLine
   Error : (name : ErrorName) → DeskLine
 
@@ -66,7 +66,7 @@ HasNumbersInRange line =
 -- ---- the parts of a line
 
 -- a text in quotation marks, without escapes (RFC 8259, "Strings")
-abbrev pub in_quotes : List ℕ → List ℕ
+abbrev pub in_quotes : (text : List ℕ) → List ℕ
 in_quotes text = codes "\"" ++ text ++ codes "\""
 
 -- a member of an object: its name, and the text of its value (RFC 8259, "Objects")
@@ -78,16 +78,16 @@ abbrev pub object_text : List (List ℕ × List ℕ) → List ℕ
 object_text members = codes "{" ++ join_by member_text (codes ",") members ++ codes "}"
 
 -- the text of a value that may be unknown. Own choice: then it is null
-abbrev pub or_null : {A : Type 0} → (A → List ℕ) → Option A → List ℕ
-or_null text_of None = codes "null"
-or_null text_of (Some known) = text_of known
+abbrev pub text_or_null : {A : Type 0} → (A → List ℕ) → Option A → List ℕ
+text_or_null text_of None = codes "null"
+text_or_null text_of (Some known) = text_of known
 
 -- a byte as two upper-case hexadecimal digits. Own choice
-abbrev pub byte_text : ℕ → List ℕ
+abbrev pub byte_text : (byte : ℕ) → List ℕ
 byte_text byte = encode_upper (to_be_bytes w8 byte)
 
 -- an ID as 8 upper-case hexadecimal digits. Own choice
-abbrev pub id_text : ℕ → List ℕ
+abbrev pub id_text : (id : ℕ) → List ℕ
 id_text id = encode_upper (to_be_bytes w32 id)
 
 -- a profile by the three numbers that EnOcean Equipment Profiles 2.6 gives it, with `-` between them
@@ -95,16 +95,16 @@ abbrev pub eep_text : Eep → List ℕ
 eep_text eep = byte_text eep.rorg ++ codes "-" ++ byte_text eep.func ++ codes "-" ++ byte_text eep.typ
 
 -- a profile as a string. Own choice
-abbrev pub profile_text : Eep → List ℕ
-profile_text eep = in_quotes (eep_text eep)
+abbrev pub eep_string : Eep → List ℕ
+eep_string eep = in_quotes (eep_text eep)
 
 -- the signal strength in dBm: 0 minus the byte (EnOcean Serial Protocol 3, "Packet type 1: RADIO_ERP1")
-abbrev pub dbm_text : ℕ → List ℕ
+abbrev pub dbm_text : (byte : ℕ) → List ℕ
 dbm_text byte = signed_decimal (pos 0 -ℤ pos byte)
 
 -- a reading as an object: a value in a unit, a word, a number, or a number out of range. Own choice. `quoted` writes
 -- the shortest escapes (RFC 8259, "Strings")
-abbrev pub reading_text : List ℕ → Meaning → List ℕ
+abbrev pub reading_text : (name : List ℕ) → Meaning → List ℕ
 reading_text name (value ratio unit) = object_text (
     (codes "den", decimal ratio.den)
     ∷ (codes "name", quoted name)
@@ -115,12 +115,12 @@ reading_text name (raw n) = object_text ((codes "name", quoted name) ∷ (codes 
 reading_text name (out_of_range n) = object_text ((codes "name", quoted name) ∷ (codes "out_of_range", decimal n) ∷ [])
 
 -- an entry: a reading under a name. Own choice
-abbrev pub entry_text : Entry → List ℕ
-entry_text entry = reading_text entry.name entry.meaning
+abbrev pub entry_object_text : Entry → List ℕ
+entry_object_text entry = reading_text entry.name entry.meaning
 
 -- the entries in their order, with a comma between each two (RFC 8259, "Arrays")
-abbrev pub readings_text : List Entry → List ℕ
-readings_text list = codes "[" ++ join_by entry_text (codes ",") list ++ codes "]"
+abbrev pub readings_array_text : List Entry → List ℕ
+readings_array_text list = codes "[" ++ join_by entry_object_text (codes ",") list ++ codes "]"
 
 -- the outcome's word. Own choice
 abbrev pub outcome_word : Outcome → List ℕ
@@ -148,38 +148,38 @@ abbrev pub code_names : List (List ℕ)
 code_names = codes "OK" ∷ codes "ERROR" ∷ codes "NOT_SUPPORTED" ∷ codes "WRONG_PARAM" ∷ codes "OPERATION_DENIED" ∷ []
 
 -- the error's name. Own choice
-abbrev pub error_name : ErrorName → List ℕ
-error_name Syntax = codes "syntax"
-error_name TooLong = codes "too_long"
-error_name Range = codes "range"
-error_name UnknownDevice = codes "unknown_device"
-error_name WrongProfile = codes "wrong_profile"
-error_name error.Full = codes "full"
-error_name UnsupportedProfile = codes "unsupported_profile"
-error_name Memory = codes "memory"
-error_name Store = codes "store"
+abbrev pub error_word : ErrorName → List ℕ
+error_word Syntax = codes "syntax"
+error_word TooLong = codes "too_long"
+error_word Range = codes "range"
+error_word UnknownDevice = codes "unknown_device"
+error_word WrongProfile = codes "wrong_profile"
+error_word error.Full = codes "full"
+error_word UnsupportedProfile = codes "unsupported_profile"
+error_word Memory = codes "memory"
+error_word Store = codes "store"
 
 -- ---- the lines
 
 -- the members of a line: their names, and the texts of their values. Own choice
 abbrev pub members_of : DeskLine → List (List ℕ × List ℕ)
 members_of (Reading line) =
-    (codes "dbm", or_null dbm_text line.dbm)
-    ∷ (codes "eep", profile_text line.eep)
+    (codes "dbm", text_or_null dbm_text line.dbm)
+    ∷ (codes "eep", eep_string line.eep)
     ∷ (codes "id", in_quotes (id_text line.id))
-    ∷ (codes "readings", readings_text line.readings)
+    ∷ (codes "readings", readings_array_text line.readings)
     ∷ (codes "type", in_quotes (codes "reading")) ∷ []
 members_of (Teach line) =
-    (codes "eep", or_null profile_text line.eep)
+    (codes "eep", text_or_null eep_string line.eep)
     ∷ (codes "id", in_quotes (id_text line.id))
-    ∷ (codes "maker", or_null decimal line.maker)
+    ∷ (codes "maker", text_or_null decimal line.maker)
     ∷ (codes "result", in_quotes (outcome_word line.outcome))
     ∷ (codes "type", in_quotes (codes "teach")) ∷ []
 members_of (DeviceLine known) =
-    (codes "eep", profile_text known.eep)
+    (codes "eep", eep_string known.eep)
     ∷ (codes "id", in_quotes (id_text known.id))
     ∷ (codes "label", quoted known.label)
-    ∷ (codes "maker", or_null decimal known.maker)
+    ∷ (codes "maker", text_or_null decimal known.maker)
     ∷ (codes "type", in_quotes (codes "device")) ∷ []
 members_of (ListEnd count) = (codes "count", decimal count) ∷ (codes "type", in_quotes (codes "list")) ∷ []
 members_of (StatusLine counts mode) =
@@ -193,11 +193,11 @@ members_of (StatusLine counts mode) =
 members_of (ResponseLine response) =
     (codes "code", decimal response.code)
     ∷ (codes "data", in_quotes (encode_upper response.bytes))
-    ∷ (codes "name", or_null in_quotes (slice_get code_names response.code))
+    ∷ (codes "name", text_or_null in_quotes (slice_get code_names response.code))
     ∷ (codes "type", in_quotes (codes "response")) ∷ []
 members_of Done = (codes "type", in_quotes (codes "ok")) ∷ []
 members_of (Error name) =
-    (codes "error", in_quotes (error_name name)) ∷ (codes "type", in_quotes (codes "error")) ∷ []
+    (codes "error", in_quotes (error_word name)) ∷ (codes "type", in_quotes (codes "error")) ∷ []
 
 -- the text of a line: one object, and a line feed. Own choice
 abbrev pub text : DeskLine → List ℕ

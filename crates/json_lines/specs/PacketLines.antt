@@ -3,12 +3,12 @@
 use Rattle.std.specs.Prelude.{ℕ, ◌+◌, ◌<◌, ◌^◌, IfSome, List, [], ◌∷◌, ◌++◌, codes, decimal}
 use Rattle.std.specs.List.{join_by}
 use Rattle.hex.specs.Hex.{IsBytes, encode_upper}
-use Rattle.json_lines.specs.Lines.{or_null, dbm_text, id_text, profile_text, byte_text, in_quotes, outcome_word}
+use Rattle.json_lines.specs.Lines.{text_or_null, dbm_text, id_text, eep_string, byte_text, in_quotes, outcome_word}
 use Rattle.json_lines.specs.Lines.{member_text, object_text}
 use Rattle.json_lines.specs.ShownTelegram.{ShownTelegram}
 use Rattle.json_lines.specs.declared.packet.PacketLine.{PacketLine}
 use Rattle.json_lines.specs.declared.packet.ShownPacket.{ShownPacket}
-use Rattle.json_lines.specs.declared.packet.ShownPacket.TheVariants.{Telegram, Other}
+use Rattle.json_lines.specs.declared.packet.ShownPacket.TheVariants.{Telegram, WithoutTelegram}
 use Rattle.teach_in.specs.declared.why.Why.{Why}
 use Rattle.teach_in.specs.declared.why.Why.TheVariants.{Refused, Response, EmptyResponse, OtherType, NoTelegram}
 use Rattle.teach_in.specs.declared.why.Why.TheVariants.{FromBroadcast, ForOthers, TeachInReply, TeachIn}
@@ -16,38 +16,38 @@ use Rattle.teach_in.specs.declared.why.Why.TheVariants.{WindowClosed, OtherMode,
 use Rattle.teach_in.specs.declared.why.Why.TheVariants.{WrongLength, OtherMessage}
 
 -- the word for the reason; for the outcome for a sender, the outcome's word. Own choice
-abbrev pub why_word : Why → List ℕ
-why_word Refused = codes "refused"
-why_word Response = codes "response"
-why_word EmptyResponse = codes "empty_response"
-why_word OtherType = codes "other_type"
-why_word NoTelegram = codes "no_telegram"
-why_word FromBroadcast = codes "from_broadcast"
-why_word ForOthers = codes "for_others"
-why_word TeachInReply = codes "teach_in_reply"
-why_word (TeachIn outcome) = outcome_word outcome
-why_word WindowClosed = codes "window_closed"
-why_word OtherMode = codes "other_mode"
-why_word Read = codes "read"
-why_word UnknownSender = codes "unknown_sender"
-why_word WrongKind = codes "wrong_kind"
-why_word WrongLength = codes "wrong_length"
-why_word OtherMessage = codes "other_message"
+abbrev pub reason_word : Why → List ℕ
+reason_word Refused = codes "refused"
+reason_word Response = codes "response"
+reason_word EmptyResponse = codes "empty_response"
+reason_word OtherType = codes "other_type"
+reason_word NoTelegram = codes "no_telegram"
+reason_word FromBroadcast = codes "from_broadcast"
+reason_word ForOthers = codes "for_others"
+reason_word TeachInReply = codes "teach_in_reply"
+reason_word (TeachIn outcome) = outcome_word outcome
+reason_word WindowClosed = codes "window_closed"
+reason_word OtherMode = codes "other_mode"
+reason_word Read = codes "read"
+reason_word UnknownSender = codes "unknown_sender"
+reason_word WrongKind = codes "wrong_kind"
+reason_word WrongLength = codes "wrong_length"
+reason_word OtherMessage = codes "other_message"
 
 -- an ID as a string. Own choice
-abbrev pub id_string : ℕ → List ℕ
+abbrev pub id_string : (id : ℕ) → List ℕ
 id_string id = in_quotes (id_text id)
 
 -- ---- the members of a line, in the byte order of their names
 
 -- how a telegram was received, and its sender. Own choice
-abbrev pub sender_members : ShownTelegram → List (List ℕ × List ℕ)
-sender_members telegram =
-    (codes "dbm", or_null dbm_text telegram.dbm)
-    ∷ (codes "dest", or_null id_string telegram.dest)
-    ∷ (codes "eep", or_null profile_text telegram.eep)
+abbrev pub reception_members : ShownTelegram → List (List ℕ × List ℕ)
+reception_members telegram =
+    (codes "dbm", text_or_null dbm_text telegram.dbm)
+    ∷ (codes "dest", text_or_null id_string telegram.dest)
+    ∷ (codes "eep", text_or_null eep_string telegram.eep)
     ∷ (codes "id", id_string telegram.id)
-    ∷ (codes "maker", or_null decimal telegram.maker) ∷ []
+    ∷ (codes "maker", text_or_null decimal telegram.maker) ∷ []
 
 -- the content of a telegram. Own choice
 abbrev pub content_members : ShownTelegram → List (List ℕ × List ℕ)
@@ -57,23 +57,23 @@ content_members telegram =
     ∷ (codes "status", in_quotes (byte_text telegram.status)) ∷ []
 
 -- any other packet: its type, and the number of bytes of its data. Own choice
-abbrev pub other_members : ℕ → ℕ → List (List ℕ × List ℕ)
+abbrev pub other_members : (kind size : ℕ) → List (List ℕ × List ℕ)
 other_members kind size = (codes "kind", decimal kind) ∷ (codes "size", decimal size) ∷ []
 
 -- the contents of the packet. Own choice
 abbrev pub packet_members : ShownPacket → List (List ℕ × List ℕ)
-packet_members (Telegram telegram) = sender_members telegram ++ content_members telegram
-packet_members (Other kind size) = other_members kind size
+packet_members (Telegram telegram) = reception_members telegram ++ content_members telegram
+packet_members (WithoutTelegram kind size) = other_members kind size
 
 -- the type of the line, and the reason. Own choice
-abbrev pub why_members : Why → List (List ℕ × List ℕ)
-why_members why = (codes "type", in_quotes (codes "packet")) ∷ (codes "why", in_quotes (why_word why)) ∷ []
+abbrev pub end_members : Why → List (List ℕ × List ℕ)
+end_members why = (codes "type", in_quotes (codes "packet")) ∷ (codes "why", in_quotes (reason_word why)) ∷ []
 
 -- ---- the lines
 
 -- the text of a line: one object, and a line feed. Own choice
 abbrev pub packet_text : PacketLine → List ℕ
-packet_text line = object_text (packet_members line.packet ++ why_members line.why) ++ codes "\n"
+packet_text line = object_text (packet_members line.packet ++ end_members line.why) ++ codes "\n"
 
 -- members in their order, with a comma between each two (RFC 8259, "Objects")
 abbrev pub members_text : List (List ℕ × List ℕ) → List ℕ
@@ -108,4 +108,4 @@ pub record HasFieldsInRange (shown : ShownTelegram) : Type 0 where
 
 abbrev pub HasPacketNumbersInRange : ShownPacket → Type 0
 HasPacketNumbersInRange (Telegram shown) = HasFieldsInRange shown
-HasPacketNumbersInRange (Other kind size) = (kind < 256) × (size < 2 ^ 16)
+HasPacketNumbersInRange (WithoutTelegram kind size) = (kind < 256) × (size < 2 ^ 16)

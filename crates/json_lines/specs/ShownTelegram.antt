@@ -16,11 +16,11 @@ pub record ShownTelegram : Type 0 where
   pub status : ℕ
 
 -- the destination ID of a telegram, unless it is a broadcast
-abbrev pub shown_destination : ℕ → Option ℕ
+abbrev pub shown_destination : (dest : ℕ) → Option ℕ
 shown_destination dest = if dest == 0xFFFF_FFFF then None else Some dest
 
 -- a telegram, and what is known about its sender
-abbrev pub shown_of : Telegram → Option Eep → Option ℕ → ShownTelegram
+abbrev pub shown_of : Telegram → Option Eep → (maker : Option ℕ) → ShownTelegram
 shown_of t eep maker = record {
   dbm = t.dbm;
   dest = shown_destination t.dest;

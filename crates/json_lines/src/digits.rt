@@ -52,7 +52,7 @@ pub(crate) fn eep_digits(eep: Eep) -> [u8; 8]
 }
 
 // The digits of a profile, after `as `.
-pub(crate) fn learn_as_digits(eep: Eep) -> [u8; 11]
+pub(crate) fn learn_as_text(eep: Eep) -> [u8; 11]
     ensures text { result ≡ learn_as_text eep }
     ensures ascii { IsAscii result }
 {
@@ -60,7 +60,7 @@ pub(crate) fn learn_as_digits(eep: Eep) -> [u8; 11]
     [b'a', b's', b' ', a, b, c, d, e, f, g, h]
 }
 
-pub(crate) fn text_of(digits: &[u8]) -> &str
+pub(crate) fn ascii_str(digits: &[u8]) -> &str
     requires { IsAscii digits.now }
     ensures { result.now ≡ digits.now }
 {

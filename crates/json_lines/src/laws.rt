@@ -1,26 +1,26 @@
 //! Theorems about the definitions. Each function does nothing: its contract is the theorem.
 ghost use Rattle.std.specs.Prelude.{◌≡◌, ◌≢◌, ℕ, List, [], ◌∷◌, ◌++◌};
 ghost use Rattle.json_lines.specs.Lines.{DeskLine, HasNumbersInRange, Teach, TeachLine, text, texts};
-ghost use Rattle.json_lines.specs.PacketLines.{HasPacketNumbersInRange, max_packet_line, packet_text, why_word};
+ghost use Rattle.json_lines.specs.PacketLines.{HasPacketNumbersInRange, max_packet_line, packet_text, reason_word};
 ghost use Rattle.json_lines.specs.declared.packet.PacketLine.{PacketLine};
 ghost use Rattle.teach_in.specs.declared.why.Why.{Why};
 ghost use Rattle.json_lines.specs.declared.limits.TheConstants.{MAX_PACKET_LINE};
 
 /// Lines that together have the text of a teach line are one teach line, with the same outcome.
-pub fn teach_text_is_one_teach_line()
-    ensures { (lines : List DeskLine) (told : TeachLine) → texts lines ≡ text (Teach told)
-        → (line : TeachLine) × (lines ≡ Teach line ∷ []) × (line.outcome ≡ told.outcome) }
+pub fn teach_text_determines_outcome()
+    ensures { (lines : List DeskLine) (reported : TeachLine) → texts lines ≡ text (Teach reported)
+        → (line : TeachLine) × (lines ≡ Teach line ∷ []) × (line.outcome ≡ reported.outcome) }
 {}
 
 /// Teach lines with the same text have the same profile, ID, maker and outcome.
 pub fn teach_texts_are_injective()
-    ensures { (line told : TeachLine) → HasNumbersInRange line → HasNumbersInRange told
-        → text (Teach line) ≡ text (Teach told) → line ≡ told }
+    ensures { (line reported : TeachLine) → HasNumbersInRange line → HasNumbersInRange reported
+        → text (Teach line) ≡ text (Teach reported) → line ≡ reported }
 {}
 
 /// Each word for a reason stands for one reason.
 pub fn why_words_are_injective()
-    ensures { (why other : Why) → why_word why ≡ why_word other → why ≡ other }
+    ensures { (why other : Why) → reason_word why ≡ reason_word other → why ≡ other }
 {}
 
 /// Packet lines with the same text are equal: they show the same packet, field by field, and the same reason.
@@ -36,6 +36,6 @@ pub fn packet_lines_are_distinguishable()
 {}
 
 /// The capacity of a packet line is the length of the longest.
-pub fn packet_lines_have_room()
+pub fn packet_line_limits_agree()
     ensures { MAX_PACKET_LINE ≡ max_packet_line }
 {}

@@ -4,7 +4,7 @@
 /// A5-08-03 at -255 dBm, with the readings
 /// `{"den":50,"name":"SVC","num":101,"unit":"V"},{"den":1,"name":"ILL","num":1002,"unit":"lx"},`
 /// `{"den":51,"name":"TMP","num":-1514,"unit":"C"},{"name":"PIRS","word":"off"},{"name":"OCC","word":"released"}`.
-pub(crate) const MAX_USUAL_LINE: usize = 276;
+pub(crate) const READING_LINE_CAPACITY: usize = 276;
 
 /// The length of the longest packet line, in bytes. Own choice, like the form of the line.
 pub const MAX_PACKET_LINE: usize = 184;

@@ -2,17 +2,17 @@
 
 ghost use Rattle.std.specs.Prelude.{◌≡◌, ◌+◌, ◌≤◌, ◌++◌, length};
 ghost use Rattle.arrayvec.specs.ArrayVec.{array_vec_len};
-ghost use Rattle.json_lines.specs.PacketLines.{content_members, why_members, members_text, other_members};
-ghost use Rattle.json_lines.specs.PacketLines.{packet_members, packet_text, sender_members};
+ghost use Rattle.json_lines.specs.PacketLines.{content_members, end_members, members_text, other_members};
+ghost use Rattle.json_lines.specs.PacketLines.{packet_members, packet_text, reception_members};
 ghost use Rattle.json_lines.specs.PacketLines.{max_content_members, max_end_members, max_packet_line};
 ghost use Rattle.json_lines.specs.PacketLines.{max_sender_members};
 
 use crate::limits::MAX_PACKET_LINE;
 use crate::text_parts::{
-    Text, put, put_byte, put_dbm, put_dest, put_id, put_known_profile, put_maker, put_number,
-    put_payload, put_string,
+    PacketBuffer, put, put_byte, put_dbm, put_dest, put_id, put_maker, put_number, put_payload,
+    put_profile_or_null, put_string,
 };
-use crate::why_words::why_word;
+use crate::why_words::reason_word;
 use arrayvec::ArrayVec;
 use erp1_telegrams::{Eep, Telegram};
 use std::marker::Model;
@@ -44,7 +44,7 @@ pub enum ShownPacket {
     /// A packet that carries this telegram.
     Telegram(ShownTelegram),
     /// Any other packet.
-    Other {
+    WithoutTelegram {
         /// The packet type.
         kind: u8,
         /// The number of bytes of its data.
@@ -62,9 +62,9 @@ pub struct PacketLine {
 }
 
 // How a telegram was received, and its sender.
-fn put_sender(shown: &ShownTelegram, out: &mut Text)
+fn put_reception(shown: &ShownTelegram, out: &mut PacketBuffer)
     requires { array_vec_len out.old + max_sender_members ≤ max_packet_line }
-    ensures items { out.new.items ≡ out.old.items ++ members_text (sender_members shown.now) }
+    ensures items { out.new.items ≡ out.old.items ++ members_text (reception_members shown.now) }
     ensures len { array_vec_len out.new ≤ array_vec_len out.old + max_sender_members }
 {
     put(b"\"dbm\":", out);
@@ -72,7 +72,7 @@ fn put_sender(shown: &ShownTelegram, out: &mut Text)
     put(b",\"dest\":", out);
     put_dest(shown.telegram.dest(), out);
     put(b",\"eep\":", out);
-    put_known_profile(shown.eep, out);
+    put_profile_or_null(shown.eep, out);
     put(b",\"id\":", out);
     put_id(shown.telegram.sender(), out);
     put(b",\"maker\":", out);
@@ -80,7 +80,7 @@ fn put_sender(shown: &ShownTelegram, out: &mut Text)
 }
 
 // The content of a telegram.
-fn put_content(shown: &ShownTelegram, out: &mut Text)
+fn put_content(shown: &ShownTelegram, out: &mut PacketBuffer)
     requires { array_vec_len out.old + max_content_members ≤ max_packet_line }
     ensures items { out.new.items ≡ out.old.items ++ members_text (content_members shown.now) }
     ensures len { array_vec_len out.new ≤ array_vec_len out.old + max_content_members }
@@ -94,7 +94,7 @@ fn put_content(shown: &ShownTelegram, out: &mut Text)
 }
 
 // Any other packet.
-fn put_other(kind: u8, size: u16, out: &mut Text)
+fn put_other(kind: u8, size: u16, out: &mut PacketBuffer)
     requires { array_vec_len out.old + 25 ≤ max_packet_line }
     ensures items { out.new.items ≡ out.old.items ++ members_text (other_members kind size) }
     ensures len { array_vec_len out.new ≤ array_vec_len out.old + 25 }
@@ -105,29 +105,29 @@ fn put_other(kind: u8, size: u16, out: &mut Text)
     put_number(size, out);
 }
 
-fn put_packet(packet: &ShownPacket, out: &mut Text)
+fn put_packet(packet: &ShownPacket, out: &mut PacketBuffer)
     requires { array_vec_len out.old + max_sender_members + max_content_members + 1 ≤ max_packet_line }
     ensures items { out.new.items ≡ out.old.items ++ members_text (packet_members packet.now) }
     ensures len { array_vec_len out.new ≤ array_vec_len out.old + max_sender_members + max_content_members + 1 }
 {
     match packet {
         ShownPacket::Telegram(shown) => {
-            put_sender(shown, out);
+            put_reception(shown, out);
             put(b",", out);
             put_content(shown, out);
         }
-        ShownPacket::Other { kind, size } => put_other(*kind, *size, out),
+        ShownPacket::WithoutTelegram { kind, size } => put_other(*kind, *size, out),
     }
 }
 
 // The type of the line, and the reason.
-fn put_end(why: Why, out: &mut Text)
+fn put_end_members(why: Why, out: &mut PacketBuffer)
     requires { array_vec_len out.old + max_end_members ≤ max_packet_line }
-    ensures items { out.new.items ≡ out.old.items ++ members_text (why_members why) }
+    ensures items { out.new.items ≡ out.old.items ++ members_text (end_members why) }
     ensures len { array_vec_len out.new ≤ array_vec_len out.old + max_end_members }
 {
     put(b"\"type\":\"packet\",\"why\":", out);
-    put_string(why_word(why).as_bytes(), out);
+    put_string(reason_word(why).as_bytes(), out);
 }
 
 /// The line that shows what a packet was, and one word for why it was handled the way it was. For a telegram: the
@@ -146,7 +146,7 @@ pub fn packet_line(line: &PacketLine) -> ArrayVec<u8, MAX_PACKET_LINE>
     put(b"{", &mut out);
     put_packet(&line.packet, &mut out);
     put(b",", &mut out);
-    put_end(line.why, &mut out);
+    put_end_members(line.why, &mut out);
     put(b"}\n", &mut out);
     out
 }

@@ -4,15 +4,15 @@ ghost use Rattle.std.specs.Prelude.{◌≡◌, IfOk, OnOk, slice_get};
 ghost use Rattle.serde_json.specs.Data.{string};
 ghost use Rattle.serde_json.specs.Events.{SendsValue};
 ghost use Rattle.json_lines.specs.Lines.{ResponseLine, code_names, text};
-ghost use Rattle.json_lines.specs.private.LineData.{object_of, or_null, response_members};
+ghost use Rattle.json_lines.specs.private.LineData.{object_of, value_or_null, response_members};
 
 use crate::line::{Line, line_of};
 use serde::{Described, Serialize, Serializer};
 use std::alloc::{AllocError, Global};
 
 // The name of a return code, or null.
-fn put_name<S: Serializer>(code: u8, out: &mut S) -> Result<(), S::Error>
-    ensures { OnOk result (SendsValue (or_null string (slice_get code_names code))
+fn put_code_name<S: Serializer>(code: u8, out: &mut S) -> Result<(), S::Error>
+    ensures { OnOk result (SendsValue (value_or_null string (slice_get code_names code))
         (S.written out.old) (S.written out.new)) }
 {
     match code {
@@ -44,7 +44,7 @@ impl Serialize for ResponseObject<'_> {
         out.key("data")?;
         out.str(self.digits)?;
         out.key("name")?;
-        put_name(self.code, out)?;
+        put_code_name(self.code, out)?;
         out.key("type")?;
         out.str("response")?;
         out.end_map()

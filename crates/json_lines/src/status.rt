@@ -7,7 +7,7 @@ ghost use Rattle.json_lines.specs.Lines.{StatusLine, mode_word, text};
 ghost use Rattle.json_lines.specs.private.LineData.{object_of, status_members};
 
 use crate::counts::Counts;
-use crate::digits::{learn_as_digits, text_of};
+use crate::digits::{ascii_str, learn_as_text};
 use crate::line::{Line, line_of};
 use serde::{Described, Serialize, Serializer};
 use std::alloc::{AllocError, Global};
@@ -21,7 +21,7 @@ fn put_mode<S: Serializer>(mode: Mode, out: &mut S) -> Result<(), S::Error>
         Mode::Closed => out.str("closed"),
         Mode::Learn => out.str("on"),
         Mode::LearnAnswer => out.str("answer"),
-        Mode::LearnAs(eep) => out.str(text_of(&learn_as_digits(eep))),
+        Mode::LearnAs(eep) => out.str(ascii_str(&learn_as_text(eep))),
     }
 }
 

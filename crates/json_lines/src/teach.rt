@@ -3,7 +3,7 @@
 ghost use Rattle.std.specs.Prelude.{◌≡◌, IfOk, OnOk};
 ghost use Rattle.serde_json.specs.Events.{SendsValue};
 ghost use Rattle.json_lines.specs.Lines.{Teach, outcome_word, text};
-ghost use Rattle.json_lines.specs.private.LineData.{object_of, or_null, profile_data, teach_members};
+ghost use Rattle.json_lines.specs.private.LineData.{object_of, value_or_null, profile_data, teach_members};
 
 use crate::line::{Line, line_of};
 use crate::parts::{put_id, put_maker, put_profile};
@@ -27,8 +27,8 @@ pub(crate) fn outcome_word(outcome: Outcome) -> &'static str
 }
 
 // A profile, or null.
-fn put_known_profile<S: Serializer>(eep: Option<Eep>, out: &mut S) -> Result<(), S::Error>
-    ensures { OnOk result (SendsValue (or_null profile_data eep) (S.written out.old) (S.written out.new)) }
+fn put_profile_or_null<S: Serializer>(eep: Option<Eep>, out: &mut S) -> Result<(), S::Error>
+    ensures { OnOk result (SendsValue (value_or_null profile_data eep) (S.written out.old) (S.written out.new)) }
 {
     match eep {
         Some(eep) => put_profile(eep, out),
@@ -54,7 +54,7 @@ impl Serialize for TeachObject {
     fn serialize<S: Serializer>(&self, out: &mut S) -> Result<(), S::Error> {
         out.begin_map(Some(5))?;
         out.key("eep")?;
-        put_known_profile(self.eep, out)?;
+        put_profile_or_null(self.eep, out)?;
         out.key("id")?;
         put_id(self.id, out)?;
         out.key("maker")?;

@@ -3,7 +3,7 @@
 ghost use Rattle.std.specs.Prelude.{◌≡◌, ◌+◌, ◌≤◌, ◌++◌, length, decimal};
 ghost use Rattle.arrayvec.specs.ArrayVec.{array_vec_len};
 ghost use Rattle.hex.specs.Hex.{encode_upper};
-ghost use Rattle.json_lines.specs.Lines.{byte_text, dbm_text, in_quotes, or_null, profile_text};
+ghost use Rattle.json_lines.specs.Lines.{byte_text, dbm_text, in_quotes, text_or_null, eep_string};
 ghost use Rattle.json_lines.specs.PacketLines.{id_string, max_packet_line};
 ghost use Rattle.json_lines.specs.ShownTelegram.{shown_destination};
 
@@ -14,10 +14,10 @@ use erp1_telegrams::{BROADCAST, Eep};
 use itoa::Buffer;
 
 // The packet line so far.
-pub(crate) type Text = ArrayVec<u8, MAX_PACKET_LINE>;
+pub(crate) type PacketBuffer = ArrayVec<u8, MAX_PACKET_LINE>;
 
 // A part, unchanged.
-pub(crate) fn put(piece: &[u8], out: &mut Text)
+pub(crate) fn put(piece: &[u8], out: &mut PacketBuffer)
     requires { array_vec_len out.old + length piece.now ≤ max_packet_line }
     ensures items { out.new.items ≡ out.old.items ++ piece.now }
     ensures len { array_vec_len out.new ≡ array_vec_len out.old + length piece.now }
@@ -27,7 +27,7 @@ pub(crate) fn put(piece: &[u8], out: &mut Text)
 }
 
 // A part in quotation marks.
-pub(crate) fn put_string(piece: &[u8], out: &mut Text)
+pub(crate) fn put_string(piece: &[u8], out: &mut PacketBuffer)
     requires { array_vec_len out.old + length piece.now + 2 ≤ max_packet_line }
     ensures items { out.new.items ≡ out.old.items ++ in_quotes piece.now }
     ensures len { array_vec_len out.new ≡ array_vec_len out.old + length piece.now + 2 }
@@ -37,7 +37,7 @@ pub(crate) fn put_string(piece: &[u8], out: &mut Text)
     out.push(b'"');
 }
 
-pub(crate) fn put_byte(byte: u8, out: &mut Text)
+pub(crate) fn put_byte(byte: u8, out: &mut PacketBuffer)
     requires { array_vec_len out.old + 4 ≤ max_packet_line }
     ensures items { out.new.items ≡ out.old.items ++ in_quotes (byte_text byte) }
     ensures len { array_vec_len out.new ≡ array_vec_len out.old + 4 }
@@ -45,7 +45,7 @@ pub(crate) fn put_byte(byte: u8, out: &mut Text)
     put_string(&byte_digits(byte), out);
 }
 
-pub(crate) fn put_id(id: u32, out: &mut Text)
+pub(crate) fn put_id(id: u32, out: &mut PacketBuffer)
     requires { array_vec_len out.old + 10 ≤ max_packet_line }
     ensures items { out.new.items ≡ out.old.items ++ id_string id }
     ensures len { array_vec_len out.new ≡ array_vec_len out.old + 10 }
@@ -54,9 +54,9 @@ pub(crate) fn put_id(id: u32, out: &mut Text)
 }
 
 // The destination ID of a telegram, or null for a broadcast.
-pub(crate) fn put_dest(dest: u32, out: &mut Text)
+pub(crate) fn put_dest(dest: u32, out: &mut PacketBuffer)
     requires { array_vec_len out.old + 10 ≤ max_packet_line }
-    ensures items { out.new.items ≡ out.old.items ++ or_null id_string (shown_destination dest) }
+    ensures items { out.new.items ≡ out.old.items ++ text_or_null id_string (shown_destination dest) }
     ensures len { array_vec_len out.new ≤ array_vec_len out.old + 10 }
 {
     if dest == BROADCAST {
@@ -67,9 +67,9 @@ pub(crate) fn put_dest(dest: u32, out: &mut Text)
 }
 
 // A profile, or null.
-pub(crate) fn put_known_profile(eep: Option<Eep>, out: &mut Text)
+pub(crate) fn put_profile_or_null(eep: Option<Eep>, out: &mut PacketBuffer)
     requires { array_vec_len out.old + 10 ≤ max_packet_line }
-    ensures items { out.new.items ≡ out.old.items ++ or_null profile_text eep }
+    ensures items { out.new.items ≡ out.old.items ++ text_or_null eep_string eep }
     ensures len { array_vec_len out.new ≤ array_vec_len out.old + 10 }
 {
     match eep {
@@ -78,7 +78,7 @@ pub(crate) fn put_known_profile(eep: Option<Eep>, out: &mut Text)
     }
 }
 
-pub(crate) fn put_number(n: u16, out: &mut Text)
+pub(crate) fn put_number(n: u16, out: &mut PacketBuffer)
     requires { array_vec_len out.old + 5 ≤ max_packet_line }
     ensures items { out.new.items ≡ out.old.items ++ decimal n }
     ensures len { array_vec_len out.new ≤ array_vec_len out.old + 5 }
@@ -87,9 +87,9 @@ pub(crate) fn put_number(n: u16, out: &mut Text)
 }
 
 // A manufacturer ID, or null.
-pub(crate) fn put_maker(maker: Option<u16>, out: &mut Text)
+pub(crate) fn put_maker(maker: Option<u16>, out: &mut PacketBuffer)
     requires { array_vec_len out.old + 5 ≤ max_packet_line }
-    ensures items { out.new.items ≡ out.old.items ++ or_null decimal maker }
+    ensures items { out.new.items ≡ out.old.items ++ text_or_null decimal maker }
     ensures len { array_vec_len out.new ≤ array_vec_len out.old + 5 }
 {
     match maker {
@@ -98,7 +98,7 @@ pub(crate) fn put_maker(maker: Option<u16>, out: &mut Text)
     }
 }
 
-fn put_strength(byte: u8, out: &mut Text)
+fn put_strength(byte: u8, out: &mut PacketBuffer)
     requires { array_vec_len out.old + 4 ≤ max_packet_line }
     ensures items { out.new.items ≡ out.old.items ++ dbm_text byte }
     ensures len { array_vec_len out.new ≤ array_vec_len out.old + 4 }
@@ -107,9 +107,9 @@ fn put_strength(byte: u8, out: &mut Text)
 }
 
 // The signal strength, or null.
-pub(crate) fn put_dbm(dbm: Option<u8>, out: &mut Text)
+pub(crate) fn put_dbm(dbm: Option<u8>, out: &mut PacketBuffer)
     requires { array_vec_len out.old + 4 ≤ max_packet_line }
-    ensures items { out.new.items ≡ out.old.items ++ or_null dbm_text dbm }
+    ensures items { out.new.items ≡ out.old.items ++ text_or_null dbm_text dbm }
     ensures len { array_vec_len out.new ≤ array_vec_len out.old + 4 }
 {
     match dbm {
@@ -118,7 +118,7 @@ pub(crate) fn put_dbm(dbm: Option<u8>, out: &mut Text)
     }
 }
 
-pub(crate) fn put_payload(payload: &[u8], out: &mut Text)
+pub(crate) fn put_payload(payload: &[u8], out: &mut PacketBuffer)
     requires short { length payload.now ≤ 14 }
     requires fits { array_vec_len out.old + 30 ≤ max_packet_line }
     ensures items { out.new.items ≡ out.old.items ++ in_quotes (encode_upper payload.now) }

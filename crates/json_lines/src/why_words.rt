@@ -1,13 +1,13 @@
 //! The words of the reasons why a packet was handled the way it was: the member `why` of a packet line.
 ghost use Rattle.std.specs.Prelude.{◌≡◌, ◌≤◌, length};
-ghost use Rattle.json_lines.specs.PacketLines.{why_word};
+ghost use Rattle.json_lines.specs.PacketLines.{reason_word};
 
 use crate::teach::outcome_word;
 use teach_in::Why;
 
 /// The word of a reason, at most 14 bytes.
-pub fn why_word(why: Why) -> &'static str
-    ensures text { result.now ≡ why_word why }
+pub fn reason_word(why: Why) -> &'static str
+    ensures text { result.now ≡ reason_word why }
     ensures short { length result.now ≤ 14 }
 {
     match why {

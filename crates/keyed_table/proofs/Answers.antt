@@ -1,6 +1,7 @@
 -- The rows that the queries show.
 use Rattle.std.proofs.Common.{◌≡◌, ◌⊎◌, inl, inr, ℕ, pos, nat_le, ◌^◌, Bool, true, false, not, cond, List, [], ◌∷◌}
-use Rattle.std.proofs.Common.{◌&&◌, get_or, map, filter, length, Some, None, Option, refl, sym, ap, subst, ◌∙◌, arith, is_eq}
+use Rattle.std.proofs.Common.{◌&&◌, get_or, map, filter, length, Some, None, Option, refl, sym, ap, subst, ◌∙◌, arith}
+use Rattle.std.proofs.Common.{is_eq}
 use Rattle.std.proofs.Common.{Ordering, Less, Equal, Greater}
 use Rattle.std.specs.List.{AllByRecursion, list_all, flat_map, AllZip}
 use Rattle.std.specs.Option.{unwrap_or}
@@ -30,8 +31,8 @@ use Rattle.sqlite_sql.specs.declared.ops.CompareOp.TheVariants.{Eq, Ne}
 use Rattle.sqlite_sql.proofs.QueryLemmas.{output_cmp_total}
 use Rattle.sqlite_keyed.proofs.SortLemmas.{sorted_unique}
 use Rattle.sqlite.proofs.Callers.{one_permutation}
-use Rattle.keyed_table.specs.Queries.{rows_query, asked, has_other_key, find_query, all_query, count_rows}
-use Rattle.keyed_table.specs.Queries.{others_query, plain_query}
+use Rattle.keyed_table.specs.Queries.{rows_query, asked, key_differs_from_param, find_query, all_query, count_rows}
+use Rattle.keyed_table.specs.Queries.{count_others_query, plain_query}
 use Rattle.keyed_table.specs.Rows.{HasKey, AreKeyed, map_of}
 use Rattle.keyed_table.proofs.RowsApart.{ranked, ranked_rises, ranked_permutes}
 use Rattle.keyed_table.proofs.RowsAsMap.{with_key, found, len_is, map_without, keyed_without}
@@ -56,7 +57,8 @@ passes tests params row = list_all (holds (env_of params row)) tests
 -- the rows that pass the tests
 pub passing : (tests : List Term) (params : Row) (test : Row → Bool) (rows : List Row)
     → AllByRecursion (λ r. passes tests params r ≡ test r) rows
-    → flat_map (λ r. cond (passes tests params r) (env_of params r ∷ []) []) rows ≡ map (env_of params) (filter test rows)
+    → flat_map (λ r. cond (passes tests params r) (env_of params r ∷ []) []) rows ≡ map (env_of params)
+    (filter test rows)
 passing tests params test [] all = refl
 passing tests params test (r ∷ rows) all = elim (cases_Bool (test r)) [
   | inl is ↦ rw (all.0, is) (ap (λ es. env_of params r ∷ es) (passing tests params test rows all.1))
@@ -88,7 +90,8 @@ pub shows_all : {d : ℕ} {shown : List Term} {collations : List Collation} {ord
     → IsPermutation (map (λ r. eval_all shown (env_of params r)) (db d)) rows
 shows_all {d} {shown} db {params} {rows} a =
     let each : AllByRecursion (λ r. true ≡ true) (db d) = all_of _ (λ r. refl) (db d) in
-    subst (λ rs. IsPermutation (map (λ r. eval_all shown (env_of params r)) rs) rows) (filter_all (λ r. true) (db d) each)
+    subst (λ rs. IsPermutation (map (λ r. eval_all shown (env_of params r)) rs) rows)
+    (filter_all (λ r. true) (db d) each)
     (shows_passing (λ r. true) db a each)
 
 -- the only row
@@ -144,9 +147,9 @@ counted tests test d db {params} rows a asks =
     let row : g.rows ≡ (count (length order) ∷ []) ∷ [] =
     one_row order g.rows (subst (λ gs. AllZip (IsSummary count_rows) gs g.rows) g.grouping.2 g.summaries) in
     let o : Output = ([], count (length order) ∷ []) in
-    let kept : a.kept ≡ o ∷ [] = a.distinct ∙ ap (map (output (others_query d)))
+    let kept : a.kept ≡ o ∷ [] = a.distinct ∙ ap (map (output (count_others_query d)))
     (g.having ∙ ap (λ rs. filter (λ env. list_all (holds env) []) (map (env_of params) rs)) row) in
-    a.shown ∙ ap (λ os. page (others_query d) params (map (λ (p : Output). p.1) os))
+    a.shown ∙ ap (λ os. page (count_others_query d) params (map (λ (p : Output). p.1) os))
     (one_permutation o a.ordered (subst (λ k. IsPermutation k a.ordered) kept a.same))
     ∙ ap (λ m. (count m ∷ []) ∷ []) n
 
@@ -195,7 +198,8 @@ module _ {V : Type 0} (value : Row → V) (d : ℕ) (db : Trees) (keyed : AreKey
   -- ---- all rows
 
   rises : (shown : List Term) (rows : List Row) → IsTable rows
-      → IsAscending (λ a b. output_cmp (all_query d shown) a b ≡ Less) (map (out shown (all_query d shown).order []) rows)
+      → IsAscending (λ a b. output_cmp (all_query d shown) a b ≡ Less)
+      (map (out shown (all_query d shown).order []) rows)
   rises shown rows once =
       ascending-map _ (out shown (all_query d shown).order []) rows
       (ascending_weaker (λ a b. value_cmp (rowid a) (rowid b) ≡ Less) _
@@ -221,9 +225,10 @@ module _ {V : Type 0} (value : Row → V) (d : ℕ) (db : Trees) (keyed : AreKey
 
   -- ---- the number of rows with other keys
 
-  pub counts : (id : ℕ) (rows : List Row) → IsAnswer (others_query d) (overlay db []) (asked id) rows
+  pub counts : (id : ℕ) (rows : List Row) → IsAnswer (count_others_query d) (overlay db []) (asked id) rows
       → rows ≡ (count (len (remove (map_of value (db d)) id)) ∷ []) ∷ []
-  counts id rows a = counted (has_other_key ∷ []) (λ r. not (has_rowid (pos id) r)) d db rows a
+  counts id rows a = counted (key_differs_from_param ∷ []) (λ r. not (has_rowid (pos id) r)) d db rows a
       (all_weaker HasKey _ (λ r it. compared Ne r id it ∙ differs _) (db d) keyed.keys)
-      ∙ ap (λ n. (count n ∷ []) ∷ []) (sym (len_is value (without_rowid (pos id) (db d)) (keyed_without (db d) (pos id) keyed))
+      ∙ ap (λ n. (count n ∷ []) ∷ [])
+      (sym (len_is value (without_rowid (pos id) (db d)) (keyed_without (db d) (pos id) keyed))
       ∙ ap len (map_without value (db d) id keyed.keys))

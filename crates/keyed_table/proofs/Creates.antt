@@ -1,6 +1,6 @@
 -- CREATE TABLE: its meaning if the name is free, and its effect on a database.
 use Rattle.keyed_table.proofs.TableWrites.{went, same_value}
-use Rattle.keyed_table.proofs.TextMeaning.{IsRead, Means, means, understood_as}
+use Rattle.keyed_table.proofs.TextMeaning.{ParsesAs, CompilesTo, means, understood_as}
 use Rattle.sqlite.proofs.Callers.{statement_of}
 use Rattle.sqlite.specs.Command.TheVariants.{CreateTable}
 use Rattle.sqlite.specs.Command.TheVariants.{CreateTable}
@@ -63,11 +63,11 @@ unused schema name free =
 
 -- a text that only creates a table
 pub record Makes (schema : Schema) (text : List ℕ) : Type 0 where
-  pub means : Means schema text CreateTable
+  pub means : CompilesTo schema text CreateTable
   pub alone : statement_of text (understood schema text) ≡ text
 
 -- the text only defines this table, which has no other value that SQLite computes
-module _ {text : List ℕ} (table : Table) {def : Defined} (it : IsRead text (written.CreateTable def))
+module _ {text : List ℕ} (table : Table) {def : Defined} (it : ParsesAs text (written.CreateTable def))
     (whole : slice_range text it.parsed.start it.parsed.end ≡ text) (named : def.name ≡ table.name)
     (own : is_reserved def.name ≡ false) (is : define.table [] def ≡ Ok table)
     (computed : (length table.computed == length table.stamps.places && not def.resolves) ≡ true)
@@ -84,7 +84,8 @@ module _ {text : List ℕ} (table : Table) {def : Defined} (it : IsRead text (wr
       record { means = known_as; alone = ap (statement_of text) known ∙ whole }
 
 -- a table is created, empty, and the other tables keep their rows
-pub creates_table : (limit : Option ℕ) (mode : Mode) (old after : Database) (text : List ℕ) (tally : Tally) (table : Table)
+pub creates_table : (limit : Option ℕ) (mode : Mode) (old after : Database) (text : List ℕ) (tally : Tally)
+    (table : Table)
     → table_defined_by text ≡ Ok table → lacks_sequence (created old.schema table) ≡ false
     → Does limit mode [] old text None CreateTable (Ok (tally, after))
     → (after.schema ≡ created old.schema table) × (after.trees (next_tree old.schema) ≡ [])

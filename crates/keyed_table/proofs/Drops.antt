@@ -40,7 +40,8 @@ left_false false b h = refl
 unacted : (schema : Schema) (keys : Keys) (table : Table) → AllByRecursion (HasNoReferenceTo table.name) schema.tables
     → is_acted_on schema keys table ≡ false
 unacted schema keys table spares =
-    any_from_none (λ t. list_any (λ ref. same_name table.name ref.parent && is_some (deed_for keys true ref)) t.references)
+    any_from_none (λ t. list_any
+    (λ ref. same_name table.name ref.parent && is_some (deed_for keys true ref)) t.references)
     schema.tables (all_weaker (HasNoReferenceTo table.name) (λ t. list_any
     (λ ref. same_name table.name ref.parent && is_some (deed_for keys true ref)) t.references ≡ false)
     (λ t none. any_from_none (λ (ref : Reference). same_name table.name ref.parent && is_some (deed_for keys true ref))
@@ -49,11 +50,13 @@ unacted schema keys table spares =
     (λ ref other. left_false _ _ (turned table.name ref.parent other)) t.references none)) schema.tables spares)
 
 -- the table is dropped, and no other changes
-pub drops : (schema : Schema) (at : ℕ) (table : Table) (limit : Option ℕ) (mode : Mode) (db : Trees) (text : List ℕ) (tally : Tally)
+pub drops : (schema : Schema) (at : ℕ) (table : Table) (limit : Option ℕ) (mode : Mode) (db : Trees) (text : List ℕ)
+    (tally : Tally)
     (after : Database) → slice_get schema.tables at ≡ Some table → table.is_counted ≡ false
     → AllByRecursion (HasNoReferenceTo table.name) schema.tables
     → Does limit mode [] (record { schema = schema; trees = db }) text None (DropTable at) (Ok (tally, after))
-    → (after.schema ≡ without_table schema table.tree) × KeepsRows (without_table schema table.tree).tables db after.trees
+    → (after.schema ≡ without_table schema table.tree)
+    × KeepsRows (without_table schema table.tree).tables db after.trees
 drops schema at table limit mode db text tally after there plain spares does =
     let here = λ (table : Table).
     let t : Task = record { limit = limit; keys = mode.keys; schema = schema; table = table; params = [] } in t in

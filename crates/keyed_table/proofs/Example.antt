@@ -14,13 +14,13 @@ use Rattle.sqlite_ast.specs.declared.Rows.TheVariants as rows
 use Rattle.sqlite_ast.specs.declared.Shown.TheVariants.{One}
 use Rattle.sqlite_ast.specs.declared.Statement.TheVariants as written
 use Rattle.keyed_table.specs.Example.{height_text, heights, IsHeight}
-use Rattle.keyed_table.specs.KeyedMap.{table_of, IsCodec, AreMeant}
+use Rattle.keyed_table.specs.KeyedMap.{table_of, IsCodec, SqlTextsCompile}
 use Rattle.keyed_table.specs.Queries.{find_query, all_query}
 use Rattle.keyed_table.proofs.Casts.{casts}
 use Rattle.keyed_table.proofs.Checks.{is_between, lies_between}
 use Rattle.keyed_table.proofs.SelectMeaning.{IsPlainSelect, plain_select, select_means, column_read, by_column}
 use Rattle.keyed_table.proofs.SelectMeaning.{parameter_test, count_draft}
-use Rattle.keyed_table.proofs.TextMeaning.{IsRead, draft_of}
+use Rattle.keyed_table.proofs.TextMeaning.{ParsesAs, draft_of}
 use Rattle.keyed_table.proofs.WriteMeaning.{insert_means, delete_means}
 
 pub table_is : table_defined_by height_text ≡ Ok (table_of heights 0)
@@ -52,7 +52,7 @@ codec = record {
   stored = λ tree id metres. simp casts;
   mends = λ tree id metres. refl;
   sends = λ db tree id metres rows given. given.1;
-  valid = λ tree id metres fits judged. checked tree id metres judged.3;
+  passing_is_row = λ tree id metres fits judged. checked tree id metres judged.3;
 }
 
 -- ---- the texts, by computation
@@ -67,26 +67,26 @@ all_is : IsPlainSelect heights.all_sql (plain_select (codes "height") (column_re
 unfolding everything
 all_is = record { read = record { parsed = _; read = refl; is = refl; timeless = refl } }
 
-count_is : IsPlainSelect heights.count_sql (plain_select (codes "height")
+count_is : IsPlainSelect heights.count_others_sql (plain_select (codes "height")
     (One (CallStar (codes "count")) None (codes "count(*)") ∷ []) (parameter_test Ne (codes "id")) [])
 unfolding everything
 count_is = record { read = record { parsed = _; read = refl; is = refl; timeless = refl } }
 
-upsert_read : IsRead heights.upsert_sql (written.Insert conflict.Replace (codes "height")
+upsert_read : ParsesAs heights.upsert_sql (written.Insert conflict.Replace (codes "height")
     (codes "id" ∷ codes "metres" ∷ []) (rows.Values ((Parameter 1 ∷ Parameter 2 ∷ []) ∷ [])) [] [])
 unfolding everything
 upsert_read = record { parsed = _; read = refl; is = refl; timeless = refl }
 
-delete_read : IsRead heights.delete_sql (written.Delete (codes "height") (parameter_test Eq (codes "id")) [])
+delete_read : ParsesAs heights.delete_sql (written.Delete (codes "height") (parameter_test Eq (codes "id")) [])
 unfolding everything
 delete_read = record { parsed = _; read = refl; is = refl; timeless = refl }
 
-pub meant : AreMeant heights
+pub meant : SqlTextsCompile heights
 unfolding everything
 meant = record {
   find_names = codes "id" ∷ codes "metres" ∷ [];
   all_names = codes "id" ∷ codes "metres" ∷ [];
-  count_names = codes "count(*)" ∷ [];
+  count_others_names = codes "count(*)" ∷ [];
   find = λ schema at d it. select_means find_is it (draft_of (table_of heights d) (find_query d heights.shown))
       (None ∷ Some Binary ∷ []) (rw (it.there, it.there)) (record { from = refl; accepted = refl });
   all = λ schema at d it. select_means all_is it (draft_of (table_of heights d) (all_query d heights.shown))

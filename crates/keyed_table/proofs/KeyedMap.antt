@@ -23,11 +23,11 @@ use Rattle.sqlite_rules.specs.Calls.{ids_of}
 use Rattle.sqlite_rules.specs.Cast.{cast_row}
 use Rattle.sqlite_rules.specs.Edit.{with_rowid}
 use Rattle.sqlite_rules.specs.declared.error.Rowids.TheVariants.{Chosen}
-use Rattle.keyed_table.specs.KeyedMap.{Codec, table_of, IsCodec, AreMeant, HoldsMap}
+use Rattle.keyed_table.specs.KeyedMap.{Codec, table_of, IsCodec, SqlTextsCompile, HoldsMap}
 use Rattle.keyed_table.specs.Lone.{IsLone}
 use Rattle.keyed_table.specs.Queries.{asked, program_of, find_query}
 use Rattle.keyed_table.specs.Rows.{HasKey, AreKeyed, entry_of, map_of}
-use Rattle.keyed_table.specs.Stores.{IsReady, CommitsOrFails}
+use Rattle.keyed_table.specs.Stores.{IsReady, CommitsOrMayBeLeft}
 use Rattle.keyed_table.specs.Tables.{IsTableAt}
 use Rattle.keyed_table.proofs.Answers as answers
 use Rattle.keyed_table.proofs.Answers.{env_of}
@@ -40,7 +40,7 @@ use Rattle.keyed_table.proofs.TextMeaning.{answer_of}
 use Rattle.keyed_table.proofs.Upserts.{upserts}
 use Rattle.keyed_table.proofs.Writes.{turned}
 
-module _ {V : Type 0} (c : Codec V) (codec : IsCodec c) (meant : AreMeant c) where
+module _ {V : Type 0} (c : Codec V) (codec : IsCodec c) (meant : SqlTextsCompile c) where
   keyed : {db : Database} {m : FinMap nat_cmp V} (h : HoldsMap c db m) → AreKeyed (db.trees h.tree)
   keyed {db} h =
       let keys = all_weaker c.IsRow HasKey codec.key_of (db.trees h.tree) h.rows in
@@ -70,7 +70,7 @@ module _ {V : Type 0} (c : Codec V) (codec : IsCodec c) (meant : AreMeant c) whe
     )
 
     -- the number of other keys
-    pub counts : (id : ℕ) → Shown c.count_sql (asked id) old new rows
+    pub counts : (id : ℕ) → Shown c.count_others_sql (asked id) old new rows
         → rows ≡ (count (len (remove m id)) ∷ []) ∷ []
     counts id shows = answers.counts c.value h.tree old.now.trees (keyed h) id rows
         (answer_of (asked id) old new rows (meant.count old.now.schema h.at h.tree h.stands) refl shows)
@@ -94,7 +94,7 @@ module _ {V : Type 0} (c : Codec V) (codec : IsCodec c) (meant : AreMeant c) whe
   upsert_does : (id : ℕ) (v : V) → c.Fits id v → (s : State) (after : Database) (text : List ℕ) (tally : Tally)
       (m : FinMap nat_cmp V) (h : HoldsMap c s.now m) → IsDatabase s.now → Unit {0}
       → Does s.step_limit (mode_of s) (c.params id v) s.now text None
-      (InsertOr h.at Replace (Values c.sent c.width) []) (Ok (tally, after)) → HoldsMap c after (insert m id v)
+      (InsertOr h.at Replace (Values c.sent c.sent_width) []) (Ok (tally, after)) → HoldsMap c after (insert m id v)
   upsert_does id v fits s after text tally m h sound room does =
       let table = table_of c h.tree in
       let new = c.row id v in
@@ -104,11 +104,11 @@ module _ {V : Type 0} (c : Codec V) (codec : IsCodec c) (meant : AreMeant c) whe
       ap (λ r. with_rowid Chosen there (cast_row table r)) (codec.mends h.tree id v)
       ∙ ap (with_rowid Chosen there) (codec.stored h.tree id v) ∙ given_key there new key in
       let it = upserts s.now.schema h.at table h.stands.there (lone_alone h.lone) s.step_limit (mode_of s)
-      (c.params id v) new (codec.stored h.tree id v) (Values c.sent c.width) s.now.trees tally after refl
+      (c.params id v) new (codec.stored h.tree id v) (Values c.sent c.sent_width) s.now.trees tally after refl
       (λ rows given. (new, codec.sends s.now h.tree id v rows given, kept)) does in
       changed s.now after m (insert m id v) h it.0
       (subst (AllByRecursion c.IsRow) (sym it.1.rows) (all-put_row c.IsRow new _
-      (codec.valid h.tree id v fits it.1.judged) (all_without_all c.IsRow there (ids_of it.1.found) h.rows)))
+      (codec.passing_is_row h.tree id v fits it.1.judged) (all_without_all c.IsRow there (ids_of it.1.found) h.rows)))
       (upserts_keyed c.value s.now.schema table new s.now.trees after.trees it.1 key (keyed h) h.lone.unindexed)
       (upserts_map c.value s.now.schema table new s.now.trees after.trees it.1 key (keyed h) h.lone.unindexed
       ∙ ap (λ k. insert (map_of c.value there) k (c.value new)) (codec.key_back id v)
@@ -119,9 +119,9 @@ module _ {V : Type 0} (c : Codec V) (codec : IsCodec c) (meant : AreMeant c) whe
       → (HasCleanDisk old → IsReady (HoldsMap c) old)
       → Survives old new (CommitsBy c.upsert_sql (c.params id v) old)
       → (HasCleanDisk new → Executes c.upsert_sql (c.params id v) old new r)
-      → CommitsOrFails (HoldsMap c) old new (λ m. insert m id v) r
+      → CommitsOrMayBeLeft (HoldsMap c) old new (λ m. insert m id v) r
   upserts_commit id v fits old new r ready = turned c.upsert_sql (c.params id v) (λ m. insert m id v)
-      (λ m. Unit {0}) (λ db m had. InsertOr had.at Replace (Values c.sent c.width) []) (λ db m had. tt)
+      (λ m. Unit {0}) (λ db m had. InsertOr had.at Replace (Values c.sent c.sent_width) []) (λ db m had. tt)
       (λ db m had. meant.upsert db.schema had.at had.tree had.stands) (upsert_does id v fits) old new r ready
       (λ clean m shows. tt)
 
@@ -144,7 +144,7 @@ module _ {V : Type 0} (c : Codec V) (codec : IsCodec c) (meant : AreMeant c) whe
   pub deletes_commit : (id : ℕ) (old new : State) (r : Result ℕ Error) → (HasCleanDisk old → IsReady (HoldsMap c) old)
       → Survives old new (CommitsBy c.delete_sql (asked id) old)
       → (HasCleanDisk new → Executes c.delete_sql (asked id) old new r)
-      → CommitsOrFails (HoldsMap c) old new (λ m. remove m id) r
+      → CommitsOrMayBeLeft (HoldsMap c) old new (λ m. remove m id) r
   deletes_commit id old new r ready = turned c.delete_sql (asked id) (λ m. remove m id) (λ m. Unit {0})
       (λ db m had. Delete had.at (program_of (find_query had.tree (col 1 0 ∷ [])))) (λ db m had. tt)
       (λ db m had. meant.delete db.schema had.at had.tree had.stands) (delete_does id) old new r ready

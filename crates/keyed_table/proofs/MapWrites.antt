@@ -130,7 +130,8 @@ module _ {V : Type 0} (value : Row → V) (schema : Schema) (table : Table) (new
 -- ---- copied rows
 
 pub given_key : (there : List Row) (row : Row) → HasKey row → with_rowid Chosen there row ≡ row
-given_key there row it = ap (λ v. if is_chosen Chosen v then Int (at_least Chosen (next_rowid there)) ∷ drop 1 row else row)
+given_key there row it =
+    ap (λ v. if is_chosen Chosen v then Int (at_least Chosen (next_rowid there)) ∷ drop 1 row else row)
     it.id_is
 
 -- rows with keys are stored as they are given, if the types of the columns leave them unchanged

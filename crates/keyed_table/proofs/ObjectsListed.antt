@@ -56,7 +56,8 @@ answered test db rows it =
     ∙ sym (list_any-IsPermutation (λ (o : Output). test o.1) it.kept it.ordered it.same)
     ∙ ap (list_any (λ (o : Output). test o.1)) kept ∙ any_output test (db 0)
 
-here : (trees : Trees) (name text : List ℕ) → list_any (λ r. is_catalog_row name text (line r)) (catalog_rows trees) ≡ true
+here : (trees : Trees) (name text : List ℕ)
+    → list_any (λ r. is_catalog_row name text (line r)) (catalog_rows trees) ≡ true
     → IsListedAs trees name text
 here trees name text h =
     let hit = some_has (λ r. is_catalog_row name text (line r)) _ h in
@@ -76,9 +77,9 @@ lists_as old new rows sound shows test =
     answered test show.0.trees rows (show.2.answer Null) ∙ ap (list_any (λ r. test (line r))) show.1
 
 -- what the query shows is listed
-pub told : (old new : State) (rows : List Row) → IsDatabase old.now → Shown list_objects_sql [] old new rows
+pub reported : (old new : State) (rows : List Row) → IsDatabase old.now → Shown list_objects_sql [] old new rows
     → (name text : List ℕ) → list_any (is_catalog_row name text) rows ≡ true → IsListedAs old.now.trees name text
-told old new rows sound shows name text h =
+reported old new rows sound shows name text h =
     here old.now.trees name text (sym (lists_as old new rows sound shows (is_catalog_row name text)) ∙ h)
 
 -- what is listed is shown by the query

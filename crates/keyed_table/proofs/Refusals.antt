@@ -7,7 +7,7 @@ use Rattle.sqlite.specs.Effect.{IsDatabase}
 use Rattle.sqlite.specs.State.{State, Executes, ExecutesInside, IsNotRun, IsUnchanged}
 use Rattle.sqlite.specs.State.{IsRolledBack, KeepsCommit, FailsToQuery}
 use Rattle.sqlite.proofs.Callers.{IsPlain}
-use Rattle.keyed_table.specs.Stores.{IsSettledOpen, KeepsDatabase}
+use Rattle.keyed_table.specs.Stores.{IsSettledOpen, KeepsDatabaseIfOpen}
 use Rattle.keyed_table.proofs.Statements.{IsSpared, not_run, not_executed, not_shown}
 
 -- after a query the connection still shows the same
@@ -19,7 +19,7 @@ rests old mid same rest = record {
   sound = subst IsDatabase (sym same.0.now_is) rest.sound;
 }
 
-pub unchanged_remains : (old new : State) → IsUnchanged old new → KeepsDatabase old new
+pub unchanged_remains : (old new : State) → IsUnchanged old new → KeepsDatabaseIfOpen old new
 unchanged_remains old new same is_open rest = (rests old new same rest, same.0.now_is)
 
 -- it returns to what was committed, which is what it showed
@@ -35,12 +35,12 @@ back_at old new is_open idle same last rest = (
   same,
 )
 
-pub undone_remains : (old new : State) → IsRolledBack old new → KeepsDatabase old new
+pub undone_remains : (old new : State) → IsRolledBack old new → KeepsDatabaseIfOpen old new
 undone_remains old new back is_open rest =
     let both = back.undone is_open in
     back_at old new is_open back.autocommit (both.0 ∙ sym rest.settled) both.1 rest
 
-spared_remains : (old new : State) → IsSpared old new → KeepsDatabase old new
+spared_remains : (old new : State) → IsSpared old new → KeepsDatabaseIfOpen old new
 spared_remains old new (inl same) = unchanged_remains old new same
 spared_remains old new (inr back) = undone_remains old new back
 
@@ -49,36 +49,38 @@ spared_open old new (inl same) is_open = same.0.was_open
 spared_open old new (inr back) is_open = back.was_open is_open
 
 -- earlier queries changed nothing
-pub remains_after : (old mid new : State) → IsUnchanged old mid → KeepsDatabase mid new → KeepsDatabase old new
+pub remains_after : (old mid new : State) → IsUnchanged old mid → KeepsDatabaseIfOpen mid new
+    → KeepsDatabaseIfOpen old new
 remains_after old mid new same remains is_open rest =
     let it = remains is_open (rests old mid same rest) in (it.0, it.1 ∙ same.0.now_is)
 
 -- ---- in a result
 
-pub err_told : {T E P : Type 0} (r : Result T E) → P → OnErr r P
-err_told (Ok v) p = tt
-err_told (Err e) p = p
+pub err_reported : {T E P : Type 0} (r : Result T E) → P → OnErr r P
+err_reported (Ok v) p = tt
+err_reported (Err e) p = p
 
 -- facts about an open connection before a call
-pub not_run_kept : (sql : List ℕ) (params : Row) (old new : State) (e : Error) → (IsTrue old.is_open → IsSettledOpen old)
+pub not_run_kept : (sql : List ℕ) (params : Row) (old new : State) (e : Error)
+    → (IsTrue old.is_open → IsSettledOpen old)
     → IsNotRun old new sql params e → IsTrue new.is_open → IsSettledOpen new × (new.now ≡ old.now)
 not_run_kept sql params old new e rest h is_open =
     let is_spared = not_run sql params old new e h in
     spared_remains old new is_spared is_open (rest (spared_open old new is_spared is_open))
 
 pub kept_if : {T E : Type 0} (r : Result T E) (old mid new : State) → IsUnchanged old mid → IsSettledOpen old
-    → OnErr r (KeepsDatabase mid new) → OnErr r (IsTrue new.is_open → IsSettledOpen new × (new.now ≡ old.now))
+    → OnErr r (KeepsDatabaseIfOpen mid new) → OnErr r (IsTrue new.is_open → IsSettledOpen new × (new.now ≡ old.now))
 kept_if (Ok v) old mid new same rest h = tt
 kept_if (Err e) old mid new same rest h = λ is_open. remains_after old mid new same h is_open rest
 
 pub executed_if : (sql : List ℕ) (params : Row) (old new : State) (r : Result ℕ Error) → Executes sql params old new r
-    → OnErr r (KeepsDatabase old new)
+    → OnErr r (KeepsDatabaseIfOpen old new)
 executed_if sql params old new (Ok n) h = tt
 executed_if sql params old new (Err e) h = spared_remains old new (not_executed sql params old new e h)
 
 pub queried_if : {V : Type 0} (sql : List ℕ) (params : Row) (old new : State) (r : Result V Error)
     → IsPlain (understood old.now.schema sql) → IfErr r (FailsToQuery sql params old new)
-    → OnErr r (KeepsDatabase old new)
+    → OnErr r (KeepsDatabaseIfOpen old new)
 queried_if sql params old new (Ok v) plain h = tt
 queried_if sql params old new (Err e) plain h = spared_remains old new (not_shown sql params old new plain e h)
 

@@ -14,7 +14,7 @@ use Rattle.sqlite_trees.proofs.TreeLemmas.{IsTable-put_row, all-put_row}
 use Rattle.sqlite_trees.proofs.ListLemmas.{all_weaker, all_both, all-permutation, along_permutation}
 use Rattle.sqlite_rules.specs.Edit.{put_all, is_taken}
 use Rattle.sqlite_keyed.proofs.ListLemmas.{none_from_any}
-use Rattle.keyed_table.specs.Rows.{are_tied, IsNew, AreApart}
+use Rattle.keyed_table.specs.Rows.{are_tied, IsNew, RowidsAreUntied}
 
 pub untied : (a b : Row) → are_tied a b ≡ false → are_tied b a ≡ false
 untied a b h = sym ((eq_by_cmp_equiv value_cmp_total).symm (rowid a) (rowid b)) ∙ h
@@ -32,11 +32,12 @@ back new rows = all_weaker (λ r. are_tied new r ≡ false) (λ r. are_tied r ne
 pub untaken : (new : Row) (rows : List Row) → is_taken rows new ≡ false → IsNew new rows
 untaken new rows = none_from_any (λ r. are_tied r new) rows
 
-pub apart_put : (new : Row) (rows : List Row) → IsNew new rows → AreApart rows → AreApart (put_row new rows)
+pub apart_put : (new : Row) (rows : List Row) → IsNew new rows → RowidsAreUntied rows
+    → RowidsAreUntied (put_row new rows)
 apart_put new [] free apart = (tt, tt)
 apart_put new (r ∷ rows) free apart =
     elim (value_cmp (rowid r) (rowid new)) as
-    (λ o. AreApart (match_ordering o (r ∷ put_row new rows) (new ∷ rows) (new ∷ r ∷ rows))) [
+    (λ o. RowidsAreUntied (match_ordering o (r ∷ put_row new rows) (new ∷ rows) (new ∷ r ∷ rows))) [
       | Less ↦
           (all-put_row (λ b. are_tied r b ≡ false) new rows free.0 apart.0, apart_put new rows free.1 apart.1)
       | Equal ↦ (turned new rows free.1, apart.1)
@@ -71,7 +72,7 @@ unfolding ranked
 ranked_all P [] all = tt
 ranked_all P (r ∷ rows) all = all-put_row P r (ranked rows) all.0 (ranked_all P rows all.1)
 
-pub ranked_permutes : (rows : List Row) → AreApart rows → IsPermutation rows (ranked rows)
+pub ranked_permutes : (rows : List Row) → RowidsAreUntied rows → IsPermutation rows (ranked rows)
 unfolding ranked
 ranked_permutes [] apart = IsPermutation-refl []
 ranked_permutes (r ∷ rows) apart =
@@ -81,9 +82,9 @@ ranked_permutes (r ∷ rows) apart =
 -- ---- in another order
 
 abbrev Turns : List Row → List Row → Type 0
-Turns xs ys = IsPermutation xs ys × (AreApart xs → AreApart ys)
+Turns xs ys = IsPermutation xs ys × (RowidsAreUntied xs → RowidsAreUntied ys)
 
-pub apart_turned : (xs ys : List Row) → IsPermutation xs ys → AreApart xs → AreApart ys
+pub apart_turned : (xs ys : List Row) → IsPermutation xs ys → RowidsAreUntied xs → RowidsAreUntied ys
 apart_turned xs ys same = (along_permutation Turns (λ xs. (IsPermutation-refl xs, λ h. h))
     (λ x xs ys h. (
       IsPermutation-cons x xs ys h.0,
@@ -97,7 +98,7 @@ apart_turned xs ys same = (along_permutation Turns (λ xs. (IsPermutation-refl x
 
 -- ---- rows that are inserted one after another
 
-puts_permute : (rows there : List Row) → AreApart rows → AllByRecursion (λ new. IsNew new there) rows
+puts_permute : (rows there : List Row) → RowidsAreUntied rows → AllByRecursion (λ new. IsNew new there) rows
     → IsPermutation (rows ++ there) (put_all there rows)
 puts_permute [] there once free = IsPermutation-refl there
 puts_permute (new ∷ rows) there once free =
@@ -111,7 +112,7 @@ puts_permute (new ∷ rows) there once free =
     (puts_permute rows put once.1 still))
 
 -- in an initially empty table they are the rows in their order
-pub put_in_empty : (rows : List Row) → AreApart rows → IsPermutation rows (put_all [] rows)
+pub put_in_empty : (rows : List Row) → RowidsAreUntied rows → IsPermutation rows (put_all [] rows)
 put_in_empty rows once = subst (λ rs. IsPermutation rs (put_all [] rows)) (append-nil rows)
     (puts_permute rows [] once (free_all rows))
   where

@@ -4,7 +4,8 @@ use Rattle.std.proofs.Common.{Option, refl, sym, ap, subst, ◌∙◌, ◌⊎◌
 use Rattle.std.proofs.Common.{arith, is_eq, Less, nat_cmp, int_cmp}
 use Rattle.std.specs.List.{AllByRecursion}
 use Rattle.std.specs.Ordering.{eq_by_cmp}
-use Rattle.std.specs.FinMap.{find, put, entries, empty, len, len-entries, len-empty, entries-insert, get, insert, remove}
+use Rattle.std.specs.FinMap.{find, put, entries, empty, len, len-entries, len-empty, entries-insert, get, insert}
+use Rattle.std.specs.FinMap.{remove}
 use Rattle.std.specs.FinMap.{FinMap, same_map, nat_cmp-IsAntisymmetric, get-from_entries, get-insert, get-remove}
 use Rattle.std.specs.List.Sorted.{IsPermutation}
 use Rattle.std.proofs.lemmas.Cmp.{nat_cmp_total, tied_itself}
@@ -18,12 +19,13 @@ use Rattle.sqlite.specs.declared.types.Value.TheVariants.{Int}
 use Rattle.sqlite.specs.Order.{Row, value_cmp}
 use Rattle.sqlite_value.proofs.OrderLemmas.{value_cmp-Int, value_cmp_total}
 use Rattle.sqlite_trees.specs.Tree.{IsTable, put_row, without_rowid, has_rowid, rowid}
-use Rattle.sqlite_trees.proofs.ListLemmas.{all-permutation, all-filter, all_weaker, all_both, filter_none, along_permutation}
+use Rattle.sqlite_trees.proofs.ListLemmas.{all-permutation, all-filter, all_weaker, all_both, filter_none}
+use Rattle.sqlite_trees.proofs.ListLemmas.{along_permutation}
 use Rattle.sqlite_trees.proofs.ListLemmas.{ascending_weaker}
 use Rattle.sqlite_trees.proofs.TreeLemmas.{all-put_row}
 use Rattle.sqlite_rules.specs.Edit.{without_all}
 use Rattle.sqlite_catalog.proofs.LayoutLemmas.{ascending_filter}
-use Rattle.keyed_table.specs.Rows.{natural_in, key_in, HasKey, are_tied, IsNew, AreApart, AreKeyed, entry_of}
+use Rattle.keyed_table.specs.Rows.{natural_in, key_in, HasKey, are_tied, IsNew, RowidsAreUntied, AreKeyed, entry_of}
 use Rattle.keyed_table.specs.Rows.{map_of, RowidsDiffer}
 use Rattle.keyed_table.proofs.RowsApart.{put_permutes, apart_turned, apart_put, ranked, ranked_rises}
 use Rattle.keyed_table.proofs.RowsApart.{ranked_permutes, turned, untied}
@@ -58,7 +60,7 @@ other_rowid a b x y other = elim (cases_Bool (are_tied a b)) [
 ]
 
 -- where each row has a key, the rowids are different exactly if SQL's test says so
-pub apart_from : (rows : List Row) → AllByRecursion HasKey rows → RowidsDiffer rows → AreApart rows
+pub apart_from : (rows : List Row) → AllByRecursion HasKey rows → RowidsDiffer rows → RowidsAreUntied rows
 apart_from [] all differ = tt
 apart_from (row ∷ rows) all differ = (
   all_both HasKey (λ r. rowid row ≢ rowid r) (λ r. are_tied row r ≡ false)
@@ -66,7 +68,7 @@ apart_from (row ∷ rows) all differ = (
   apart_from rows all.1 differ.1,
 )
 
-pub differ_from : (rows : List Row) → AreApart rows → RowidsDiffer rows
+pub differ_from : (rows : List Row) → RowidsAreUntied rows → RowidsDiffer rows
 differ_from = ascending_weaker (λ a b. are_tied a b ≡ false) (λ a b. rowid a ≢ rowid b) (λ a b other same.
     absurd (let tie : are_tied a b ≡ true = ap (λ v. is_eq (value_cmp v (rowid b))) same
     ∙ ap is_eq (tied_itself value_cmp_total (rowid b)) in cc))
@@ -133,7 +135,8 @@ module _ {V : Type 0} (value : Row → V) where
 
   -- look-ups find the same in both
   abbrev SeenAlike : List Row → List Row → Type 0
-  SeenAlike xs ys = IsPermutation xs ys × (AllByRecursion HasKey xs → AreApart xs → (q : ℕ) → seen q xs ≡ seen q ys)
+  SeenAlike xs ys =
+      IsPermutation xs ys × (AllByRecursion HasKey xs → RowidsAreUntied xs → (q : ℕ) → seen q xs ≡ seen q ys)
 
   seen_alike : (xs ys : List Row) → IsPermutation xs ys → SeenAlike xs ys
   seen_alike = along_permutation SeenAlike (λ xs. (IsPermutation-refl xs, λ all apart q. refl))
@@ -232,7 +235,7 @@ module _ {V : Type 0} (value : Row → V) where
   same_key : (a b : ℕ) → eq_by_cmp nat_cmp a b ≡ true → b ≡ a
   same_key a b h = grind (arith, nat_tests)
 
-  seen_one : (id : ℕ) (rows : List Row) → AllByRecursion HasKey rows → AreApart rows
+  seen_one : (id : ℕ) (rows : List Row) → AllByRecursion HasKey rows → RowidsAreUntied rows
       → IsFound (seen id rows) id rows
   seen_one id [] all apart = inl (refl, refl)
   seen_one id (row ∷ rows) all apart = elim (cases_Bool (eq_by_cmp nat_cmp id (key_in row))) [

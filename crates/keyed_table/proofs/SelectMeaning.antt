@@ -39,8 +39,8 @@ use Rattle.sqlite_resolve.specs.Select.{named, paging, constant_or, outermost, i
 use Rattle.sqlite_resolve.specs.Compile.{timed, returning, command, read}
 use Rattle.sqlite_sql.specs.declared.aggregate.AggregateOp.TheVariants.{CountRows}
 use Rattle.sqlite.specs.Collation.TheVariants.{Binary}
-use Rattle.keyed_table.specs.Queries.{program_of, others_query}
-use Rattle.keyed_table.proofs.TextMeaning.{IsRead, Means, means, IsTyped, program_is, draft_of}
+use Rattle.keyed_table.specs.Queries.{program_of, count_others_query}
+use Rattle.keyed_table.proofs.TextMeaning.{ParsesAs, CompilesTo, means, IsTyped, program_is, draft_of}
 use Rattle.keyed_table.specs.Tables.{IsTableAt}
 
 -- a column that is shown under its own name, as it is written
@@ -86,7 +86,7 @@ select_of it =
 
 -- the text is this SELECT
 pub record IsPlainSelect (text : List ℕ) (it : PlainSelect) : Type 0 where
-  pub read : IsRead text (written.Select (select_of it))
+  pub read : ParsesAs text (written.Select (select_of it))
 
 abbrev pub no_page : Term × Term
 no_page = (lit (Int (negsuc 0)), lit (Int (pos 0)))
@@ -146,14 +146,14 @@ module _ {text : List ℕ} {it : PlainSelect} (is : IsPlainSelect text it) {sche
   -- the text means this query
   pub select_means : (d : Draft) {names : List (List ℕ)} (collations : List (Option Collation))
       → asked schema at table it ≡ Ok (d, names, collations) → IsTyped table (query_of d)
-      → Means schema text (Reads (program_of (query_of d)) names)
+      → CompilesTo schema text (Reads (program_of (query_of d)) names)
   unfolding timed returning command read
   select_means d collations asks typed = means schema _ is.read refl (λ base. refl)
       (λ base. rw (query_is it stands _ asks, program_is stands d typed))
 
 -- the count of the rows of this table with other keys
 abbrev pub count_draft : Table → Draft
-count_draft table = record (draft_of table (others_query table.tree)) {
+count_draft table = record (draft_of table (count_others_query table.tree)) {
   group = Some (record {
     keys = [];
     collations = [];

@@ -137,11 +137,13 @@ module _ {M : Type 0} {Holds : Database → M → Type 0} where
       → WritesNothing Holds old new
   stays_from old new survives goes_on = record {
     clean = λ clean. let was : HasCleanDisk old = omega (arith, survives.clean) in was;
-    crash = λ clean trees left. elim (survives.crash clean trees left) [ inl before ↦ before | inr never ↦ absurd never ];
+    crash = λ clean trees left. elim
+        (survives.crash clean trees left) [ inl before ↦ before | inr never ↦ absurd never ];
     goes_on = goes_on;
   }
 
-  stays_then : (old mid new : State) → WritesNothing Holds old mid → WritesNothing Holds mid new → WritesNothing Holds old new
+  stays_then : (old mid new : State) → WritesNothing Holds old mid → WritesNothing Holds mid new
+      → WritesNothing Holds old new
   stays_then old mid new first second = record {
     clean = λ clean. first.clean (second.clean clean);
     crash = λ clean trees left. first.crash (second.clean clean) trees (second.crash clean trees left);
@@ -149,7 +151,8 @@ module _ {M : Type 0} {Holds : Database → M → Type 0} where
         first.goes_on (second.clean clean) late.0 in (early.0, λ m shows. late.1 m (early.1 m shows));
   }
 
-  pub ready_on : (old new : State) → KeepsHeld Holds old new → IsTrue new.is_open → IsReady Holds old → IsReady Holds new
+  pub ready_on : (old new : State) → KeepsHeld Holds old new → IsTrue new.is_open → IsReady Holds old
+      → IsReady Holds new
   ready_on old new goes_on is_open ready =
       record { held = ready.held; shows = (goes_on is_open).1 ready.held ready.shows }
 
@@ -179,7 +182,8 @@ module _ {M : Type 0} {Holds : Database → M → Type 0} where
       goes (Err e) known shown failed = spared old new (not_shown sql params old new known e failed)
 
   -- a query with a statement that was compiled from a plain text
-  pub compiled_query_stays : {V : Type 0} (sql text : List ℕ) (params : Row) (old mid new : State) (items : V → List Row)
+  pub compiled_query_stays : {V : Type 0} (sql text : List ℕ) (params : Row) (old mid new : State)
+      (items : V → List Row)
       (r : Result V Error) → WritesNothing Holds old mid → (HasCleanDisk mid → text ≡ sql)
       → (HasCleanDisk mid → IsPlain (understood mid.now.schema sql)) → Survives mid new (CommitsShowing text params mid)
       → (HasCleanDisk new → IfOk r (λ v. Shown text params mid new (items v)))
@@ -205,7 +209,8 @@ module _ {M : Type 0} {Holds : Database → M → Type 0} where
 
     pub compiled_stays : (r : Result V Error) → Survives old new (λ _. ⊥)
         → (HasCleanDisk new → IfOk r (λ v. P v × IsUnchanged old new))
-        → (HasCleanDisk new → IfErr r (λ e. (params : Row) → IsNotRun old new sql params e)) → WritesNothing Holds old new
+        → (HasCleanDisk new → IfErr r (λ e. (params : Row) → IsNotRun old new sql params e))
+        → WritesNothing Holds old new
     compiled_stays r survives ok err = stays_from old new survives (λ clean. compiled_goes r (ok clean) (err clean))
 
     -- and which implies that the registry is open

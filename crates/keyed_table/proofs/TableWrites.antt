@@ -1,6 +1,7 @@
 -- The effect of a statement that writes rows of one table.
 use Rattle.std.proofs.Common.{◌≡◌, ◌≢◌, ◌⊎◌, inl, inr, ℕ, ℤ, Bool, true, false, List, [], length, Some, None}
-use Rattle.std.proofs.Common.{Ok, Err, Result, Option, if◌then◌else◌, MatchBool, refl, sym, ap, subst, ◌∙◌, slice_get, arith}
+use Rattle.std.proofs.Common.{Ok, Err, Result, Option, if◌then◌else◌, MatchBool, refl, sym, ap, subst, ◌∙◌, slice_get}
+use Rattle.std.proofs.Common.{arith}
 use Rattle.sqlite.specs.Order.{Row}
 use Rattle.sqlite.specs.Schema.{Schema}
 use Rattle.sqlite.specs.Table.{Table}

@@ -20,19 +20,19 @@ use Rattle.sqlite_resolve.specs.Program.{program}
 use Rattle.sqlite_resolve.specs.Write.{simple}
 use Rattle.sqlite_resolve.specs.Compile.{compiled, planned, meaning, timed, returning, command, with_command}
 use Rattle.sqlite.proofs.Callers.{reads_as}
-pub use Rattle.keyed_table.specs.Meaning.{IsRead, Means}
+pub use Rattle.keyed_table.specs.Meaning.{ParsesAs, CompilesTo}
 use Rattle.keyed_table.specs.Queries.{program_of}
 use Rattle.keyed_table.specs.Tables.{IsTableAt}
 
 -- what a query shows is an answer over the trees
 pub answer_of : {schema : Schema} {text : List ℕ} {q : Query} {names : List (List ℕ)} (params : Row) (old new : State)
-    (rows : List Row) → Means schema text (Select (program_of q) names) → old.now.schema ≡ schema
+    (rows : List Row) → CompilesTo schema text (Select (program_of q) names) → old.now.schema ≡ schema
     → Shown text params old new rows → IsAnswer q (overlay old.now.trees []) params rows
 answer_of {schema} {text} params old new rows it has h =
     (reads_as text params old new schema has _ it.is it.plain it.unlisted rows h).answer Null
 
 -- a text means the command of its statement
-module _ (schema : Schema) {text : List ℕ} {s : Statement} (c : Command) (it : IsRead text s)
+module _ (schema : Schema) {text : List ℕ} {s : Statement} (c : Command) (it : ParsesAs text s)
     (untimed : timed schema [] s ≡ [])
     (unshown : (base : ℕ) → returning schema base s ≡ Ok None) (is : (base : ℕ) → command schema [] base s ≡ Ok c) where
   compiled_as : compiled schema text ≡ Ok (with_command it.parsed ([], (c, None)))
@@ -43,7 +43,7 @@ module _ (schema : Schema) {text : List ℕ} {s : Statement} (c : Command) (it :
   unfolding understood
   understood_as = rw compiled_as
 
-  pub means : Means schema text c
+  pub means : CompilesTo schema text c
   means = record { is = rw understood_as; plain = rw understood_as (refl, refl); unlisted = rw compiled_as }
 
 -- the draft of a query over this table that has no groups

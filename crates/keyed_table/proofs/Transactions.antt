@@ -3,7 +3,8 @@ use Rattle.std.proofs.Common.{◌≡◌, inl, inr, ℕ, List, [], ◌∷◌, ◌
 use Rattle.std.proofs.Common.{false, OnOk, true, MatchResult, refl, sym, subst, ◌∙◌, arith}
 use Rattle.std.specs.Result.{IsErr}
 use Rattle.sqlite.specs.declared.error.Error.{Error}
-use Rattle.sqlite.specs.State.{Shows as IsShowing, KeepsCounts, State, HasCleanDisk, Survives, ExecutesInside, IsRolledBack}
+use Rattle.sqlite.specs.State.{Shows as IsShowing, KeepsCounts, State, HasCleanDisk, Survives, ExecutesInside}
+use Rattle.sqlite.specs.State.{IsRolledBack}
 use Rattle.sqlite.specs.Steps.{FailsToCommit}
 use Rattle.sqlite.specs.Held.{Held, state}
 use Rattle.sqlite.proofs.StateLemmas.{survives_then}
@@ -11,7 +12,7 @@ use Rattle.sqlite.proofs.Callers.{survives_begin}
 use Rattle.sqlite_trees.specs.Tree.{Trees}
 use Rattle.sqlite_trees.specs.declared.store.Store.{Ghosts}
 use Rattle.sqlite.specs.Effect.{Database, IsDatabase}
-use Rattle.keyed_table.specs.Stores.{KeepsDatabase, IsReadyWith}
+use Rattle.keyed_table.specs.Stores.{KeepsDatabaseIfOpen, IsReadyWith}
 use Rattle.keyed_table.specs.Transactions.{IsUncommitted, IsMidTransaction, HasRunStatements}
 use Rattle.keyed_table.proofs.Refusals.{back_at, inside_commit, made_commit, then_commit}
 
@@ -51,7 +52,8 @@ module _ {S : Type 0} (g : Ghosts S) where
   }
 
   -- one more text
-  module _ (texts : List (List ℕ)) (text : List ℕ) (a b c : Held S) (r : Result ℕ Error) (it : IsMidTransaction g texts a b)
+  module _ (texts : List (List ℕ)) (text : List ℕ) (a b c : Held S) (r : Result ℕ Error)
+      (it : IsMidTransaction g texts a b)
       (crash : Survives (state g b) (state g c) (λ _. ⊥))
       (runs : HasCleanDisk (state g c) → IsTrue (state g b).in_transaction
       → ExecutesInside 0 text [] (state g b) (state g c) r) where
@@ -87,7 +89,7 @@ since g old start new is it =
 
 module _ (old last new : State) (it : IsUncommitted old last) where
   -- a rollback restores the state
-  back : HasCleanDisk last → IsRolledBack last new → KeepsDatabase old new
+  back : HasCleanDisk last → IsRolledBack last new → KeepsDatabaseIfOpen old new
   back clean gone is_open rest =
       let both = gone.undone is_open in
       let same : last.committed ≡ old.committed = (it.kept clean).committed (gone.was_open is_open) in
@@ -101,7 +103,8 @@ module _ (old last new : State) (it : IsUncommitted old last) where
         (λ clean trees is. subst P (sym is) (shows (omega (arith, clean, commits.clean)))) it.crash commits
 
     pub uncommitted_remains : {V : Type 0} (r : Result V Error) → (HasCleanDisk last → IsTrue last.in_transaction)
-        → (HasCleanDisk new → IfErr r (FailsToCommit last new)) → HasCleanDisk new → OnErr r (KeepsDatabase old new)
+        → (HasCleanDisk new → IfErr r (FailsToCommit last new)) → HasCleanDisk new
+        → OnErr r (KeepsDatabaseIfOpen old new)
     uncommitted_remains (Ok v) inside failed clean = tt
     uncommitted_remains (Err e) inside failed clean = elim (failed clean) [
       | inl fails ↦ back (omega (arith, clean, commits.clean)) fails.3

@@ -17,7 +17,8 @@ use Rattle.sqlite_rules.specs.Steps.{IsJudged}
 use Rattle.sqlite_rules.specs.Calls.{ids_of}
 use Rattle.sqlite.specs.Effect.{Database, IsSource}
 use Rattle.sqlite.specs.Does.{Tally}
-use Rattle.sqlite.specs.Rows.{Written, Task, nothing, count_of, rowids_for, stamped, mended, Puts, Clears, Tries, TriesEach}
+use Rattle.sqlite.specs.Rows.{Written, Task, nothing, count_of, rowids_for, stamped, mended, Puts, Clears, Tries}
+use Rattle.sqlite.specs.Rows.{TriesEach}
 use Rattle.sqlite.proofs.Callers.{one_step}
 use Rattle.keyed_table.proofs.TablesAlone.{StandsAlone}
 use Rattle.keyed_table.proofs.TableWrites.{SparesOthers, spares, spares_then, went, same_value, uncounts, task_of, Did}

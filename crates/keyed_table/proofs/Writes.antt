@@ -10,8 +10,8 @@ use Rattle.sqlite.specs.State.{State, HasCleanDisk, Survives, Executes, CommitsB
 use Rattle.sqlite.proofs.Callers.{runs_as, statement_of}
 use Rattle.sqlite_schema.specs.declared.command.Command.{Command}
 use Rattle.sqlite_trees.specs.Tree.{Trees}
-use Rattle.keyed_table.specs.Stores.{HoldsIn, IsReadyWith, IsReady, KeepsHeld, CommitsOrFails}
-use Rattle.keyed_table.proofs.TextMeaning.{Means}
+use Rattle.keyed_table.specs.Stores.{HoldsIn, IsReadyWith, IsReady, KeepsHeld, CommitsOrMayBeLeft}
+use Rattle.keyed_table.proofs.TextMeaning.{CompilesTo}
 use Rattle.keyed_table.proofs.Statements.{commits_as, spared, not_executed}
 
 -- a command that writes rows
@@ -48,7 +48,7 @@ no_release _ name is e = is
 module _ {M : Type 0} {Holds : Database → M → Type 0} (sql : List ℕ) (params : Row) (then : M → M)
     (HasRoom : M → Type 0) (command : (db : Database) (m : M) → Holds db m → Command)
     (is_write : (db : Database) (m : M) (had : Holds db m) → WritesRows (command db m had))
-    (means : (db : Database) (m : M) (had : Holds db m) → Means db.schema sql (command db m had))
+    (means : (db : Database) (m : M) (had : Holds db m) → CompilesTo db.schema sql (command db m had))
     (does : (s : State) (after : Database) (text : List ℕ) (tally : Tally) (m : M) (had : Holds s.now m)
     → IsDatabase s.now → HasRoom m
     → Does s.step_limit (mode_of s) params s.now text None (command s.now m had) (Ok (tally, after))
@@ -97,7 +97,7 @@ module _ {M : Type 0} {Holds : Database → M → Type 0} (sql : List ℕ) (para
   pub turned : (old new : State) (r : Result ℕ Error) → (HasCleanDisk old → IsReady Holds old)
       → (HasCleanDisk old → (m : M) → IsReadyWith Holds old m → HasRoom m)
       → Survives old new (CommitsBy sql params old) → (HasCleanDisk new → Executes sql params old new r)
-      → CommitsOrFails Holds old new then r
+      → CommitsOrMayBeLeft Holds old new then r
   turned old new r ready room survives runs =
       let early = λ (clean : HasCleanDisk new). let was : HasCleanDisk old = omega (arith, survives.clean) in was in
       record {

@@ -33,10 +33,10 @@ heights = record {
   shown = col 1 0 ∷ col 1 2 ∷ [];
   params = λ id metres. Int (pos id) ∷ Int metres ∷ [];
   sent = col 0 0 ∷ lit Null ∷ col 0 1 ∷ [];
-  width = 3;
+  sent_width = 3;
   find_sql = codes "SELECT id, metres FROM height WHERE id = ?1";
   all_sql = codes "SELECT id, metres FROM height ORDER BY id";
-  count_sql = codes "SELECT count(*) FROM height WHERE id <> ?1";
+  count_others_sql = codes "SELECT count(*) FROM height WHERE id <> ?1";
   upsert_sql = codes "INSERT OR REPLACE INTO height (id, metres) VALUES (?1, ?2)";
   delete_sql = codes "DELETE FROM height WHERE id = ?1";
 }

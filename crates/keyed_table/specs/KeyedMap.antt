@@ -16,8 +16,8 @@ use Rattle.sqlite_schema.specs.declared.schema.Column.{Column}
 use Rattle.sqlite_rules.specs.Cast.{cast_row}
 use Rattle.sqlite_rules.specs.Steps.{IsJudged}
 use Rattle.keyed_table.specs.Lone.{IsLone}
-use Rattle.keyed_table.specs.Meaning.{Means}
-use Rattle.keyed_table.specs.Queries.{program_of, find_query, all_query, others_query}
+use Rattle.keyed_table.specs.Meaning.{CompilesTo}
+use Rattle.keyed_table.specs.Queries.{program_of, find_query, all_query, count_others_query}
 use Rattle.keyed_table.specs.Rows.{HasKey, RowidsDiffer, map_of}
 use Rattle.keyed_table.specs.Tables.{keyed_table, IsTableAt}
 
@@ -36,14 +36,14 @@ pub record Codec (V : Type 0) : Type 1 where
   -- the parameters of the upsert, and the row that it sends
   pub params : ℕ → V → Row
   pub sent : List Term
-  pub width : ℕ
+  pub sent_width : ℕ
   pub find_sql : List ℕ
   pub all_sql : List ℕ
-  pub count_sql : List ℕ
+  pub count_others_sql : List ℕ
   pub upsert_sql : List ℕ
   pub delete_sql : List ℕ
 
-abbrev pub table_of : {V : Type 0} → Codec V → ℕ → Table
+abbrev pub table_of : {V : Type 0} → Codec V → (tree : ℕ) → Table
 table_of c tree = keyed_table c.name tree c.columns c.checks
 
 -- what a codec owes
@@ -57,26 +57,26 @@ module _ {V : Type 0} (c : Codec V) where
     pub stored : (tree id : ℕ) (v : V) → cast_row (table_of c tree) (c.row id v) ≡ c.row id v
     pub mends : (tree id : ℕ) (v : V) → mended Replace (table_of c tree) (c.row id v) ≡ c.row id v
     pub sends : (db : Database) (tree id : ℕ) (v : V) (rows : List Row)
-        → IsSource db (stamped (table_of c tree) (c.params id v)) (Values c.sent c.width) rows
+        → IsSource db (stamped (table_of c tree) (c.params id v)) (Values c.sent c.sent_width) rows
         → rows ≡ c.row id v ∷ []
-    pub valid : (tree id : ℕ) (v : V) → c.Fits id v → IsJudged (table_of c tree) (c.row id v) None
+    pub passing_is_row : (tree id : ℕ) (v : V) → c.Fits id v → IsJudged (table_of c tree) (c.row id v) None
         → c.IsRow (c.row id v)
 
   -- its texts are read as the statements on the table; computation proves it, text by text
-  pub record AreMeant : Type 0 where
+  pub record SqlTextsCompile : Type 0 where
     pub find_names : List (List ℕ)
     pub all_names : List (List ℕ)
-    pub count_names : List (List ℕ)
+    pub count_others_names : List (List ℕ)
     pub find : (schema : Schema) (at d : ℕ) → IsTableAt schema c.name (table_of c d) at
-        → Means schema c.find_sql (Select (program_of (find_query d c.shown)) find_names)
+        → CompilesTo schema c.find_sql (Select (program_of (find_query d c.shown)) find_names)
     pub all : (schema : Schema) (at d : ℕ) → IsTableAt schema c.name (table_of c d) at
-        → Means schema c.all_sql (Select (program_of (all_query d c.shown)) all_names)
+        → CompilesTo schema c.all_sql (Select (program_of (all_query d c.shown)) all_names)
     pub count : (schema : Schema) (at d : ℕ) → IsTableAt schema c.name (table_of c d) at
-        → Means schema c.count_sql (Select (program_of (others_query d)) count_names)
+        → CompilesTo schema c.count_others_sql (Select (program_of (count_others_query d)) count_others_names)
     pub upsert : (schema : Schema) (at d : ℕ) → IsTableAt schema c.name (table_of c d) at
-        → Means schema c.upsert_sql (InsertOr at Replace (Values c.sent c.width) [])
+        → CompilesTo schema c.upsert_sql (InsertOr at Replace (Values c.sent c.sent_width) [])
     pub delete : (schema : Schema) (at d : ℕ) → IsTableAt schema c.name (table_of c d) at
-        → Means schema c.delete_sql (Delete at (program_of (find_query d (col 1 0 ∷ []))))
+        → CompilesTo schema c.delete_sql (Delete at (program_of (find_query d (col 1 0 ∷ []))))
 
   -- the database has the table, no other object affects it, and its rows are this map
   pub record HoldsMap (db : Database) (m : FinMap nat_cmp V) : Type 0 where

@@ -9,14 +9,14 @@ use Rattle.sqlite_resolve.specs.Compile.{first}
 use Rattle.sqlite.proofs.Callers.{IsPlain, command_of}
 
 -- the text is this statement, which does not read the time
-pub record IsRead (text : List ℕ) (statement : Statement) : Type 0 where
+pub record ParsesAs (text : List ℕ) (statement : Statement) : Type 0 where
   pub parsed : Parsed
   pub read : first text ≡ Ok parsed
   pub is : parsed.statement ≡ statement
   pub timeless : parsed.formats ≡ []
 
 -- the meaning of the text under the schema: a statement of one command, without RETURNING and time
-pub record Means (schema : Schema) (text : List ℕ) (c : Command) : Type 0 where
+pub record CompilesTo (schema : Schema) (text : List ℕ) (c : Command) : Type 0 where
   pub is : command_of (understood schema text) ≡ c
   pub plain : IsPlain (understood schema text)
   pub unlisted : reads_listing schema text ≡ false

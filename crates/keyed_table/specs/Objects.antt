@@ -9,12 +9,12 @@ use Rattle.sqlite.specs.Order.{Row, column}
 abbrev pub list_objects_sql : List ℕ
 list_objects_sql = codes "SELECT name, type, sql FROM sqlite_schema ORDER BY rowid"
 
-abbrev pub has_text : Value → List ℕ → Bool
+abbrev pub has_text : Value → (text : List ℕ) → Bool
 has_text (Text t) text = bytes_eq t text
 has_text (Int n) text = false
 has_text Null text = false
 has_text (Real x) text = false
 has_text (Blob b) text = false
 
-abbrev pub is_catalog_row : List ℕ → List ℕ → Row → Bool
+abbrev pub is_catalog_row : (name text : List ℕ) → Row → Bool
 is_catalog_row name text row = has_text (column row 0) name && has_text (column row 2) text

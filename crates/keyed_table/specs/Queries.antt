@@ -14,7 +14,7 @@ use Rattle.sqlite_sql.specs.declared.ops.CompareOp.TheVariants.{Eq, Ne}
 use Rattle.sqlite_sql.specs.declared.aggregate.AggregateOp.TheVariants.{CountRows}
 
 -- what is shown of each row of this tree that passes the tests
-abbrev pub rows_query : ℕ → List Term → List Term → List Collation → List (Term × Key) → Query
+abbrev pub rows_query : (tree : ℕ) (tests shown : List Term) → List Collation → List (Term × Key) → Query
 rows_query tree tests shown collations order = record {
   from = inner tree end;
   filter = tests;
@@ -27,29 +27,29 @@ rows_query tree tests shown collations order = record {
   offset = lit (Int (pos 0));
 }
 
-abbrev pub plain_query : ℕ → List Term → List Term → Query
+abbrev pub plain_query : (tree : ℕ) (tests shown : List Term) → Query
 plain_query tree tests shown = rows_query tree tests shown [] []
 
 abbrev pub program_of : Query → Program
 program_of q = record { lets = []; body = q }
 
 -- the key as the parameter of a statement
-abbrev pub asked : ℕ → Row
+abbrev pub asked : (id : ℕ) → Row
 asked id = Int (pos id) ∷ []
 
 -- the key is the first parameter
-abbrev pub has_key : Term
-has_key = op2 (Compare Eq Binary) (col 1 0) (col 0 0)
+abbrev pub key_equals_param : Term
+key_equals_param = op2 (Compare Eq Binary) (col 1 0) (col 0 0)
 
-abbrev pub has_other_key : Term
-has_other_key = op2 (Compare Ne Binary) (col 1 0) (col 0 0)
+abbrev pub key_differs_from_param : Term
+key_differs_from_param = op2 (Compare Ne Binary) (col 1 0) (col 0 0)
 
 -- the row of a key
-abbrev pub find_query : ℕ → List Term → Query
-find_query tree shown = plain_query tree (has_key ∷ []) shown
+abbrev pub find_query : (tree : ℕ) → List Term → Query
+find_query tree shown = plain_query tree (key_equals_param ∷ []) shown
 
 -- all rows, by rising key
-abbrev pub all_query : ℕ → List Term → Query
+abbrev pub all_query : (tree : ℕ) → List Term → Query
 all_query tree shown =
     rows_query tree [] shown [] ((col 1 0, record { collation = Binary; descending = false }) ∷ [])
 
@@ -63,6 +63,6 @@ count_rows = record {
 }
 
 -- the number of rows with other keys
-abbrev pub others_query : ℕ → Query
-others_query tree =
-    record (plain_query tree (has_other_key ∷ []) (col 1 0 ∷ [])) { group = Some count_rows }
+abbrev pub count_others_query : (tree : ℕ) → Query
+count_others_query tree =
+    record (plain_query tree (key_differs_from_param ∷ []) (col 1 0 ∷ [])) { group = Some count_rows }

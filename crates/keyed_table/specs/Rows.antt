@@ -30,7 +30,7 @@ abbrev pub RowidsDiffer : List Row → Type 0
 RowidsDiffer = IsAscending (λ a b. rowid a ≢ rowid b)
 
 -- SQL compares the rowids of the two rows as equal
-abbrev pub are_tied : Row → Row → Bool
+abbrev pub are_tied : (a b : Row) → Bool
 are_tied a b = is_eq (value_cmp (rowid a) (rowid b))
 
 -- no row has the rowid of this one
@@ -38,13 +38,13 @@ abbrev pub IsNew : Row → List Row → Type 0
 IsNew new = AllByRecursion (λ r. are_tied r new ≡ false)
 
 -- no two rows have rowids that SQL compares as equal
-abbrev pub AreApart : List Row → Type 0
-AreApart = IsAscending (λ a b. are_tied a b ≡ false)
+abbrev pub RowidsAreUntied : List Row → Type 0
+RowidsAreUntied = IsAscending (λ a b. are_tied a b ≡ false)
 
 -- each row has a key, and no two the same
 pub record AreKeyed (rows : List Row) : Type 0 where
   pub keys : AllByRecursion HasKey rows
-  pub apart : AreApart rows
+  pub apart : RowidsAreUntied rows
 
 -- the rows as a map, if each row encodes a value
 module _ {V : Type 0} (value : Row → V) where

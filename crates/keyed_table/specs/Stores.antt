@@ -12,8 +12,8 @@ pub record IsSettledOpen (s : State) : Type 0 where
   pub sound : IsDatabase s.now
 
 -- if the connection is still open, it shows the same database as before, with no open transaction
-abbrev pub KeepsDatabase : State → State → Type 0
-KeepsDatabase old new = IsTrue new.is_open → IsSettledOpen old → IsSettledOpen new × (new.now ≡ old.now)
+abbrev pub KeepsDatabaseIfOpen : (old new : State) → Type 0
+KeepsDatabaseIfOpen old new = IsTrue new.is_open → IsSettledOpen old → IsSettledOpen new × (new.now ≡ old.now)
 
 -- when a database holds a value
 module _ {M : Type 0} (Holds : Database → M → Type 0) where
@@ -37,11 +37,11 @@ module _ {M : Type 0} (Holds : Database → M → Type 0) where
     pub shows : IsReadyWith s held
 
   -- while the disk is clean, an open connection is ready
-  abbrev pub StaysReady : State → Type 0
-  StaysReady s = HasCleanDisk s → IsTrue s.is_open → IsReady s
+  abbrev pub IsReadyIfOpen : State → Type 0
+  IsReadyIfOpen s = HasCleanDisk s → IsTrue s.is_open → IsReady s
 
   -- if the connection is still open, it was open before, and the database holds the same value
-  abbrev pub KeepsHeld : State → State → Type 0
+  abbrev pub KeepsHeld : (old new : State) → Type 0
   KeepsHeld old new = IsTrue new.is_open → IsTrue old.is_open × ((m : M) → IsReadyWith old m → IsReadyWith new m)
 
   -- nothing is written
@@ -51,7 +51,7 @@ module _ {M : Type 0} (Holds : Database → M → Type 0) where
     pub goes_on : HasCleanDisk new → KeepsHeld old new
 
   -- the update is made and committed; or it failed, and then a crash may leave it nevertheless
-  pub record CommitsOrFails {T E : Type 0} (old new : State) (update : M → M) (result : Result T E) : Type 0 where
+  pub record CommitsOrMayBeLeft {T E : Type 0} (old new : State) (update : M → M) (result : Result T E) : Type 0 where
     pub clean : HasCleanDisk new → HasCleanDisk old
     pub crash : HasCleanDisk new → (trees : Trees) → new.may_leave trees → old.may_leave trees
         ⊎ (IsTrue old.is_open × ((m : M) → IsReadyWith old m → HoldsIn trees (update m)))

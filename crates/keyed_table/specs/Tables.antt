@@ -20,21 +20,21 @@ use Rattle.sqlite_trees.specs.Objects.{catalog_tree}
 use Rattle.sqlite_trees.specs.Tree.{Trees}
 use Rattle.sqlite_typing.specs.Types.{table_classes, row_classes}
 
-abbrev pub key_column : List ℕ → Column
+abbrev pub key_column : (name : List ℕ) → Column
 key_column name =
     record { name = name; kind = Integer; is_strict = true; not_null = false; default = Null; collation = Binary }
 
-abbrev pub not_null_column : Kind → List ℕ → Column
+abbrev pub not_null_column : Kind → (name : List ℕ) → Column
 not_null_column kind name =
     record { name = name; kind = kind; is_strict = true; not_null = true; default = Null; collation = Binary }
 
 -- the value at this index of the row is between the two
-abbrev pub between : ℕ → Term → Term → Term
+abbrev pub between : (place : ℕ) (low high : Term) → Term
 between place low high =
     op2 And (op2 (Compare Ge Binary) (col 1 place) low) (op2 (Compare Le Binary) (col 1 place) high)
 
 -- a STRICT table whose first column is an INTEGER PRIMARY KEY
-abbrev pub keyed_table : List ℕ → ℕ → List Column → List Term → Table
+abbrev pub keyed_table : (name : List ℕ) (tree : ℕ) → List Column → List Term → Table
 keyed_table name tree columns checks = record {
   name = name;
   tree = tree;
@@ -57,11 +57,11 @@ pub record IsTableAt (schema : Schema) (name : List ℕ) (table : Table) (at : �
   pub classes : table_classes schema [] table.tree ≡ Some (row_classes table)
 
 -- no foreign key of the table refers to this name
-abbrev pub HasNoReferenceTo : List ℕ → Table → Type 0
+abbrev pub HasNoReferenceTo : (name : List ℕ) → Table → Type 0
 HasNoReferenceTo name table = AllByRecursion (λ reference. same_name reference.parent name ≡ false) table.references
 
 -- a table in this tree has this name
-abbrev pub TreeHasName : List ℕ → ℕ → Table → Type 0
+abbrev pub TreeHasName : (name : List ℕ) (tree : ℕ) → Table → Type 0
 TreeHasName name tree table = table.tree ≡ tree → same_name table.name name ≡ true
 
 -- the list of the database's objects, as SQLite shows it

@@ -11,7 +11,7 @@ pub record IsUncommitted (old new : State) : Type 0 where
   pub kept : HasCleanDisk new → KeepsCommit old new
 
 -- these texts were run in turn inside a transaction, and each changed the database as its text means
-abbrev pub HasRunStatements : {S : Type 0} → Ghosts S → List (List ℕ) → Held S → Held S → Type 0
+abbrev pub HasRunStatements : {S : Type 0} → Ghosts S → List (List ℕ) → (old new : Held S) → Type 0
 HasRunStatements g [] old new = old ≡ new
 HasRunStatements g (text ∷ texts) old new =
     (mid : Held _) × (count : ℕ) × ExecutesInside 0 text [] (state g old) (state g mid) (Ok count)

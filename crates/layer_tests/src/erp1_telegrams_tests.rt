@@ -232,7 +232,7 @@ fn max_packet(rt: HostRuntime) -> Result<(), Fail> {
 /// A question about an ID.
 enum Question {
     IsBase { id: u32 },
-    IsOwnRegistry { base: u32, id: u32 },
+    IsGatewayId { base: u32, id: u32 },
 }
 
 struct Asked {
@@ -278,49 +278,49 @@ const ASKED: [Asked; 16] = [
         wanted: false,
     },
     Asked {
-        question: Question::IsOwnRegistry {
+        question: Question::IsGatewayId {
             base: 0xFF80_0000,
             id: 0xFF80_0000,
         },
         wanted: true,
     },
     Asked {
-        question: Question::IsOwnRegistry {
+        question: Question::IsGatewayId {
             base: 0xFF80_0000,
             id: 0xFF80_007F,
         },
         wanted: true,
     },
     Asked {
-        question: Question::IsOwnRegistry {
+        question: Question::IsGatewayId {
             base: 0xFF80_0000,
             id: 0xFF7F_FFFF,
         },
         wanted: false,
     },
     Asked {
-        question: Question::IsOwnRegistry {
+        question: Question::IsGatewayId {
             base: 0xFFFF_FF80,
             id: 0xFFFF_FF80,
         },
         wanted: true,
     },
     Asked {
-        question: Question::IsOwnRegistry {
+        question: Question::IsGatewayId {
             base: 0xFFFF_FF80,
             id: 0xFFFF_FFFF,
         },
         wanted: true,
     },
     Asked {
-        question: Question::IsOwnRegistry {
+        question: Question::IsGatewayId {
             base: 0xFFFF_FF80,
             id: 0xFFFF_FF7F,
         },
         wanted: false,
     },
     Asked {
-        question: Question::IsOwnRegistry {
+        question: Question::IsGatewayId {
             base: 0xFF80_0000,
             id: 0xFF80_0080,
         },
@@ -397,7 +397,7 @@ fn questions(rt: HostRuntime) {
     for (row, case) in ASKED.iter().enumerate() {
         let found = match case.question {
             Question::IsBase { id } => is_base_id(id),
-            Question::IsOwnRegistry { base, id } => is_gateway_id(base, id),
+            Question::IsGatewayId { base, id } => is_gateway_id(base, id),
         };
         assert_eq!(rt; found, case.wanted, "row {row}");
     }

@@ -2,7 +2,7 @@
 use arrayvec::ArrayVec;
 use esp3_frames::{
     Header, HeaderFault, MAX_PACKET, PacketFault, PacketRef, check8, check8_between, check8_next,
-    first_packet, read_header, read_packet, write_packet,
+    packet_at_start, read_header, read_packet, write_packet,
 };
 use std::alloc::{AllocError, Global};
 use std::test::Fail;
@@ -340,7 +340,7 @@ fn parts_of_a_packet(rt: HostRuntime) {
         opt: &CONTACT[13..20],
     };
     for (row, part) in PARTS.iter().enumerate() {
-        let found = (read_packet(part.bytes), first_packet(part.bytes));
+        let found = (read_packet(part.bytes), packet_at_start(part.bytes));
         let wanted = (
             part.is_packet.then_some(contact),
             part.is_first.then_some((contact, 21)),

@@ -17,13 +17,13 @@ fn words_of(rt: &HostRuntime, line: &str) -> Result<Vec<String>, Fail> {
 fn refused(rt: &HostRuntime, line: &str, wanted: ErrorKind) -> Result<(), Fail> {
     let words = words_of(rt, line)?;
     match read(rt.alloc(), words.as_slice()) {
-        Err(CommandLineFault::Words(error)) if error.kind() == wanted => Ok(()),
+        Err(CommandLineFault::ClapError(error)) if error.kind() == wanted => Ok(()),
         _ => Err(Fail::from(line)),
     }
 }
 
 /// The text that is printed if the line is rejected: what `clap` prints for it, if `clap` rejects it.
-fn told(rt: &HostRuntime, line: &str) -> Result<String, Fail> {
+fn stated(rt: &HostRuntime, line: &str) -> Result<String, Fail> {
     let words = words_of(rt, line)?;
     match read(rt.alloc(), words.as_slice()) {
         Err(refused) => Ok(refused.to_string(rt.alloc())?),
@@ -420,9 +420,14 @@ const TEXTS: [Text; 4] = [
 ];
 
 #[test]
-fn texts_told(rt: HostRuntime) -> Result<(), Fail> {
+fn texts_reported(rt: HostRuntime) -> Result<(), Fail> {
     for case in &TEXTS {
-        assert_eq!(rt; told(&rt, case.line)?.as_str(), case.text, "{}", case.line);
+        assert_eq!(rt;
+            stated(&rt, case.line)?.as_str(),
+            case.text,
+            "{}",
+            case.line
+        );
     }
     Ok(())
 }

@@ -3,8 +3,12 @@ use crate::readings::Wanted::{OutOfRange, Raw, Value, Word};
 use crate::readings::{is_said, telegram};
 use erp1_telegrams::{BROADCAST, Eep, Telegram};
 use profile_rows::profile::is_one_of;
-use profile_rows::rows::{number, over, over_power, percent_or, range, reserved, threshold, words};
-use profile_rows::{Reading, Readings, Unreadable, What, data_payload_of, payload_of, read_rows};
+use profile_rows::rows::{
+    number, over, over_power, percent_or_word_127, range, reserved, threshold, words,
+};
+use profile_rows::{
+    Reading, Readings, Unreadable, What, checked_data_payload, read_rows, unchecked_payload,
+};
 use std::test::Fail;
 
 #[test]
@@ -15,19 +19,22 @@ fn numbers(rt: HostRuntime) {
         (range(0, 255, 0, 0, 400, "C"), Value(40, 1, "C")),
         (range(127, 255, 0, 0, 400, "C"), Value(1024, 51, "C")),
         (range(0, 1023, 0, -100, 412, "C"), Value(206, 5, "C")),
-        (percent_or(100, "not_applicable"), Value(100, 1, "%")),
+        (
+            percent_or_word_127(100, "not_applicable"),
+            Value(100, 1, "%"),
+        ),
         (over(1234, 1, "W"), Value(1234, 1, "W")),
         (over_power(16777215, 3, "kWh"), Value(3355443, 200, "kWh")),
         // words
         (words(1, &contact), Word("closed")),
         (words(2, &contact), OutOfRange(2)),
-        (percent_or(127, "unknown"), Word("unknown")),
+        (percent_or_word_127(127, "unknown"), Word("unknown")),
         // parts of ranges
         (threshold(127, 128, "off", "on"), Word("off")),
         (threshold(128, 128, "off", "on"), Word("on")),
         (range(251, 0, 250, 0, 1000, "%"), OutOfRange(251)),
         // numbers as they are
-        (percent_or(101, "unknown"), OutOfRange(101)),
+        (percent_or_word_127(101, "unknown"), OutOfRange(101)),
         (number(255), Raw(255)),
         (reserved(5), OutOfRange(5)),
     ]
@@ -97,7 +104,7 @@ fn payloads(rt: HostRuntime) -> Result<(), Fail> {
     ];
     for (rorg, payload, wanted) in cases {
         let telegram = telegram(rorg, payload, 0x00)?;
-        assert_eq!(rt; payload_of(0xA5, &telegram), wanted, "{rorg}");
+        assert_eq!(rt; checked_data_payload(0xA5, &telegram), wanted, "{rorg}");
     }
     Ok(())
 }
@@ -113,10 +120,10 @@ fn data_payloads(rt: HostRuntime) -> Result<(), Fail> {
         None,
     )?;
     assert_eq!(rt;
-        data_payload_of(0xA5, &telegram),
+        unchecked_payload(0xA5, &telegram),
         Ok(&[0x00, 0x00, 0x80, 0x0F])
     );
-    let other: Result<&[u8; 4], Unreadable> = data_payload_of(0xD2, &telegram);
+    let other: Result<&[u8; 4], Unreadable> = unchecked_payload(0xD2, &telegram);
     assert_eq!(rt; other, Err(Unreadable::WrongKind));
     Ok(())
 }

@@ -7,7 +7,7 @@ use Rattle.std.proofs.lemmas.Bool.{and_parts}
 use Rattle.std.proofs.lemmas.Bool.Decides.{nat_tests}
 use Rattle.std.proofs.lemmas.Str.{IsUtf8-from_ascii}
 use Rattle.std.proofs.lemmas.Str.Ascii.{IsAscii-nil, IsAscii-cons}
-use Rattle.learned_devices.specs.Labels.{has_label_form, is_label_byte, space}
+use Rattle.learned_devices.specs.Labels.{is_label_of_any_length, is_label_byte, space}
 
 shown-ascii : (text : List ℕ) → list_all is_label_byte text ≡ true → IsAscii text
 shown-ascii [] are = IsAscii-nil
@@ -17,7 +17,7 @@ shown-ascii (b ∷ more) are =
     IsAscii-cons b more (grind (arith, nat_tests, shown)) (shown-ascii more parts.1)
 
 -- a valid label of any length is UTF-8
-pub name-utf8 : (text : List ℕ) → has_label_form text ≡ true → IsUtf8 text
+pub name-utf8 : (text : List ℕ) → is_label_of_any_length text ≡ true → IsUtf8 text
 name-utf8 text is =
     let parts =
     and_parts (list_all is_label_byte text && not (starts_with nat_eq text space)) (not (ends_with nat_eq text space))

@@ -24,7 +24,7 @@ pub record Commits (new : DeviceStoreState) (update : DeviceUpdate) (devices : D
   pub crash : (left : Devices) → new.may_recover left → left ≡ apply_update devices update
 
 -- a crash may leave only what it could leave before, or the updated devices
-abbrev pub MayLeaveUpdate : DeviceStoreState → DeviceStoreState → DeviceUpdate → Devices → Type 0
+abbrev pub MayLeaveUpdate : (old new : DeviceStoreState) → DeviceUpdate → Devices → Type 0
 MayLeaveUpdate old new update devices = (left : Devices) → new.may_recover left
     → old.may_recover left ⊎ (left ≡ apply_update devices update)
 

@@ -16,7 +16,7 @@ pub record DeviceData : Type 0 where
 abbrev pub Devices : Type 0
 Devices = FinMap nat_cmp DeviceData
 
-abbrev pub device : ℕ → DeviceData → Device
+abbrev pub device : (id : ℕ) → DeviceData → Device
 device id it = record { id = id; eep = it.eep; maker = it.maker; label = it.label }
 
 -- the stored data of a device's sender
@@ -24,7 +24,7 @@ abbrev pub device_data : Device → DeviceData
 device_data it = record { eep = it.eep; maker = it.maker; label = it.label }
 
 -- the device of a sender, if it is learned
-abbrev pub device_of : Devices → ℕ → Option Device
+abbrev pub device_of : Devices → (id : ℕ) → Option Device
 device_of devices id = option_map (device id) (get devices id)
 
 -- all devices, by rising ID
@@ -36,7 +36,7 @@ abbrev pub max_devices : ℕ
 max_devices = 1000
 
 -- the devices are full for this sender: the maximum number of others is learned
-abbrev pub is_full : Devices → ℕ → Bool
+abbrev pub is_full : Devices → (id : ℕ) → Bool
 is_full devices id = nat_le max_devices (len (remove devices id))
 
 -- an operation on a sender: learn it with a profile and a maker, forget it, or give it a label
@@ -52,10 +52,10 @@ pub record DeviceUpdate : Type 0 where
 abbrev pub learn_update : Device → DeviceUpdate
 learn_update it = record { sender = it.id; operation = Learn it.eep it.maker }
 
-abbrev pub forget_update : ℕ → DeviceUpdate
+abbrev pub forget_update : (id : ℕ) → DeviceUpdate
 forget_update id = record { sender = id; operation = Forget }
 
-abbrev pub relabel_update : ℕ → List ℕ → DeviceUpdate
+abbrev pub relabel_update : (id : ℕ) (label : List ℕ) → DeviceUpdate
 relabel_update id label = record { sender = id; operation = Relabel label }
 
 -- the label of a sender once it is learned: a known one keeps its own, another gets the empty one
@@ -70,7 +70,7 @@ data_after known Forget = None
 data_after (Some it) (Relabel label) = Some (record { eep = it.eep; maker = it.maker; label = label })
 data_after None (Relabel label) = None
 
-abbrev pub with_entry : Devices → ℕ → Option DeviceData → Devices
+abbrev pub with_entry : Devices → (id : ℕ) → Option DeviceData → Devices
 with_entry devices id (Some it) = insert devices id it
 with_entry devices id None = remove devices id
 

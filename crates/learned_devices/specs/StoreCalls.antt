@@ -13,20 +13,21 @@ use Rattle.learned_devices.specs.DeviceStoreState.{DeviceStoreState, Keeps, Comm
 -- a sender is looked up
 pub record LooksUp {E : Type 0} (old new : DeviceStoreState) (id : ℕ) (result : Result (Option Device) E) : Type 0 where
   pub clean : new.honest → old.honest
-  pub registries : new.honest → new.sound
+  pub recoverable : new.honest → new.sound
   pub devices : new.honest → (devices : Devices) → old.holds devices
       → MatchResult result (λ found. (found ≡ device_of devices id) × Keeps old new devices)
       (λ _. Keeps old new devices)
 
 -- an update is committed, or the call failed, at its commit or before
-pub record Updates {A E : Type 0} (old new : DeviceStoreState) (update : DeviceUpdate) (result : Result A E) : Type 0 where
+pub record Updates {A E : Type 0} (old new : DeviceStoreState) (update : DeviceUpdate)
+    (result : Result A E) : Type 0 where
   pub clean : new.honest → old.honest
-  pub registries : new.honest → new.sound
+  pub recoverable : new.honest → new.sound
   pub devices : new.honest → (devices : Devices) → old.holds devices
       → MatchResult result (λ _. Commits new update devices) (λ _. LeavesPending old new update devices)
 
 -- A device is not learned. If 1,000 others are, nothing is written; otherwise the call failed, at its commit or before.
-abbrev pub RefusesToLearn : DeviceStoreState → DeviceStoreState → Device → Devices → LearnFault → Type 0
+abbrev pub RefusesToLearn : (old new : DeviceStoreState) → Device → Devices → LearnFault → Type 0
 RefusesToLearn old new it devices Full = IsTrue (is_full devices it.id) × Keeps old new devices
 RefusesToLearn old new it devices (Failed fault) =
     MatchBool (is_full devices it.id) (Keeps old new devices) (LeavesPending old new (learn_update it) devices)
@@ -34,20 +35,21 @@ RefusesToLearn old new it devices (Failed fault) =
 -- a device is learned and replaces the data of its sender, except for the label
 pub record Learns {A : Type 0} (old new : DeviceStoreState) (it : Device) (result : Result A LearnFault) : Type 0 where
   pub clean : new.honest → old.honest
-  pub registries : new.honest → new.sound
+  pub recoverable : new.honest → new.sound
   pub devices : new.honest → (devices : Devices) → old.holds devices
       → MatchResult result (λ _. (is_full devices it.id ≡ false) × Commits new (learn_update it) devices)
       (RefusesToLearn old new it devices)
 
 -- a sender is forgotten, even if it was not learned
-abbrev pub Forgets : {A E : Type 0} → DeviceStoreState → DeviceStoreState → ℕ → Result A E → Type 0
+abbrev pub Forgets : {A E : Type 0} → (old new : DeviceStoreState) (id : ℕ) → Result A E → Type 0
 Forgets old new id result = Updates old new (forget_update id) result
 
 -- A sender gets a label, if it is learned: the result is whether it is. If it is not, nothing is written.
-pub record Relabels {E : Type 0} (old new : DeviceStoreState) (id : ℕ) (label : List ℕ) (result : Result Bool E) : Type 0
+pub record Relabels {E : Type 0} (old new : DeviceStoreState) (id : ℕ) (label : List ℕ)
+    (result : Result Bool E) : Type 0
   where
     pub clean : new.honest → old.honest
-    pub registries : new.honest → new.sound
+    pub recoverable : new.honest → new.sound
     pub devices : new.honest → (devices : Devices) → old.holds devices
         → MatchResult result (λ known. (known ≡ is_some (get devices id))
         × MatchBool known (Commits new (relabel_update id label) devices) (Keeps old new devices))
@@ -57,6 +59,6 @@ pub record Relabels {E : Type 0} (old new : DeviceStoreState) (id : ℕ) (label 
 -- all devices are listed
 pub record ListsAll {E : Type 0} (old new : DeviceStoreState) (result : Result (Vec Device Global) E) : Type 0 where
   pub clean : new.honest → old.honest
-  pub registries : new.honest → new.sound
+  pub recoverable : new.honest → new.sound
   pub devices : new.honest → (devices : Devices) → old.holds devices
       → MatchResult result (λ all. (all.items ≡ all_of devices) × Keeps old new devices) (λ _. Keeps old new devices)

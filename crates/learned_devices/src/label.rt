@@ -4,7 +4,7 @@ ghost use Rattle.std.specs.Prelude.{◌≡◌, ◌↔◌, [], true, IsSome, IfSo
 ghost use Rattle.std.specs.Cmp.{on_equiv, on_per, partial_equiv_from_equiv};
 ghost use Rattle.std.specs.Cmp.Lexicographic.{nat_list_eq_equiv, pointwise};
 ghost use Rattle.std.specs.List.{list_all};
-ghost use Rattle.learned_devices.specs.Labels.{is_label, has_label_form, is_label_byte};
+ghost use Rattle.learned_devices.specs.Labels.{is_label, is_label_of_any_length, is_label_byte};
 
 use crate::limits::MAX_LABEL;
 use arrayvec::ArrayString;
@@ -36,7 +36,7 @@ fn is_label_byte(byte: &u8) -> bool
     (b' '..=b'~').contains(byte)
 }
 
-fn are_label_bytes(text: &[u8]) -> bool
+fn has_only_label_bytes(text: &[u8]) -> bool
     ensures { result ≡ list_all is_label_byte text.now }
 {
     text.iter().all(is_label_byte)
@@ -44,10 +44,10 @@ fn are_label_bytes(text: &[u8]) -> bool
 
 /// Whether a text is a valid label, ignoring its length: bytes from space to `~` of ASCII, neither beginning nor ending
 /// with a space. The empty text is one.
-pub fn has_label_form(text: &[u8]) -> bool
-    ensures { result ≡ has_label_form text.now }
+pub fn is_label_of_any_length(text: &[u8]) -> bool
+    ensures { result ≡ is_label_of_any_length text.now }
 {
-    are_label_bytes(text) && !text.starts_with(b" ") && !text.ends_with(b" ")
+    has_only_label_bytes(text) && !text.starts_with(b" ") && !text.ends_with(b" ")
 }
 
 impl Label {
@@ -65,15 +65,15 @@ impl Label {
         ensures some { IfSome result (λ label. label ≡ text.now) }
         ensures variant { IsSome result ↔ (is_label text.now ≡ true) }
     {
-        if !has_label_form(text.as_bytes()) {
+        if !is_label_of_any_length(text.as_bytes()) {
             return None;
         }
         Label::of_name(text)
     }
 
-    /// The label with this name, which `has_label_form` accepts, or `None` if it is longer than `MAX_LABEL`.
+    /// The label with this name, which `is_label_of_any_length` accepts, or `None` if it is longer than `MAX_LABEL`.
     pub fn of_name(name: &str) -> Option<Label>
-        requires { has_label_form name.now ≡ true }
+        requires { is_label_of_any_length name.now ≡ true }
         ensures some { IfSome result (λ label. label ≡ name.now) }
         ensures variant { IsSome result ↔ (is_label name.now ≡ true) }
     {

@@ -15,7 +15,7 @@ mod tests;
 pub use device_store::{DeviceStore, Receipt};
 use erp1_telegrams::Eep;
 pub use fault::{LearnFault, StoreFault};
-pub use label::{Label, has_label_form};
+pub use label::{Label, is_label_of_any_length};
 pub use limits::{MAX_DEVICES, MAX_LABEL};
 
 /// The stored data of a sender: plain numbers and a label, which need no memory.

@@ -1,11 +1,13 @@
 //! Tests of labels, of copies of devices, and of the texts of faults.
-use crate::{Device, Label, LearnFault, MAX_DEVICES, MAX_LABEL, StoreFault, has_label_form};
+use crate::{
+    Device, Label, LearnFault, MAX_DEVICES, MAX_LABEL, StoreFault, is_label_of_any_length,
+};
 use erp1_telegrams::Eep;
 use std::alloc::AllocError;
 use std::test::Fail;
 
 /// The text of the label made from a text, if it is one.
-fn told(label: &Option<Label>) -> Option<&str> {
+fn reported(label: &Option<Label>) -> Option<&str> {
     label.as_ref().map(Label::as_str)
 }
 
@@ -18,7 +20,7 @@ fn labels(rt: HostRuntime) -> Result<(), Fail> {
         "a  b\\c",
         "12345678901234567890123456789012",
     ] {
-        assert_eq!(rt; told(&Label::new(text)), Some(text));
+        assert_eq!(rt; reported(&Label::new(text)), Some(text));
     }
     assert_eq!(rt; MAX_LABEL, 32);
     assert_eq!(rt; Label::empty().as_str(), "");
@@ -47,11 +49,11 @@ fn no_labels(rt: HostRuntime) -> Result<(), Fail> {
 fn names(rt: HostRuntime) -> Result<(), Fail> {
     let names: [&[u8]; 4] = [b"", b"~", b"a  b", b"123456789012345678901234567890123"];
     for text in names {
-        assert!(rt; has_label_form(text));
+        assert!(rt; is_label_of_any_length(text));
     }
     let others: [&[u8]; 6] = [b" ", b" x", b"x ", b"a\tb", b"a\x7Fb", b"a\x80b"];
     for text in others {
-        assert!(rt; !has_label_form(text));
+        assert!(rt; !is_label_of_any_length(text));
     }
     Ok(())
 }

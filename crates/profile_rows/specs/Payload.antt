@@ -10,7 +10,7 @@ use Rattle.profile_rows.specs.declared.unreadable.Unreadable.TheVariants as refu
 
 -- A payload of this RORG is data, not teach-in: for 1BS and 4BS the LRN bit is 1, and the others have no LRN bit
 -- (EnOcean Equipment Profiles 2.6, "RPS Telegram", "1BS Telegram" and "4BS Telegram").
-abbrev pub is_data : ℕ → List ℕ → Bool
+abbrev pub is_data : (rorg : ℕ) (payload : List ℕ) → Bool
 is_data rorg payload =
     if rorg == 0xD5 then field payload 4 1 == 1
     else if rorg == 0xA5 then field payload 28 1 == 1
@@ -18,8 +18,8 @@ is_data rorg payload =
 
 -- the payload, of n bytes, of a data telegram with this RORG, or the first reason to reject it (own choice: their
 -- order)
-abbrev pub payload_of : ℕ → ℕ → Telegram → Result (List ℕ) Unreadable
-payload_of rorg n t =
+abbrev pub checked_data_payload : (rorg n : ℕ) → Telegram → Result (List ℕ) Unreadable
+checked_data_payload rorg n t =
     if not (t.rorg == rorg) then Err refusals.WrongKind
     else if not (length t.payload == n) then Err refusals.WrongLength
     else if not (is_data rorg t.payload) then Err refusals.OtherMessage

@@ -10,5 +10,5 @@ read_result (Ok done) readings = Ok (entries readings)
 read_result (Err refusal) readings = Err refusal
 
 -- the readings that the call leaves, if it has read some
-abbrev pub entries_if : Bool → List Reading → Option (List Entry)
+abbrev pub entries_if : (has_read : Bool) → List Reading → Option (List Entry)
 entries_if has_read readings = if has_read then Some (entries readings) else None

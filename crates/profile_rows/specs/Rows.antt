@@ -18,7 +18,7 @@ pub data Kind : Type 0 where
   -- one word below a number, another from that number on
   threshold : ℕ → List ℕ → List ℕ → Kind
   -- 0 to 100 percent, and a word for 127
-  percent_or : List ℕ → Kind
+  percent_or_word_127 : List ℕ → Kind
   -- a value with a unit: the number divided by a divisor
   over : ℕ → List ℕ → Kind
   -- a value with a unit: the number divided by ten to the power of another field, given by its offset and length
@@ -48,11 +48,11 @@ pub record Row : Type 0 where
   pub kind : Kind
 
 -- the bit NU of a status byte (ISO/IEC 14543-3-10, "Status": the fourth bit from the left)
-abbrev pub nu_bit : ℕ → ℕ
+abbrev pub nu_bit : (status : ℕ) → ℕ
 nu_bit status = field (status ∷ []) 3 1
 
 -- a condition holds for a telegram with this status and this payload
-abbrev pub condition_holds : Condition → ℕ → List ℕ → Bool
+abbrev pub condition_holds : Condition → (status : ℕ) (payload : List ℕ) → Bool
 condition_holds always status payload = true
 condition_holds (where_field offset len n) status payload = field payload offset len == n
 condition_holds (where_above offset len n) status payload = nat_lt n (field payload offset len)
@@ -60,13 +60,13 @@ condition_holds (where_nu n) status payload = nu_bit status == n
 condition_holds (both a b) status payload = condition_holds a status payload && condition_holds b status payload
 
 -- a value with a unit, or no value
-abbrev pub value_or_out_of_range : List ℕ → ℕ → Option Ratio → Meaning
+abbrev pub value_or_out_of_range : (unit : List ℕ) → ℕ → Option Ratio → Meaning
 value_or_out_of_range unit n None = out_of_range n
 value_or_out_of_range unit n (Some ratio) = value ratio unit
 
 -- the value of n if a means x tenths of a unit and b means y tenths
-abbrev pub value_in_range : ℕ → ℕ → ℤ → ℤ → List ℕ → ℕ → Meaning
-value_in_range a b x y unit n = value_or_out_of_range unit n (scaled n a b x y)
+abbrev pub scaled_or_out_of_range : (a b : ℕ) (x y : ℤ) (unit : List ℕ) (n : ℕ) → Meaning
+scaled_or_out_of_range a b x y unit n = value_or_out_of_range unit n (scaled n a b x y)
 
 -- the word that was found, or none
 abbrev pub word_or_out_of_range : ℕ → Option (ℕ × List ℕ) → Meaning
@@ -78,39 +78,40 @@ abbrev pub word_for : List (ℕ × List ℕ) → ℕ → Meaning
 word_for list n = word_or_out_of_range n (find (λ entry. entry.0 == n) list)
 
 -- one word below a bound, another from the bound on
-abbrev pub word_at_threshold : ℕ → List ℕ → List ℕ → ℕ → Meaning
+abbrev pub word_at_threshold : (bound : ℕ) (below from : List ℕ) (n : ℕ) → Meaning
 word_at_threshold bound below from n = if nat_lt n bound then word below else word from
 
 -- a percentage, and a word for 127
-abbrev pub percentage_or : List ℕ → ℕ → Meaning
-percentage_or text n = if n == 127 then word text else value_in_range 0 100 (pos 0) (pos 1000) (codes "%") n
+abbrev pub percentage_or_word_127 : (text : List ℕ) → ℕ → Meaning
+percentage_or_word_127 text n =
+    if n == 127 then word text else scaled_or_out_of_range 0 100 (pos 0) (pos 1000) (codes "%") n
 
 -- n divided by a divisor, with a unit
-abbrev pub quotient : ℕ → List ℕ → ℕ → Meaning
+abbrev pub quotient : (divisor : ℕ) (unit : List ℕ) (n : ℕ) → Meaning
 quotient divisor unit n = value (lowest (pos n) divisor) unit
 
 -- the meaning of the number n in a field of this payload
-abbrev pub row_meaning : Kind → List ℕ → ℕ → Meaning
-row_meaning (range a b x y unit) payload n = value_in_range a b x y unit n
+abbrev pub row_meaning : Kind → (payload : List ℕ) → ℕ → Meaning
+row_meaning (range a b x y unit) payload n = scaled_or_out_of_range a b x y unit n
 row_meaning (words list) payload n = word_for list n
 row_meaning (threshold bound below from) payload n = word_at_threshold bound below from n
-row_meaning (percent_or text) payload n = percentage_or text n
+row_meaning (percent_or_word_127 text) payload n = percentage_or_word_127 text n
 row_meaning (over divisor unit) payload n = quotient divisor unit n
 row_meaning (over_power offset len unit) payload n = quotient (10 ^ field payload offset len) unit n
 row_meaning number payload n = raw n
 row_meaning reserved payload n = out_of_range n
 
 -- the readings of a row in a telegram with this status and this payload: none if its condition does not hold
-abbrev pub row_entries : ℕ → List ℕ → Row → List Entry
+abbrev pub row_entries : (status : ℕ) (payload : List ℕ) → Row → List Entry
 row_entries status payload row =
     if condition_holds row.condition status payload
     then record { name = row.name; meaning = row_meaning row.kind payload (field payload row.offset row.len) } ∷ []
     else []
 
 -- the readings of a list of rows, in their order
-abbrev pub rows_entries : ℕ → List ℕ → List Row → List Entry
+abbrev pub rows_entries : (status : ℕ) (payload : List ℕ) → List Row → List Entry
 rows_entries status payload rows = flat_map (row_entries status payload) rows
 
 -- the readings of rows in a payload, if none of them depends on the status
-abbrev pub entries_of : List ℕ → List Row → List Entry
+abbrev pub entries_of : (payload : List ℕ) → List Row → List Entry
 entries_of payload rows = rows_entries 0 payload rows

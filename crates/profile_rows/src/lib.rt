@@ -9,6 +9,6 @@ mod reading;
 pub mod rows;
 mod unreadable;
 
-pub use crate::payload::{data_payload_of, payload_of};
+pub use crate::payload::{checked_data_payload, unchecked_payload};
 pub use crate::reading::{Reading, Readings, What};
 pub use crate::unreadable::Unreadable;

@@ -2,7 +2,7 @@
 
 ghost use Rattle.std.specs.Prelude.{◌≡◌, Ok, Err, MatchResult, length, true, IsTrue};
 ghost use Rattle.erp1_telegrams.specs.Telegram.{payload_length_fits};
-ghost use Rattle.profile_rows.specs.Payload.{is_data, payload_of};
+ghost use Rattle.profile_rows.specs.Payload.{is_data, checked_data_payload};
 
 use crate::Unreadable;
 use bit_fields::get;
@@ -13,7 +13,7 @@ fn sized_payload<const N: usize>(rorg: u8, telegram: &Telegram) -> Result<&[u8; 
     ensures { MatchResult result
         (λ bytes. (telegram.now.rorg ≡ rorg) × (length telegram.now.payload ≡ N) × IsTrue (payload_length_fits rorg N)
         × (bytes.now ≡ telegram.now.payload))
-        (λ refusal. payload_of rorg N telegram.now ≡ Err refusal) }
+        (λ refusal. checked_data_payload rorg N telegram.now ≡ Err refusal) }
 {
     if telegram.rorg() != rorg {
         return Err(Unreadable::WrongKind);
@@ -27,15 +27,18 @@ fn sized_payload<const N: usize>(rorg: u8, telegram: &Telegram) -> Result<&[u8; 
 /// The payload, of `N` bytes, of a data telegram with this RORG, or the first error: `WrongKind` if the telegram has
 /// another RORG, `WrongLength` if the payload does not have `N` bytes, and `OtherMessage` if it is a 1BS or 4BS
 /// teach-in.
-pub fn payload_of<const N: usize>(rorg: u8, telegram: &Telegram) -> Result<&[u8; N], Unreadable>
+pub fn checked_data_payload<const N: usize>(
+    rorg: u8,
+    telegram: &Telegram,
+) -> Result<&[u8; N], Unreadable>
     ensures { MatchResult result
-        (λ bytes. payload_of rorg N telegram.now ≡ Ok bytes.now)
-        (λ refusal. payload_of rorg N telegram.now ≡ Err refusal) }
+        (λ bytes. checked_data_payload rorg N telegram.now ≡ Ok bytes.now)
+        (λ refusal. checked_data_payload rorg N telegram.now ≡ Err refusal) }
 {
     let bytes = sized_payload(rorg, telegram)?;
     let lrn = match rorg {
-        rorg::ONE_BS => get::<N, { lrn_bit::ONE_BS }, 1>(bytes),
-        rorg::FOUR_BS => get::<N, { lrn_bit::FOUR_BS }, 1>(bytes),
+        rorg::ONE_BS => get::<N, { lrn_bit::ONE_BS_OFFSET }, 1>(bytes),
+        rorg::FOUR_BS => get::<N, { lrn_bit::FOUR_BS_OFFSET }, 1>(bytes),
         _ => 1,
     };
     if lrn == 0 {
@@ -45,14 +48,14 @@ pub fn payload_of<const N: usize>(rorg: u8, telegram: &Telegram) -> Result<&[u8;
 }
 
 /// The same for a telegram that is known to be data: its LRN bit is not read again.
-pub fn data_payload_of<const N: usize>(
+pub fn unchecked_payload<const N: usize>(
     rorg: u8,
     telegram: &Telegram,
 ) -> Result<&[u8; N], Unreadable>
     requires { is_data telegram.now.rorg telegram.now.payload ≡ true }
     ensures { MatchResult result
-        (λ bytes. payload_of rorg N telegram.now ≡ Ok bytes.now)
-        (λ refusal. payload_of rorg N telegram.now ≡ Err refusal) }
+        (λ bytes. checked_data_payload rorg N telegram.now ≡ Ok bytes.now)
+        (λ refusal. checked_data_payload rorg N telegram.now ≡ Err refusal) }
 {
     sized_payload(rorg, telegram)
 }

@@ -3,7 +3,8 @@
 
 ghost use Rattle.std.specs.Prelude.{◌≡◌, ◌≢◌, ◌^◌, ◌≤◌, ℤ, pos, negsuc, ◌≤ℤ◌, map};
 ghost use Rattle.profile_rows.specs.Reading.{meaning_of, raw as itself, out_of_range};
-ghost use Rattle.profile_rows.specs.Rows.{value_in_range, word_for, word_at_threshold, percentage_or, quotient};
+ghost use Rattle.profile_rows.specs.Rows.{scaled_or_out_of_range, word_for, word_at_threshold, percentage_or_word_127};
+ghost use Rattle.profile_rows.specs.Rows.{quotient};
 
 use crate::What;
 use exact_values::scale;
@@ -23,7 +24,7 @@ pub fn range(
     requires high { raw_hi ≤ 65535 }
     requires tenths_low { (negsuc 999999 ≤ℤ tenths_lo) × (tenths_lo ≤ℤ pos 1000000) }
     requires tenths_high { (negsuc 999999 ≤ℤ tenths_hi) × (tenths_hi ≤ℤ pos 1000000) }
-    ensures { meaning_of result ≡ value_in_range raw_lo raw_hi tenths_lo tenths_hi unit.now raw }
+    ensures { meaning_of result ≡ scaled_or_out_of_range raw_lo raw_hi tenths_lo tenths_hi unit.now raw }
 {
     match scale(raw, raw_lo, raw_hi, tenths_lo, tenths_hi) {
         Some(value) => What::Value(value, unit),
@@ -51,8 +52,8 @@ pub fn threshold(raw: u32, bound: u32, below: &'static str, from: &'static str) 
 }
 
 /// 0 to 100 percent, and a word for 127. Every other number is out of range.
-pub fn percent_or(raw: u32, word: &'static str) -> What
-    ensures { meaning_of result ≡ percentage_or word.now raw }
+pub fn percent_or_word_127(raw: u32, word: &'static str) -> What
+    ensures { meaning_of result ≡ percentage_or_word_127 word.now raw }
 {
     if raw == 127 {
         What::Word(word)

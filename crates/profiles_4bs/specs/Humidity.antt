@@ -5,7 +5,7 @@ use Rattle.profile_rows.specs.Profile.{ProfileGroup}
 use Rattle.profiles_4bs.specs.Tenths.{minus}
 
 -- the humidity, and the temperature between two bounds, in tenths, if there is a temperature sensor
-abbrev pub humidity_and_temperature : ℤ → ℤ → List Row
+abbrev pub humidity_and_temperature : (coldest hottest : ℤ) → List Row
 humidity_and_temperature coldest hottest =
     record {
       name = codes "HUM";

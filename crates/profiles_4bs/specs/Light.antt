@@ -5,7 +5,7 @@ use Rattle.profile_rows.specs.Profile.{ProfileGroup}
 
 -- the supply voltage, and the one of two illuminations that the range select chooses: first the bounds of ILL2, then
 -- those of ILL1, in tenths
-abbrev pub voltage_and_light : ℤ → ℤ → ℤ → ℤ → List Row
+abbrev pub voltage_and_light : (darkest2 brightest2 darkest1 brightest1 : ℤ) → List Row
 voltage_and_light darkest2 brightest2 darkest1 brightest1 =
     record {
       name = codes "SVC";

@@ -5,7 +5,7 @@ use Rattle.profile_rows.specs.Profile.{ProfileGroup}
 
 -- The meter reading divided by ten to the power of the field of two bits at offset 30, and the tariff as the number
 -- itself. The bit at offset 29 selects the unit: that of a cumulative value, or that of a current one
-abbrev pub reading_and_tariff : List ℕ → List ℕ → List Row
+abbrev pub reading_and_tariff : (cumulative current : List ℕ) → List Row
 reading_and_tariff cumulative current =
     record {
       name = codes "MR";

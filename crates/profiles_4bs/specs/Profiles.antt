@@ -5,7 +5,7 @@ use Rattle.erp1_telegrams.specs.Telegram.{Telegram}
 use Rattle.profile_rows.specs.Reading.{Entry}
 use Rattle.profile_rows.specs.Rows.{Row, entries_of}
 use Rattle.profile_rows.specs.Profile.{ProfileGroup, rows_in}
-use Rattle.profile_rows.specs.Payload.{payload_of, readings_by}
+use Rattle.profile_rows.specs.Payload.{checked_data_payload, readings_by}
 use Rattle.profile_rows.specs.declared.unreadable.Unreadable.{Unreadable}
 use Rattle.profiles_4bs.specs.Temperature.{temperature_profiles}
 use Rattle.profiles_4bs.specs.Humidity.{humidity_profiles}
@@ -17,8 +17,8 @@ use Rattle.profiles_4bs.specs.RoomOperatingPanel.{room_operating_panel_profiles}
 use Rattle.profiles_4bs.specs.Meter.{meter_profiles}
 
 -- the supported profiles (own choice), and their rows
-abbrev pub table : List ProfileGroup
-table =
+abbrev pub all_profiles : List ProfileGroup
+all_profiles =
     temperature_profiles
     ++ humidity_profiles
     ++ light_profiles
@@ -30,7 +30,7 @@ table =
 
 -- the rows of a profile, if it is supported
 unfoldable pub rows_of : Eep → Option (List Row)
-rows_of eep = rows_in table eep
+rows_of eep = rows_in all_profiles eep
 
 -- a profile is supported if it has rows
 abbrev pub supported : Eep → Bool
@@ -38,4 +38,4 @@ supported eep = is_some (rows_of eep)
 
 -- the readings of a telegram by a profile, or the first reason to reject it
 abbrev pub readings_of : Eep → Telegram → Result (List Entry) Unreadable
-readings_of eep t = readings_by entries_of (rows_of eep) (payload_of eep.rorg 4 t)
+readings_of eep t = readings_by entries_of (rows_of eep) (checked_data_payload eep.rorg 4 t)

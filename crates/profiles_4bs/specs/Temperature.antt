@@ -5,7 +5,7 @@ use Rattle.profile_rows.specs.Profile.{ProfileGroup}
 use Rattle.profiles_4bs.specs.Tenths.{minus}
 
 -- a number of 8 bits, which falls from 255 to 0 as the temperature rises between two bounds, in tenths
-abbrev pub temperature_of_8_bits : ℤ → ℤ → List Row
+abbrev pub temperature_of_8_bits : (coldest hottest : ℤ) → List Row
 temperature_of_8_bits coldest hottest =
     record {
       name = codes "TMP";
@@ -17,7 +17,7 @@ temperature_of_8_bits coldest hottest =
     ∷ []
 
 -- a number of 10 bits, which falls from 1023 to 0 in the same way
-abbrev pub temperature_of_10_bits : ℤ → ℤ → List Row
+abbrev pub temperature_of_10_bits : (coldest hottest : ℤ) → List Row
 temperature_of_10_bits coldest hottest =
     record {
       name = codes "TMP";
@@ -29,16 +29,22 @@ temperature_of_10_bits coldest hottest =
     ∷ []
 
 -- A5-02-01: -40 to 0 C; for each further type both bounds are 10 C higher
-abbrev pub profile_over_40_degrees : ℕ → ProfileGroup
+abbrev pub profile_over_40_degrees : (typ : ℕ) → ProfileGroup
 profile_over_40_degrees typ =
     let more = pos (100 * (typ - 0x01)) in
     record { rorg = 0xA5; func = 0x02; types = typ ∷ []; rows = temperature_of_8_bits (more -ℤ pos 400) more }
 
 -- A5-02-10: -60 to 20 C; for each further type both bounds are 10 C higher
-abbrev pub profile_over_80_degrees : ℕ → ProfileGroup
+abbrev pub profile_over_80_degrees : (typ : ℕ) → ProfileGroup
 profile_over_80_degrees typ =
     let more = pos (100 * (typ - 0x10)) in
-    record { rorg = 0xA5; func = 0x02; types = typ ∷ []; rows = temperature_of_8_bits (more -ℤ pos 600) (more +ℤ pos 200) }
+    record {
+      rorg =
+          0xA5;
+      func = 0x02;
+      types = typ ∷ [];
+      rows = temperature_of_8_bits (more -ℤ pos 600) (more +ℤ pos 200);
+    }
 
 -- A5-02-01 to A5-02-0B
 abbrev pub profiles_over_40_degrees : List ProfileGroup

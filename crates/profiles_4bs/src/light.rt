@@ -11,8 +11,9 @@ use erp1_telegrams::Eep;
 use profile_rows::{Readings, read_profiles};
 
 /// Sets `readings` to what the rows of a profile A5-06 read in a payload, and returns whether the profile has rows.
-pub(crate) fn read_into(eep: Eep, bytes: &[u8; 4], readings: &mut Readings) -> bool
-    ensures exact { entries_if result readings.new.items ≡ option_map (entries_of bytes.now) (rows_in light_profiles eep) }
+pub(crate) fn read_if_supported(eep: Eep, bytes: &[u8; 4], readings: &mut Readings) -> bool
+    ensures exact { entries_if result readings.new.items ≡ option_map (entries_of bytes.now)
+        (rows_in light_profiles eep) }
     ensures none { OnFalse result (readings.new ≡ readings.old) }
 {
     read_profiles! { readings, eep, bytes, 4;

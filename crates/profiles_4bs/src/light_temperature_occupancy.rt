@@ -15,7 +15,7 @@ use profile_rows::{Readings, read_profiles};
 const ON_OR_OFF: [(u32, &str); 2] = [(0, "on"), (1, "off")];
 
 /// Sets `readings` to what the rows of a profile A5-08 read in a payload, and returns whether the profile has rows.
-pub(crate) fn read_into(eep: Eep, bytes: &[u8; 4], readings: &mut Readings) -> bool
+pub(crate) fn read_if_supported(eep: Eep, bytes: &[u8; 4], readings: &mut Readings) -> bool
     ensures exact { entries_if result readings.new.items
         ≡ option_map (entries_of bytes.now) (rows_in light_temperature_occupancy_profiles eep) }
     ensures none { OnFalse result (readings.new ≡ readings.old) }

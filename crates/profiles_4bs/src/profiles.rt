@@ -12,35 +12,35 @@ use crate::{
     temperature,
 };
 use erp1_telegrams::{Eep, Telegram};
-use profile_rows::{Readings, Unreadable, data_payload_of, payload_of};
+use profile_rows::{Readings, Unreadable, checked_data_payload, unchecked_payload};
 
 /// Sets `readings` to what the rows of a profile read in a payload, and returns whether the profile has rows. Each
 /// function has the profiles of one FUNC.
 #[tactic(auto, unfolding(crate::specs::Profiles::rows_of, profile_rows::specs::Profile::is_one_of))]
-fn read_into(eep: Eep, bytes: &[u8; 4], readings: &mut Readings) -> bool
+fn read_if_supported(eep: Eep, bytes: &[u8; 4], readings: &mut Readings) -> bool
     ensures exact { entries_if result readings.new.items ≡ option_map (entries_of bytes.now) (rows_of eep) }
     ensures none { OnFalse result (readings.new ≡ readings.old) }
 {
     match eep.func {
-        0x02 => temperature::read_into(eep, bytes, readings),
-        0x04 => humidity::read_into(eep, bytes, readings),
-        0x06 => light::read_into(eep, bytes, readings),
-        0x07 => occupancy::read_into(eep, bytes, readings),
-        0x08 => light_temperature_occupancy::read_into(eep, bytes, readings),
-        0x09 => gas::read_into(eep, bytes, readings),
-        0x10 => room_operating_panel::read_into(eep, bytes, readings),
-        0x12 => meter::read_into(eep, bytes, readings),
+        0x02 => temperature::read_if_supported(eep, bytes, readings),
+        0x04 => humidity::read_if_supported(eep, bytes, readings),
+        0x06 => light::read_if_supported(eep, bytes, readings),
+        0x07 => occupancy::read_if_supported(eep, bytes, readings),
+        0x08 => light_temperature_occupancy::read_if_supported(eep, bytes, readings),
+        0x09 => gas::read_if_supported(eep, bytes, readings),
+        0x10 => room_operating_panel::read_if_supported(eep, bytes, readings),
+        0x12 => meter::read_if_supported(eep, bytes, readings),
         _ => false,
     }
 }
 
-/// Whether a profile is supported: whether it is in `table` of `specs/Profiles.antt`. `read` returns `NotSupported`
-/// exactly if it is not. The function decodes zeros and drops the readings, so the code names each profile only once,
-/// in the functions `read_into`.
+/// Whether a profile is supported: whether it is in `all_profiles` of `specs/Profiles.antt`. `read` returns
+/// `NotSupported` exactly if it is not. The function decodes zeros and drops the readings, so the code names each
+/// profile only once, in the functions `read_if_supported`.
 pub fn supports(eep: Eep) -> bool
     ensures { result ≡ supported eep }
 {
-    read_into(eep, &[0; 4], &mut Readings::new())
+    read_if_supported(eep, &[0; 4], &mut Readings::new())
 }
 
 // Decodes a payload, or the reason why there is none, by a profile.
@@ -55,7 +55,7 @@ fn read_payload(
     ensures err { OnErr result (readings.new ≡ readings.old) }
 {
     match payload {
-        Ok(bytes) if read_into(eep, bytes, readings) => Ok(()),
+        Ok(bytes) if read_if_supported(eep, bytes, readings) => Ok(()),
         Err(refusal) if supports(eep) => Err(refusal),
         _ => Err(Unreadable::NotSupported),
     }
@@ -70,7 +70,7 @@ pub fn read(eep: Eep, telegram: &Telegram, readings: &mut Readings) -> Result<()
     ensures exact { read_result result readings.new.items ≡ readings_of eep telegram.now }
     ensures err { OnErr result (readings.new ≡ readings.old) }
 {
-    read_payload(eep, payload_of(eep.rorg, telegram), readings)
+    read_payload(eep, checked_data_payload(eep.rorg, telegram), readings)
 }
 
 /// The same for a telegram that is known to be data, whose LRN bit is not read again.
@@ -79,5 +79,5 @@ pub fn read_data(eep: Eep, telegram: &Telegram, readings: &mut Readings) -> Resu
     ensures exact { read_result result readings.new.items ≡ readings_of eep telegram.now }
     ensures err { OnErr result (readings.new ≡ readings.old) }
 {
-    read_payload(eep, data_payload_of(eep.rorg, telegram), readings)
+    read_payload(eep, unchecked_payload(eep.rorg, telegram), readings)
 }

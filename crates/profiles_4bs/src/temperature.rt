@@ -13,8 +13,9 @@ use profile_rows::{Readings, read_profiles};
 
 /// Sets `readings` to what the rows of a profile A5-02 read in a payload, and returns whether the profile has rows.
 /// Each of the three functions has a part of the profiles: a single function would cost more to prove.
-pub(crate) fn read_into(eep: Eep, bytes: &[u8; 4], readings: &mut Readings) -> bool
-    ensures exact { entries_if result readings.new.items ≡ option_map (entries_of bytes.now) (rows_in temperature_profiles eep) }
+pub(crate) fn read_if_supported(eep: Eep, bytes: &[u8; 4], readings: &mut Readings) -> bool
+    ensures exact { entries_if result readings.new.items ≡ option_map (entries_of bytes.now)
+        (rows_in temperature_profiles eep) }
     ensures none { OnFalse result (readings.new ≡ readings.old) }
 {
     read_over_40_degrees(eep, bytes, readings)

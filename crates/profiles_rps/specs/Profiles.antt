@@ -5,7 +5,7 @@ use Rattle.erp1_telegrams.specs.Telegram.{Telegram}
 use Rattle.profile_rows.specs.Reading.{Entry}
 use Rattle.profile_rows.specs.Rows.{Row, rows_entries}
 use Rattle.profile_rows.specs.Profile.{ProfileGroup, rows_in}
-use Rattle.profile_rows.specs.Payload.{payload_of, readings_by}
+use Rattle.profile_rows.specs.Payload.{checked_data_payload, readings_by}
 use Rattle.profile_rows.specs.declared.unreadable.Unreadable.{Unreadable}
 use Rattle.profiles_rps.specs.Rps.{push_button, two_rockers, four_rockers}
 use Rattle.profiles_rps.specs.OneByte.{single_contact}
@@ -29,4 +29,4 @@ supported eep = is_some (rows_of eep)
 
 -- the readings of a telegram by a profile, or the first reason to reject it
 abbrev pub readings_of : Eep → Telegram → Result (List Entry) Unreadable
-readings_of eep t = readings_by (rows_entries t.status) (rows_of eep) (payload_of eep.rorg 1 t)
+readings_of eep t = readings_by (rows_entries t.status) (rows_of eep) (checked_data_payload eep.rorg 1 t)

@@ -9,7 +9,7 @@ ghost use Rattle.profiles_rps.specs.Profiles.{rows_of, supported, readings_of};
 
 use bit_fields::get;
 use erp1_telegrams::{Eep, Telegram};
-use profile_rows::{Readings, Unreadable, data_payload_of, payload_of, read_profiles};
+use profile_rows::{Readings, Unreadable, checked_data_payload, read_profiles, unchecked_payload};
 
 const RELEASED_OR_PRESSED: [(u32, &str); 2] = [(0, "released"), (1, "pressed")];
 
@@ -28,7 +28,7 @@ const ROCKERS_ABCD: [(u32, &str); 8] = [
 
 /// Sets `readings` to what the rows of a profile read in a payload, and returns whether the profile has rows.
 #[tactic(auto, unfolding(crate::specs::Profiles::rows_of))]
-fn read_into(eep: Eep, status: u8, bytes: &[u8; 1], readings: &mut Readings) -> bool
+fn read_if_supported(eep: Eep, status: u8, bytes: &[u8; 1], readings: &mut Readings) -> bool
     ensures exact { entries_if result readings.new.items ≡ option_map (rows_entries status bytes.now) (rows_of eep) }
     ensures none { OnFalse result (readings.new ≡ readings.old) }
 {
@@ -57,11 +57,11 @@ fn read_into(eep: Eep, status: u8, bytes: &[u8; 1], readings: &mut Readings) -> 
 
 /// Whether a profile is supported: whether it is in `table` of `specs/Profiles.antt`. `read` returns `NotSupported`
 /// exactly if it is not. The function decodes zeros and drops the readings, so the code names each profile only once,
-/// in `read_into`.
+/// in `read_if_supported`.
 pub fn supports(eep: Eep) -> bool
     ensures { result ≡ supported eep }
 {
-    read_into(eep, 0, &[0], &mut Readings::new())
+    read_if_supported(eep, 0, &[0], &mut Readings::new())
 }
 
 // Decodes a payload, or the reason why there is none, by a profile.
@@ -77,7 +77,7 @@ fn read_payload(
     ensures err { OnErr result (readings.new ≡ readings.old) }
 {
     match payload {
-        Ok(bytes) if read_into(eep, status, bytes, readings) => Ok(()),
+        Ok(bytes) if read_if_supported(eep, status, bytes, readings) => Ok(()),
         Err(refusal) if supports(eep) => Err(refusal),
         _ => Err(Unreadable::NotSupported),
     }
@@ -94,7 +94,7 @@ pub fn read(eep: Eep, telegram: &Telegram, readings: &mut Readings) -> Result<()
     read_payload(
         eep,
         telegram.status(),
-        payload_of(eep.rorg, telegram),
+        checked_data_payload(eep.rorg, telegram),
         readings,
     )
 }
@@ -108,7 +108,7 @@ pub fn read_data(eep: Eep, telegram: &Telegram, readings: &mut Readings) -> Resu
     read_payload(
         eep,
         telegram.status(),
-        data_payload_of(eep.rorg, telegram),
+        unchecked_payload(eep.rorg, telegram),
         readings,
     )
 }

@@ -1,7 +1,8 @@
 -- The rows of the D2-01 messages that are decoded (EnOcean Equipment Profiles 2.6, "D2-01", the commands 4 and 7:
 -- Electronic Switches and Dimmers with Local Control). Own choice: these rows apply to all types of D2-01.
 use Rattle.std.specs.Prelude.{ℕ, List, [], ◌∷◌, codes}
-use Rattle.profile_rows.specs.Rows.{Row, words, percent_or, over, number, reserved, always, where_field, where_above}
+use Rattle.profile_rows.specs.Rows.{Row, words, percent_or_word_127, over, number, reserved, always, where_field}
+use Rattle.profile_rows.specs.Rows.{where_above}
 
 -- the words of the error level
 abbrev pub error_levels : List (ℕ × List ℕ)
@@ -17,11 +18,18 @@ status_response =
     ∷ record { name = codes "EL"; offset = 9; len = 2; condition = always; kind = words error_levels }
     ∷ record { name = codes "IO"; offset = 11; len = 5; condition = always; kind = number }
     ∷ record { name = codes "LC"; offset = 16; len = 1; condition = always; kind = number }
-    ∷ record { name = codes "OV"; offset = 17; len = 7; condition = always; kind = percent_or (codes "not_applicable") }
+    ∷ record {
+      name = codes "OV";
+      offset = 17;
+      len = 7;
+      condition = always;
+      kind = percent_or_word_127
+          (codes "not_applicable");
+    }
     ∷ []
 
 -- the measured value if the field UN has this number, in the unit of that number
-abbrev pub measured_in : ℕ → List ℕ → Row
+abbrev pub measured_in : (un : ℕ) (unit : List ℕ) → Row
 measured_in un unit =
     record { name = codes "MV"; offset = 16; len = 32; condition = where_field 8 3 un; kind = over 1 unit }
 

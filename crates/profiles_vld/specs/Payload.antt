@@ -6,5 +6,6 @@ use Rattle.profile_rows.specs.declared.unreadable.Unreadable.{Unreadable}
 use Rattle.profile_rows.specs.declared.unreadable.Unreadable.TheVariants as refusals
 
 -- the readings of rows in a payload of this length, in bytes; any other length is rejected
-abbrev pub entries_if_length : ℕ → List ℕ → List Row → Result (List Entry) Unreadable
-entries_if_length n payload rows = if length payload == n then Ok (entries_of payload rows) else Err refusals.WrongLength
+abbrev pub entries_if_length : ℕ → (payload : List ℕ) → List Row → Result (List Entry) Unreadable
+entries_if_length n payload rows =
+    if length payload == n then Ok (entries_of payload rows) else Err refusals.WrongLength

@@ -15,7 +15,7 @@ use Rattle.profiles_vld.specs.BlindsControl.{position_and_angle}
 
 -- the readings of a payload by D2-01; the field CMD is in the first byte (EnOcean Equipment Profiles 2.6, "D2-01"). Own
 -- choice: a wrong command is rejected before a wrong length
-abbrev pub electronic_switch_readings : List ℕ → Result (List Entry) Unreadable
+abbrev pub electronic_switch_readings : (payload : List ℕ) → Result (List Entry) Unreadable
 electronic_switch_readings payload =
     if field payload 4 4 == 4 then entries_if_length 3 payload status_response
     else if field payload 4 4 == 7 then entries_if_length 6 payload measurement_response
@@ -23,7 +23,7 @@ electronic_switch_readings payload =
 
 -- the readings of a payload by D2-05-00; the field CMD of a reply is in the fourth byte (EnOcean Equipment Profiles
 -- 2.6, "D2-05-00"). Own choice: a wrong length is rejected before a wrong command
-abbrev pub blinds_control_readings : List ℕ → Result (List Entry) Unreadable
+abbrev pub blinds_control_readings : (payload : List ℕ) → Result (List Entry) Unreadable
 blinds_control_readings payload =
     if not (length payload == 4) then Err refusals.WrongLength
     else if not (field payload 28 4 == 4) then Err refusals.OtherMessage
@@ -41,9 +41,11 @@ abbrev pub supported : Eep → Bool
 supported eep = is_some (payload_readings_of eep)
 
 -- the readings of a telegram with this RORG by a profile, or the first reason to reject it
-abbrev pub read_if_rorg : ℕ → (List ℕ → Result (List Entry) Unreadable) → Telegram → Result (List Entry) Unreadable
+abbrev pub read_if_rorg : (rorg : ℕ) → (List ℕ → Result (List Entry) Unreadable) → Telegram
+    → Result (List Entry) Unreadable
 read_if_rorg rorg says t = if not (t.rorg == rorg) then Err refusals.WrongKind else says t.payload
 
 -- the readings of a telegram by a profile, or the first reason to reject it (own choice: the order of the reasons)
 abbrev pub readings_of : Eep → Telegram → Result (List Entry) Unreadable
-readings_of eep t = option_map_or (λ says. read_if_rorg eep.rorg says t) (payload_readings_of eep) (Err refusals.NotSupported)
+readings_of eep t =
+    option_map_or (λ says. read_if_rorg eep.rorg says t) (payload_readings_of eep) (Err refusals.NotSupported)

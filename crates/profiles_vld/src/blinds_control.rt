@@ -9,7 +9,7 @@ use profile_rows::{Readings, Unreadable, read_rows};
 
 /// Sets `readings` to the readings of a payload, or returns the first error: `WrongLength` if it does not have four
 /// bytes, and `OtherMessage` if its command is not 4.
-pub(crate) fn read_into(payload: &[u8], readings: &mut Readings) -> Result<(), Unreadable>
+pub(crate) fn read_if_supported(payload: &[u8], readings: &mut Readings) -> Result<(), Unreadable>
     ensures exact { read_result result readings.new.items ≡ blinds_control_readings payload.now }
     ensures err { OnErr result (readings.new ≡ readings.old) }
 {
@@ -20,8 +20,8 @@ pub(crate) fn read_into(payload: &[u8], readings: &mut Readings) -> Result<(), U
         return Err(Unreadable::OtherMessage);
     }
     read_rows! { readings, bytes, 4;
-        "POS" (1, 7) [] percent_or("unknown");
-        "ANG" (9, 7) [] percent_or("unknown");
+        "POS" (1, 7) [] percent_or_word_127("unknown");
+        "ANG" (9, 7) [] percent_or_word_127("unknown");
         "LOCK" (21, 3) [] number();
         "CHN" (24, 4) [] number();
     }

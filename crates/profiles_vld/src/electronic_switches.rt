@@ -12,7 +12,7 @@ use profile_rows::{Readings, Unreadable, read_rows};
 
 /// Sets `readings` to the readings of a payload, or returns the first error: `OtherMessage` if its command is neither 4
 /// nor 7, and `WrongLength` if it does not have the length of its command's message.
-pub(crate) fn read_into(payload: &[u8], readings: &mut Readings) -> Result<(), Unreadable>
+pub(crate) fn read_if_supported(payload: &[u8], readings: &mut Readings) -> Result<(), Unreadable>
     ensures exact { read_result result readings.new.items ≡ electronic_switch_readings payload.now }
     ensures err { OnErr result (readings.new ≡ readings.old) }
 {
@@ -49,7 +49,7 @@ fn status_response(payload: &[u8], readings: &mut Readings) -> Result<(), Unread
         "EL" (9, 2) [] words(&[(0, "ok"), (1, "warning"), (2, "failure"), (3, "not_supported")]);
         "IO" (11, 5) [] number();
         "LC" (16, 1) [] number();
-        "OV" (17, 7) [] percent_or("not_applicable");
+        "OV" (17, 7) [] percent_or_word_127("not_applicable");
     }
     Ok(())
 }

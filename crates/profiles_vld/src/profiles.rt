@@ -10,26 +10,32 @@ use profile_rows::{Readings, Unreadable};
 
 /// Sets `readings` to the readings of a payload by a profile, or returns the first error; `None` if the profile is not
 /// supported.
-fn read_into(eep: Eep, payload: &[u8], readings: &mut Readings) -> Option<Result<(), Unreadable>>
+fn read_if_supported(
+    eep: Eep,
+    payload: &[u8],
+    readings: &mut Readings,
+) -> Option<Result<(), Unreadable>>
     ensures exact { option_map (λ answer. read_result answer readings.new.items) result
         ≡ option_map (λ says. says payload.now) (payload_readings_of eep) }
     ensures none { IfNone result (readings.new ≡ readings.old) }
     ensures err { IfSome result (λ answer. OnErr answer (readings.new ≡ readings.old)) }
 {
     match (eep.rorg, eep.func, eep.typ) {
-        (rorg::VLD, 0x01, 0x00..=0x12) => Some(electronic_switches::read_into(payload, readings)),
-        (rorg::VLD, 0x05, 0x00) => Some(blinds_control::read_into(payload, readings)),
+        (rorg::VLD, 0x01, 0x00..=0x12) => Some(electronic_switches::read_if_supported(
+            payload, readings,
+        )),
+        (rorg::VLD, 0x05, 0x00) => Some(blinds_control::read_if_supported(payload, readings)),
         _ => None,
     }
 }
 
 /// Whether a profile is supported: whether `payload_readings_of` of `specs/Profiles.antt` has it. `read` returns
 /// `NotSupported` exactly if it has not. The function decodes an empty payload and drops the result, so the code names
-/// each profile only once, in `read_into`.
+/// each profile only once, in `read_if_supported`.
 pub fn supports(eep: Eep) -> bool
     ensures { result ≡ supported eep }
 {
-    read_into(eep, &[], &mut Readings::new()).is_some()
+    read_if_supported(eep, &[], &mut Readings::new()).is_some()
 }
 
 /// Decodes a telegram by a profile: sets `readings` to its readings, in the order of the profile's rows (EnOcean
@@ -43,7 +49,9 @@ pub fn read(eep: Eep, telegram: &Telegram, readings: &mut Readings) -> Result<()
     ensures err { OnErr result (readings.new ≡ readings.old) }
 {
     if telegram.rorg() == eep.rorg {
-        read_into(eep, telegram.payload(), readings).unwrap_or(Err(Unreadable::NotSupported))
+        read_if_supported(eep, telegram.payload(), readings).unwrap_or(Err(
+            Unreadable::NotSupported,
+        ))
     } else if supports(eep) {
         Err(Unreadable::WrongKind)
     } else {

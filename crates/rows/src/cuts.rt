@@ -121,18 +121,18 @@ fn written_for_any_cut(alloc: Global, chance: &mut Chance) -> Result<Option<Vec<
 pub(crate) fn tell(rt: &HostRuntime, telling: &mut Telling) -> Result<()> {
     let mut chance = Chance { state: 2026 };
     let mut same = 0u32;
-    let mut told = 0u32;
+    let mut stated = 0u32;
     for _ in 0..STREAMS {
         if let Some(text) = written_for_any_cut(rt.alloc(), &mut chance)? {
             same = same.saturating_add(1);
             if text.len() > 300 {
-                told = told.saturating_add(1);
+                stated = stated.saturating_add(1);
             }
         }
     }
     telling.tell(
         rt,
         "a thousand streams, each cut in three ways",
-        same == STREAMS && told > 100,
+        same == STREAMS && stated > 100,
     )
 }

@@ -3,7 +3,7 @@ use crate::telling::Telling;
 use anyhow::Result;
 use gateway_core::StartFault;
 use gateway_main::command_line::{CommandLineFault, read};
-use gateway_main::ending::{Ending, ending_without_arguments, first_fault, status};
+use gateway_main::ending::{Ending, done_or_first_fault, ending_without_arguments, status};
 use gateway_main::fault::Fault;
 use gateway_main::{RunFault, Summary};
 use std::alloc::{AllocError, Global};
@@ -23,7 +23,7 @@ fn tell_faults(rt: &HostRuntime, telling: &mut Telling) -> Result<()> {
         (Fault::NotARegistry, "not a registry"),
         (Fault::Store, "store"),
         (Fault::Memory, "memory"),
-        (Fault::CannotOpen, "cannot open"),
+        (Fault::CannotOpenFile, "cannot open"),
         (Fault::from(RunFault::Read), "read"),
         (Fault::from(RunFault::Write), "write"),
         (Fault::from(RunFault::TooManyTurns), "too many turns"),
@@ -148,9 +148,9 @@ fn tell_closes(rt: &HostRuntime, telling: &mut Telling) -> Result<()> {
         ),
         (
             "no path",
-            Err(Fault::CannotOpen),
+            Err(Fault::CannotOpenFile),
             Ok(()),
-            Err(Fault::CannotOpen),
+            Err(Fault::CannotOpenFile),
         ),
         (
             "a close that is refused",
@@ -172,12 +172,12 @@ fn tell_closes(rt: &HostRuntime, telling: &mut Telling) -> Result<()> {
         ),
         (
             "no path and a close",
-            Err(Fault::CannotOpen),
+            Err(Fault::CannotOpenFile),
             Err(refused),
-            Err(Fault::CannotOpen),
+            Err(Fault::CannotOpenFile),
         ),
     ] {
-        telling.tell(rt, name, first_fault(served, closed) == wanted)?;
+        telling.tell(rt, name, done_or_first_fault(served, closed) == wanted)?;
     }
     Ok(())
 }

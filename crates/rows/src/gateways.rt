@@ -115,8 +115,8 @@ fn lists_what_it_learned<C: SqlConnection + Drop>(
     first: GatewayOver<RegistryOver<C>>,
 ) -> bool {
     let mut first = first;
-    let is_learned = tells(&first.order(b"add 01800ABC D5-00-01"), ACCEPTED)
-        && tells(&first.order(b"add 00000001 D5-00-01"), SECOND_ACCEPTED);
+    let is_learned = reports(&first.order(b"add 01800ABC D5-00-01"), ACCEPTED)
+        && reports(&first.order(b"add 00000001 D5-00-01"), SECOND_ACCEPTED);
     let conn = first.close();
     if !conn.is_autocommit() {
         return false;
@@ -125,12 +125,12 @@ fn lists_what_it_learned<C: SqlConnection + Drop>(
         return false;
     };
     match GatewayOver::new(alloc, registry, BASE) {
-        Ok(mut second) => is_learned && tells(&second.order(b"list"), BOTH_LISTED),
+        Ok(mut second) => is_learned && reports(&second.order(b"list"), BOTH_LISTED),
         Err(_) => false,
     }
 }
 
-fn tells(reply: &Reply, text: &[u8]) -> bool {
+fn reports(reply: &Reply, text: &[u8]) -> bool {
     reply.radio.is_none() && reply.desk.as_bytes() == text
 }
 
@@ -148,7 +148,7 @@ const STREAM: [u8; 51] = [
 /// A new gateway that knows the contact.
 fn with_contact(alloc: Global) -> Result<GatewayOver<RegistryOver<Connection<MemStore>>>> {
     let mut gateway = fresh(alloc)?;
-    if !tells(&gateway.order(b"add 01800ABC D5-00-01"), ACCEPTED) {
+    if !reports(&gateway.order(b"add 01800ABC D5-00-01"), ACCEPTED) {
         bail!("the contact is not learned");
     }
     Ok(gateway)
@@ -157,7 +157,7 @@ fn with_contact(alloc: Global) -> Result<GatewayOver<RegistryOver<Connection<Mem
 /// Whether the next packet is the contact's, which is read.
 fn reads_next<S: DeviceStore>(gateway: &mut GatewayOver<S>) -> bool {
     match gateway.next() {
-        Some(reply) => tells(&reply, READ),
+        Some(reply) => reports(&reply, READ),
         None => false,
     }
 }
@@ -165,7 +165,7 @@ fn reads_next<S: DeviceStore>(gateway: &mut GatewayOver<S>) -> bool {
 /// Whether the next packet is the contact's, which is read, as `handle_next` returns it.
 fn handles_next<S: DeviceStore>(gateway: &mut GatewayOver<S>) -> bool {
     match gateway.handle_next() {
-        Some(handled) => tells(&handled.reply, READ),
+        Some(handled) => reports(&handled.reply, READ),
         None => false,
     }
 }
@@ -194,16 +194,16 @@ fn in_a_run<S: DeviceStore>(gateway: &mut GatewayOver<S>) -> bool {
 
 /// Whether the packet at the front of some bytes is read, and no packet if noise is at the front or a byte is held.
 fn at_the_front<S: DeviceStore>(gateway: &mut GatewayOver<S>) -> bool {
-    if gateway.is_ready() || gateway.handle_first(&STREAM).is_some() {
+    if gateway.is_ready() || gateway.handle_front_packet(&STREAM).is_some() {
         return false;
     }
-    let is_read = match gateway.handle_first(&STREAM[9..]) {
-        Some((handled, count)) => count == 21 && tells(&handled.reply, READ),
+    let is_read = match gateway.handle_front_packet(&STREAM[9..]) {
+        Some((handled, count)) => count == 21 && reports(&handled.reply, READ),
         None => false,
     };
     if gateway.is_ready() {
         return false;
     }
     gateway.byte(0x55);
-    is_read && !gateway.is_ready() && gateway.handle_first(&STREAM[9..]).is_none()
+    is_read && !gateway.is_ready() && gateway.handle_front_packet(&STREAM[9..]).is_none()
 }

@@ -66,13 +66,13 @@ pub(crate) fn tell(rt: &HostRuntime, telling: &mut Telling) -> Result<()> {
 
 /// How a gateway served some turns, and what it wrote.
 #[derive(Drop)]
-pub struct ServeResult {
+pub struct RunResultIfOpened {
     pub ended: Result<Summary, RunFault>,
     pub radio: Vec<u8>,
     pub desk: Vec<u8>,
 }
 
-impl ServeResult {
+impl RunResultIfOpened {
     /// Whether it ended with this result, with these bytes on each side.
     fn is(&self, ended: Result<Summary, RunFault>, radio: &[&[u8]], desk: &[&[u8]]) -> bool {
         self.ended == ended && is_all(&self.radio, radio) && is_all(&self.desk, desk)
@@ -98,7 +98,7 @@ fn serve(
     desk: Parts<'_>,
     turns: u64,
     fails_at: (usize, usize),
-) -> Result<ServeResult> {
+) -> Result<RunResultIfOpened> {
     let mut gateway = fresh(alloc)?;
     let inputs = (serial, desk);
     serve_by(alloc, &mut gateway, inputs, false, turns, 7, fails_at)
@@ -106,7 +106,7 @@ fn serve(
 
 /// Serves two turns with explanations: a packet and two orders, and then a query. The writers take at most this many
 /// bytes at a call, and that of the desk fails at this call.
-fn serve_explained(alloc: Global, most: usize, desk_fails_at: usize) -> Result<ServeResult> {
+fn serve_explained(alloc: Global, most: usize, desk_fails_at: usize) -> Result<RunResultIfOpened> {
     let mut gateway = fresh(alloc)?;
     let serial = [CONTACT, QUERY];
     let desk = [b"learn on\nbase\n".as_slice()];
@@ -125,32 +125,37 @@ pub(crate) fn serve_by<S: DeviceStore>(
     turns: u64,
     most: usize,
     fails_at: (usize, usize),
-) -> Result<ServeResult> {
+) -> Result<RunResultIfOpened> {
     if gateway.is_ready() {
         bail!("a packet waits");
     }
     let (serial, desk) = inputs;
     let (radio_fails_at, desk_fails_at) = fails_at;
     let mut radio = Vec::new(alloc);
-    let mut told = Vec::new(alloc);
+    let mut printed = Vec::new(alloc);
     let ended = live(
         &mut OverRead::new(serial),
         &mut OverRead::new(desk),
         &mut OverWrite::new(Sips::new(&mut radio, most, radio_fails_at)),
-        &mut OverWrite::new(Sips::new(&mut told, most, desk_fails_at)),
+        &mut OverWrite::new(Sips::new(&mut printed, most, desk_fails_at)),
         gateway,
         explains,
         turns,
     );
-    Ok(ServeResult {
+    Ok(RunResultIfOpened {
         ended,
         radio,
-        desk: told,
+        desk: printed,
     })
 }
 
 /// Serves turns that read these parts, with writers that do not fail.
-fn serve_parts(alloc: Global, serial: &[&[u8]], desk: &[&[u8]], turns: u64) -> Result<ServeResult> {
+fn serve_parts(
+    alloc: Global,
+    serial: &[&[u8]],
+    desk: &[&[u8]],
+    turns: u64,
+) -> Result<RunResultIfOpened> {
     serve(
         alloc,
         Parts::new(serial, 0),
@@ -196,8 +201,8 @@ fn tell_both_outputs(rt: &HostRuntime, telling: &mut Telling) -> Result<()> {
 // A packet is explained before its own line. Explanations change neither the radio bytes nor the answers to orders.
 fn tell_explanations(rt: &HostRuntime, telling: &mut Telling) -> Result<()> {
     let served = serve_explained(rt.alloc(), 7, NEVER)?;
-    let told = [CONTACT_EXPLAINED, OK, OK, QUERY_EXPLAINED, TAUGHT];
-    let is_well = served.is(items(4), &[BASE_QUESTION, REPLY], &told);
+    let printed = [CONTACT_EXPLAINED, OK, OK, QUERY_EXPLAINED, TAUGHT];
+    let is_well = served.is(items(4), &[BASE_QUESTION, REPLY], &printed);
     telling.tell(rt, "packets that are explained", is_well)
 }
 
@@ -230,12 +235,12 @@ fn desk_after<S: DeviceStore>(
     if gateway.is_ready() {
         bail!("a packet waits");
     }
-    let mut told = Vec::new(alloc);
+    let mut printed = Vec::new(alloc);
     let ended = live(
         &mut OverRead::new(b"".as_slice()),
         &mut OverRead::new(bytes),
         &mut OverWrite::new(Vec::new(alloc)),
-        &mut OverWrite::new(&mut told),
+        &mut OverWrite::new(&mut printed),
         gateway,
         false,
         1,
@@ -243,11 +248,11 @@ fn desk_after<S: DeviceStore>(
     if ended.is_err() {
         bail!("a turn failed");
     }
-    Ok(told)
+    Ok(printed)
 }
 
 /// Whether the desk receives this for 100 letters, this many more, and this end, across three reads.
-fn is_told(alloc: Global, length: usize, end: &[u8], wanted: &[u8]) -> Result<bool> {
+fn is_reported(alloc: Global, length: usize, end: &[u8], wanted: &[u8]) -> Result<bool> {
     let line = [b'x'; 201];
     let (front, back) = line.split_at(100);
     let served = serve_parts(alloc, &[], &[front, &back[..length.min(101)], end], 3)?;
@@ -263,7 +268,7 @@ fn tell_lengths(rt: &HostRuntime, telling: &mut Telling) -> Result<()> {
         ("201 bytes of the desk, CR and LF", 101, b"\r\n", TOO_LONG),
     ];
     for (name, length, end, wanted) in cases {
-        telling.tell(rt, name, is_told(rt.alloc(), length, end, wanted)?)?;
+        telling.tell(rt, name, is_reported(rt.alloc(), length, end, wanted)?)?;
     }
     Ok(())
 }
@@ -274,7 +279,7 @@ fn serve_query(
     alloc: Global,
     read_fails_at: (usize, usize),
     write_fails_at: (usize, usize),
-) -> Result<ServeResult> {
+) -> Result<RunResultIfOpened> {
     let (serial_fails_at, desk_fails_at) = read_fails_at;
     let serial = [b"".as_slice(), QUERY];
     let desk = [b"learn on\n".as_slice(), b"base\n"];
@@ -310,14 +315,19 @@ fn tell_reads_that_fail(rt: &HostRuntime, telling: &mut Telling) -> Result<()> {
 
 /// Whether the gateway ends with `Write`, and each writer has exactly this many first bytes, if its writers fail from
 /// these calls on.
-fn breaks_off(alloc: Global, fails_at: (usize, usize), sent: usize, told: usize) -> Result<bool> {
+fn breaks_off(
+    alloc: Global,
+    fails_at: (usize, usize),
+    sent: usize,
+    printed: usize,
+) -> Result<bool> {
     let all = serve_query(alloc, (0, 0), (NEVER, NEVER))?;
     let done = serve_query(alloc, (0, 0), fails_at)?;
     Ok(
         all.is(items(3), &[REPLY, BASE_QUESTION], &[OK, TAUGHT, OK])
             && done.ended == Err(RunFault::Write)
             && Some(done.radio.as_slice()) == all.radio.as_slice().get(..sent)
-            && Some(done.desk.as_slice()) == all.desk.as_slice().get(..told),
+            && Some(done.desk.as_slice()) == all.desk.as_slice().get(..printed),
     )
 }
 
@@ -327,7 +337,7 @@ fn breaks_off(alloc: Global, fails_at: (usize, usize), sent: usize, told: usize)
 // writes, the teach line twelve, the last of which has four, and the answer to `base` two.
 fn tell_writes_that_fail(rt: &HostRuntime, telling: &mut Telling) -> Result<()> {
     let alloc = rt.alloc();
-    for (fails_at, sent, told) in [
+    for (fails_at, sent, printed) in [
         (1, 0, 14),
         (2, 7, 14),
         (3, 14, 14),
@@ -336,17 +346,17 @@ fn tell_writes_that_fail(rt: &HostRuntime, telling: &mut Telling) -> Result<()> 
         (6, 34, 95),
     ] {
         let name = format!(in alloc; "write {fails_at} to the serial line")?;
-        let is_well = breaks_off(alloc, (fails_at, NEVER), sent, told)?;
+        let is_well = breaks_off(alloc, (fails_at, NEVER), sent, printed)?;
         telling.tell(rt, name.as_str(), is_well)?;
     }
     for fails_at in 1..=16 {
-        let (sent, told) = match fails_at {
+        let (sent, printed) = match fails_at {
             1 | 2 => (0, 7 * (fails_at - 1)),
             3..=14 => (27, 14 + 7 * (fails_at - 3)),
             _ => (35, 95 + 7 * (fails_at - 15)),
         };
         let name = format!(in alloc; "write {fails_at} to the desk")?;
-        let is_well = breaks_off(alloc, (NEVER, fails_at), sent, told)?;
+        let is_well = breaks_off(alloc, (NEVER, fails_at), sent, printed)?;
         telling.tell(rt, name.as_str(), is_well)?;
     }
     Ok(())

@@ -15,10 +15,10 @@ use Rattle.teach_in.specs.declared.telegrams.Teach.{Teach}
 use Rattle.teach_in.specs.declared.telegrams.Teach.TheVariants.{Plain, Contact, Bare, FourByte, Ute, Answer}
 use Rattle.teach_in.specs.declared.ute.UteQuery.{UteQuery}
 use Rattle.teach_in.specs.Profiles.{supported}
-use Rattle.teach_in.specs.Telegrams.{teach_in_of, one_byte_kind, four_byte_kind, ute_kind}
+use Rattle.teach_in.specs.Telegrams.{teach_in_of, one_byte_role, four_byte_role, ute_role}
 use Rattle.teach_in.specs.FourByte as four_byte
 use Rattle.teach_in.specs.Ute as ute
-use Rattle.teach_in.specs.Ute.{request_in, deletion, not_used}
+use Rattle.teach_in.specs.Ute.{request_in, deletion, unused_request}
 use Rattle.teach_in.specs.Plans.{add, ute_plan, can_be_learned_by, plan_row_of, plan_in_mode, plan_of}
 
 -- what holds for both holds for the one that is chosen
@@ -74,18 +74,19 @@ pub record OfPlans (P : Plan → Type 0) (t : Telegram) (kind : Teach) (mode : M
 module _ (P : Plan → Type 0) (t : Telegram) where
   of-asked : (query : UteQuery) (mode : Mode) → LearnsByTold mode → OfPlans P t (Ute query) mode
       → P (ute_plan t query)
-  of-asked query mode told each =
+  of-asked query mode reported each =
       by_request P (request_in query == deletion) _ _
-      (λ is. each.forgets told (query, refl, eqb-true (request_in query) deletion is))
-      (either P (request_in query == not_used) _ _ (each.refuses told General tt)
-      (either P (supported query.eep) _ _ (each.adds told _ _) (each.refuses told Unsupported tt)))
+      (λ is. each.forgets reported (query, refl, eqb-true (request_in query) deletion is))
+      (either P (request_in query == unused_request) _ _ (each.refuses reported General tt)
+      (either P (supported query.eep) _ _ (each.adds reported _ _) (each.refuses reported Unsupported tt)))
     where
       by_request : (P : Plan → Type 0) (b : Bool) (one other : Plan) → (b ≡ true → P one) → P other
           → P (if b then one else other)
       by_request P true one other of_one of_other = of_one refl
       by_request P false one other of_one of_other = of_other
 
-  of-row : (known : Bool) (kind : Teach) (mode : Mode) → OfPlans P t kind mode → P (plan_in_mode (plan_row_of t known kind) mode)
+  of-row : (known : Bool) (kind : Teach) (mode : Mode) → OfPlans P t kind mode
+      → P (plan_in_mode (plan_row_of t known kind) mode)
   of-row known kind Closed each = each.silent
   of-row known Contact Learn each = each.adds tt _ _
   of-row known Contact LearnAnswer each = each.adds tt _ _
@@ -122,7 +123,8 @@ plan-unasked t mode known kind is teaches =
     ap (λ k. plan_in_mode (plan_row_of t known k) mode) is ∙ same kind teaches
     ∙ ap (λ k. plan_in_mode (plan_row_of t false k) mode) (sym is)
   where
-    same : (kind : Teach) → kind ≢ Plain → plan_in_mode (plan_row_of t known kind) mode ≡ plan_in_mode (plan_row_of t false kind) mode
+    same : (kind : Teach) → kind ≢ Plain
+        → plan_in_mode (plan_row_of t known kind) mode ≡ plan_in_mode (plan_row_of t false kind) mode
     same Plain teaches = absurd (teaches refl)
     same Contact teaches = refl
     same Bare teaches = refl
@@ -143,13 +145,13 @@ pub of-role : (P : Teach → Type 0) (t : Telegram) → P Plain → P Contact �
     → P (FourByte (four_byte.query_of t.sender t.payload)) → P (Ute (ute.query_of t.sender t.payload))
     → P (teach_in_of t)
 of-role P t plain one_byte bare answer query ute_query =
-    either P (t.rorg == 0xD5) (one_byte_kind t.payload) _
+    either P (t.rorg == 0xD5) (one_byte_role t.payload) _
     (either P (field t.payload 4 1 == 0) Contact Plain one_byte plain)
-    (either P (t.rorg == 0xA5) (four_byte_kind t.sender t.payload) _
+    (either P (t.rorg == 0xA5) (four_byte_role t.sender t.payload) _
     (either P (field t.payload 28 1 == 1) Plain _ plain
     (either P (field t.payload 24 1 == 0) Bare _ bare
     (either P (field t.payload 27 1 == 0) (FourByte (four_byte.query_of t.sender t.payload)) Answer query answer)))
-    (either P (t.rorg == 0xD4) (ute_kind t.sender t.payload) Plain
+    (either P (t.rorg == 0xD4) (ute_role t.sender t.payload) Plain
     (either P (field t.payload 4 4 == 0) (Ute (ute.query_of t.sender t.payload)) Answer ute_query answer) plain))
 
 sender-in : (t : Telegram) → sender_in t.sender (teach_in_of t) ≡ t.sender

@@ -9,15 +9,15 @@ use Rattle.teach_in.specs.declared.outcome.Outcome.TheVariants.{Accepted, Unsupp
 use Rattle.teach_in.specs.Replies.{addressed_reply}
 
 -- the profile in the payload of a query: FUNC has 6 bits, and TYPE has 7
-abbrev pub eep_in : List ℕ → Eep
+abbrev pub eep_in : (payload : List ℕ) → Eep
 eep_in payload = record { rorg = 0xA5; func = field payload 0 6; typ = field payload 6 7 }
 
 -- the manufacturer ID, which has 11 bits
-abbrev pub maker_in : List ℕ → ℕ
+abbrev pub maker_in : (payload : List ℕ) → ℕ
 maker_in payload = field payload 13 11
 
 -- the query of a sender with this payload
-abbrev pub query_of : ℕ → List ℕ → FourByteQuery
+abbrev pub query_of : (sender : ℕ) (payload : List ℕ) → FourByteQuery
 query_of sender payload =
     record { id = sender; eep = eep_in payload; maker = maker_in payload; payload = payload }
 
@@ -31,6 +31,6 @@ four_byte_code Full = Some 0xD0
 four_byte_code outcome = None
 
 -- the reply to a query, from the gateway with this base ID, addressed to the sender: the query, except for DB0
-abbrev pub four_byte_reply : FourByteQuery → Outcome → ℕ → Option Telegram
+abbrev pub four_byte_reply : FourByteQuery → Outcome → (base : ℕ) → Option Telegram
 four_byte_reply query outcome base =
     option_map (λ code. addressed_reply 0xA5 (take 3 query.payload ++ code ∷ []) query.id base) (four_byte_code outcome)

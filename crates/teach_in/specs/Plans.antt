@@ -13,14 +13,14 @@ use Rattle.teach_in.specs.declared.telegrams.Teach.TheVariants.{Plain, Contact, 
 use Rattle.teach_in.specs.declared.ute.UteQuery.{UteQuery}
 use Rattle.teach_in.specs.Profiles.{supported}
 use Rattle.teach_in.specs.Telegrams.{teach_in_of}
-use Rattle.teach_in.specs.Ute.{request_in, deletion, not_used}
+use Rattle.teach_in.specs.Ute.{request_in, deletion, unused_request}
 
 -- the sender is learned with this profile and this maker
-abbrev pub add : Telegram → Eep → Option ℕ → Plan
+abbrev pub add : Telegram → Eep → (maker : Option ℕ) → Plan
 add t eep maker = Add (record { id = t.sender; eep = eep; maker = maker; label = [] })
 
 -- the same if the profile has this RORG, and nothing if it has another
-abbrev pub add_if_rorg : ℕ → Telegram → Eep → Option ℕ → Plan
+abbrev pub add_if_rorg : (rorg : ℕ) → Telegram → Eep → (maker : Option ℕ) → Plan
 add_if_rorg rorg t eep maker = if eep.rorg == rorg then add t eep maker else Silent
 
 -- the profile of contacts (EnOcean Equipment Profiles 2.6, D5-00-01)
@@ -28,14 +28,14 @@ abbrev pub contact_eep : Eep
 contact_eep = record { rorg = 0xD5; func = 0x00; typ = 0x01 }
 
 -- the same with the profile and maker of a query, if the profile is supported
-abbrev pub add_supported : Telegram → Eep → ℕ → Plan
+abbrev pub add_supported : Telegram → Eep → (maker : ℕ) → Plan
 add_supported t eep maker = if supported eep then add t eep (Some maker) else Refuse Unsupported
 
 -- the plan for a UTE query; its sender is also learned if it is already known
 abbrev pub ute_plan : Telegram → UteQuery → Plan
 ute_plan t query =
     if request_in query == deletion then Forget t.sender
-    else if request_in query == not_used then Refuse General
+    else if request_in query == unused_request then Refuse General
     else add_supported t query.eep query.maker
 
 -- whether a sender can be learned by this data telegram: of RPS if a button is pressed (the bit at offset 3), and any
@@ -50,7 +50,7 @@ pub record Row : Type 0 where
   pub given : Eep → Plan
 
 -- The table: a row for each role of a telegram in teach-in; for data it depends on whether the sender is already known.
-abbrev pub plan_row_of : Telegram → Bool → Teach → Row
+abbrev pub plan_row_of : Telegram → (known : Bool) → Teach → Row
 plan_row_of t known Contact = record { reported = add t contact_eep None; given = λ eep. add_if_rorg 0xD5 t eep None }
 plan_row_of t known Bare = record { reported = Refuse NoProfile; given = λ eep. add_if_rorg 0xA5 t eep None }
 plan_row_of t known (FourByte query) = record {
@@ -72,5 +72,5 @@ plan_in_mode row LearnAnswer = row.reported
 plan_in_mode row (LearnAs eep) = row.given eep
 
 -- the plan for the sender of a telegram, by the mode and by whether it is known
-abbrev pub plan_of : Telegram → Mode → Bool → Plan
+abbrev pub plan_of : Telegram → Mode → (known : Bool) → Plan
 plan_of t mode known = plan_in_mode (plan_row_of t known (teach_in_of t)) mode

@@ -3,6 +3,6 @@ use Rattle.std.specs.Prelude.{ℕ, List, None}
 use Rattle.erp1_telegrams.specs.Telegram.{Telegram}
 
 -- a telegram from the gateway with this base ID, addressed to one sender
-abbrev pub addressed_reply : ℕ → List ℕ → ℕ → ℕ → Telegram
+abbrev pub addressed_reply : (rorg : ℕ) (payload : List ℕ) (id base : ℕ) → Telegram
 addressed_reply rorg payload id base =
     record { rorg = rorg; payload = payload; sender = base; status = 0; dest = id; dbm = None }

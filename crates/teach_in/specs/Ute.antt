@@ -11,15 +11,15 @@ use Rattle.teach_in.specs.declared.ute.UteQuery.{UteQuery}
 use Rattle.teach_in.specs.Replies.{addressed_reply}
 
 -- the profile in the payload of a query: RORG in DB0, FUNC in DB1, and TYPE in DB2
-abbrev pub eep_in : List ℕ → Eep
+abbrev pub eep_in : (payload : List ℕ) → Eep
 eep_in payload = record { rorg = field payload 48 8; func = field payload 40 8; typ = field payload 32 8 }
 
 -- the manufacturer ID, which has 11 bits: the high 3 bits in DB3.2 to DB3.0, and the low 8 in DB4
-abbrev pub maker_in : List ℕ → ℕ
+abbrev pub maker_in : (payload : List ℕ) → ℕ
 maker_in payload = 256 * field payload 29 3 + field payload 16 8
 
 -- the query of a sender with this payload
-abbrev pub query_of : ℕ → List ℕ → UteQuery
+abbrev pub query_of : (sender : ℕ) (payload : List ℕ) → UteQuery
 query_of sender payload =
     record { id = sender; eep = eep_in payload; maker = maker_in payload; payload = payload }
 
@@ -37,8 +37,8 @@ abbrev pub deletion : ℕ
 deletion = 1
 
 -- the request that is not used
-abbrev pub not_used : ℕ
-not_used = 3
+abbrev pub unused_request : ℕ
+unused_request = 3
 
 -- DB6.5 and DB6.4 of a reply with this outcome, if there is one
 abbrev pub ute_code : Outcome → Option ℕ
@@ -50,11 +50,11 @@ ute_code General = Some 0
 ute_code outcome = None
 
 -- DB6 of a reply: DB6.7 as in the query, DB6.6 is 0, then the code, and the command 1 in DB6.3 to DB6.0
-abbrev pub reply_first_byte : UteQuery → ℕ → ℕ
+abbrev pub reply_first_byte : UteQuery → (code : ℕ) → ℕ
 reply_first_byte query code = 128 * field query.payload 0 1 + 16 * code + 1
 
 -- the reply to a query, from the gateway with this base ID, addressed to the sender: the query, except for DB6
-abbrev pub ute_reply : UteQuery → Outcome → ℕ → Option Telegram
+abbrev pub ute_reply : UteQuery → Outcome → (base : ℕ) → Option Telegram
 ute_reply query outcome base =
     option_map (λ code. addressed_reply 0xD4 (reply_first_byte query code ∷ drop 1 query.payload) query.id base)
     (ute_code outcome)

@@ -1,6 +1,6 @@
 //! The role of a telegram in teach-in.
 ghost use Rattle.std.specs.Prelude.{◌≡◌, length};
-ghost use Rattle.teach_in.specs.Telegrams.{four_byte_kind, one_byte_kind, teach_in_of, ute_kind};
+ghost use Rattle.teach_in.specs.Telegrams.{four_byte_role, one_byte_role, teach_in_of, ute_role};
 
 use crate::four_byte::FourByteQuery;
 use crate::ute::UteQuery;
@@ -38,21 +38,21 @@ pub(crate) fn bytes_of<const N: usize>(payload: &[u8]) -> &[u8; N]
 }
 
 // The role of a 1BS telegram with this byte.
-fn one_byte_kind(bytes: &[u8; 1]) -> Teach
-    ensures { result ≡ one_byte_kind bytes.now }
+fn one_byte_role(bytes: &[u8; 1]) -> Teach
+    ensures { result ≡ one_byte_role bytes.now }
 {
-    match get::<1, { lrn_bit::ONE_BS }, 1>(bytes) {
+    match get::<1, { lrn_bit::ONE_BS_OFFSET }, 1>(bytes) {
         0 => Teach::Contact,
         _ => Teach::Plain,
     }
 }
 
 // The role of a 4BS telegram of this sender with these bytes.
-fn four_byte_kind(id: u32, bytes: &[u8; 4]) -> Teach
-    ensures { result ≡ four_byte_kind id bytes.now }
+fn four_byte_role(id: u32, bytes: &[u8; 4]) -> Teach
+    ensures { result ≡ four_byte_role id bytes.now }
 {
     match (
-        get::<4, { lrn_bit::FOUR_BS }, 1>(bytes),
+        get::<4, { lrn_bit::FOUR_BS_OFFSET }, 1>(bytes),
         get::<4, 24, 1>(bytes),
         get::<4, 27, 1>(bytes),
     ) {
@@ -64,8 +64,8 @@ fn four_byte_kind(id: u32, bytes: &[u8; 4]) -> Teach
 }
 
 // The role of a UTE telegram of this sender with these bytes.
-fn ute_kind(id: u32, bytes: &[u8; 7]) -> Teach
-    ensures { result ≡ ute_kind id bytes.now }
+fn ute_role(id: u32, bytes: &[u8; 7]) -> Teach
+    ensures { result ≡ ute_role id bytes.now }
 {
     match get::<7, 4, 4>(bytes) {
         0 => Teach::Ute(UteQuery::new(id, bytes)),
@@ -79,9 +79,9 @@ pub fn classify(telegram: &Telegram) -> Teach
 {
     let payload = telegram.payload();
     match telegram.rorg() {
-        rorg::ONE_BS => one_byte_kind(bytes_of(payload)),
-        rorg::FOUR_BS => four_byte_kind(telegram.sender(), bytes_of(payload)),
-        rorg::UTE => ute_kind(telegram.sender(), bytes_of(payload)),
+        rorg::ONE_BS => one_byte_role(bytes_of(payload)),
+        rorg::FOUR_BS => four_byte_role(telegram.sender(), bytes_of(payload)),
+        rorg::UTE => ute_role(telegram.sender(), bytes_of(payload)),
         _ => Teach::Plain,
     }
 }

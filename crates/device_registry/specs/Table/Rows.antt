@@ -21,7 +21,7 @@ use Rattle.device_registry.specs.Table.{version_number, max_sender, max_profile,
 abbrev pub eep_number : Eep → ℕ
 eep_number eep = eep.rorg * 65536 + eep.func * 256 + eep.typ
 
-abbrev pub eep_of : ℕ → Eep
+abbrev pub eep_of : (number : ℕ) → Eep
 eep_of number = record { rorg = number / 65536 % 256; func = number / 256 % 256; typ = number % 256 }
 
 -- a manufacturer ID as it is stored: -1 for none
@@ -57,16 +57,16 @@ abbrev pub devices_in : List Row → Devices
 devices_in rows = from_entries (map entry_of rows)
 
 -- a row of version 1 with the empty label added, as in version 2
-abbrev pub with_label : Row → Row
-with_label row = column row 0 ∷ Null ∷ column row 2 ∷ column row 3 ∷ Text [] ∷ []
+abbrev pub with_empty_label : Row → Row
+with_empty_label row = column row 0 ∷ Null ∷ column row 2 ∷ column row 3 ∷ Text [] ∷ []
 
 -- the rows of a version as rows of version 2
-abbrev pub rows_of : Version → List Row → List Row
-rows_of First rows = map with_label rows
-rows_of Second rows = rows
+abbrev pub upgraded_rows : Version → List Row → List Row
+upgraded_rows First rows = map with_empty_label rows
+upgraded_rows Second rows = rows
 
 -- a row of the device table: a sender, a profile and a manufacturer ID, each in its range, and a label
-pub record IsDevice (row : Row) : Type 0 where
+pub record IsDeviceRow (row : Row) : Type 0 where
   pub id : ℕ
   pub id_is : column row 0 ≡ Int (pos id)
   pub is_sender : id ≤ max_sender
@@ -81,25 +81,25 @@ pub record IsDevice (row : Row) : Type 0 where
   pub is_label : is_label label ≡ true
 
 -- the row of a device
-abbrev pub device_row : ℕ → DeviceData → Row
+abbrev pub device_row : (id : ℕ) → DeviceData → Row
 device_row id it =
     Int (pos id) ∷ Null ∷ Int (pos (eep_number it.eep)) ∷ Int (maker_number it.maker) ∷ Text it.label ∷ []
 
 -- the parameters of the statement that upserts that row
-abbrev pub upsert_params : ℕ → DeviceData → Row
+abbrev pub upsert_params : (id : ℕ) → DeviceData → Row
 upsert_params id it =
     Int (pos id) ∷ Int (pos (eep_number it.eep)) ∷ Int (maker_number it.maker) ∷ Text it.label ∷ []
 
 -- the version row
-pub record IsVersion (version : Version) (row : Row) : Type 0 where
+pub record IsVersionRow (version : Version) (row : Row) : Type 0 where
   pub key : column row 0 ≡ Int (pos 1)
   pub number : column row 2 ≡ Int (pos (version_number version))
 
 -- ---- the rows that queries show
 
 -- the device that a query shows by its sender, its profile, its manufacturer ID and its label
-abbrev pub device_in_row : Row → Device
-device_in_row row = device (natural_in (column row 0)) (record {
+abbrev pub shown_device : Row → Device
+shown_device row = device (natural_in (column row 0)) (record {
   eep = eep_of (natural_in (column row 1));
   maker = maker_in (column row 2);
   label = label_in (column row 3);
@@ -108,7 +108,7 @@ device_in_row row = device (natural_in (column row 0)) (record {
 -- the row of this device is shown, or none if there is no device
 abbrev pub IsDeviceOrNone : Option Device → List Row → Type 0
 IsDeviceOrNone None rows = rows ≡ []
-IsDeviceOrNone (Some it) rows = (row : Row) × (rows ≡ row ∷ []) × (device_in_row row ≡ it)
+IsDeviceOrNone (Some it) rows = (row : Row) × (rows ≡ row ∷ []) × (shown_device row ≡ it)
 
 -- the rows show the version row
 pub record ShowsVersion (version : Version) (rows : List Row) : Type 0 where
@@ -118,13 +118,13 @@ pub record ShowsVersion (version : Version) (rows : List Row) : Type 0 where
   pub number : column row 1 ≡ Int (pos (version_number version))
 
 -- a number that is not above the last
-abbrev pub is_number : ℕ → Value → Bool
-is_number last (Int (pos n)) = nat_le n last
-is_number last (Int (negsuc n)) = false
-is_number last Null = false
-is_number last (Real x) = false
-is_number last (Text t) = false
-is_number last (Blob b) = false
+abbrev pub is_natural_up_to : (last : ℕ) → Value → Bool
+is_natural_up_to last (Int (pos n)) = nat_le n last
+is_natural_up_to last (Int (negsuc n)) = false
+is_natural_up_to last Null = false
+is_natural_up_to last (Real x) = false
+is_natural_up_to last (Text t) = false
+is_natural_up_to last (Blob b) = false
 
 -- a manufacturer ID, or the number of none
 abbrev pub is_maker : Value → Bool
@@ -144,14 +144,14 @@ is_label_text (Real x) = false
 is_label_text (Blob b) = false
 
 -- the row shows a device: each number in its range, and a label
-abbrev pub is_device_row : Row → Bool
-is_device_row row =
-    is_number max_sender (column row 0) && is_number max_profile (column row 1) && is_maker (column row 2)
+abbrev pub shows_device : Row → Bool
+shows_device row =
+    is_natural_up_to max_sender (column row 0) && is_natural_up_to max_profile (column row 1) && is_maker (column row 2)
     && is_label_text (column row 3)
 
 -- the rows show devices, by ascending sender from this one on
-abbrev pub are_ascending_devices : ℕ → List Row → Bool
+abbrev pub are_ascending_devices : (least : ℕ) → List Row → Bool
 are_ascending_devices least [] = true
 are_ascending_devices least (row ∷ rows) =
-    is_device_row row && nat_le least (natural_in (column row 0))
+    shows_device row && nat_le least (natural_in (column row 0))
     && are_ascending_devices (natural_in (column row 0) + 1) rows

@@ -12,5 +12,6 @@ pub record EntryAgrees (s : State) (entry : ℕ × Option Device) : Type 0 where
   pub is : entry.1 ≡ device_of devices entry.0
 
 -- each entry agrees, so the cache is empty if the connection may be closed
-abbrev pub CacheAgrees : State → List (ℕ × Option Device) → Type 0
-CacheAgrees s entries = (entry : ℕ × Option Device) → Contains entries entry → HasCleanDisk s → EntryAgrees s entry
+abbrev pub CacheAgreesIfClean : State → List (ℕ × Option Device) → Type 0
+CacheAgreesIfClean s entries =
+    (entry : ℕ × Option Device) → Contains entries entry → HasCleanDisk s → EntryAgrees s entry

@@ -4,9 +4,9 @@ use Rattle.std.specs.List.{list_any}
 use Rattle.sqlite.specs.Order.{Row}
 pub use Rattle.keyed_table.specs.Objects.{has_text, is_catalog_row}
 use Rattle.device_registry.specs.declared.table.Version.{Version}
-use Rattle.device_registry.specs.Table.{meta_name, device_name, create_meta_sql, create_device_sql}
+use Rattle.device_registry.specs.Table.{meta_name, device_table_name, create_meta_sql, create_device_sql}
 
 -- the rows list the two tables with their texts
 abbrev pub are_our_tables : Version → List Row → Bool
 are_our_tables version rows = list_any (is_catalog_row meta_name create_meta_sql) rows
-    && list_any (is_catalog_row (device_name version) (create_device_sql version)) rows
+    && list_any (is_catalog_row (device_table_name version) (create_device_sql version)) rows

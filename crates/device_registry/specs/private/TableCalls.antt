@@ -5,9 +5,10 @@ use Rattle.learned_devices.specs.Devices.{Devices, is_full, learn_update}
 use Rattle.learned_devices.specs.DeviceStoreState.{DeviceStoreState, Keeps, Commits, LeavesPending}
 
 -- a device is learned if the registry is not full; the result is whether it is learned
-pub record Adds {E : Type 0} (old new : DeviceStoreState) (it : Device) (result : Result Bool E) : Type 0 where
+pub record LearnsUnlessFull {E : Type 0} (old new : DeviceStoreState) (it : Device)
+    (result : Result Bool E) : Type 0 where
   pub clean : new.honest → old.honest
-  pub registries : new.honest → new.sound
+  pub recoverable : new.honest → new.sound
   pub devices : new.honest → (devices : Devices) → old.holds devices
       → MatchResult result (λ room. (is_full devices it.id ≡ not room)
       × MatchBool room (Commits new (learn_update it) devices) (Keeps old new devices))

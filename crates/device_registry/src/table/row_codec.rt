@@ -6,9 +6,10 @@ ghost use Rattle.sqlite.specs.Order.{Row as SqlRow, column};
 ghost use Rattle.learned_devices.specs.declared.Device.{Device};
 ghost use Rattle.device_registry.specs.Faults.{IsOutOfMemoryIf};
 ghost use Rattle.device_registry.specs.Table.{version_number};
-ghost use Rattle.device_registry.specs.Table.Rows.{IsDeviceOrNone, ShowsVersion, device_in_row, is_number, is_maker};
+ghost use Rattle.device_registry.specs.Table.Rows.{IsDeviceOrNone, ShowsVersion, shown_device, is_natural_up_to};
+ghost use Rattle.device_registry.specs.Table.Rows.{is_maker};
 ghost use Rattle.device_registry.specs.Table.Rows.{is_label_text};
-ghost use Rattle.device_registry.specs.Table.Rows.{is_device_row, are_ascending_devices, eep_number, eep_of};
+ghost use Rattle.device_registry.specs.Table.Rows.{shows_device, are_ascending_devices, eep_number, eep_of};
 ghost use Rattle.device_registry.specs.Table.Rows.{maker_number};
 ghost use Rattle.device_registry.specs.Table.Rows.{maker_in, label_in};
 
@@ -22,7 +23,7 @@ use std::alloc::Global;
 
 /// The number at this index of the row, if there is one and it is not above `last`.
 fn number_in(row: &Row, at: usize, last: u32) -> Option<u32>
-    ensures { MatchOption result (is_number last (column row.now at) ≡ false)
+    ensures { MatchOption result (is_natural_up_to last (column row.now at) ≡ false)
         (λ n. (column row.now at ≡ Int (pos n)) × (n ≤ last)) }
 {
     match row.get_ref(at) {
@@ -65,8 +66,8 @@ fn eep_of_number(number: u32) -> Eep
 
 /// The device that a row shows, if each number is in its range and its label is valid.
 fn device_in(row: &Row) -> Option<Device>
-    ensures { MatchOption result (is_device_row row.now ≡ false)
-        (λ it. (it ≡ device_in_row row.now) × IsTrue (is_device_row row.now)) }
+    ensures { MatchOption result (shows_device row.now ≡ false)
+        (λ it. (it ≡ shown_device row.now) × IsTrue (shows_device row.now)) }
 {
     let id = number_in(row, 0, MAX_SENDER)?;
     let eep = eep_of_number(number_in(row, 1, MAX_PROFILE)?);
@@ -105,7 +106,7 @@ fn has_number(row: &Row, at: usize, number: i64) -> bool
 }
 
 /// Whether there is exactly one row, that of this version.
-pub fn is_version(rows: &[Row], version: Version) -> bool
+pub fn shows_version(rows: &[Row], version: Version) -> bool
     ensures version { IsTrue result → ShowsVersion version rows.now }
     ensures complete { rows.now ≡ (Int (pos 1) ∷ Int (pos (version_number version)) ∷ []) ∷ [] → IsTrue result }
 {
@@ -116,8 +117,8 @@ pub fn is_version(rows: &[Row], version: Version) -> bool
 
 /// The device that a row shows. No row of a registry gives an error.
 fn decode_device(row: &Row) -> Result<Device, Error>
-    ensures shown { IfOk result (λ it. it ≡ device_in_row row.now) }
-    ensures refused { IfErr result (IsOutOfMemoryIf (IsTrue (is_device_row row.now))) }
+    ensures shown { IfOk result (λ it. it ≡ shown_device row.now) }
+    ensures refused { IfErr result (IsOutOfMemoryIf (IsTrue (shows_device row.now))) }
 {
     device_in(row).ok_or(Error::SqliteFailure(ErrorCode::DatabaseCorrupt))
 }
@@ -125,7 +126,7 @@ fn decode_device(row: &Row) -> Result<Device, Error>
 /// The device of a sender, from the rows of its look-up.
 pub fn decode_found(rows: &[Row]) -> Result<Option<Device>, Error>
     ensures found { (known : Option Device) → IsDeviceOrNone known rows.now → IfOk result (λ found. found ≡ known) }
-    ensures refused { IfErr result (IsOutOfMemoryIf (All (λ row. IsTrue (is_device_row row)) rows.now)) }
+    ensures refused { IfErr result (IsOutOfMemoryIf (All (λ row. IsTrue (shows_device row)) rows.now)) }
 {
     match rows.first() {
         Some(row) => Ok(Some(decode_device(row)?)),
@@ -135,8 +136,8 @@ pub fn decode_found(rows: &[Row]) -> Result<Option<Device>, Error>
 
 /// The devices that the rows list.
 pub fn decode_all(alloc: Global, rows: &[Row]) -> Result<Vec<Device>, Error>
-    ensures listed { IfOk result (λ all. all.items ≡ map device_in_row rows.now) }
-    ensures refused { IfErr result (IsOutOfMemoryIf (All (λ row. IsTrue (is_device_row row)) rows.now)) }
+    ensures listed { IfOk result (λ all. all.items ≡ map shown_device rows.now) }
+    ensures refused { IfErr result (IsOutOfMemoryIf (All (λ row. IsTrue (shows_device row)) rows.now)) }
 {
     let mut all = Vec::with_capacity(alloc, rows.len())?;
     for row in rows {

@@ -11,7 +11,7 @@ pub const CREATE_DEVICE: &str =
      maker INTEGER NOT NULL CHECK (maker >= -1 AND maker <= 2047), label TEXT NOT NULL) STRICT";
 
 /// Created the device table in version 1.
-pub const CREATE_FIRST_DEVICE: &str =
+pub const CREATE_DEVICE_V1: &str =
     "CREATE TABLE enogate_device (id INTEGER PRIMARY KEY CHECK (id >= 0 AND id <= 4294967294), \
      eep INTEGER NOT NULL CHECK (eep >= 0 AND eep <= 16777215), \
      maker INTEGER NOT NULL CHECK (maker >= -1 AND maker <= 2047)) STRICT";
@@ -32,7 +32,7 @@ pub const FIND: &str = "SELECT id, eep, maker, label FROM enogate_device_v2 WHER
 pub const FIND_ALL: &str = "SELECT id, eep, maker, label FROM enogate_device_v2 ORDER BY id";
 
 /// Shows all devices of version 1 in the same way, each with the empty label.
-pub const FIND_ALL_FIRST: &str = "SELECT id, eep, maker, '' FROM enogate_device ORDER BY id";
+pub const FIND_ALL_V1: &str = "SELECT id, eep, maker, '' FROM enogate_device ORDER BY id";
 
 /// Counts the devices of other senders.
 pub const COUNT_OTHERS: &str = "SELECT count(*) FROM enogate_device_v2 WHERE id <> ?1";
@@ -49,7 +49,7 @@ pub const COPY: &str =
     "INSERT INTO enogate_device_v2 (id, eep, maker, label) SELECT id, eep, maker, '' FROM enogate_device";
 
 /// Drops the device table of version 1.
-pub const DROP_FIRST_DEVICE: &str = "DROP TABLE enogate_device";
+pub const DROP_DEVICE_V1: &str = "DROP TABLE enogate_device";
 
 /// Lists the objects of the database, each with the text that created it.
 pub const LIST_OBJECTS: &str = "SELECT name, type, sql FROM sqlite_schema ORDER BY rowid";

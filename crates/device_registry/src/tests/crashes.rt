@@ -153,7 +153,7 @@ fn what_is_remembered_asks_nothing_of_the_disk(rt: HostRuntime) -> Result<(), Fa
 }
 
 #[test]
-fn what_was_told_is_found_behind_a_stop(rt: HostRuntime) -> Result<(), Fail> {
+fn what_was_reported_is_found_behind_a_stop(rt: HostRuntime) -> Result<(), Fail> {
     let files = made(rt.alloc(), FEW)?;
     for crash in [Stop::OfProcess, Stop::OfMachine] {
         let files = refusing(rt.alloc(), &files, Which::Log, Refusal::Nothing)?;

@@ -3,7 +3,7 @@ use super::given::{Fresh, open_idle, prepare_idle, run};
 use super::looking::{has_objects, in_version, objects, prepares, run_lines, show};
 use crate::OpenFault;
 use crate::table::Version;
-use crate::table::row_codec::{are_ascending_devices, is_version};
+use crate::table::row_codec::{are_ascending_devices, shows_version};
 use sqlite::{Alter, Connection, MemStore};
 use std::alloc::Global;
 use std::process::Abort;
@@ -356,7 +356,7 @@ fn are_version<S: Fresh>(
     let mut conn = S::fresh(alloc)?;
     for sql in selects.lines() {
         let rows = conn.query_all(sql, &[])?;
-        assert_eq!(rt; is_version(rows.as_slice(), version), wanted, "{sql}");
+        assert_eq!(rt; shows_version(rows.as_slice(), version), wanted, "{sql}");
     }
     Ok(())
 }

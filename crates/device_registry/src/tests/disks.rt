@@ -13,7 +13,7 @@ pub struct Stumbling<D: Disk> {
     inner: D,
     /// The write that is reported as failed: 1 is the next one, and 0 no write.
     write: u64,
-    told: u64,
+    stated: u64,
     syncs: u64,
 }
 
@@ -22,7 +22,7 @@ impl<D: Disk> Stumbling<D> {
         Stumbling {
             inner,
             write,
-            told: 0,
+            stated: 0,
             syncs: 0,
         }
     }
@@ -40,7 +40,7 @@ impl<D: Disk> Stumbling<D> {
         let Stumbling {
             inner,
             write: _,
-            told: _,
+            stated: _,
             syncs: _,
         } = self;
         inner
@@ -54,7 +54,7 @@ impl<D: Disk> Disk for Stumbling<D> {
 
     ghost is_usable = { λ s. D.Disk.is_usable s.inner };
 
-    ghost faults = { λ s. D.Disk.faults s.inner + s.told };
+    ghost faults = { λ s. D.Disk.faults s.inner + s.stated };
 
     ghost tally_of = { λ s. D.Disk.tally_of s.inner };
 
@@ -102,10 +102,10 @@ impl<D: Disk> Disk for Stumbling<D> {
 
     fn write_at(&mut self, at: usize, bytes: &[u8]) -> io::Result<()> {
         self.inner.write_at(at, bytes)?;
-        let is_told = self.write == 1;
+        let is_reported = self.write == 1;
         self.write = self.write.saturating_sub(1);
-        if is_told {
-            self.told = self.told.saturating_add(1);
+        if is_reported {
+            self.stated = self.stated.saturating_add(1);
             return Err(io::Error::other("the disk stumbled"));
         }
         Ok(())

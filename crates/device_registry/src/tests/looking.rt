@@ -31,14 +31,14 @@ const MARKS: [(&str, &str, &str); 13] = [
 
 /// The text for one version.
 pub fn in_version(alloc: Global, text: &str, version: Version) -> Result<String, Fail> {
-    let mut told = String::from_str(alloc, text)?;
+    let mut reported = String::from_str(alloc, text)?;
     for (mark, first, second) in MARKS {
-        told = match version {
-            Version::First => told.replace(alloc, mark, first)?,
-            Version::Second => told.replace(alloc, mark, second)?,
+        reported = match version {
+            Version::First => reported.replace(alloc, mark, first)?,
+            Version::Second => reported.replace(alloc, mark, second)?,
         };
     }
-    Ok(told)
+    Ok(reported)
 }
 
 /// Runs the statements, one in each line.
@@ -51,21 +51,21 @@ pub fn run_lines<S: Alter>(conn: &mut Connection<S>, lines: &str) -> Result<(), 
 
 /// The objects of a database, each with its kind, name and text.
 pub fn objects<S: Alter>(alloc: Global, conn: &mut Connection<S>) -> Result<String, Fail> {
-    let mut told = String::new(alloc);
+    let mut reported = String::new(alloc);
     for row in &conn.query_all(
         "SELECT type, name, sql FROM sqlite_schema ORDER BY rowid",
         &[],
     )? {
-        tell_object(row, &mut told)?;
+        tell_object(row, &mut reported)?;
     }
-    Ok(told)
+    Ok(reported)
 }
 
-fn tell_object(row: &Row, told: &mut String) -> Result<(), Fail> {
+fn tell_object(row: &Row, reported: &mut String) -> Result<(), Fail> {
     for at in 0..3 {
         let text: Option<String> = row.get(at)?;
-        told.push_str(text.as_deref().unwrap_or("no text"))?;
-        told.push('\n')?;
+        reported.push_str(text.as_deref().unwrap_or("no text"))?;
+        reported.push('\n')?;
     }
     Ok(())
 }

@@ -386,7 +386,7 @@ pub fn behind_stop<S: Alter + Drop>(
     end: End,
 ) -> Result<End, Fail> {
     let mut conn = conn;
-    let end = told_by_version(&mut conn, trial, end)?;
+    let end = reported_by_version(&mut conn, trial, end)?;
     let mut registry = open_idle(alloc, conn)??;
     match trial {
         Trial::Learning(_) => found(rt, &mut registry),
@@ -398,7 +398,7 @@ pub fn behind_stop<S: Alter + Drop>(
 }
 
 // For a registry of version 1 that was not prepared, the end has its version after the crash.
-fn told_by_version<S: Alter>(
+fn reported_by_version<S: Alter>(
     conn: &mut Connection<S>,
     trial: Trial,
     end: End,

@@ -9,8 +9,8 @@ abbrev pub room : ℕ
 room = max_packet + 8192
 
 -- c has, for each byte of w and after the last one, the CRC of all bytes before it: the bytes g, and those of w
-abbrev pub HasChecks : List ℕ → List ℕ → List ℕ → Type 0
-HasChecks g w c = (i : ℕ) → i ≤ length w → slice_index c i ≡ check (g ++ take i w)
+abbrev pub HasRunningCrcs : (g w c : List ℕ) → Type 0
+HasRunningCrcs g w c = (i : ℕ) → i ≤ length w → slice_index c i ≡ check (g ++ take i w)
 
 -- Of the bytes in b, those from the start on are held, and c has their running CRCs.
 pub record HasRunningChecks (b : Vec ℕ) (start : ℕ) (c : Vec ℕ) : Type 0 where
@@ -20,4 +20,4 @@ pub record HasRunningChecks (b : Vec ℕ) (start : ℕ) (c : Vec ℕ) : Type 0 w
   pub places : length b.items < length c.items
   -- all bytes that came before those in b
   pub gone : List ℕ
-  pub noted : HasChecks gone b.items c.items
+  pub noted : HasRunningCrcs gone b.items c.items

@@ -4,7 +4,7 @@ use Rattle.std.specs.String.{string_bytes}
 use Rattle.std.proofs.lemmas.Result.{err_from_is_err_and}
 use Rattle.clap.specs.Words.{App, takes}
 use Rattle.gateway_cli.specs.Bases.{base_in}
-use Rattle.gateway_cli.specs.CommandLine.{Asks, option_flag, option_text}
+use Rattle.gateway_cli.specs.CommandLine.{SubcommandAsksFor, option_flag, option_text}
 use Rattle.gateway_cli.proofs.CommandLemmas.{complete_so, found_so, refused_so, taken_so}
 use Rattle.gateway_cli.proofs.read.Goals as goal
 
@@ -62,7 +62,7 @@ returns-in-Some-clause-explain c =
 
 pub returns-in-Some-clause-task : goal.returns-in-Some-clause-task
 returns-in-Some-clause-task c =
-    subst (λ found. Asks found c.task_value.result)
+    subst (λ found. SubcommandAsksFor found c.task_value.result)
     (found_so (map string_bytes c.args.words.now) c.in_ok-command.field-0 c.in_ok-matches.matches
     c.in_ok-command.ensures c.in_ok-matches.ensures.matches)
     c.task_value.ensures

@@ -21,7 +21,7 @@ use Rattle.json_lines.specs.Lines.{Teach as TeachOf, TeachLine, text}
 use Rattle.gateway_core.specs.declared.disposition.Disposition.{Disposition}
 use Rattle.gateway_core.specs.Dispositions.{without_device}
 use Rattle.gateway_core.specs.Step.{State, Input, Answer, with_packet_line, packet_line_for, text_answer, Effect}
-use Rattle.gateway_core.specs.Step.{answer_from_effect, count_in}
+use Rattle.gateway_core.specs.Step.{unexplained_answer, counter_in}
 use Rattle.gateway_core.specs.Step.{device_teach_line, with_mode, Cause, Need, MayFailFor}
 use Rattle.gateway_core.specs.private.Failures.{cause_in, cause_of}
 use Rattle.gateway_core.specs.Run.{cause_text}
@@ -37,7 +37,7 @@ pub record HandlerEffect : Type 0 where
 -- what is done has the answer and disposition of the effect, and sets its mode
 abbrev pub MatchesEffect : HandlerEffect → Effect → Type 0
 MatchesEffect done effect =
-    (done.answer ≡ answer_from_effect effect) × (done.disposition ≡ effect.disposition) × (done.mode ≡ effect.mode)
+    (done.answer ≡ unexplained_answer effect) × (done.disposition ≡ effect.disposition) × (done.mode ≡ effect.mode)
 
 -- the state that the handler knows, if these are the devices
 abbrev pub state_of : {S : Type 0} → HandlerValue S → Devices → State
@@ -67,22 +67,22 @@ pub record Attempts {S : Type 0} (stored : S → DeviceStoreState) (old : Handle
   pub mode : new.mode ≡ old.mode
   pub counts : new.counts ≡ old.counts
   pub clean : (stored new.registry).honest → (stored old.registry).honest
-  pub registries : (stored new.registry).honest → (stored old.registry).sound
+  pub recoverable : (stored new.registry).honest → (stored old.registry).sound
       → (stored new.registry).sound
-  pub comes : (stored new.registry).honest → (devices : Devices) → (stored old.registry).holds devices
+  pub applies_or_fails : (stored new.registry).honest → (devices : Devices) → (stored old.registry).holds devices
       → AppliesOrFails (stored old.registry) (stored new.registry) devices (effect (state_of old devices)) result
 
 -- ---- learning and forgetting a device
 
 -- a reply to the telegram, if it may get one, can be made for this outcome of this sender
-abbrev pub MayReply : Teach → ℕ → Outcome → Type 0
-MayReply (FourByte query) id outcome = (id ≡ query.id) × IsSome (four_byte_code outcome)
-MayReply (Ute query) id outcome = (id ≡ query.id) × IsSome (ute_code outcome)
-MayReply kind id outcome = Unit {0}
+abbrev pub HasReplyCodeIfQuery : Teach → (id : ℕ) → Outcome → Type 0
+HasReplyCodeIfQuery (FourByte query) id outcome = (id ≡ query.id) × IsSome (four_byte_code outcome)
+HasReplyCodeIfQuery (Ute query) id outcome = (id ≡ query.id) × IsSome (ute_code outcome)
+HasReplyCodeIfQuery kind id outcome = Unit {0}
 
 -- what is committed is reported with this line
-abbrev pub IsCommittedAs : TeachLine → Verdict × List ℕ → Type 0
-IsCommittedAs line committed =
+abbrev pub MatchesTeachLine : TeachLine → Verdict × List ℕ → Type 0
+MatchesTeachLine line committed =
     (committed.0.id ≡ line.id) × (committed.0.outcome ≡ line.outcome)
     × (committed.1 ≡ text (TeachOf line))
 
@@ -92,18 +92,18 @@ pub record ChangesOnlyRegistry {S : Type 0} (stored : S → DeviceStoreState) (o
     (new : HandlerValue S) : Type 0 where
   pub same : new ≡ record old { registry = new.registry }
   pub clean : (stored new.registry).honest → (stored old.registry).honest
-  pub registries : (stored new.registry).honest → (stored old.registry).sound
+  pub recoverable : (stored new.registry).honest → (stored old.registry).sound
       → (stored new.registry).sound
   pub is_so : (stored new.registry).honest → (devices : Devices) → (stored old.registry).holds devices
       → IsSo devices
 
-abbrev pub ReportsLearned : Device → Result (Option (Verdict × List ℕ)) Failure → Type 0
-ReportsLearned known (Ok (Some committed)) = IsCommittedAs (device_teach_line known Accepted) committed
-ReportsLearned known result = Unit {0}
+abbrev pub ReportsLearnedIfCommitted : Device → Result (Option (Verdict × List ℕ)) Failure → Type 0
+ReportsLearnedIfCommitted known (Ok (Some committed)) = MatchesTeachLine (device_teach_line known Accepted) committed
+ReportsLearnedIfCommitted known result = Unit {0}
 
-abbrev pub ReportsForgotten : TeachLine → Result (Verdict × List ℕ) Failure → Type 0
-ReportsForgotten line (Ok committed) = IsCommittedAs line committed
-ReportsForgotten line result = Unit {0}
+abbrev pub ReportsForgottenIfCommitted : TeachLine → Result (Verdict × List ℕ) Failure → Type 0
+ReportsForgottenIfCommitted line (Ok committed) = MatchesTeachLine line committed
+ReportsForgottenIfCommitted line result = Unit {0}
 
 module _ (old new : DeviceStoreState) (devices : Devices) where
   -- a failure leaves what was known, and perhaps the update, if the call that commits it failed
@@ -121,43 +121,44 @@ module _ (old new : DeviceStoreState) (devices : Devices) where
       MatchBool (is_full devices known.id) (Keeps old new devices) (LeavesPending old new (learn_update known) devices)
 
   -- the forgetting of a sender is committed, or the input fails
-  abbrev pub ForgetsOrFails : ℕ → Result (Verdict × List ℕ) Failure → Type 0
+  abbrev pub ForgetsOrFails : (id : ℕ) → Result (Verdict × List ℕ) Failure → Type 0
   ForgetsOrFails id (Ok committed) = Commits new (forget_update id) devices
   ForgetsOrFails id (Err failure) = FailsToUpdate (forget_update id) failure
 
 -- a device is learned
-pub record Learns {S : Type 0} (stored : S → DeviceStoreState) (old : HandlerValue S) (known : Device)
+pub record TriesToLearn {S : Type 0} (stored : S → DeviceStoreState) (old : HandlerValue S) (known : Device)
     (result : Result (Option (Verdict × List ℕ)) Failure) (new : HandlerValue S) : Type 0 where
-  pub reported : ReportsLearned known result
+  pub reported : ReportsLearnedIfCommitted known result
   pub alone : ChangesOnlyRegistry stored old
       (λ devices. LearnsOrFails (stored old.registry) (stored new.registry) devices known result) new
 
 -- a sender is forgotten, and this line reports it
-pub record Forgets {S : Type 0} (stored : S → DeviceStoreState) (old : HandlerValue S) (line : TeachLine)
+pub record TriesToForget {S : Type 0} (stored : S → DeviceStoreState) (old : HandlerValue S) (line : TeachLine)
     (result : Result (Verdict × List ℕ) Failure) (new : HandlerValue S) : Type 0 where
-  pub reported : ReportsForgotten line result
+  pub reported : ReportsForgottenIfCommitted line result
   pub alone : ChangesOnlyRegistry stored old
       (λ devices. ForgetsOrFails (stored old.registry) (stored new.registry) devices line.id result) new
 
 -- ---- the answer and the state
 
 -- the answer to a result or a failure, before its packet is explained
-abbrev pub answer_from : Result HandlerEffect Failure → Answer
-answer_from (Ok done) = done.answer
-answer_from (Err failure) = text_answer (cause_text (cause_in failure))
+abbrev pub unexplained_answer_from : Result HandlerEffect Failure → Answer
+unexplained_answer_from (Ok done) = done.answer
+unexplained_answer_from (Err failure) = text_answer (cause_text (cause_in failure))
 
 -- the disposition of a result or a failure
-abbrev pub disposition_from : Result HandlerEffect Failure → Option Disposition
-disposition_from (Ok done) = done.disposition
-disposition_from (Err failure) = Some (without_device why.Refused)
+abbrev pub disposition_or_failed : Result HandlerEffect Failure → Option Disposition
+disposition_or_failed (Ok done) = done.disposition
+disposition_or_failed (Err failure) = Some (without_device why.Refused)
 
 -- the answer to an input, with the line that explains it
-abbrev pub answer_after : Input → Result HandlerEffect Failure → Answer
-answer_after input tried = with_packet_line (packet_line_for input (disposition_from tried)) (answer_from tried)
+abbrev pub explained_answer_to : Input → Result HandlerEffect Failure → Answer
+explained_answer_to input tried =
+    with_packet_line (packet_line_for input (disposition_or_failed tried)) (unexplained_answer_from tried)
 
 -- the counters after a result or a failure
 abbrev pub counts_from : Counts → Result HandlerEffect Failure → Counts
-counts_from counts (Ok done) = increment_if_any counts (count_in done.disposition)
+counts_from counts (Ok done) = increment_if_any counts (counter_in done.disposition)
 counts_from counts (Err failure) = increment counts count.Refused
 
 -- the mode after a result or a failure

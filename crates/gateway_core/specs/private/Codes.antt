@@ -58,8 +58,8 @@ packet_code =
     (λ p. (p.kind, (p.body, p.opt)))
     (λ p. record { kind = p.0; body = p.1.0; opt = p.1.1 }) (λ _. refl)
 
-abbrev pub value_code : {S : Type 0} → Coded S → Coded (GatewayValue S)
-value_code {S} devices =
+abbrev pub gateway_code : {S : Type 0} → Coded S → Coded (GatewayValue S)
+gateway_code {S} devices =
     code_by (HandlerValue S × (List Packet × List ℕ))
     (coded× (handler_code devices) (coded× (coded_list packet_code) (coded_list coded_ℕ)))
     (λ v. (v.handler, (v.ready, v.rest)))

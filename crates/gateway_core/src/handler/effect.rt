@@ -11,7 +11,7 @@ ghost use Rattle.gateway_core.specs.private.Attempts.{MatchesEffect};
 
 use crate::disposition::Disposition;
 use crate::failure::Failure;
-use crate::reply::{Desk, Reply};
+use crate::reply::{DeskText, Reply};
 use arrayvec::ArrayVec;
 use json_lines::{ErrorName, done_line};
 use std::marker::Model;
@@ -21,7 +21,7 @@ use teach_in::{Mode, Why};
 #[derive(Drop)]
 pub(crate) struct PacketEffect {
     pub(crate) disposition: Disposition,
-    pub(crate) effect: ReplyEffect,
+    pub(crate) effect: ReplyAndMode,
 }
 
 impl Model for PacketEffect {
@@ -39,12 +39,12 @@ impl Model for PacketEffect {
 
 // The result of an input: the mode that it sets, if any, and the reply.
 #[derive(Drop)]
-pub(crate) struct ReplyEffect {
+pub(crate) struct ReplyAndMode {
     pub(crate) mode: Option<Mode>,
     pub(crate) reply: Reply,
 }
 
-impl Model for ReplyEffect {
+impl Model for ReplyAndMode {
     ghost use Rattle.std.specs.Prelude.{None};
     ghost use Rattle.gateway_core.specs.Replies.{answer_of};
     ghost use Rattle.gateway_core.specs.private.Attempts.{HandlerEffect};
@@ -55,25 +55,25 @@ impl Model for ReplyEffect {
 }
 
 // Sends nothing by radio.
-fn reply_with(desk: Desk) -> Reply
+fn reply_with(desk: DeskText) -> Reply
     ensures { answer_of result ≡ text_answer (desk_bytes desk) }
 {
     Reply { radio: None, desk }
 }
 
-pub(crate) fn desk_effect(desk: Desk) -> ReplyEffect
+pub(crate) fn desk_effect(desk: DeskText) -> ReplyAndMode
     ensures disposition { result.disposition ≡ None }
     ensures mode { result.mode ≡ None }
     ensures answer { result.answer ≡ text_answer (desk_bytes desk) }
 {
-    ReplyEffect {
+    ReplyAndMode {
         mode: None,
         reply: reply_with(desk),
     }
 }
 
 // A packet with this text for the desk.
-pub(crate) fn packet_desk_effect(disposition: Disposition, desk: Desk) -> PacketEffect
+pub(crate) fn packet_desk_effect(disposition: Disposition, desk: DeskText) -> PacketEffect
     ensures disposition { result.disposition ≡ Some disposition }
     ensures mode { result.mode ≡ None }
     ensures answer { result.answer ≡ text_answer (desk_bytes desk) }
@@ -88,39 +88,39 @@ pub(crate) fn packet_desk_effect(disposition: Disposition, desk: Desk) -> Packet
 pub(crate) fn ignored_effect(why: Why) -> PacketEffect
     ensures { (asked : Bool) → MatchesEffect result (Step.silent_effect asked (without_device why)) }
 {
-    packet_desk_effect(Disposition::without_device(why), Desk::Nothing)
+    packet_desk_effect(Disposition::without_device(why), DeskText::Nothing)
 }
 
-pub(crate) fn error_effect(name: ErrorName) -> ReplyEffect
+pub(crate) fn error_effect(name: ErrorName) -> ReplyAndMode
     ensures { MatchesEffect result (Step.error_effect name) }
 {
-    desk_effect(Desk::Fixed(name.line()))
+    desk_effect(DeskText::Fixed(name.line()))
 }
 
-pub(crate) fn mode_effect(mode: Mode) -> ReplyEffect
+pub(crate) fn mode_effect(mode: Mode) -> ReplyAndMode
     ensures { MatchesEffect result (Step.mode_effect mode) }
 {
-    ReplyEffect {
+    ReplyAndMode {
         mode: Some(mode),
-        reply: reply_with(Desk::Fixed(done_line())),
+        reply: reply_with(DeskText::Fixed(done_line())),
     }
 }
 
 // The device has its new label.
-pub(crate) fn relabel_effect() -> ReplyEffect
+pub(crate) fn relabel_effect() -> ReplyAndMode
     ensures { (id : ℕ) (label : List ℕ) → MatchesEffect result (Step.relabel_effect id label) }
 {
-    desk_effect(Desk::Fixed(done_line()))
+    desk_effect(DeskText::Fixed(done_line()))
 }
 
-pub(crate) fn send_effect(packet: ArrayVec<u8, 64>) -> ReplyEffect
+pub(crate) fn send_effect(packet: ArrayVec<u8, 64>) -> ReplyAndMode
     ensures { (asked : Bool) → MatchesEffect result (Step.send_effect asked packet.items) }
 {
-    ReplyEffect {
+    ReplyAndMode {
         mode: None,
         reply: Reply {
             radio: Some(packet),
-            desk: Desk::Fixed(done_line()),
+            desk: DeskText::Fixed(done_line()),
         },
     }
 }
@@ -135,5 +135,5 @@ pub(crate) fn error_reply(failure: Failure) -> Reply
     } else {
         ErrorName::Store
     };
-    reply_with(Desk::Fixed(name.line()))
+    reply_with(DeskText::Fixed(name.line()))
 }

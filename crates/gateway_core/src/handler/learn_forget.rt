@@ -2,13 +2,15 @@
 ghost use Rattle.std.specs.Prelude.{◌≡◌, [], ◌∷◌};
 ghost use Rattle.json_lines.specs.Lines.{Error};
 ghost use Rattle.json_lines.specs.declared.error_lines.ErrorName.{ErrorName};
-ghost use Rattle.gateway_core.specs.Step.{NeedsStore, effect_unless_full, forget_effect, learn_effect, lines_effect};
-ghost use Rattle.gateway_core.specs.private.Attempts.{Learns, Forgets, Attempts};
+ghost use Rattle.gateway_core.specs.Step.{NeedsStore, if_full_of_others_else, ordered_forget_effect};
+ghost use Rattle.gateway_core.specs.Step.{ordered_learn_effect};
+ghost use Rattle.gateway_core.specs.Step.{lines_effect};
+ghost use Rattle.gateway_core.specs.private.Attempts.{TriesToLearn, TriesToForget, Attempts};
 
 use crate::failure::Failure;
 use crate::handler::Handler;
-use crate::handler::effect::{ReplyEffect, desk_effect, error_effect};
-use crate::reply::Desk;
+use crate::handler::effect::{ReplyAndMode, desk_effect, error_effect};
+use crate::reply::DeskText;
 use erp1_telegrams::Eep;
 use json_lines::{ErrorName, Line, teach_line};
 use learned_devices::{Device, DeviceStore, LearnFault};
@@ -19,7 +21,7 @@ impl<S: DeviceStore> Handler<S> {
     // or `None`, before any write, if the registry is full.
     pub(crate) fn learn(&mut self, device: Device) -> Result<Option<(Verdict, Line)>, Failure>
         requires { device.label ≡ [] }
-        ensures { Learns S.store_state self.old device result self.new }
+        ensures { TriesToLearn S.store_state self.old device result self.new }
     {
         let draft = teach_line(
             self.alloc,
@@ -46,7 +48,7 @@ impl<S: DeviceStore> Handler<S> {
         eep: Option<Eep>,
         maker: Option<u16>,
     ) -> Result<(Verdict, Line), Failure>
-        ensures { Forgets S.store_state self.old
+        ensures { TriesToForget S.store_state self.old
             (record { eep = eep; id = id; maker = maker; outcome = Outcome.Deleted }) result self.new }
     {
         let draft = teach_line(self.alloc, id, eep, maker, Outcome::Deleted)?;
@@ -60,22 +62,22 @@ impl<S: DeviceStore> Handler<S> {
     }
 
     // Learns a device that the desk names.
-    pub(crate) fn learn_named(&mut self, device: Device) -> Result<ReplyEffect, Failure>
+    pub(crate) fn learn_by_order(&mut self, device: Device) -> Result<ReplyAndMode, Failure>
         requires { device.label ≡ [] }
-        ensures { Attempts S.store_state self.old (λ state. effect_unless_full state.devices device
-            (lines_effect NeedsStore (Error ErrorName.Full ∷ [])) (learn_effect device)) result self.new }
+        ensures { Attempts S.store_state self.old (λ state. if_full_of_others_else state.devices device
+            (lines_effect NeedsStore (Error ErrorName.Full ∷ [])) (ordered_learn_effect device)) result self.new }
     {
         match self.learn(device)? {
-            Some((_, line)) => Ok(desk_effect(Desk::Owned(line))),
+            Some((_, line)) => Ok(desk_effect(DeskText::Owned(line))),
             None => Ok(error_effect(ErrorName::Full)),
         }
     }
 
     // Forgets a device that the desk names.
-    pub(crate) fn forget_named(&mut self, device: Device) -> Result<ReplyEffect, Failure>
-        ensures { Attempts S.store_state self.old (λ state. forget_effect device) result self.new }
+    pub(crate) fn forget_by_order(&mut self, device: Device) -> Result<ReplyAndMode, Failure>
+        ensures { Attempts S.store_state self.old (λ state. ordered_forget_effect device) result self.new }
     {
         let (_, line) = self.forget(device.id, Some(device.eep), device.maker)?;
-        Ok(desk_effect(Desk::Owned(line)))
+        Ok(desk_effect(DeskText::Owned(line)))
     }
 }

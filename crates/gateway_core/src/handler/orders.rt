@@ -2,14 +2,16 @@
 ghost use Rattle.std.specs.Prelude.{Ok};
 ghost use Rattle.teach_in.specs.declared.mode.Mode.TheVariants.{LearnAs};
 ghost use Rattle.actuator_commands.specs.Orders.{IsInRange};
-ghost use Rattle.gateway_core.specs.Step.{if_supported, line_effect, order_effect, mode_effect};
+ghost use Rattle.gateway_core.specs.Step.{if_supported_else_error, line_effect, order_effect, mode_effect};
 ghost use Rattle.gateway_core.specs.private.Attempts.{MatchesEffect, Attempts};
 
 use crate::failure::Failure;
 use crate::handler::Handler;
-use crate::handler::effect::{ReplyEffect, desk_effect, error_effect, mode_effect, relabel_effect};
-use crate::handler::send::{order_error_name, request_base_id};
-use crate::reply::Desk;
+use crate::handler::effect::{
+    ReplyAndMode, desk_effect, error_effect, mode_effect, relabel_effect,
+};
+use crate::handler::send::{base_id_request_effect, order_error_name};
+use crate::reply::DeskText;
 use actuator_commands::{MAX_LINE, Order, parse};
 use erp1_telegrams::Eep;
 use json_lines::{ErrorName, device_lines, status_line};
@@ -17,8 +19,8 @@ use learned_devices::{Device, DeviceStore, Label};
 use teach_in::{Mode, supported};
 
 // Opens the mode that learns with this profile.
-fn open_as(eep: Eep) -> ReplyEffect
-    ensures { MatchesEffect result (if_supported eep (mode_effect (LearnAs eep))) }
+fn learn_as_if_supported(eep: Eep) -> ReplyAndMode
+    ensures { MatchesEffect result (if_supported_else_error eep (mode_effect (LearnAs eep))) }
 {
     if supported(eep) {
         mode_effect(Mode::LearnAs(eep))
@@ -28,14 +30,14 @@ fn open_as(eep: Eep) -> ReplyEffect
 }
 
 impl<S: DeviceStore> Handler<S> {
-    fn try_add(&mut self, id: u32, eep: Eep) -> Result<ReplyEffect, Failure>
+    fn try_add(&mut self, id: u32, eep: Eep) -> Result<ReplyAndMode, Failure>
         ensures { Attempts S.store_state self.old (λ state. order_effect state (Ok (Order.Add id eep))) result
             self.new }
     {
         if !supported(eep) {
             return Ok(error_effect(ErrorName::UnsupportedProfile));
         }
-        self.learn_named(Device {
+        self.learn_by_order(Device {
             id,
             eep,
             maker: None,
@@ -43,18 +45,18 @@ impl<S: DeviceStore> Handler<S> {
         })
     }
 
-    fn try_remove(&mut self, id: u32) -> Result<ReplyEffect, Failure>
+    fn try_remove(&mut self, id: u32) -> Result<ReplyAndMode, Failure>
         ensures { Attempts S.store_state self.old (λ state. order_effect state (Ok (Order.Remove id))) result self.new }
     {
         match self.registry.find(id)? {
-            Some(device) => self.forget_named(device),
+            Some(device) => self.forget_by_order(device),
             None => Ok(error_effect(ErrorName::UnknownDevice)),
         }
     }
 
     // Labels a device that the desk names, if it is learned. The answer never changes, so nothing can fail after the
     // write.
-    fn try_label(&mut self, id: u32, label: Label) -> Result<ReplyEffect, Failure>
+    fn try_label(&mut self, id: u32, label: Label) -> Result<ReplyAndMode, Failure>
         ensures { Attempts S.store_state self.old (λ state. order_effect state (Ok (Order.Label id label))) result
             self.new }
     {
@@ -65,43 +67,43 @@ impl<S: DeviceStore> Handler<S> {
         }
     }
 
-    fn try_list(&mut self) -> Result<ReplyEffect, Failure>
+    fn try_list(&mut self) -> Result<ReplyAndMode, Failure>
         ensures { Attempts S.store_state self.old (λ state. order_effect state (Ok Order.List)) result self.new }
     {
         let all = self.registry.all()?;
         let lines = device_lines(self.alloc, all.as_slice())?;
-        Ok(desk_effect(Desk::Owned(lines)))
+        Ok(desk_effect(DeskText::Owned(lines)))
     }
 
     // Reports the counters and the mode.
-    fn try_status(&self) -> Result<ReplyEffect, Failure>
+    fn try_status(&self) -> Result<ReplyAndMode, Failure>
         ensures { Attempts S.store_state self.now (λ state. order_effect state (Ok Order.Status)) result self.now }
     {
         let line = status_line(self.alloc, &self.counts, self.mode)?;
-        Ok(desk_effect(Desk::Owned(line)))
+        Ok(desk_effect(DeskText::Owned(line)))
     }
 
-    fn try_order(&mut self, order: Order) -> Result<ReplyEffect, Failure>
+    fn try_order(&mut self, order: Order) -> Result<ReplyAndMode, Failure>
         requires { IsInRange order }
         ensures { Attempts S.store_state self.old (λ state. order_effect state (Ok order)) result self.new }
     {
         match order {
             Order::LearnOn => Ok(mode_effect(Mode::Learn)),
             Order::LearnOnAnswer => Ok(mode_effect(Mode::LearnAnswer)),
-            Order::LearnAs(eep) => Ok(open_as(eep)),
+            Order::LearnAs(eep) => Ok(learn_as_if_supported(eep)),
             Order::LearnOff => Ok(mode_effect(Mode::Closed)),
             Order::Add(id, eep) => self.try_add(id, eep),
             Order::Remove(id) => self.try_remove(id),
             Order::Label { id, label } => self.try_label(id, label),
             Order::List => self.try_list(),
             Order::Status => self.try_status(),
-            Order::Base => Ok(request_base_id()),
+            Order::Base => Ok(base_id_request_effect()),
             // An order to devices.
             order => self.try_send(&order),
         }
     }
 
-    pub(crate) fn try_line(&mut self, line: &[u8]) -> Result<ReplyEffect, Failure>
+    pub(crate) fn try_line(&mut self, line: &[u8]) -> Result<ReplyAndMode, Failure>
         ensures { Attempts S.store_state self.old (λ state. line_effect state line.now) result self.new }
     {
         if line.len() > MAX_LINE {

@@ -10,12 +10,12 @@ ghost use Rattle.gateway_core.specs.Responses;
 ghost use Rattle.gateway_core.specs.Step.{case_effect, data_case, reading_effect, telegram_effect, non_telegram_effect};
 ghost use Rattle.gateway_core.specs.private.Attempts.{MatchesEffect, Attempts};
 
-use crate::disposition::{Disposition, why_filtered, why_other, why_unread};
+use crate::disposition::{Disposition, why_filtered, why_no_telegram_or_response, why_unread};
 use crate::failure::Failure;
 use crate::handler::Handler;
 use crate::handler::effect::{PacketEffect, ignored_effect, packet_desk_effect};
 use crate::profiles;
-use crate::reply::Desk;
+use crate::reply::DeskText;
 use crate::response::response_in;
 use erp1_telegrams::{Telegram, filter_reason};
 use esp3_frames::PacketRef;
@@ -36,11 +36,11 @@ fn reading(alloc: Global, telegram: &Telegram, device: &Device) -> Result<Packet
         Ok(()) => {
             let line = reading_line(alloc, telegram, device.eep, &readings)?;
             let disposition = Disposition::for_device(device, Why::Read);
-            Ok(packet_desk_effect(disposition, Desk::Owned(line)))
+            Ok(packet_desk_effect(disposition, DeskText::Owned(line)))
         }
         Err(fault) => {
             let disposition = Disposition::for_device(device, why_unread(fault));
-            Ok(packet_desk_effect(disposition, Desk::Nothing))
+            Ok(packet_desk_effect(disposition, DeskText::Nothing))
         }
     }
 }
@@ -83,15 +83,15 @@ impl<S: DeviceStore> Handler<S> {
     }
 
     // Handles a packet without a telegram, or fails.
-    pub(crate) fn try_other(&self, packet: &PacketRef<'_>) -> Result<PacketEffect, Failure>
+    pub(crate) fn try_non_telegram(&self, packet: &PacketRef<'_>) -> Result<PacketEffect, Failure>
         ensures { Attempts S.store_state self.now (λ _. non_telegram_effect (packet_of packet.now)
             (Responses.response_in (packet_of packet.now))) result self.now }
     {
         let Some(response) = response_in(packet) else {
-            return Ok(ignored_effect(why_other(packet)));
+            return Ok(ignored_effect(why_no_telegram_or_response(packet)));
         };
         let line = response_line(self.alloc, response.code, response.bytes)?;
         let disposition = Disposition::without_device(Why::Response);
-        Ok(packet_desk_effect(disposition, Desk::Owned(line)))
+        Ok(packet_desk_effect(disposition, DeskText::Owned(line)))
     }
 }

@@ -12,7 +12,7 @@ ghost use Rattle.gateway_core.specs.private.Attempts.{MatchesEffect, Attempts};
 
 use crate::failure::Failure;
 use crate::handler::Handler;
-use crate::handler::effect::{ReplyEffect, error_effect, send_effect};
+use crate::handler::effect::{ReplyAndMode, error_effect, send_effect};
 use actuator_commands::{Order, OrderFault, packet_of};
 use arrayvec::ArrayVec;
 use erp1_telegrams::{Telegram, write};
@@ -47,7 +47,7 @@ pub(crate) fn order_error_name(fault: OrderFault) -> ErrorName
 }
 
 // Asks the radio module for its base ID.
-pub(crate) fn request_base_id() -> ReplyEffect
+pub(crate) fn base_id_request_effect() -> ReplyAndMode
     ensures { (asked : Bool) → MatchesEffect result (Step.send_effect asked (spelling Step.base_id_request)) }
 {
     let mut packet = ArrayVec::new();
@@ -58,7 +58,7 @@ pub(crate) fn request_base_id() -> ReplyEffect
 }
 
 // Sends the telegram of an order, given its device, or reports why there is none.
-fn send(order: &Order, device: Option<&Device>, base: u32) -> ReplyEffect
+fn send(order: &Order, device: Option<&Device>, base: u32) -> ReplyAndMode
     requires sends { sends order.now ≡ true }
     requires in_range { IsInRange order.now }
     requires base { is_base_id base ≡ true }
@@ -72,12 +72,12 @@ fn send(order: &Order, device: Option<&Device>, base: u32) -> ReplyEffect
 }
 
 impl<S: DeviceStore> Handler<S> {
-    pub(crate) fn try_send(&mut self, order: &Order) -> Result<ReplyEffect, Failure>
+    pub(crate) fn try_send(&mut self, order: &Order) -> Result<ReplyAndMode, Failure>
         requires sends { sends order.now ≡ true }
         requires in_range { IsInRange order.now }
         ensures { Attempts S.store_state self.old (λ state. order_effect state (Ok order.now)) result self.new }
     {
-        let Some(id) = order.recipient() else {
+        let Some(id) = order.recipient_id() else {
             return Ok(send(order, None, self.base));
         };
         let device = self.registry.find(id)?;

@@ -6,16 +6,16 @@ ghost use Rattle.teach_in.specs.Plans.{plan_of};
 ghost use Rattle.teach_in.specs.Telegrams.{teach_in_of};
 ghost use Rattle.gateway_core.specs.Replies.{answer_of};
 ghost use Rattle.gateway_core.specs.Step;
-ghost use Rattle.gateway_core.specs.Step.{accept_effect, effect_unless_full, delete_effect, plan_effect, radio_of};
-ghost use Rattle.gateway_core.specs.Step.{reply_of, device_teach_line};
-ghost use Rattle.gateway_core.specs.private.Attempts.{MatchesEffect, MayReply, Attempts, state_of};
+ghost use Rattle.gateway_core.specs.Step.{accept_effect, if_full_of_others_else, delete_effect, plan_effect, radio_of};
+ghost use Rattle.gateway_core.specs.Step.{reply_telegram_of, device_teach_line};
+ghost use Rattle.gateway_core.specs.private.Attempts.{MatchesEffect, HasReplyCodeIfQuery, Attempts, state_of};
 
-use crate::disposition::{Disposition, query_device, why_silent};
+use crate::disposition::{Disposition, eep_and_maker_in_query, why_nothing_done};
 use crate::failure::Failure;
 use crate::handler::Handler;
-use crate::handler::effect::{PacketEffect, ReplyEffect, ignored_effect};
+use crate::handler::effect::{PacketEffect, ReplyAndMode, ignored_effect};
 use crate::handler::send::packet_with;
-use crate::reply::{Desk, Reply};
+use crate::reply::{DeskText, Reply};
 use arrayvec::ArrayVec;
 use erp1_telegrams::{Eep, Telegram};
 use json_lines::{Line, teach_line};
@@ -24,8 +24,8 @@ use std::alloc::AllocError;
 use teach_in::{Mode, Outcome, Plan, Teach, Verdict, Why, four_byte_reply, plan_for, ute_reply};
 
 // The mode that learns with the desk's profile is for one sender.
-fn mode_after_learning(mode: Mode) -> Option<Mode>
-    ensures { result ≡ Step.mode_after_learning mode }
+fn mode_set_by_learning(mode: Mode) -> Option<Mode>
+    ensures { result ≡ Step.mode_set_by_learning mode }
 {
     match mode {
         Mode::LearnAs(_) => Some(Mode::Closed),
@@ -36,10 +36,10 @@ fn mode_after_learning(mode: Mode) -> Option<Mode>
 impl<S: DeviceStore> Handler<S> {
     // The packet that replies to a teach-in telegram: to a UTE query that waits for one, or to a 4BS query in the mode
     // `LearnAnswer`.
-    fn reply_packet(&self, teach: &Teach, verdict: &Verdict) -> Option<ArrayVec<u8, 64>>
-        requires { MayReply teach.now verdict.now.id verdict.now.outcome }
+    fn radio_reply(&self, teach: &Teach, verdict: &Verdict) -> Option<ArrayVec<u8, 64>>
+        requires { HasReplyCodeIfQuery teach.now verdict.now.id verdict.now.outcome }
         ensures { option_map (λ bytes. bytes.items) result
-            ≡ radio_of (reply_of self.now.base self.now.mode teach.now verdict.now.outcome) }
+            ≡ radio_of (reply_telegram_of self.now.base self.now.mode teach.now verdict.now.outcome) }
     {
         match (self.mode, teach) {
             (_, Teach::Ute(query)) if query.wants_reply() => {
@@ -53,17 +53,17 @@ impl<S: DeviceStore> Handler<S> {
     }
 
     // Reports the outcome for a sender to the desk, and replies to the sender.
-    fn answer_sender(&self, teach: &Teach, verdict: &Verdict, line: Line) -> Reply
-        requires { MayReply teach.now verdict.now.id verdict.now.outcome }
+    fn reply_with_teach_line(&self, teach: &Teach, verdict: &Verdict, line: Line) -> Reply
+        requires { HasReplyCodeIfQuery teach.now verdict.now.id verdict.now.outcome }
         ensures { answer_of result ≡ record {
-          radio = radio_of (reply_of self.now.base self.now.mode teach.now verdict.now.outcome);
+          radio = radio_of (reply_telegram_of self.now.base self.now.mode teach.now verdict.now.outcome);
           explained = [];
           desk = line;
         } }
     {
         Reply {
-            radio: self.reply_packet(teach, verdict),
-            desk: Desk::Owned(line),
+            radio: self.radio_reply(teach, verdict),
+            desk: DeskText::Owned(line),
         }
     }
 
@@ -78,8 +78,8 @@ impl<S: DeviceStore> Handler<S> {
     ) -> Result<PacketEffect, AllocError>
         requires accepted { outcome ≢ Outcome.Accepted }
         requires deleted { outcome ≢ Outcome.Deleted }
-        requires reply { MayReply teach.now id outcome }
-        ensures { IfOk result (λ done. (devices : Devices) → MatchesEffect done (Step.teach_effect
+        requires reply { HasReplyCodeIfQuery teach.now id outcome }
+        ensures { IfOk result (λ done. (devices : Devices) → MatchesEffect done (Step.teach_report_effect
             (state_of self.now devices) teach.now (record { eep = eep; id = id; maker = maker; outcome = outcome }))) }
     {
         let draft = teach_line(self.alloc, id, eep, maker, outcome)?;
@@ -87,9 +87,9 @@ impl<S: DeviceStore> Handler<S> {
         let line = draft.tell(&verdict);
         Ok(PacketEffect {
             disposition: Disposition::without_device(Why::TeachIn(outcome)),
-            effect: ReplyEffect {
+            effect: ReplyAndMode {
                 mode: None,
-                reply: self.answer_sender(teach, &verdict, line),
+                reply: self.reply_with_teach_line(teach, &verdict, line),
             },
         })
     }
@@ -97,10 +97,10 @@ impl<S: DeviceStore> Handler<S> {
     // Learns the sender of a telegram.
     fn try_accept(&mut self, teach: &Teach, device: Device) -> Result<PacketEffect, Failure>
         requires label { device.label ≡ [] }
-        requires accepted { MayReply teach.now device.id outcome.Accepted }
-        requires full { MayReply teach.now device.id outcome.Full }
-        ensures { Attempts S.store_state self.old (λ state. effect_unless_full state.devices device
-            (Step.teach_effect state teach.now (device_teach_line device outcome.Full))
+        requires accepted { HasReplyCodeIfQuery teach.now device.id outcome.Accepted }
+        requires full { HasReplyCodeIfQuery teach.now device.id outcome.Full }
+        ensures { Attempts S.store_state self.old (λ state. if_full_of_others_else state.devices device
+            (Step.teach_report_effect state teach.now (device_teach_line device outcome.Full))
             (accept_effect state teach.now device))
             result self.new }
     {
@@ -112,25 +112,25 @@ impl<S: DeviceStore> Handler<S> {
         };
         Ok(PacketEffect {
             disposition,
-            effect: ReplyEffect {
-                mode: mode_after_learning(self.mode),
-                reply: self.answer_sender(teach, &verdict, line),
+            effect: ReplyAndMode {
+                mode: mode_set_by_learning(self.mode),
+                reply: self.reply_with_teach_line(teach, &verdict, line),
             },
         })
     }
 
     // Forgets the sender of a telegram, learned or not.
     fn try_forget(&mut self, teach: &Teach, id: u32) -> Result<PacketEffect, Failure>
-        requires { MayReply teach.now id outcome.Deleted }
+        requires { HasReplyCodeIfQuery teach.now id outcome.Deleted }
         ensures { Attempts S.store_state self.old (λ state. delete_effect state teach.now id) result self.new }
     {
-        let (eep, maker) = query_device(teach);
+        let (eep, maker) = eep_and_maker_in_query(teach);
         let (verdict, line) = self.forget(id, eep, maker)?;
         Ok(PacketEffect {
             disposition: Disposition::without_device(Why::TeachIn(Outcome::Deleted)),
-            effect: ReplyEffect {
+            effect: ReplyAndMode {
                 mode: None,
-                reply: self.answer_sender(teach, &verdict, line),
+                reply: self.reply_with_teach_line(teach, &verdict, line),
             },
         })
     }
@@ -149,11 +149,11 @@ impl<S: DeviceStore> Handler<S> {
     {
         // only the sender of data is looked up, and data of a known sender never gets here
         match plan_for(telegram, teach, self.mode, false) {
-            Plan::Silent => Ok(ignored_effect(why_silent(asked, self.mode))),
+            Plan::Silent => Ok(ignored_effect(why_nothing_done(asked, self.mode))),
             Plan::Add(device) => self.try_accept(teach, device),
             Plan::Forget(id) => self.try_forget(teach, id),
             Plan::Refuse(outcome) => {
-                let (eep, maker) = query_device(teach);
+                let (eep, maker) = eep_and_maker_in_query(teach);
                 let refused = self.refuse(teach, telegram.sender(), eep, maker, outcome)?;
                 Ok(refused)
             }

@@ -3,22 +3,22 @@ use Rattle.std.specs.Prelude.{◌≡◌, ℕ, List, ◌∷◌, ◌++◌, All}
 use Rattle.std.specs.List.{flat_map}
 use Rattle.std.specs.Str.Lines.{strip_carriage_return}
 use Rattle.learned_devices.specs.DeviceStoreState.{DeviceStoreState}
-use Rattle.gateway_loop.specs.declared.line_loop.Lines.{Lines}
+use Rattle.gateway_loop.specs.declared.line_loop.LineSource.{LineSource}
 use Rattle.gateway_loop.specs.declared.line_loop.LineDispatcher.{LineDispatcher}
-use Rattle.gateway_loop.specs.private.Lines.{KeepsPartialLine, event_by, events_by}
+use Rattle.gateway_loop.specs.private.Lines.{KeepsTruncatedLine, event_of_line_from, events_by}
 use Rattle.gateway_loop.specs.OutputSpecs.{OutputSpec}
 use Rattle.gateway_loop.specs.private.DriverSteps.{DriverBreaks, Takes}
 use Rattle.gateway_loop.specs.Script.{HasNoLf, with_lf}
 
 -- Below, `bytes` are those of the first partial line, followed by those that arrived after it.
-module _ {O S : Type 0} (stored : S → DeviceStoreState) (output : OutputSpec O) (lines : Lines) where
+module _ {O S : Type 0} (stored : S → DeviceStoreState) (output : OutputSpec O) (lines : LineSource) where
   -- the lines that LF ends in the bytes were taken, and the first bytes of the partial line after them are kept
   pub record TakesBytes (old new : LineDispatcher O S) (bytes : List ℕ) : Type 0 where
     pub ended : List (List ℕ)
     pub rest : List ℕ
     pub whole : bytes ≡ flat_map with_lf ended ++ rest
     pub each : All HasNoLf ended
-    pub keeps : KeepsPartialLine rest new.partial
+    pub keeps : KeepsTruncatedLine rest new.partial
     pub taken : Takes stored output old.driver new.driver (events_by lines ended)
 
   -- an answer was not written completely at one of the lines that LF ends in the bytes
@@ -30,4 +30,4 @@ module _ {O S : Type 0} (stored : S → DeviceStoreState) (output : OutputSpec O
     pub each : All HasNoLf ended
     pub one : HasNoLf line
     pub broken : DriverBreaks stored output old.driver new.driver (events_by lines ended)
-        (event_by lines (strip_carriage_return line))
+        (event_of_line_from lines (strip_carriage_return line))

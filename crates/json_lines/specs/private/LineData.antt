@@ -11,7 +11,7 @@ use Rattle.json_lines.specs.declared.counts.Counts.{Counts}
 use Rattle.json_lines.specs.Lines.{TeachLine, id_text, eep_text, outcome_word, mode_word, code_names}
 
 -- the text appears in a JSON string unchanged, with no escape
-abbrev pub NeedsNoEscape : List ℕ → Type 0
+abbrev pub NeedsNoEscape : (text : List ℕ) → Type 0
 NeedsNoEscape text = escape text ≡ text
 
 -- the line is the text made of what was sent, and a line feed
@@ -32,15 +32,15 @@ abbrev pub object_of : List (List ℕ × Data) → Data
 object_of ms = object (members ms)
 
 -- a value, or null if it is unknown
-abbrev pub or_null : {A : Type 0} → (A → Data) → Option A → Data
-or_null data_of None = null
-or_null data_of (Some known) = data_of known
+abbrev pub value_or_null : {A : Type 0} → (A → Data) → Option A → Data
+value_or_null data_of None = null
+value_or_null data_of (Some known) = data_of known
 
 -- a number without a sign
 abbrev pub number_data : ℕ → Data
 number_data n = number (unsigned n)
 
-abbrev pub id_data : ℕ → Data
+abbrev pub id_data : (id : ℕ) → Data
 id_data id = string (id_text id)
 
 abbrev pub profile_data : Eep → Data
@@ -50,9 +50,9 @@ profile_data eep = string (eep_text eep)
 
 abbrev pub teach_members : TeachLine → List (List ℕ × Data)
 teach_members line =
-    (codes "eep", or_null profile_data line.eep)
+    (codes "eep", value_or_null profile_data line.eep)
     ∷ (codes "id", id_data line.id)
-    ∷ (codes "maker", or_null number_data line.maker)
+    ∷ (codes "maker", value_or_null number_data line.maker)
     ∷ (codes "result", string (outcome_word line.outcome))
     ∷ (codes "type", string (codes "teach")) ∷ []
 
@@ -61,11 +61,11 @@ device_members known =
     (codes "eep", profile_data known.eep)
     ∷ (codes "id", id_data known.id)
     ∷ (codes "label", string known.label)
-    ∷ (codes "maker", or_null number_data known.maker)
+    ∷ (codes "maker", value_or_null number_data known.maker)
     ∷ (codes "type", string (codes "device")) ∷ []
 
 -- the line after this many devices
-abbrev pub list_members : ℕ → List (List ℕ × Data)
+abbrev pub list_members : (count : ℕ) → List (List ℕ × Data)
 list_members count = (codes "count", number_data count) ∷ (codes "type", string (codes "list")) ∷ []
 
 abbrev pub status_members : Counts → Mode → List (List ℕ × Data)
@@ -79,9 +79,9 @@ status_members counts mode =
     ∷ (codes "type", string (codes "status")) ∷ []
 
 -- a response line, with the digits of the bytes
-abbrev pub response_members : ℕ → List ℕ → List (List ℕ × Data)
+abbrev pub response_members : (code : ℕ) (digits : List ℕ) → List (List ℕ × Data)
 response_members code digits =
     (codes "code", number_data code)
     ∷ (codes "data", string digits)
-    ∷ (codes "name", or_null string (slice_get code_names code))
+    ∷ (codes "name", value_or_null string (slice_get code_names code))
     ∷ (codes "type", string (codes "response")) ∷ []

@@ -388,10 +388,10 @@ const RECIPIENTS: &str = "\
 fn recipients(rt: HostRuntime) -> Result<(), Fail> {
     for case in RECIPIENTS.split('|') {
         let (line, device) = case.split_once(" = ").ok_or("no device")?;
-        let recipient = parse(line.as_bytes())?.recipient();
+        let recipient_id = parse(line.as_bytes())?.recipient_id();
         let wanted = id_of(device.as_bytes());
         assert!(rt; wanted.is_some() || device == "none", "{case}");
-        assert_eq!(rt; recipient, wanted, "{case}");
+        assert_eq!(rt; recipient_id, wanted, "{case}");
     }
     Ok(())
 }

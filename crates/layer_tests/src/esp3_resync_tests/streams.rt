@@ -208,7 +208,7 @@ fn feed_runs(
     let mut packets: u32 = 0;
     for _ in 0..=MAX_TURNS {
         if !framer.is_ready() {
-            let count = framer.push_run(rest);
+            let count = framer.push_until_ready(rest);
             rest = &rest[count..];
         }
         if let Some(packet) = framer.take_packet(buffer) {

@@ -229,7 +229,7 @@ const OF_OTHERS: [OfAnother; 17] = [
 #[test]
 fn other_packets(rt: HostRuntime) {
     for case in &OF_OTHERS {
-        let packet = ShownPacket::Other {
+        let packet = ShownPacket::WithoutTelegram {
             kind: case.kind,
             size: case.size,
         };

@@ -150,8 +150,8 @@ fn is_query(rt: &impl Abort, found: Teach, payload: [u8; 7]) -> Result<(), Fail>
         return Err(Fail::from("no query"));
     };
     let [db6, db5, db4, db3, db2, db1, db0] = payload;
-    let told = (query.id(), query.wants_reply());
-    assert_eq!(rt; told, (SENDER, db6 & 0x40 == 0), "at {db6}");
+    let reported = (query.id(), query.wants_reply());
+    assert_eq!(rt; reported, (SENDER, db6 & 0x40 == 0), "at {db6}");
     let verdict = refused(query.id(), Outcome::Unsupported)?;
     let wanted = [db6 & 0x80 | 0x31, db5, db4, db3, db2, db1, db0];
     assert_eq!(rt;

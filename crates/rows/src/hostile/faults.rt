@@ -22,8 +22,8 @@ pub(crate) fn tell(rt: &HostRuntime, telling: &mut Telling) -> Result<()> {
     telling.tell_first(rt, "each read of a replay fails in turn", wrong)?;
     let wrong = first_wrong_write(alloc)?;
     telling.tell_first(rt, "each write of a replay fails in turn", wrong)?;
-    let is_well = is_kept_untold(alloc)?;
-    telling.tell(rt, "a device that could not be told is kept", is_well)
+    let is_well = is_kept_unreported(alloc)?;
+    telling.tell(rt, "a device that could not be reported is kept", is_well)
 }
 
 /// How a replay ended, and what was written.
@@ -57,10 +57,10 @@ pub(crate) fn knows<S: DeviceStore>(
     gateway: &mut GatewayOver<S>,
     state: &State,
 ) -> Result<bool> {
-    let told = written_by(alloc, gateway, b"list\nstatus\n")?;
+    let stated = written_by(alloc, gateway, b"list\nstatus\n")?;
     let list = state.listed(alloc)?;
     let counts = state.status(alloc)?;
-    let behind = told.as_slice().strip_prefix(list.as_bytes());
+    let behind = stated.as_slice().strip_prefix(list.as_bytes());
     Ok(behind == Some(counts.as_bytes()))
 }
 
@@ -162,7 +162,7 @@ fn is_write_fault_well(alloc: Global, out: usize, item: &Outcome) -> Result<bool
 // loop that removes the sender if a write fails. This case differed, and so did each write of a replay and of a live
 // gateway, both at 0.
 /// Whether a device is found again whose teach-in was done, and could not be reported.
-fn is_kept_untold(alloc: Global) -> Result<bool> {
+fn is_kept_unreported(alloc: Global) -> Result<bool> {
     let mut gateway = fresh(alloc)?;
     let script = b"learn on\nS 55000D0701FDD4A00146001201D201800ABC0001FFFFFFFF2D008A\n".as_slice();
     let done = replay_parts(alloc, &mut gateway, &[script], 0, 16)?;

@@ -88,13 +88,13 @@ fn is_fault_well(
         Failing::Reads(reads) => (RunFault::Read, reads, (NEVER, NEVER)),
         Failing::Writes(writes) => (RunFault::Write, (0, 0), writes),
     };
-    let (sent, told) = went;
+    let (sent, reported) = went;
     let mut gateway = fresh(alloc)?;
     let served = serve(alloc, &mut gateway, turns, reads, writes)?;
     Ok(
         served.ended == Err(fault)
             && Some(served.radio.as_slice()) == items.radio.as_slice().get(..sent)
-            && Some(served.desk.as_slice()) == items.desk.as_slice().get(..told)
+            && Some(served.desk.as_slice()) == items.desk.as_slice().get(..reported)
             && knows(alloc, &mut gateway, &items.state)?,
     )
 }

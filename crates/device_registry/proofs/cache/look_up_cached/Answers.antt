@@ -12,16 +12,19 @@ returns-clause-known c =
 
 pub returns-clause-kept : goal.returns-clause-kept
 returns-clause-kept c entry has =
-    let same : c.get.follows.lender-at-none.entries ≡ promoted (eqb c.args.id) c.args.cache.now.entries = search rules in
+    let same : c.get.follows.lender-at-none.entries ≡ promoted
+    (eqb c.args.id) c.args.cache.now.entries = search rules in
     Contains-promoted (eqb c.args.id) c.args.cache.now.entries entry (rw same at has)
 
 pub returns-in_err-known-clause-kept : goal.returns-in_err-known-clause-kept
 returns-in_err-known-clause-kept c entry has =
-    let same : c.get.follows.lender-at-none.entries ≡ promoted (eqb c.args.id) c.args.cache.now.entries = search rules in
+    let same : c.get.follows.lender-at-none.entries ≡ promoted
+    (eqb c.args.id) c.args.cache.now.entries = search rules in
     Contains-promoted (eqb c.args.id) c.args.cache.now.entries entry (rw same at has)
 
 pub returns-in_err-known-clause-unchanged : goal.returns-in_err-known-clause-unchanged
 returns-in_err-known-clause-unchanged c =
-    let same : c.get.follows.lender-at-none.entries ≡ promoted (eqb c.args.id) c.args.cache.now.entries = search rules in
+    let same : c.get.follows.lender-at-none.entries ≡ promoted
+    (eqb c.args.id) c.args.cache.now.entries = search rules in
     let none : lookup (eqb c.args.id) c.args.cache.now.entries ≡ None = search rules in
     rw c.from_residual.ensures (same ∙ promoted-unknown (eqb c.args.id) c.args.cache.now.entries none)

@@ -1,6 +1,6 @@
 use Rattle.std.proofs.Common.{rules, codes, [], IsTrue}
 use Rattle.device_registry.specs.Opening.{IsSettledOpen}
-use Rattle.keyed_table.proofs.Refusals.{err_told, not_run_kept}
+use Rattle.keyed_table.proofs.Refusals.{err_reported, not_run_kept}
 use Rattle.device_registry.proofs.opening.check_open.Goals as goal
 
 pub returns-in_err-_statement-clause-kept : goal.returns-in_err-_statement-clause-kept
@@ -17,5 +17,5 @@ returns-in_err-_statement-clause-kept g c clean =
           c.is_autocommit-idle.ensures.settled auto is_open;
       sound = (c.schema-schema.ensures.live is_open).0;
     } in it in
-    err_told c.from_residual.result
+    err_reported c.from_residual.result
     (not_run_kept (codes "SELECT 1") [] old new _ at_rest (c.in_err-_statement.ensures.err clean []))

@@ -3,7 +3,7 @@ use Rattle.sqlite.specs.State.{HasCleanDisk}
 use Rattle.device_registry.specs.declared.table.Version.{Version}
 use Rattle.device_registry.specs.declared.table.Version.TheVariants.{First, Second}
 use Rattle.device_registry.specs.Stored.{IsRegistry}
-use Rattle.device_registry.specs.Opening.{IsOwnRegistry}
+use Rattle.device_registry.specs.Opening.{IsRegistryIn}
 use Rattle.device_registry.proofs.OpenCalls.{begun, begun_bare, begun_stop, took, first_asked, migrated}
 use Rattle.device_registry.proofs.OpenCalls.{migrated_other, migrated_stop, taken, taken_ready, taken_rows}
 use Rattle.device_registry.proofs.OpenCalls.{taken_stop, taken_others, migrated_others, is_other}
@@ -36,7 +36,7 @@ returns-in-None-clause-refused g c clean why =
     let early : HasCleanDisk old = omega (arith, clean, c.version_of.ensures.crash.clean) in
     let found = c.in_ok-version_of.ensures.found clean in
     is_other old (c.requires.rest early)
-    (subst (λ o. MatchOption o ((version : Version) → ¬ IsOwnRegistry version old.now.trees)
+    (subst (λ o. MatchOption o ((version : Version) → ¬ IsRegistryIn version old.now.trees)
     (λ version. IsRegistry version old.now)) c.in-None.is found.1)
     (λ clear. absurd (search rules))
 

@@ -3,7 +3,7 @@ use Rattle.sqlite.specs.State.{HasCleanDisk, Shown}
 use Rattle.device_registry.specs.Table.{count_others_sql}
 use Rattle.keyed_table.specs.Queries.{asked}
 use Rattle.keyed_table.proofs.Statements.{query_ready}
-use Rattle.device_registry.proofs.CountOthersAnswer.{others_plain, others_stay, told_full}
+use Rattle.device_registry.proofs.CountOthersAnswer.{others_plain, others_stay, reported_full}
 use Rattle.device_registry.proofs.queries.is_full_for.Goals as goal
 
 pub returns-in_err-rows-clause-stays : goal.returns-in_err-rows-clause-stays
@@ -43,10 +43,10 @@ returns-clause-full g c clean =
     let shown : Shown count_others_sql (asked c.args.id) mid new rows =
     subst (λ t. Shown t (asked c.args.id) mid new rows) (c.in_ok-others.ensures.text early)
     (c.in_ok-rows.ensures.shown clean) in
-    let told = c.in_ok-shown_count.ensures.number in (
+    let reported = c.in_ok-shown_count.ensures.number in (
       query_ready count_others_sql (asked c.args.id) mid new rows (others_plain mid ready) ready shown,
       λ devices shows.
           let showed = (c.compile.ensures.stays.goes_on early ready.shows.is_open).1 devices shows in
-          told_full mid new c.args.id rows c.in_ok-shown_count.field-0 told.0 told.1 devices showed shown
-          (search rules) told.3,
+          reported_full mid new c.args.id rows c.in_ok-shown_count.field-0 reported.0 reported.1 devices showed shown
+          (search rules) reported.3,
     )

@@ -11,7 +11,7 @@ use Rattle.learned_devices.specs.Devices.{max_devices}
 use Rattle.device_registry.specs.Table.Rows.{ShowsVersion, are_ascending_devices}
 use Rattle.device_registry.proofs.DeviceMeaning.{all_means}
 use Rattle.device_registry.proofs.VersionMeaning.{version_means}
-use Rattle.device_registry.proofs.RowsRecognized.{whole, version_told, devices_told, rise_told}
+use Rattle.device_registry.proofs.RowsRecognized.{whole, version_reported, devices_reported, rise_reported}
 use Rattle.device_registry.proofs.recognize.has_valid_rows.Goals as goal
 
 pub query_rows-requires : goal.query_rows-requires
@@ -29,14 +29,16 @@ query_rows-requires-2 g c clean =
     (all_means c.args.version old.now.schema t.devices_at t.devices t.devices_stand).plain in
     rw c.find_all_sql.ensures plain
 
-pub returns-then-not-is_version-clause-other : goal.returns-then-not-is_version-clause-other
-returns-then-not-is_version-clause-other g c clean none t it =
+pub returns-then-not-shows_version-clause-other : goal.returns-then-not-shows_version-clause-other
+returns-then-not-shows_version-clause-other g c clean none t it =
     let old = g.C.SqlConnection.state c.args.conn.now in
     let mid = g.C.SqlConnection.state c.query_rows.new.conn in
-    let told : c.in_ok-versions.versions.items ≡ (Int (pos 1) ∷ Int (pos (version_number c.args.version)) ∷ []) ∷ [] =
-    version_told c.args.version old mid c.in_ok-versions.versions.items t it (c.in_ok-versions.ensures.shown clean).0 in
-    let is_one : IsTrue c.is_version.result = c.is_version.ensures.complete (search (rules, told)) in
-    absurd (let e = c.if-not-is_version.true in cc)
+    let reported : c.in_ok-versions.versions.items ≡ (Int (pos 1) ∷ Int (pos (version_number c.args.version)) ∷ [])
+    ∷ [] =
+    version_reported c.args.version old mid c.in_ok-versions.versions.items t it
+    (c.in_ok-versions.ensures.shown clean).0 in
+    let is_one : IsTrue c.shows_version.result = c.shows_version.ensures.complete (search (rules, reported)) in
+    absurd (let e = c.if-not-shows_version.true in cc)
 
 pub returns-clause-whole : goal.returns-clause-whole
 returns-clause-whole g c clean =
@@ -56,8 +58,8 @@ returns-clause-whole g c clean =
           second.0 few up,
     )
 
-told_count : (n m : ℕ) → n ≡ m → m ≤ max_devices → max_devices < n → ⊥
-told_count n m e few many = omega arith
+reported_count : (n m : ℕ) → n ≡ m → m ≤ max_devices → max_devices < n → ⊥
+reported_count n m e few many = omega arith
 
 pub returns-then-len-gt-MAX_DEVICES-clause-other : goal.returns-then-len-gt-MAX_DEVICES-clause-other
 returns-then-len-gt-MAX_DEVICES-clause-other g c clean none t it =
@@ -65,11 +67,11 @@ returns-then-len-gt-MAX_DEVICES-clause-other g c clean none t it =
     let mid = g.C.SqlConnection.state c.query_rows.new.conn in
     let new = g.C.SqlConnection.state c.query_rows-2.new.conn in
     let between : HasCleanDisk mid = omega (arith, clean, c.query_rows-2.ensures.crash.clean) in
-    let count = devices_told c.args.version old mid new c.in_ok-devices.devices.items t
+    let count = devices_reported c.args.version old mid new c.in_ok-devices.devices.items t
     (c.in_ok-versions.ensures.shown between).1
     (rw c.find_all_sql.ensures at (c.in_ok-devices.ensures.shown clean)).0 in
     let many : max_devices < length c.in_ok-devices.devices.items = search rules in
-    absurd (told_count _ _ count it.few many)
+    absurd (reported_count _ _ count it.few many)
 
 pub returns-clause-other : goal.returns-clause-other
 returns-clause-other g c clean none t it =
@@ -77,7 +79,7 @@ returns-clause-other g c clean none t it =
     let mid = g.C.SqlConnection.state c.query_rows.new.conn in
     let new = g.C.SqlConnection.state c.query_rows-2.new.conn in
     let between : HasCleanDisk mid = omega (arith, clean, c.query_rows-2.ensures.crash.clean) in
-    let up = rise_told c.args.version old mid new c.in_ok-devices.devices.items t it
+    let up = rise_reported c.args.version old mid new c.in_ok-devices.devices.items t it
     (c.in_ok-versions.ensures.shown between).1
     (rw c.find_all_sql.ensures at (c.in_ok-devices.ensures.shown clean)).0 in
     let not_up : are_ascending_devices 0 c.in_ok-devices.devices.items ≡ false = search (rules, none) in

@@ -30,7 +30,8 @@ has_valid_rows-requires g c clean =
     let early : HasCleanDisk old = omega (arith, clean, c.lists_our_tables.ensures.crash.clean) in
     let got = c.in_ok-lists_our_tables.ensures.ours clean in
     let yes : IsTrue c.in_ok-lists_our_tables.field-0 = search rules in
-    let is : trees_of_tables c.args.version old.now.schema ≡ Some (c.in-Some._meta, c.in-Some._devices) = search rules in
+    let is : trees_of_tables c.args.version old.now.schema ≡ Some
+    (c.in-Some._meta, c.in-Some._devices) = search rules in
     subst (λ (db : Database). HasTables c.args.version db.schema) (sym got.0.0.now_is)
     (tables_taken c.args.version old c.in-Some._meta c.in-Some._devices (c.requires early) is (got.1 yes))
 
@@ -42,7 +43,8 @@ returns-clause-ours g c clean =
     let early : HasCleanDisk old = omega (arith, between, c.lists_our_tables.ensures.crash.clean) in
     let got = c.in_ok-lists_our_tables.ensures.ours between in
     let yes : IsTrue c.in_ok-lists_our_tables.field-0 = search rules in
-    let is : trees_of_tables c.args.version old.now.schema ≡ Some (c.in-Some._meta, c.in-Some._devices) = search rules in
+    let is : trees_of_tables c.args.version old.now.schema ≡ Some
+    (c.in-Some._meta, c.in-Some._devices) = search rules in
     taken_if c.args.version c.has_valid_rows.result old mid (g.C.SqlConnection.state c.has_valid_rows.new.conn) got.0
     (tables_taken c.args.version old c.in-Some._meta c.in-Some._devices (c.requires early) is (got.1 yes)) (got.1 yes)
     (c.has_valid_rows.ensures.whole clean)

@@ -2,7 +2,7 @@ use Rattle.std.proofs.Common.{rules, arith, ◌≡◌, true}
 use Rattle.sqlite.specs.State.{HasCleanDisk}
 use Rattle.device_registry.specs.private.CatalogRows.{are_our_tables}
 use Rattle.keyed_table.proofs.ObjectsAnswer.{listing_plain}
-use Rattle.device_registry.proofs.TablesRecognized.{ours_told, ours_shown}
+use Rattle.device_registry.proofs.TablesRecognized.{ours_reported, ours_shown}
 use Rattle.device_registry.proofs.recognize.lists_our_tables.Goals as goal
 
 pub query_rows-requires : goal.query_rows-requires
@@ -16,7 +16,7 @@ returns-clause-ours g c clean =
       show.1,
       λ yes.
           let are : are_our_tables c.args.version c.in_ok-rows.rows.items ≡ true = search rules in
-          ours_told c.args.version old (g.C.SqlConnection.state c.query_rows.new.conn) c.in_ok-rows.rows.items
+          ours_reported c.args.version old (g.C.SqlConnection.state c.query_rows.new.conn) c.in_ok-rows.rows.items
           (c.requires early) show.0
           are,
     )

@@ -5,12 +5,12 @@ use Rattle.esp3_resync.proofs.runs.push_announced.Goals as goal
 pub overflow_sub-missing : goal.overflow_sub-missing
 overflow_sub-missing c =
     let fits = part_fits c.args.window.now c.args.header c.requires.has c.requires.partial in
-    omega (arith, fits, c.len.ensures.len, c.announced_len.ensures)
+    omega (arith, fits, c.len.ensures.len, c.announced_data_len.ensures)
 
 pub returns-clause-some : goal.returns-clause-some
 returns-clause-some c = λ some.
     let fits = part_fits c.args.window.now c.args.header c.requires.has c.requires.partial in
-    omega (arith, some, fits, c.min-count.ensures, c.len.ensures.len, c.announced_len.ensures)
+    omega (arith, some, fits, c.min-count.ensures, c.len.ensures.len, c.announced_data_len.ensures)
 
 pub returns-clause-before : goal.returns-clause-before
 returns-clause-before c = λ k before.
@@ -23,7 +23,7 @@ returns-clause-before c = λ k before.
       before,
       c.min-count.ensures,
       c.len.ensures.len,
-      c.announced_len.ensures,
+      c.announced_data_len.ensures,
       length-append w t,
       length-take k c.args.bytes.now,
     ))

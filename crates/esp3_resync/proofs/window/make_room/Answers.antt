@@ -3,7 +3,7 @@ use Rattle.std.proofs.Common.{sym, subst, ap, ◌∙◌, arith}
 use Rattle.std.proofs.Common.{length-drop}
 use Rattle.std.proofs.Math.Seq.{paste, take-paste}
 use Rattle.std.proofs.lemmas.List.{take_all}
-use Rattle.esp3_resync.specs.private.RunningChecks.{HasChecks}
+use Rattle.esp3_resync.specs.private.RunningChecks.{HasRunningCrcs}
 use Rattle.esp3_resync.proofs.RunningLemmas.{noted_moved}
 use Rattle.esp3_resync.proofs.window.make_room.Goals as goal
 
@@ -35,6 +35,6 @@ returns-clause-running c =
       few = omega (arith, ap length moved, length-drop s w);
       places = omega (arith, ap length moved, length-drop s w, beside.len, r.places);
       gone = r.gone ++ take s w;
-      noted = subst (λ (y : List ℕ). HasChecks (r.gone ++ take s w) y c.copy_within-2.new.self.items) (sym moved)
+      noted = subst (λ (y : List ℕ). HasRunningCrcs (r.gone ++ take s w) y c.copy_within-2.new.self.items) (sym moved)
           (noted_moved r.gone w c.args.checks.now.items c.copy_within-2.new.self.items s within.0 same r.noted);
     }

@@ -1,7 +1,7 @@
 use Rattle.std.proofs.Common.{◌≡◌, ℕ, ◌+◌, List, ◌++◌, length, refl, sym, subst, ap, ◌∙◌, arith}
 use Rattle.std.proofs.lemmas.List.{append-nil, length-set, take_all}
 use Rattle.esp3_frames.specs.Check.{check}
-use Rattle.esp3_resync.specs.private.RunningChecks.{HasChecks}
+use Rattle.esp3_resync.specs.private.RunningChecks.{HasRunningCrcs}
 use Rattle.esp3_resync.proofs.RunningLemmas.{noted_last, noted_more}
 use Rattle.esp3_resync.proofs.window.record_checks.Goals as goal
 
@@ -9,7 +9,7 @@ pub loop-i-init : goal.loop-i-init
 loop-i-init c = record {
   len = refl;
   noted = λ g w at noted. (
-    subst (λ (y : List ℕ). HasChecks g y c.args.checks.now) (sym (append-nil w)) noted,
+    subst (λ (y : List ℕ). HasRunningCrcs g y c.args.checks.now) (sym (append-nil w)) noted,
     noted_last g w c.args.checks.now c.args.at at noted ∙ ap (λ (y : List ℕ). check (g ++ y)) (sym (append-nil w)),
   );
 }
@@ -31,5 +31,6 @@ loop-i-preserved c =
 
 pub returns-clause-noted : goal.returns-clause-noted
 returns-clause-noted c = λ g w at noted.
-    subst (λ (y : List ℕ). HasChecks g (w ++ y) c.loop-i.checks) (take_all c.loop-i.i c.args.bytes.now (omega arith))
+    subst (λ (y : List ℕ). HasRunningCrcs g (w ++ y) c.loop-i.checks)
+    (take_all c.loop-i.i c.args.bytes.now (omega arith))
     (c.loop-i.invariant.noted g w at noted).0

@@ -1,12 +1,12 @@
 use Rattle.std.proofs.Common.{◌≡◌, ℕ, List, ◌++◌, length, take}
 use Rattle.esp3_frames.specs.Check.{check}
-use Rattle.esp3_resync.specs.private.RunningChecks.{HasChecks}
+use Rattle.esp3_resync.specs.private.RunningChecks.{HasRunningCrcs}
 use Rattle.esp3_resync.proofs.window.record_checks.Given as goal
 
 -- the CRCs of the bytes so far are stored
 abbrev pub invariant-loop-i : goal.invariant-loop-i
 invariant-loop-i l = record {
   len : length l.checks ≡ length l.fn.checks;
-  noted : (g w : List ℕ) → l.at ≡ length w → HasChecks g w l.fn.checks
-      → HasChecks g (w ++ take l.i l.bytes) l.checks × (l.all ≡ check (g ++ (w ++ take l.i l.bytes)));
+  noted : (g w : List ℕ) → l.at ≡ length w → HasRunningCrcs g w l.fn.checks
+      → HasRunningCrcs g (w ++ take l.i l.bytes) l.checks × (l.all ≡ check (g ++ (w ++ take l.i l.bytes)));
 }

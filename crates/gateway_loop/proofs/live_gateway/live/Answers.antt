@@ -1,6 +1,6 @@
 use Rattle.std.proofs.Common.{rules, [], ◌∷◌, ◌++◌, ◌+◌, refl, take, ap, arith, None, Some, ◌∙◌, length-append}
 use Rattle.byte_io.specs.Counts.{saturated_increment}
-use Rattle.gateway_loop.specs.Processing.{IsDrained}
+use Rattle.gateway_loop.specs.Processing.{HasNoReadyPacket}
 use Rattle.gateway_loop.specs.Streams.{source_value}
 use Rattle.gateway_loop.specs.Turns.{Turn, desk_reads, serial_reads}
 use Rattle.gateway_loop.specs.LiveOutputs.{live_output_of}
@@ -17,7 +17,8 @@ use Rattle.gateway_loop.proofs.live_gateway.live.Goals as goal
 
 pub loop-turn-init : goal.loop-turn-init
 loop-turn-init g c =
-    let idle : IsDrained c.args.gateway.now = record { ready = c.requires; rest = c.is_ready-is_ready.ensures.rest } in
+    let idle : HasNoReadyPacket c.args.gateway.now = record
+    { ready = c.requires; rest = c.is_ready-is_ready.ensures.rest } in
     record {
       gateway = refl;
       serial = refl;
@@ -74,7 +75,8 @@ returns-in_default-clause-whole g c =
     λ room. (
       λ ok. absurd cc,
       λ all. absurd (not_failed (counts c.args.serial_in.now) (counts c.read.new.self) c.args.turns room.serial_in
-          (ap (λ t. t.failed) c.in_default.ensures.counted ∙ ap saturated_increment serial.well) all.serial_well),
+          (ap (λ t. t.failed) c.in_default.ensures.counted
+          ∙ ap saturated_increment serial.well) all.no_serial_read_failed),
     )
 
 -- ---- an answer to a packet is not written completely
@@ -125,7 +127,8 @@ returns-in_default-process_chunk-clause-whole g c =
       λ ok. absurd cc,
       λ all. absurd (not_all_well stored g.R.Sink g.D.Sink entry.driver new new.gateway.now _ _ refl (search rules)
           (search rules)
-          part.answers part.last part.out room.serial_out room.desk_out all.serial_written all.desk_written),
+          part.answers part.last part.out room.serial_out room.desk_out all.serial_writes_succeeded
+          all.desk_writes_succeeded),
     )
 
 -- ---- a read of the desk fails
@@ -172,7 +175,7 @@ returns-in_default-read-clause-whole g c =
       λ ok. absurd cc,
       λ all. absurd (not_failed (counts c.args.desk_in.now) (counts c.read-in-loop-turn.new.self) c.args.turns
           room.desk_in (ap (λ t. t.failed) c.in_default-read.ensures.counted ∙ ap saturated_increment desk.well)
-          all.desk_well),
+          all.no_desk_read_failed),
     )
 
 -- ---- an answer to an order is not written completely
@@ -233,7 +236,7 @@ returns-in_default-process_bytes-clause-whole g c =
       λ ok. absurd cc,
       λ all. absurd (not_all_well stored g.R.Sink g.D.Sink entry.driver new.driver new.driver.gateway.now _ _ refl
           (search rules) (search rules) part.answers part.last part.out room.serial_out room.desk_out
-          all.serial_written all.desk_written),
+          all.serial_writes_succeeded all.desk_writes_succeeded),
     )
 
 -- ---- a whole turn
@@ -326,18 +329,19 @@ returns-clause-whole g c =
     let last = c.loop-turn.auto._turn-end in
     λ room. (
       λ _. record {
-        serial_read =
+        serial_reads_made =
             let fits = room.serial_in.calls in
             let made = before.serial_made (omega (arith, fits)) in
             omega (arith, fits, made, done, last);
-        desk_read =
+        desk_reads_made =
             let fits = room.desk_in.calls in
             let made = before.desk_made (omega (arith, fits)) in
             omega (arith, fits, made, done, last);
-        serial_written = well_at g.R.Sink.counts c.args.serial_out.now now.serial.now _ (search rules) out.0.went;
-        desk_written = well_at g.D.Sink.counts c.args.desk_out.now now.desk.now _ (search rules) out.1.went;
-        serial_well = serial.well;
-        desk_well = desk.well;
+        serial_writes_succeeded = well_at g.R.Sink.counts c.args.serial_out.now now.serial.now _
+            (search rules) out.0.went;
+        desk_writes_succeeded = well_at g.D.Sink.counts c.args.desk_out.now now.desk.now _ (search rules) out.1.went;
+        no_serial_read_failed = serial.well;
+        no_desk_read_failed = desk.well;
       },
       λ _. refl,
     )

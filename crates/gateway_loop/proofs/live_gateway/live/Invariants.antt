@@ -1,6 +1,6 @@
 use Rattle.std.proofs.Common.{◌≡◌, List, length}
 use Rattle.byte_io.specs.Counts.{CallsMade}
-use Rattle.gateway_loop.specs.Processing.{IsDrained}
+use Rattle.gateway_loop.specs.Processing.{HasNoReadyPacket}
 use Rattle.gateway_loop.specs.Reads.{AllReadsSucceed}
 use Rattle.gateway_loop.specs.Streams.{source_value}
 use Rattle.gateway_loop.specs.Turns.{Turn, desk_reads, serial_reads}
@@ -13,7 +13,7 @@ invariant-loop-turn g l = record {
   gateway : l.dispatcher.driver.gateway.ghost_name ≡ l.initial.dispatcher.driver.gateway.ghost_name;
   serial : l.dispatcher.driver.reply_sink.serial.ghost_name ≡ l.initial.dispatcher.driver.reply_sink.serial.ghost_name;
   desk : l.dispatcher.driver.reply_sink.desk.ghost_name ≡ l.initial.dispatcher.driver.reply_sink.desk.ghost_name;
-  idle : IsDrained l.dispatcher.driver.gateway.now;
+  idle : HasNoReadyPacket l.dispatcher.driver.gateway.now;
   progress : (read : List Turn) × (length read ≡ l._turn)
       × AllReadsSucceed (source_value g.P.Source l.fn.serial_in) (source_value g.P.Source l.serial_in)
       (serial_reads read)

@@ -4,11 +4,11 @@ use Rattle.std.specs.Io.KnownBytes.{Consumes}
 use Rattle.std.proofs.KnownBytes.{Consumes-nil, Consumes-trans, Consumes-kept}
 use Rattle.byte_io.specs.declared.tally.Failed.{Failed}
 use Rattle.byte_io.proofs.ForCallers.{went_well}
-use Rattle.gateway_loop.specs.Processing.{IsDrained}
+use Rattle.gateway_loop.specs.Processing.{HasNoReadyPacket}
 use Rattle.gateway_loop.specs.CallCounts.{OneFailedOrEmpty, failed_in_second}
-use Rattle.gateway_loop.specs.declared.line_loop.Lines.TheVariants.{ScriptLines}
+use Rattle.gateway_loop.specs.declared.line_loop.LineSource.TheVariants.{ScriptLines}
 use Rattle.gateway_loop.specs.Streams.{source_value}
-use Rattle.gateway_loop.specs.Written.{replay_output}
+use Rattle.gateway_loop.specs.Written.{replay_output_of}
 use Rattle.gateway_loop.specs.declared.runs.RunFault.TheVariants.{Read, TooManyTurns, Write}
 use Rattle.gateway_loop.proofs.HeadlineLemmas.{replayed, replayed_until}
 use Rattle.gateway_loop.proofs.LineLoopLemmas.{bytes_none, bytes_behind, first_player, keeps_none, stops_behind}
@@ -21,7 +21,8 @@ use Rattle.gateway_loop.proofs.script_replay.replay.Goals as goal
 
 pub loop-turn-init : goal.loop-turn-init
 loop-turn-init g c =
-    let idle : IsDrained c.args.gateway.now = record { ready = c.requires; rest = c.is_ready-is_ready.ensures.rest } in
+    let idle : HasNoReadyPacket c.args.gateway.now = record
+    { ready = c.requires; rest = c.is_ready-is_ready.ensures.rest } in
     record {
       gateway = refl;
       writer = refl;
@@ -29,7 +30,7 @@ loop-turn-init g c =
       progress = (
         [],
         Consumes-nil (g.R.Source.left c.args.reader.now),
-        bytes_none g.S.DeviceStore.store_state (replay_output g.W.Sink) ScriptLines _ [] idle (omega arith)
+        bytes_none g.S.DeviceStore.store_state (replay_output_of g.W.Sink) ScriptLines _ [] idle (omega arith)
             (rw c.new.ensures keeps_none),
       );
       writes = (refl, refl);
@@ -41,7 +42,7 @@ pub returns-in-Err-clause-err : goal.returns-in-Err-clause-err
 returns-in-Err-clause-err g c =
     let left = g.R.Source.left in
     let (input, read, taken) = c.loop-turn.invariant.progress in
-    let entry = first_player g.S.DeviceStore.store_state (replay_output g.W.Sink) ScriptLines taken in
+    let entry = first_player g.S.DeviceStore.store_state (replay_output_of g.W.Sink) ScriptLines taken in
     record {
       input = input;
       read =
@@ -56,7 +57,7 @@ returns-in-Err-clause-err g c =
 pub returns-clause-err : goal.returns-clause-err
 returns-clause-err g c =
     let (input, read, taken) = c.loop-turn.invariant.progress in
-    let entry = first_player g.S.DeviceStore.store_state (replay_output g.W.Sink) ScriptLines taken in
+    let entry = first_player g.S.DeviceStore.store_state (replay_output_of g.W.Sink) ScriptLines taken in
     record {
       input = input;
       read = read;
@@ -70,14 +71,14 @@ pub returns-then-length-eq0-clause-ok : goal.returns-then-length-eq0-clause-ok
 returns-then-length-eq0-clause-ok g c =
     let stored = g.S.DeviceStore.store_state in
     let left = g.R.Source.left in
-    let new = c.process_last_line.new.self.driver in
+    let new = c.process_last_script_line.new.self.driver in
     let (input, read, taken) = c.loop-turn.invariant.progress in
-    let entry = first_player g.S.DeviceStore.store_state (replay_output g.W.Sink) ScriptLines taken in
+    let entry = first_player g.S.DeviceStore.store_state (replay_output_of g.W.Sink) ScriptLines taken in
     let none : Consumes (left c.loop-turn.reader) (left c.read.new.self) [] =
     rw c.if-length-eq0.true at c.in-Ok.ensures.bytes.0 in
     let done =
     script_taken stored g.W.Sink _ c.loop-turn.dispatcher input new taken
-    (c.in-Ok-process_last_line.ensures.taken taken.rest taken.keeps) in
+    (c.in-Ok-process_last_script_line.ensures.taken taken.rest taken.keeps) in
     record {
       input = input;
       read = rw append-nil at (Consumes-trans (left c.args.reader.now) (left c.loop-turn.reader)
@@ -92,8 +93,8 @@ returns-then-length-eq0-clause-ended g c =
     let (input, read, taken) = c.loop-turn.invariant.progress in
     let done =
     script_taken g.S.DeviceStore.store_state g.W.Sink _ c.loop-turn.dispatcher input
-    c.process_last_line.new.self.driver taken
-    (c.in-Ok-process_last_line.ensures.taken taken.rest taken.keeps) in
+    c.process_last_script_line.new.self.driver taken
+    (c.in-Ok-process_last_script_line.ensures.taken taken.rest taken.keeps) in
     let went = done.processed.answered.out.1.went in
     let reads = c.loop-turn.invariant.reads in search rules
 
@@ -102,7 +103,7 @@ returns-in_default-clause-err g c =
     let stored = g.S.DeviceStore.store_state in
     let left = g.R.Source.left in
     let (input, read, taken) = c.loop-turn.invariant.progress in
-    let entry = first_player g.S.DeviceStore.store_state (replay_output g.W.Sink) ScriptLines taken in
+    let entry = first_player g.S.DeviceStore.store_state (replay_output_of g.W.Sink) ScriptLines taken in
     let none : Consumes (left c.loop-turn.reader) (left c.read.new.self) [] =
     rw c.if-length-eq0.true at c.in-Ok.ensures.bytes.0 in
     record {
@@ -113,7 +114,7 @@ returns-in_default-clause-err g c =
         reads = search rules;
         at_end = c.in-Ok.ensures.bytes.1 c.if-length-eq0.true (omega arith);
         broken =
-            part_at_end stored g.W.Sink entry.driver c.process_last_line.new.self.driver _ _ (search rules)
+            part_at_end stored g.W.Sink entry.driver c.process_last_script_line.new.self.driver _ _ (search rules)
             (search rules)
             c.loop-turn.dispatcher.driver input _ _ (script_of_bytes stored g.W.Sink _ c.loop-turn.dispatcher input
             taken)
@@ -128,9 +129,10 @@ returns-in_default-clause-write g c =
     let last = c.in_default.ensures.taken taken.rest taken.keeps in
     λ _. (
       search rules,
-      wrong_at counts c.args.writer.now c.process_last_line.new.self.driver.reply_sink.sink.now _ (search rules)
+      wrong_at counts c.args.writer.now c.process_last_script_line.new.self.driver.reply_sink.sink.now _ (search rules)
           (failed_in_second (counts c.args.writer.now) (counts c.loop-turn.dispatcher.driver.reply_sink.sink.now)
-          (counts c.process_last_line.new.self.driver.reply_sink.sink.now) taken.taken.processed.answered.out.1.went
+          (counts c.process_last_script_line.new.self.driver.reply_sink.sink.now)
+          taken.taken.processed.answered.out.1.went
           last.broken.answered.out.1.went),
     )
 
@@ -140,10 +142,10 @@ returns-in_default-process_bytes-clause-err g c =
     let left = g.R.Source.left in
     let reads = g.R.Source.counts in
     let (input, read, taken) = c.loop-turn.invariant.progress in
-    let entry = first_player g.S.DeviceStore.store_state (replay_output g.W.Sink) ScriptLines taken in
+    let entry = first_player g.S.DeviceStore.store_state (replay_output_of g.W.Sink) ScriptLines taken in
     let chunk = take c.in-Ok.length c.read.new.buffer in
     let crash =
-    stops_behind stored (replay_output g.W.Sink) ScriptLines _ c.loop-turn.dispatcher c.process_bytes.new.self input
+    stops_behind stored (replay_output_of g.W.Sink) ScriptLines _ c.loop-turn.dispatcher c.process_bytes.new.self input
     chunk
     taken
     (c.in_default-process_bytes.ensures.stopped taken.rest taken.keeps) in
@@ -167,7 +169,7 @@ pub returns-in_default-process_bytes-clause-write : goal.returns-in_default-proc
 returns-in_default-process_bytes-clause-write g c =
     let (input, read, taken) = c.loop-turn.invariant.progress in
     let crash =
-    stops_behind g.S.DeviceStore.store_state (replay_output g.W.Sink) ScriptLines _ c.loop-turn.dispatcher
+    stops_behind g.S.DeviceStore.store_state (replay_output_of g.W.Sink) ScriptLines _ c.loop-turn.dispatcher
     c.process_bytes.new.self input
     _ taken (c.in_default-process_bytes.ensures.stopped taken.rest taken.keeps) in
     λ _. (
@@ -181,7 +183,7 @@ returns-in_default-process_bytes-clause-too_many g c =
     let counts = g.W.Sink.counts in
     let (input, read, taken) = c.loop-turn.invariant.progress in
     let crash =
-    stops_behind g.S.DeviceStore.store_state (replay_output g.W.Sink) ScriptLines _ c.loop-turn.dispatcher
+    stops_behind g.S.DeviceStore.store_state (replay_output_of g.W.Sink) ScriptLines _ c.loop-turn.dispatcher
     c.process_bytes.new.self input
     _ taken (c.in_default-process_bytes.ensures.stopped taken.rest taken.keeps) in
     let wrong : OneFailedOrEmpty (counts c.args.writer.now)
@@ -197,7 +199,7 @@ loop-turn-preserved g c =
     let chunk = take c.in-Ok.length c.read.new.buffer in
     let after = c.in-Ok-process_bytes.ensures in
     let now =
-    bytes_behind g.S.DeviceStore.store_state (replay_output g.W.Sink) ScriptLines _ c.loop-turn.dispatcher
+    bytes_behind g.S.DeviceStore.store_state (replay_output_of g.W.Sink) ScriptLines _ c.loop-turn.dispatcher
     c.process_bytes.new.self input
     chunk taken (after.taken taken.rest taken.keeps) in
     record {

@@ -1,21 +1,21 @@
 use Rattle.std.proofs.Common.{◌≡◌, List, ℕ, length}
 use Rattle.std.specs.Io.KnownBytes.{Consumes}
 use Rattle.byte_io.specs.Counts.{NoneFailedOrEmpty}
-use Rattle.gateway_loop.specs.Processing.{IsDrained}
+use Rattle.gateway_loop.specs.Processing.{HasNoReadyPacket}
 use Rattle.gateway_loop.specs.private.LineLoop.{TakesBytes}
 use Rattle.gateway_loop.specs.Reads.{AllReadsSucceed}
-use Rattle.gateway_loop.specs.declared.line_loop.Lines.TheVariants.{ScriptLines}
+use Rattle.gateway_loop.specs.declared.line_loop.LineSource.TheVariants.{ScriptLines}
 use Rattle.gateway_loop.specs.Streams.{source_value}
-use Rattle.gateway_loop.specs.Written.{replay_output}
+use Rattle.gateway_loop.specs.Written.{replay_output_of}
 use Rattle.gateway_loop.proofs.script_replay.replay.Given as goal
 
 abbrev pub invariant-loop-turn : goal.invariant-loop-turn
 invariant-loop-turn g l = record {
   gateway : l.dispatcher.driver.gateway.ghost_name ≡ l.initial.dispatcher.driver.gateway.ghost_name;
   writer : l.dispatcher.driver.reply_sink.sink.ghost_name ≡ l.initial.dispatcher.driver.reply_sink.sink.ghost_name;
-  idle : IsDrained l.dispatcher.driver.gateway.now;
+  idle : HasNoReadyPacket l.dispatcher.driver.gateway.now;
   progress : (input : List ℕ) × Consumes (g.R.Source.left l.fn.reader) (g.R.Source.left l.reader) input
-      × TakesBytes g.S.DeviceStore.store_state (replay_output g.W.Sink) ScriptLines l.initial.dispatcher l.dispatcher
+      × TakesBytes g.S.DeviceStore.store_state (replay_output_of g.W.Sink) ScriptLines l.initial.dispatcher l.dispatcher
       input;
   writes : NoneFailedOrEmpty (g.W.Sink.counts l.fn.writer) (g.W.Sink.counts l.dispatcher.driver.reply_sink.sink.now);
   reads : NoneFailedOrEmpty (g.R.Source.counts l.fn.reader) (g.R.Source.counts l.reader);

@@ -22,6 +22,6 @@ pub loop-device-preserved : goal.loop-device-preserved
 loop-device-preserved c =
     let line : c.in_ok-device_line.field-0 ≡ text (DeviceLine c.device-item.result) = c.in_ok-device_line.ensures in
     let added : c.append.new.self ≡ c.loop-device.lines ++ c.in_ok-device_line.field-0 = search rules in
-    added ∙ ap₂ (λ (told next : List ℕ). told ++ next) c.loop-device.invariant line
+    added ∙ ap₂ (λ (reported next : List ℕ). reported ++ next) c.loop-device.invariant line
     ∙ with-next DeviceLine text c.args.devices.now c.loop-device.device-index c.device-item.result (search arith)
     c.device-item.is

@@ -1,4 +1,4 @@
-use Rattle.device_registry.proofs.RegistryCalls.{had, keeps_well, lists_all, if_err, told_all, ready_if}
+use Rattle.device_registry.proofs.RegistryCalls.{had, keeps_well, lists_all, if_err, reported_all, ready_if}
 use Rattle.device_registry.proofs.device_table.DeviceTable.all.Goals as goal
 
 pub invariant_of-self : goal.invariant_of-self
@@ -25,7 +25,8 @@ returns g c =
     record {
       lists = rw (← c.self.view_is) (lists_all old new stays well c.decode_all.result (λ clean devices has.
           let rows = listed clean in
-          told_all c.decode_all.result c.deref.result.now c.in_ok-rows.rows.items devices c.decode_all.ensures.listed
+          reported_all c.decode_all.result c.deref.result.now c.in_ok-rows.rows.items devices
+          c.decode_all.ensures.listed
           c.deref.ensures.value (rows.1 devices (had old new stays well clean rows.0 devices has))));
       ready = λ clean. rw (← c.self.view_is) (ready_if c.decode_all.result old new stays well clean (listed clean).0);
     }

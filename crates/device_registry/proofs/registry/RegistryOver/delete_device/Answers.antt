@@ -5,7 +5,7 @@ use Rattle.device_registry.proofs.registry.RegistryOver.delete_device.Goals as g
 
 pub invariant_of-self : goal.invariant_of-self
 invariant_of-self g c = (
-  c.forget.ensures.forgets.registries,
+  c.forget.ensures.forgets.recoverable,
   changed_recalled (g.C.SqlConnection.state c.self.inside.table) (g.C.SqlConnection.state c.forget.new.self)
       (forget_update c.args.id) None
       c.self.inside.cache.entries c.drop_entry.new.cache.entries c.cache_entry.new.cache.entries
@@ -18,7 +18,7 @@ pub returns-in-Ok-clause-forgets : goal.returns-in-Ok-clause-forgets
 returns-in-Ok-clause-forgets g c =
     let forgets = c.in-Ok.ensures.forgets in
     rw (← c.self.view_is)
-    (record { clean = forgets.clean; registries = forgets.registries; devices = forgets.devices })
+    (record { clean = forgets.clean; recoverable = forgets.recoverable; devices = forgets.devices })
 
 pub returns-in-Ok-clause-written : goal.returns-in-Ok-clause-written
 returns-in-Ok-clause-written g c = rw (← c.self.view_is) c.in-Ok.ensures.written
@@ -27,10 +27,10 @@ pub returns-in-Err-clause-forgets : goal.returns-in-Err-clause-forgets
 returns-in-Err-clause-forgets g c =
     let forgets = c.in-Err.ensures.forgets in
     rw (← c.self.view_is)
-    (record { clean = forgets.clean; registries = forgets.registries; devices = forgets.devices })
+    (record { clean = forgets.clean; recoverable = forgets.recoverable; devices = forgets.devices })
 
 pub invariant_of-self-in-Err : goal.invariant_of-self-in-Err
 invariant_of-self-in-Err g c = (
-  c.forget.ensures.forgets.registries,
+  c.forget.ensures.forgets.recoverable,
   cleared_recalled (g.C.SqlConnection.state c.forget.new.self) _ _ c.clear.ensures,
 )

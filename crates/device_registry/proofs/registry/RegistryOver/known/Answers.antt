@@ -1,4 +1,4 @@
-use Rattle.device_registry.proofs.CacheAgreement.{fewer_recalled, recalled, told_ready, unmoved, found_recalled}
+use Rattle.device_registry.proofs.CacheAgreement.{fewer_recalled, recalled, reported_ready, unmoved, found_recalled}
 use Rattle.device_registry.proofs.CacheAgreement.{cleared_recalled}
 use Rattle.device_registry.proofs.registry.RegistryOver.known.Goals as goal
 
@@ -16,7 +16,7 @@ returns-in-Some-clause-looks_up g c =
     let now = g.C.SqlConnection.state c.self.inside.table in
     rw (← c.self.view_is) (record {
       clean = λ clean. clean;
-      registries = c.self.invariant.0;
+      recoverable = c.self.invariant.0;
       devices =
           λ clean devices has. (
             recalled now c.args.id c.in-Some.known clean
@@ -28,7 +28,7 @@ returns-in-Some-clause-looks_up g c =
 pub returns-in-Some-clause-ready : goal.returns-in-Some-clause-ready
 returns-in-Some-clause-ready g c clean =
     let now = g.C.SqlConnection.state c.self.inside.table in
-    rw (← c.self.view_is) (told_ready now (c.args.id, c.in-Some.known)
+    rw (← c.self.view_is) (reported_ready now (c.args.id, c.in-Some.known)
     (c.self.invariant.1 (c.args.id, c.in-Some.known) c.in-Some.ensures.known clean))
 
 -- ---- it is looked up
@@ -36,7 +36,7 @@ returns-in-Some-clause-ready g c clean =
 pub invariant_of-self-in-Ok : goal.invariant_of-self-in-Ok
 invariant_of-self-in-Ok g c =
     let old = g.C.SqlConnection.state c.self.inside.table in (
-      c.find.ensures.looks_up.registries,
+      c.find.ensures.looks_up.recoverable,
       found_recalled old (g.C.SqlConnection.state c.find.new.self) c.args.id c.in-Ok.known
           c.look_up_cached.new.cache.entries
           c.cache_entry.new.cache.entries c.find.ensures.looks_up.clean c.in-Ok.ensures.ready
@@ -48,7 +48,7 @@ invariant_of-self-in-Ok g c =
 pub returns-in-Ok-clause-looks_up : goal.returns-in-Ok-clause-looks_up
 returns-in-Ok-clause-looks_up g c =
     let looks = c.in-Ok.ensures.looks_up in
-    rw (← c.self.view_is) (record { clean = looks.clean; registries = looks.registries; devices = looks.devices })
+    rw (← c.self.view_is) (record { clean = looks.clean; recoverable = looks.recoverable; devices = looks.devices })
 
 pub returns-in-Ok-clause-ready : goal.returns-in-Ok-clause-ready
 returns-in-Ok-clause-ready g c clean = rw (← c.self.view_is) (c.in-Ok.ensures.ready clean)
@@ -56,10 +56,10 @@ returns-in-Ok-clause-ready g c clean = rw (← c.self.view_is) (c.in-Ok.ensures.
 pub returns-in-Err-clause-looks_up : goal.returns-in-Err-clause-looks_up
 returns-in-Err-clause-looks_up g c =
     let looks = c.in-Err.ensures.looks_up in
-    rw (← c.self.view_is) (record { clean = looks.clean; registries = looks.registries; devices = looks.devices })
+    rw (← c.self.view_is) (record { clean = looks.clean; recoverable = looks.recoverable; devices = looks.devices })
 
 pub invariant_of-self-in-Err : goal.invariant_of-self-in-Err
 invariant_of-self-in-Err g c = (
-  c.find.ensures.looks_up.registries,
+  c.find.ensures.looks_up.recoverable,
   cleared_recalled (g.C.SqlConnection.state c.find.new.self) _ _ c.clear.ensures,
 )

@@ -1,6 +1,6 @@
 use Rattle.std.proofs.Common.{rules, sym, subst}
 use Rattle.std.proofs.lemmas.Result.{err_from_is_err_and}
-use Rattle.device_registry.specs.Opening.{RefusesToOpen}
+use Rattle.device_registry.specs.Opening.{FailsToOpen}
 use Rattle.device_registry.proofs.OpenCalls.{not_asked}
 use Rattle.device_registry.proofs.CacheAgreement.{none_recalled}
 use Rattle.device_registry.proofs.registry.RegistryOver.open_with.Goals as goal
@@ -9,7 +9,7 @@ pub returns-in_err-cache-clause-refused : goal.returns-in_err-cache-clause-refus
 returns-in_err-cache-clause-refused g c =
     let why = err_from_is_err_and c.from_residual.result c.from_residual.ensures.1 in
     let old = g.C.SqlConnection.state c.args.conn in
-    rw why.1 (λ is. (c.args.conn, subst (RefusesToOpen old old) (sym why.2) (not_asked old _)))
+    rw why.1 (λ is. (c.args.conn, subst (FailsToOpen old old) (sym why.2) (not_asked old _)))
 
 pub returns-in_err-prepare-clause-refused : goal.returns-in_err-prepare-clause-refused
 returns-in_err-prepare-clause-refused g c =
@@ -17,7 +17,7 @@ returns-in_err-prepare-clause-refused g c =
     let last = c.prepare.new.conn in
     rw why.1 (λ is. (
       last,
-      subst (RefusesToOpen (g.C.SqlConnection.state c.args.conn) (g.C.SqlConnection.state last))
+      subst (FailsToOpen (g.C.SqlConnection.state c.args.conn) (g.C.SqlConnection.state last))
           (sym why.2) c.in_err-prepare.ensures.refused,
     ))
 

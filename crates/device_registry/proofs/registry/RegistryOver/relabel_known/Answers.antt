@@ -14,7 +14,7 @@ invariant_of-self g c =
     let old = g.C.SqlConnection.state c.self.inside.table in
     let new = g.C.SqlConnection.state c.relabel.new.self in
     let known = rw (← c.self.view_is) at c.requires.known in (
-      c.relabel.ensures.updates.registries,
+      c.relabel.ensures.updates.recoverable,
       changed_recalled old new (relabel_update c.args.device.id c.args.device.label) (Some c.copied-labelled.result)
           c.self.inside.cache.entries c.drop_entry.new.cache.entries c.cache_entry.new.cache.entries
           c.relabel.ensures.updates.clean c.in-Ok.ensures.ready
@@ -28,7 +28,7 @@ pub returns-in-Ok-clause-updates : goal.returns-in-Ok-clause-updates
 returns-in-Ok-clause-updates g c =
     let updates = c.in-Ok.ensures.updates in
     rw (← c.self.view_is)
-    (record { clean = updates.clean; registries = updates.registries; devices = updates.devices })
+    (record { clean = updates.clean; recoverable = updates.recoverable; devices = updates.devices })
 
 pub returns-in-Ok-clause-written : goal.returns-in-Ok-clause-written
 returns-in-Ok-clause-written g c = rw (← c.self.view_is) c.in-Ok.ensures.written
@@ -37,10 +37,10 @@ pub returns-in-Err-clause-updates : goal.returns-in-Err-clause-updates
 returns-in-Err-clause-updates g c =
     let updates = c.in-Err.ensures.updates in
     rw (← c.self.view_is)
-    (record { clean = updates.clean; registries = updates.registries; devices = updates.devices })
+    (record { clean = updates.clean; recoverable = updates.recoverable; devices = updates.devices })
 
 pub invariant_of-self-in-Err : goal.invariant_of-self-in-Err
 invariant_of-self-in-Err g c = (
-  c.relabel.ensures.updates.registries,
+  c.relabel.ensures.updates.recoverable,
   cleared_recalled (g.C.SqlConnection.state c.relabel.new.self) _ _ c.clear.ensures,
 )

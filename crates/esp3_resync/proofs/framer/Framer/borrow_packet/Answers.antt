@@ -18,12 +18,12 @@ returns-clause-within c =
     let b = c.args.bytes.now in
     carry _ _ (λ r is. let fits = whole_length b (packet_of r.0) is.0 in
     (omega (arith, is.1), omega (arith, fits.0, is.1)))
-    c.first_packet.result c.first_packet.ensures.some
+    c.packet_at_start.result c.packet_at_start.ensures.some
 
 pub returns-clause-short : goal.returns-clause-short
 returns-clause-short c =
-    carry _ _ (λ r is. (whole_length c.args.bytes.now (packet_of r.0) is.0).2.body) c.first_packet.result
-    c.first_packet.ensures.some
+    carry _ _ (λ r is. (whole_length c.args.bytes.now (packet_of r.0) is.0).2.body) c.packet_at_start.result
+    c.packet_at_start.ensures.some
 
 pub returns-clause-taken : goal.returns-clause-taken
 returns-clause-taken c =
@@ -34,7 +34,7 @@ returns-clause-taken c =
     let nil : w ≡ [] = is_empty c.self.inside.front w c.in-Empty.is c.self.invariant in
     carry _ _ (λ r is. lent (packet_of r.0) w f (take r.1 b) nil h.1
     (subst (λ n. IsPacket (packet_of r.0) (take n b)) (sym is.1) (whole_length b (packet_of r.0) is.0).2))
-    c.first_packet.result c.first_packet.ensures.some
+    c.packet_at_start.result c.packet_at_start.ensures.some
 
 pub returns-clause-before : goal.returns-clause-before
 returns-clause-before c =
@@ -50,7 +50,7 @@ returns-clause-before c =
     ap (λ (y : List ℕ). length (frames_of (y ++ take k b)).ready) (sym h.1 ∙ nil)
     ∙ ap (λ (y : List ℕ). length (frames_of y).ready) (sym (take-take k n b (omega (arith, below, is.1))))
     ∙ quiet_part_of_packet packet (take n b) k whole.2 (omega (arith, below, is.1, whole.0, length-take n b)))
-    c.first_packet.result c.first_packet.ensures.some
+    c.packet_at_start.result c.packet_at_start.ensures.some
 
 pub returns-in_default-clause-none : goal.returns-in_default-clause-none
 returns-in_default-clause-none c = λ nil p.

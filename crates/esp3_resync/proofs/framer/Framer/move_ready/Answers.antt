@@ -40,8 +40,8 @@ move_into-requires c =
     let s = c.self.inside.window in
     let h = c.in-WholePacket.header in
     let n = whole_parts s h (is_whole c.self.inside.front s h c.in-WholePacket.is c.self.invariant) in (
-      omega (arith, n.0, c.announced_len.ensures, ap length c.skip.ensures, length-drop 6 s),
-      omega (arith, n.1, c.announced_len.ensures, c.requires),
+      omega (arith, n.0, c.announced_data_len.ensures, ap length c.skip.ensures, length-drop 6 s),
+      omega (arith, n.1, c.announced_data_len.ensures, c.requires),
     )
 
 pub skip-requires-2 : goal.skip-requires-2
@@ -51,8 +51,8 @@ skip-requires-2 c =
     let n = whole_parts s h (is_whole c.self.inside.front s h c.in-WholePacket.is c.self.invariant) in
     let left = ap length c.move_into.ensures.rest in
     let behind = ap length c.skip.ensures in
-    let dropped = length-drop c.announced_len.result c.skip.new.self in
-    omega (arith, n.0, c.announced_len.ensures, left, dropped, behind, length-drop 6 s)
+    let dropped = length-drop c.announced_data_len.result c.skip.new.self in
+    omega (arith, n.0, c.announced_data_len.ensures, left, dropped, behind, length-drop 6 s)
 
 pub returns-clause-ready : goal.returns-clause-ready
 returns-clause-ready c =
@@ -70,11 +70,12 @@ returns-clause-taken c =
     let whole = is_whole c.self.inside.front s h c.in-WholePacket.is c.self.invariant in
     let parts = whole_parts s h whole in
     let items =
-    moved s h c.skip.new.self c.move_into.new.to.items c.announced_len.result c.skip.ensures c.move_into.ensures.items
-    c.announced_len.ensures in
-    let k : ℕ = c.announced_len.result in
+    moved s h c.skip.new.self c.move_into.new.to.items c.announced_data_len.result c.skip.ensures
+    c.move_into.ensures.items
+    c.announced_data_len.ensures in
+    let k : ℕ = c.announced_data_len.result in
     let n : ℕ = length p.body + length p.opt + 7 in
-    let count : 6 + (k + 1) ≡ n = omega (arith, c.announced_len.ensures, whole_sum s h whole) in
+    let count : 6 + (k + 1) ≡ n = omega (arith, c.announced_data_len.ensures, whole_sum s h whole) in
     let left : c.skip-2.new.self ≡ drop n s =
     c.skip-2.ensures ∙ ap (drop 1) (c.move_into.ensures.rest ∙ ap (drop k) c.skip.ensures)
     ∙ drop-drop 1 k (drop 6 s) ∙ drop-drop (k + 1) 6 s ∙ ap (λ i. drop i s) count

@@ -3,7 +3,7 @@ use Rattle.std.proofs.Common.{length-append, length-drop}
 use Rattle.std.proofs.Math.Seq.{take_at}
 use Rattle.std.specs.Result.{is_ok}
 use Rattle.std.proofs.lemmas.Bool.{cond-true}
-use Rattle.esp3_resync.specs.private.RunningChecks.{HasChecks}
+use Rattle.esp3_resync.specs.private.RunningChecks.{HasRunningCrcs}
 use Rattle.esp3_resync.proofs.window.Window.extend.Goals as goal
 
 pub invariant_of-self : goal.invariant_of-self
@@ -25,7 +25,8 @@ invariant_of-self c =
     let e = places.new.checks.items in
     let same : length d ≡ places.new.checks.len = omega (arith, c.record_checks.ensures.len, before.len) in
     let checks = take_at d (drop (length d) e) places.new.checks.len same in
-    let noted : HasChecks r.gone b e = λ i within. places.ensures.same i (omega (arith, r.places)) ∙ r.noted i within in
+    let noted : HasRunningCrcs r.gone b e = λ i within. places.ensures.same i (omega (arith, r.places))
+    ∙ r.noted i within in
     record {
       memory = (
         omega (arith, r.memory.0, added.ensures.capacity),
@@ -42,8 +43,8 @@ invariant_of-self c =
         c.len.ensures,
       );
       gone = r.gone;
-      noted = subst (HasChecks r.gone added.new.self.items) (sym checks)
-          (subst (λ (y : List ℕ). HasChecks r.gone y d) (sym items)
+      noted = subst (HasRunningCrcs r.gone added.new.self.items) (sym checks)
+          (subst (λ (y : List ℕ). HasRunningCrcs r.gone y d) (sym items)
           (c.record_checks.ensures.noted r.gone b (omega (arith, c.len.ensures))
-          (subst (HasChecks r.gone b) (sym before.value) noted)));
+          (subst (HasRunningCrcs r.gone b) (sym before.value) noted)));
     }

@@ -5,7 +5,7 @@ use Rattle.gateway_core.proofs.handler.Handler.line.Goals as goal
 
 pub returns : goal.returns
 returns g c =
-    let reply = c.order_reply in
+    let reply = c.finish_order in
     tries-handles g.S.DeviceStore.store_state _ _ _ (Ordered c.args.line.now) _ _
     (record {
       answer_is = ap (with_explanation []) reply.ensures.answer;

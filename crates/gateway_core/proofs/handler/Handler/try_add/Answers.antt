@@ -11,4 +11,4 @@ returns-then-not-supported g c =
 pub returns : goal.returns
 returns g c =
     let is : supported c.args.eep ≡ true = cc in
-    tries-same g.S.DeviceStore.store_state _ _ _ _ _ (λ devices. rw is refl) c.learn_named.ensures
+    tries-same g.S.DeviceStore.store_state _ _ _ _ _ (λ devices. rw is refl) c.learn_by_order.ensures

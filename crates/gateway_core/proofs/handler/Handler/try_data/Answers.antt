@@ -3,7 +3,8 @@ use Rattle.std.proofs.lemmas.Result.{err_from_is_err_and}
 use Rattle.learned_devices.specs.Devices.{device_of}
 use Rattle.gateway_core.specs.Profiles.{read_by}
 use Rattle.gateway_core.specs.Step.{case_effect, data_case}
-use Rattle.gateway_core.proofs.AttemptLemmas.{known_with, permitted, tries, tries-behind, data-need, reading-comes}
+use Rattle.gateway_core.proofs.AttemptLemmas.{known_with, permitted, tries, tries-behind, data-need}
+use Rattle.gateway_core.proofs.AttemptLemmas.{reading-applies_or_fails}
 use Rattle.gateway_core.proofs.DataLemmas.{plain-is-data}
 use Rattle.gateway_core.proofs.handler.Handler.try_data.Goals as goal
 
@@ -14,7 +15,7 @@ pub returns-in_err-device : goal.returns-in_err-device
 returns-in_err-device g c =
     let error = err_from_is_err_and c.from_residual.result c.from_residual.ensures.1 in
     rw (← c.self.view_is, error.1, error.2)
-    (tries g.S.DeviceStore.store_state _ _ _ _ _ _ _ c.find.ensures.clean c.find.ensures.registries
+    (tries g.S.DeviceStore.store_state _ _ _ _ _ _ _ c.find.ensures.clean c.find.ensures.recoverable
     (λ honest devices has.
     let now = known_with c.self.inside.base c.self.inside.mode c.self.inside.counts devices in (
       permitted _ _ (data-need now c.args.telegram.now (device_of devices c.args.telegram.now.sender)),
@@ -25,7 +26,7 @@ pub returns-in_default : goal.returns-in_default
 returns-in_default g c =
     rw (← c.self.view_is) (tries-behind g.S.DeviceStore.store_state _ _ _ c.find.new.self _ _ _ refl
     c.find.ensures.clean
-    c.find.ensures.registries
+    c.find.ensures.recoverable
     (λ honest devices has.
     let found = c.in_ok-device.ensures.devices honest devices has in
     let known = sym c.in_default.is ∙ found.0 ∙ ap (device_of devices) c.sender.ensures in
@@ -37,7 +38,7 @@ pub returns-in_err-done : goal.returns-in_err-done
 returns-in_err-done g c =
     let error = err_from_is_err_and c.from_residual-in_err-done.result c.from_residual-in_err-done.ensures.1 in
     rw (← c.self.view_is, error.1, error.2)
-    (tries g.S.DeviceStore.store_state _ _ _ _ _ _ _ c.find.ensures.clean c.find.ensures.registries
+    (tries g.S.DeviceStore.store_state _ _ _ _ _ _ _ c.find.ensures.clean c.find.ensures.recoverable
     (λ honest devices has.
     let now = known_with c.self.inside.base c.self.inside.mode c.self.inside.counts devices in (
       permitted _ _ (data-need now c.args.telegram.now (device_of devices c.args.telegram.now.sender)),
@@ -47,11 +48,12 @@ returns-in_err-done g c =
 pub returns : goal.returns
 returns g c =
     rw (← c.self.view_is) (tries g.S.DeviceStore.store_state _ _ _ _ _ _ _ c.find.ensures.clean
-    c.find.ensures.registries
+    c.find.ensures.recoverable
     (λ honest devices has.
     let found = c.in_ok-device.ensures.devices honest devices has in
     let known = sym c.in-Some.is ∙ found.0 ∙ ap (device_of devices) c.sender.ensures in
     rw (← known)
-    (reading-comes g.S.DeviceStore.store_state c.self.inside.registry c.find.new.self devices c.args.telegram.now
+    (reading-applies_or_fails g.S.DeviceStore.store_state c.self.inside.registry c.find.new.self devices
+    c.args.telegram.now
     c.in-Some.device (read_by c.in-Some.device.eep c.args.telegram.now) c.in_ok-done.done c.in_ok-done.ensures
     found.1)))

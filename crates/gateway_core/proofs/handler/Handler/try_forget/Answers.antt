@@ -4,7 +4,7 @@ use Rattle.teach_in.specs.declared.outcome.Outcome.TheVariants.{Deleted}
 use Rattle.json_lines.specs.Lines.{Teach, TeachLine, text}
 use Rattle.gateway_core.specs.Step.{delete_effect, query_teach_line}
 use Rattle.gateway_core.specs.private.Attempts.{state_of}
-use Rattle.gateway_core.proofs.AttemptLemmas.{line_told, taught-answer, tries-forgotten, tries-unforgotten}
+use Rattle.gateway_core.proofs.AttemptLemmas.{line_reported, teach_line-answer, tries-forgotten, tries-unforgotten}
 use Rattle.gateway_core.proofs.handler.Handler.try_forget.Goals as goal
 
 pub returns-in_err-verdict : goal.returns-in_err-verdict
@@ -18,15 +18,15 @@ pub returns : goal.returns
 returns g c =
     let forgotten = c.in_ok-verdict.ensures in
     let line =
-    sym (line_told c.args.id c.args.teach.now Deleted _ _ c.query_device-eep.ensures.eep
-    c.query_device-eep.ensures.maker) in
+    sym (line_reported c.args.id c.args.teach.now Deleted _ _ c.eep_and_maker_in_query-eep.ensures.eep
+    c.eep_and_maker_in_query-eep.ensures.maker) in
     tries-forgotten g.S.DeviceStore.store_state _ _ _ (λ state. delete_effect state c.args.teach.now c.args.id)
     (λ devices. record { needs = refl; forgets = refl }) _ _ forgotten
     (λ devices. (
-      taught-answer (state_of c.forget.new.self devices) c.args.teach.now
+      teach_line-answer (state_of c.forget.new.self devices) c.args.teach.now
           (query_teach_line c.args.id c.args.teach.now Deleted) _ _ _
           (forgotten.reported.1 ∙ ap (λ (l : TeachLine). l.outcome) line)
-          (forgotten.reported.2 ∙ ap (λ l. text (Teach l)) line) c.answer_sender.ensures,
+          (forgotten.reported.2 ∙ ap (λ l. text (Teach l)) line) c.reply_with_teach_line.ensures,
       ap Some c.without_device.ensures,
       refl,
     ))

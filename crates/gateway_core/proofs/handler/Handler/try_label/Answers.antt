@@ -1,6 +1,6 @@
 use Rattle.std.proofs.Common.{Ok, ap, subst, ◌∙◌}
 use Rattle.learned_devices.specs.StoreCalls.{Relabels}
-use Rattle.gateway_core.proofs.AttemptLemmas.{label-comes, label-refused, tries}
+use Rattle.gateway_core.proofs.AttemptLemmas.{label-applies_or_fails, label-refused, tries}
 use Rattle.gateway_core.proofs.handler.Handler.try_label.Goals as goal
 use Rattle.gateway_core.proofs.handler.Handler.try_label.Goals.{in-Ok-true, in-Ok-false, in-Err}
 
@@ -11,18 +11,20 @@ returns g c =
     let new = c.relabel.new.self in
     let relabels = c.relabel.ensures.relabels in
     let Was = Relabels (stored old) (stored new) c.args.id c.args.label in
-    rw (← c.self.view_is) (tries stored _ _ _ _ _ _ _ relabels.clean relabels.registries
+    rw (← c.self.view_is) (tries stored _ _ _ _ _ _ _ relabels.clean relabels.recoverable
     (λ honest devices has.
     elim c.match-relabel.branch [
       | in-Ok-true w ↦
           let is = w.in-Ok-true.is ∙ ap Ok w.in-Ok-true.field-0-test in
           let was = (subst Was is relabels).devices honest devices has in
-          rw w.result-is (label-comes stored old new devices c.args.id c.args.label _ w.relabel_effect.result was.0
+          rw w.result-is (label-applies_or_fails stored old new devices c.args.id c.args.label _ w.relabel_effect.result
+          was.0
           (w.relabel_effect.ensures c.args.id c.args.label, was.1))
       | in-Ok-false w ↦
           let is = w.in-Ok-false.is ∙ ap Ok w.in-Ok-false.field-0-test in
           let was = (subst Was is relabels).devices honest devices has in
-          rw w.result-is (label-comes stored old new devices c.args.id c.args.label _ w.error_effect.result was.0
+          rw w.result-is (label-applies_or_fails stored old new devices c.args.id c.args.label _ w.error_effect.result
+          was.0
           (w.error_effect.ensures, was.1))
       | in-Err w ↦
           let was = (subst Was w.in-Err.is relabels).devices honest devices has in

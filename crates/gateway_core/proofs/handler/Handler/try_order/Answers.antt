@@ -1,5 +1,5 @@
 use Rattle.std.proofs.Common.{false}
-use Rattle.gateway_core.proofs.AttemptLemmas.{opens-comes, tries-alone}
+use Rattle.gateway_core.proofs.AttemptLemmas.{opens-applies_or_fails, tries-alone}
 use Rattle.gateway_core.proofs.handler.Handler.try_order.Goals as goal
 
 pub returns-in-LearnOn : goal.returns-in-LearnOn
@@ -16,8 +16,9 @@ returns-in-LearnAs g c =
     rw c.in-LearnAs.is
     (tries-alone g.S.DeviceStore.store_state _ _ _
     (λ devices keeps.
-    opens-comes g.S.DeviceStore.store_state c.args.self.now.registry c.args.self.now.registry devices c.in-LearnAs.eep
-    c.open_as.result c.open_as.ensures keeps))
+    opens-applies_or_fails g.S.DeviceStore.store_state c.args.self.now.registry c.args.self.now.registry devices
+    c.in-LearnAs.eep
+    c.learn_as_if_supported.result c.learn_as_if_supported.ensures keeps))
 
 pub returns-in-LearnOff : goal.returns-in-LearnOff
 returns-in-LearnOff g c =
@@ -42,4 +43,4 @@ returns-in-Status g c = rw c.in-Status.is c.try_status.ensures
 pub returns-in-Base : goal.returns-in-Base
 returns-in-Base g c =
     rw c.in-Base.is (tries-alone g.S.DeviceStore.store_state _ _ _
-    (λ devices keeps. (c.request_base_id.ensures false, keeps)))
+    (λ devices keeps. (c.base_id_request_effect.ensures false, keeps)))

@@ -2,9 +2,9 @@ use Rattle.std.proofs.Common.{◌≡◌, false, refl, sym, subst, ◌∙◌}
 use Rattle.std.proofs.lemmas.Result.{err_from_is_err_and}
 use Rattle.teach_in.specs.declared.plans.Plan.TheVariants.{Add, Forget, Refuse}
 use Rattle.teach_in.specs.Plans.{plan_of}
-use Rattle.gateway_core.specs.private.Attempts.{MayReply, state_of}
+use Rattle.gateway_core.specs.private.Attempts.{HasReplyCodeIfQuery, state_of}
 use Rattle.gateway_core.proofs.QueryLemmas.{can_reply}
-use Rattle.gateway_core.proofs.AttemptLemmas.{line_told, permits-memory, refused-gives, tries-alone, tries-same}
+use Rattle.gateway_core.proofs.AttemptLemmas.{line_reported, permits-memory, refused-gives, tries-alone, tries-same}
 use Rattle.gateway_core.proofs.handler.Handler.try_plan.Goals as goal
 
 pub try_accept-requires-clause-accepted : goal.try_accept-requires-clause-accepted
@@ -24,7 +24,7 @@ try_forget-requires g c =
 
 pub refuse-requires-clause-reply : goal.refuse-requires-clause-reply
 refuse-requires-clause-reply g c =
-    subst (λ id. MayReply c.args.teach.now id c.in-Refuse.outcome) (sym c.sender.ensures)
+    subst (λ id. HasReplyCodeIfQuery c.args.teach.now id c.in-Refuse.outcome) (sym c.sender.ensures)
     (can_reply c.args.telegram.now _ c.args.teach.now (Refuse c.in-Refuse.outcome) c.requires
     (sym c.plan_for.ensures ∙ c.in-Refuse.is))
 
@@ -40,7 +40,7 @@ pub returns-in-Silent : goal.returns-in-Silent
 returns-in-Silent g c =
     let plan = sym c.plan_for.ensures ∙ c.in-Silent.is in
     rw (← c.self.view_is) (tries-alone g.S.DeviceStore.store_state _ _ _
-    (λ devices keeps. rw (plan, ← c.why_silent.ensures) (c.ignored_effect.ensures c.args.asked, keeps)))
+    (λ devices keeps. rw (plan, ← c.why_nothing_done.ensures) (c.ignored_effect.ensures c.args.asked, keeps)))
 
 pub returns-in-Add : goal.returns-in-Add
 returns-in-Add g c =
@@ -65,7 +65,8 @@ returns-in_ok-refused-in-Refuse g c =
     rw plan (
       refused-gives c.in_ok-refused-in-Refuse.refused (state_of c.args.self.now devices) c.args.telegram.now
           c.args.teach.now c.sender.result _ c.in-Refuse.outcome c.requires c.sender.ensures
-          (line_told c.sender.result c.args.teach.now c.in-Refuse.outcome _ _ c.query_device-eep.ensures.eep
-          c.query_device-eep.ensures.maker) (c.in_ok-refused-in-Refuse.ensures devices),
+          (line_reported c.sender.result c.args.teach.now c.in-Refuse.outcome _ _
+          c.eep_and_maker_in_query-eep.ensures.eep
+          c.eep_and_maker_in_query-eep.ensures.maker) (c.in_ok-refused-in-Refuse.ensures devices),
       keeps,
     ))

@@ -4,7 +4,7 @@ use Rattle.erp1_telegrams.specs.Address.{filter_reason, is_filtered_out}
 use Rattle.erp1_telegrams.specs.declared.address.FilterReason.{FilterReason}
 use Rattle.erp1_telegrams.specs.Telegram.{Telegram}
 use Rattle.learned_devices.specs.Devices.{device_of}
-use Rattle.gateway_core.specs.Step.{teach_case, plan_effect}
+use Rattle.gateway_core.specs.Step.{case_by_role, plan_effect}
 use Rattle.gateway_core.specs.private.Attempts.{state_of}
 use Rattle.gateway_core.proofs.EffectLemmas.{not-data, teaches}
 use Rattle.teach_in.proofs.ForCallers.{plan-unasked}
@@ -49,7 +49,7 @@ returns-in-Contact g c =
     tries-same g.S.DeviceStore.store_state _ _ _ _ _
     (λ devices.
     let known = device_of devices c.args.telegram.now.sender in
-    let case = ap (λ kind. teach_case kind known) (sym c.requires)
+    let case = ap (λ kind. case_by_role kind known) (sym c.requires)
     ∙ teaches c.args.teach.now known c.in-Contact.is in
     rw (over, case)
     (ap (plan_effect (state_of c.args.self.now devices) c.args.telegram.now false)

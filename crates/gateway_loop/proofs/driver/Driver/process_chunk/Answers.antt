@@ -1,6 +1,6 @@
 use Rattle.std.proofs.Common.{rules, refl, take, drop, arith, length, ◌-◌, ◌∙◌, length-take, length-drop}
 use Rattle.std.proofs.lemmas.Result.{err_from_is_err_and}
-use Rattle.gateway_loop.proofs.ListLemmas.{split_rest, process_run}
+use Rattle.gateway_loop.proofs.ListLemmas.{split_rest, process_front}
 use Rattle.gateway_loop.proofs.DriverStepLemmas.{takes_nothing, takes_both, breaks_behind}
 use Rattle.gateway_loop.proofs.driver.Driver.process_chunk.Goals as goal
 
@@ -20,7 +20,7 @@ returns-in_err-count-clause-taken g c =
     rw exit.1
     (rw (split_rest chunk i) at
     (breaks_behind g.S.DeviceStore.store_state g.O.ReplySink.output c.args.self.now c.loop-count.self
-    c.process_run.new.self
+    c.process_front.new.self
     (take i chunk) (take (length chunk - i) (drop i chunk)) c.loop-count.invariant.takes c.in_err-count.ensures.taken))
 
 pub loop-count-preserved : goal.loop-count-preserved
@@ -33,9 +33,9 @@ loop-count-preserved g c =
     record {
       within = omega (arith, within.1, length-take (length chunk - i) (drop i chunk), length-drop i chunk);
       gateway = search rules;
-      loans = c.process_run.ensures.loans ∙ before.loans;
-      takes = rw (process_run chunk i n)
+      loans = c.process_front.ensures.loans ∙ before.loans;
+      takes = rw (process_front chunk i n)
           (takes_both g.S.DeviceStore.store_state g.O.ReplySink.output c.args.self.now c.loop-count.self
-          c.process_run.new.self
+          c.process_front.new.self
           (take i chunk) (take n (take (length chunk - i) (drop i chunk))) before.takes c.in_ok-count.ensures.taken);
     }

@@ -24,14 +24,14 @@ loop-end-init g c = record {
   );
 }
 
-pub returns-in_err-process_ended_lines-clause-stopped : goal.returns-in_err-process_ended_lines-clause-stopped
-returns-in_err-process_ended_lines-clause-stopped g c =
+pub returns-in_err-process_ended_line-clause-stopped : goal.returns-in_err-process_ended_line-clause-stopped
+returns-in_err-process_ended_line-clause-stopped g c =
     let stored = g.S.DeviceStore.store_state in
     let output = g.O.ReplySink.output in
     let lines = c.args.lines in
     let old = c.args.self.now in
     let mid = c.loop-end.self in
-    let new = c.process_ended_lines.new.self in
+    let new = c.process_ended_line.new.self in
     let rest = c.loop-end.rest.now in
     let end = c.in-Some.end in
     let found = c.in-Some.ensures in
@@ -46,7 +46,7 @@ returns-in_err-process_ended_lines-clause-stopped g c =
     (stops_behind stored output lines old mid new (tail ++ done) (take end rest ++ 10 ∷ behind) p
     (line_stops stored output lines mid new p.rest (take end rest) behind p.keeps.one
     (one_line_before rest end (omega arith) found.0.before)
-    (c.in_err-process_ended_lines.ensures.taken p.rest p.keeps))))
+    (c.in_err-process_ended_line.ensures.taken p.rest p.keeps))))
 
 pub loop-end-preserved : goal.loop-end-preserved
 loop-end-preserved g c =
@@ -55,11 +55,11 @@ loop-end-preserved g c =
     let lines = c.args.lines in
     let old = c.args.self.now in
     let mid = c.loop-end.self in
-    let new = c.process_ended_lines.new.self in
+    let new = c.process_ended_line.new.self in
     let rest = c.loop-end.rest.now in
     let end = c.in-Some.end in
     let found = c.in-Some.ensures in
-    let after = c.in_ok-process_ended_lines.ensures in
+    let after = c.in_ok-process_ended_line.ensures in
     let before = c.loop-end.invariant in
     let (done, all, taken) = before.taken in
     let line = take end rest ++ 10 ∷ [] in

@@ -1,7 +1,7 @@
 use Rattle.std.proofs.Common.{◌≡◌, ◌++◌, List, ℕ, length}
 use Rattle.gateway_loop.specs.private.LineLoop.{TakesBytes}
-use Rattle.gateway_loop.specs.private.Lines.{KeepsPartialLine}
-use Rattle.gateway_loop.specs.Processing.{IsDrained}
+use Rattle.gateway_loop.specs.private.Lines.{KeepsTruncatedLine}
+use Rattle.gateway_loop.specs.Processing.{HasNoReadyPacket}
 use Rattle.gateway_loop.proofs.line_loop.LineDispatcher.process_bytes.Given as goal
 
 -- the lines that end in the bytes so far are taken
@@ -9,8 +9,8 @@ abbrev pub invariant-loop-end : goal.invariant-loop-end
 invariant-loop-end g l = record {
   gateway : l.self.driver.gateway.ghost_name ≡ l.fn.self.driver.gateway.ghost_name;
   loans : g.O.ReplySink.loans l.self.driver.reply_sink ≡ g.O.ReplySink.loans l.fn.self.driver.reply_sink;
-  idle : IsDrained l.self.driver.gateway.now;
-  taken : (done : List ℕ) × (l.bytes ≡ done ++ l.rest) × ((tail : List ℕ) → KeepsPartialLine tail l.fn.self.partial →
+  idle : HasNoReadyPacket l.self.driver.gateway.now;
+  taken : (done : List ℕ) × (l.bytes ≡ done ++ l.rest) × ((tail : List ℕ) → KeepsTruncatedLine tail l.fn.self.partial →
       TakesBytes g.S.DeviceStore.store_state g.O.ReplySink.output l.lines l.fn.self l.self (tail ++ done));
 }
 

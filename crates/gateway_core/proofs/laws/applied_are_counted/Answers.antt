@@ -1,5 +1,0 @@
-use Rattle.gateway_core.proofs.CountLemmas.{applied_are_counted}
-use Rattle.gateway_core.proofs.laws.applied_are_counted.Goals as goal
-
-pub returns : goal.returns
-returns c = applied_are_counted

@@ -1,5 +1,0 @@
-use Rattle.gateway_core.proofs.WindowLemmas.{packets_change_in_windows}
-use Rattle.gateway_core.proofs.laws.packets_change_in_windows.Goals as goal
-
-pub returns : goal.returns
-returns c = packets_change_in_windows

@@ -1,0 +1,12 @@
+use Rattle.json_lines.specs.Lines.{in_quotes}
+use Rattle.json_lines.specs.PacketLines.{reason_word}
+use Rattle.json_lines.proofs.PacketTexts.{end_pieces}
+use Rattle.json_lines.proofs.packet.put_end_members.Goals as goal
+
+pub returns-clause-items : goal.returns-clause-items
+returns-clause-items c = rw (
+  c.put_string.ensures.items,
+  c.as_bytes.ensures.value,
+  c.reason_word.ensures.text,
+  c.put.ensures.items,
+) (end_pieces c.args.out.now.items (in_quotes (reason_word c.args.why)))

@@ -1,0 +1,11 @@
+use Rattle.std.proofs.Common.{rules}
+use Rattle.profiles_4bs.proofs.light_temperature_occupancy.read_if_supported.Goals as goal
+
+pub returns-clause-exact : goal.returns-clause-exact
+returns-clause-exact c = search rules
+
+pub returns-2-clause-exact : goal.returns-2-clause-exact
+returns-2-clause-exact c = search rules
+
+pub returns-3-clause-exact : goal.returns-3-clause-exact
+returns-3-clause-exact c = search rules
