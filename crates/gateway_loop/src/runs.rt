@@ -8,16 +8,16 @@ pub struct Summary {
     pub items: u64,
 }
 
-/// Why a replay, or a live gateway, ended early.
+/// Why a replay, or a live gateway, ended early. Its text is what the program prints.
 #[derive(Clone, Copy, Debug, PartialEq, Eq, Error)]
 pub enum RunFault {
     /// A read failed.
-    #[error("a read failed")]
+    #[error("read")]
     Read,
     /// A write failed, or took 0 bytes.
-    #[error("a write failed, or took 0 bytes")]
+    #[error("write")]
     Write,
     /// All allowed reads were made, and the script of a replay has not ended.
-    #[error("the input has not ended after all reads that were allowed")]
+    #[error("too many turns")]
     TooManyTurns,
 }

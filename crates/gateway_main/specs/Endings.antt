@@ -12,10 +12,10 @@ use Rattle.gateway_cli.specs.declared.CommandLineFault.TheVariants as refused
 use Rattle.gateway_main.specs.declared.ending.Ending.{Ending}
 use Rattle.gateway_main.specs.declared.ending.Ending.TheVariants.{Failed, NotText, BadBase, ClapOutput}
 use Rattle.gateway_main.specs.declared.fault.Fault.{Fault}
-use Rattle.gateway_main.specs.declared.fault.Fault.TheVariants.{Memory}
+use Rattle.gateway_main.specs.declared.fault.Fault.TheVariants.{Memory, Run}
 use Rattle.gateway_loop.specs.declared.runs.RunFault.{RunFault}
 use Rattle.gateway_loop.specs.declared.runs.Summary.{Summary}
-use Rattle.gateway_main.specs.Faults.{fault_of_run, fault_of_store}
+use Rattle.gateway_main.specs.Faults.{fault_of_store}
 
 -- if the arguments of the process are not available: out of memory, or one is not text
 abbrev pub ending_if_no_arguments : IoErrorKind → Ending
@@ -35,7 +35,7 @@ ending_of_command_line (refused.ClapError error) = ending_of_clap_error (kind_of
 abbrev pub done_or_first_fault_of : {A : Type 0} → Result (Result Summary RunFault) Fault → Result A StoreError
     → Result A Fault
 done_or_first_fault_of (Err fault) closed = Err fault
-done_or_first_fault_of (Ok (Err stopped)) closed = Err (fault_of_run stopped)
+done_or_first_fault_of (Ok (Err stopped)) closed = Err (Run stopped)
 done_or_first_fault_of (Ok (Ok summary)) (Err error) = Err (fault_of_store error)
 done_or_first_fault_of (Ok (Ok summary)) (Ok closed) = Ok closed
 

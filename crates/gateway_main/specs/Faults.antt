@@ -7,8 +7,6 @@ use Rattle.sqlite.specs.declared.error.Error.TheVariants.{SqliteFailure}
 use Rattle.sqlite.specs.declared.error.ErrorCode.TheVariants.{OutOfMemory}
 use Rattle.gateway_main.specs.declared.fault.Fault.{Fault}
 use Rattle.gateway_main.specs.declared.fault.Fault.TheVariants as fault
-use Rattle.gateway_loop.specs.declared.runs.RunFault.{RunFault}
-use Rattle.gateway_loop.specs.declared.runs.RunFault.TheVariants.{Read, Write, TooManyTurns}
 
 abbrev pub fault_of_store : Error → Fault
 fault_of_store (SqliteFailure OutOfMemory) = fault.Memory
@@ -17,8 +15,3 @@ fault_of_store error = fault.Store
 abbrev pub fault_of_open : OpenFault → Fault
 fault_of_open opening.NotARegistry = fault.NotARegistry
 fault_of_open (opening.Failed why) = if why.is_memory then fault.Memory else fault.Store
-
-abbrev pub fault_of_run : RunFault → Fault
-fault_of_run Read = fault.Read
-fault_of_run Write = fault.Write
-fault_of_run TooManyTurns = fault.TooManyTurns

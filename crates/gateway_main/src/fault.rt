@@ -22,15 +22,9 @@ pub enum Fault {
     /// The serial line, the desk's file or the file of the answers cannot be opened.
     #[error("cannot open")]
     CannotOpenFile,
-    /// Standard input, the serial line or the desk's file cannot be read.
-    #[error("read")]
-    Read,
-    /// Standard output, the serial line or the file of the answers cannot be written.
-    #[error("write")]
-    Write,
-    /// Standard input has not ended after all reads that the program makes.
-    #[error("too many turns")]
-    TooManyTurns,
+    /// The replay, or the live gateway, ended early.
+    #[error(transparent)]
+    Run(RunFault),
 }
 
 impl From<AllocError> for Fault {
@@ -71,15 +65,11 @@ impl From<OpenFault> for Fault {
 }
 
 impl From<RunFault> for Fault {
-    ghost use Rattle.gateway_main.specs.Faults.{fault_of_run};
+    ghost use Rattle.gateway_main.specs.declared.fault.Fault.TheVariants.{Run};
 
-    ghost from_gives = { λ stopped fault. fault ≡ fault_of_run stopped };
+    ghost from_gives = { λ stopped fault. fault ≡ Run stopped };
 
     fn from(stopped: RunFault) -> Fault {
-        match stopped {
-            RunFault::Read => Fault::Read,
-            RunFault::Write => Fault::Write,
-            RunFault::TooManyTurns => Fault::TooManyTurns,
-        }
+        Fault::Run(stopped)
     }
 }

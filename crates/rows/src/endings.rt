@@ -24,9 +24,9 @@ fn tell_faults(rt: &HostRuntime, telling: &mut Telling) -> Result<()> {
         (Fault::Store, "store"),
         (Fault::Memory, "memory"),
         (Fault::CannotOpenFile, "cannot open"),
-        (Fault::from(RunFault::Read), "read"),
-        (Fault::from(RunFault::Write), "write"),
-        (Fault::from(RunFault::TooManyTurns), "too many turns"),
+        (Fault::Run(RunFault::Read), "read"),
+        (Fault::Run(RunFault::Write), "write"),
+        (Fault::Run(RunFault::TooManyTurns), "too many turns"),
     ] {
         let is_well = fault.to_string(rt.alloc())?.as_str() == text
             && status(&Err(Ending::from(fault))) == 1;
@@ -36,18 +36,9 @@ fn tell_faults(rt: &HostRuntime, telling: &mut Telling) -> Result<()> {
     Ok(())
 }
 
-// Each cause that stops a gateway has a text of its own, for callers of the libraries.
+// Each cause for which no gateway starts has a text of its own, for callers of the libraries.
 fn tell_texts(rt: &HostRuntime, telling: &mut Telling) -> Result<()> {
     for (text, wanted) in [
-        (RunFault::Read.to_string(rt.alloc())?, "a read failed"),
-        (
-            RunFault::Write.to_string(rt.alloc())?,
-            "a write failed, or took 0 bytes",
-        ),
-        (
-            RunFault::TooManyTurns.to_string(rt.alloc())?,
-            "the input has not ended after all reads that were allowed",
-        ),
         (StartFault::BadBase.to_string(rt.alloc())?, "not a base ID"),
         (
             StartFault::Memory.to_string(rt.alloc())?,
@@ -144,7 +135,7 @@ fn tell_closes(rt: &HostRuntime, telling: &mut Telling) -> Result<()> {
             "a run's fault",
             Ok(Err(RunFault::TooManyTurns)),
             Ok(()),
-            Err(Fault::TooManyTurns),
+            Err(Fault::Run(RunFault::TooManyTurns)),
         ),
         (
             "no path",
@@ -168,7 +159,7 @@ fn tell_closes(rt: &HostRuntime, telling: &mut Telling) -> Result<()> {
             "a run's fault and a close",
             Ok(Err(RunFault::Read)),
             Err(refused),
-            Err(Fault::Read),
+            Err(Fault::Run(RunFault::Read)),
         ),
         (
             "no path and a close",
