@@ -40,6 +40,7 @@ use Rattle.gateway_core.specs.Step.{if_full_of_others_else, if_learned_else_erro
 use Rattle.actuator_commands.specs.Limits.{max_line}
 use Rattle.actuator_commands.specs.declared.orders.Order.{Order}
 use Rattle.actuator_commands.specs.declared.orders.OrderFault.{OrderFault}
+use Rattle.actuator_commands.specs.declared.orders.OrderFault.TheVariants.{UnknownDevice}
 use Rattle.actuator_commands.specs.Orders.{order_of}
 use Rattle.gateway_core.specs.Step.{order_effect, line_effect}
 use Rattle.gateway_core.specs.Step.{reading_effect, case_effect, data_case, effect, update_of, need_of, with_update}
@@ -373,7 +374,7 @@ module _ {S : Type 0} (stored : S → DeviceStoreState) where
       → known ≡ is_some (get devices id)
       → MatchBool known (MatchesEffect done (relabel_effect id label)
       × Commits (stored new) (relabel_update id label) devices)
-      (MatchesEffect done (lines_effect NeedsStore (Error error.UnknownDevice ∷ []))
+      (MatchesEffect done (lines_effect NeedsStore (Error (error.Order UnknownDevice) ∷ []))
       × Keeps (stored old) (stored new) devices)
       → AppliesOrFails (stored old) (stored new) devices
       (if_learned_else_error (device_of devices id) (λ it. relabel_effect id label)) (Ok done)
@@ -383,7 +384,7 @@ module _ {S : Type 0} (stored : S → DeviceStoreState) where
       one : (it : Option DeviceData) (b : Bool) → b ≡ is_some it
           → MatchBool b (MatchesEffect done (relabel_effect id label)
           × Commits (stored new) (relabel_update id label) devices)
-          (MatchesEffect done (lines_effect NeedsStore (Error error.UnknownDevice ∷ []))
+          (MatchesEffect done (lines_effect NeedsStore (Error (error.Order UnknownDevice) ∷ []))
           × Keeps (stored old) (stored new) devices)
           → AppliesOrFails (stored old) (stored new) devices
           (if_learned_else_error (option_map (device id) it) (λ it. relabel_effect id label))

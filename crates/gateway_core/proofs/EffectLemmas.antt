@@ -36,6 +36,7 @@ use Rattle.actuator_commands.specs.declared.orders.Order.TheVariants.{LearnAs, L
 use Rattle.actuator_commands.specs.declared.orders.Order.TheVariants.{Switch, Dim, Query, Meter, Blind, Stop}
 use Rattle.actuator_commands.specs.declared.orders.Order.TheVariants.{Central, Level, Teach as TeachAll}
 use Rattle.actuator_commands.specs.declared.orders.OrderFault.{OrderFault}
+use Rattle.actuator_commands.specs.declared.orders.OrderFault.TheVariants.{UnknownDevice}
 use Rattle.actuator_commands.specs.Packets.{sends}
 use Rattle.actuator_commands.specs.Orders.{order_of}
 use Rattle.json_lines.specs.Lines.{Reading, StatusLine, ResponseLine, Error, ReadingLine, TeachLine, ModuleResponse}
@@ -48,7 +49,6 @@ use Rattle.gateway_core.specs.Responses.{response_in}
 use Rattle.gateway_core.specs.Step.{State, Input, Received, Ordered, Effect, silent_effect}
 use Rattle.gateway_core.specs.Step.{Need, NeedsMemory, NeedsStore}
 use Rattle.gateway_core.specs.Step.{packet_desk_line_effect, error_effect, send_effect, send_result_effect}
-use Rattle.gateway_core.specs.Step.{order_error_name}
 use Rattle.gateway_core.specs.Step.{sending_order_effect}
 use Rattle.gateway_core.specs.Step.{lines_effect, mode_effect, ordered_learn_effect, ordered_forget_effect}
 use Rattle.gateway_core.specs.Step.{relabel_effect}
@@ -237,17 +237,17 @@ module _ (P : Effect → Type 0) (state : State) where
   of-known : {spelled : Result Order OrderFault} → OfLine P state spelled → (known : Option Device)
       (effect_of : Device → Effect) → ((it : Device) → known ≡ Some it → P (effect_of it))
       → P (if_learned_else_error known effect_of)
-  of-known each None effect_of holds = each.finds error.UnknownDevice
+  of-known each None effect_of holds = each.finds (error.Order UnknownDevice)
   of-known each (Some it) effect_of holds = holds it refl
 
   of-sending : {spelled : Result Order OrderFault} → OfLine P state spelled → (asked : Bool)
       (telegram : Result Telegram OrderFault) → P (send_result_effect asked (Some telegram))
   of-sending each asked (Ok t) = each.sends asked _
-  of-sending each true (Err fault) = each.finds (order_error_name fault)
-  of-sending each false (Err fault) = each.denies (order_error_name fault)
+  of-sending each true (Err fault) = each.finds (error.Order fault)
+  of-sending each false (Err fault) = each.denies (error.Order fault)
 
   of-order : (order : Result Order OrderFault) → OfLine P state order → P (order_effect state order)
-  of-order (Err fault) each = each.denies (order_error_name fault)
+  of-order (Err fault) each = each.denies (error.Order fault)
   of-order (Ok LearnOn) each = each.opens _ (λ eep is. absurd cc)
   of-order (Ok LearnOnAnswer) each = each.opens _ (λ eep is. absurd cc)
   of-order (Ok (LearnAs eep)) each = of-supported each eep _ (each.opens _ (λ given is. ap (λ e. Ok (LearnAs e)) cc))

@@ -19,6 +19,7 @@ use Rattle.actuator_commands.specs.Limits.{max_line}
 use Rattle.actuator_commands.specs.declared.orders.Order.{Order}
 use Rattle.actuator_commands.specs.declared.orders.Order.TheVariants.{Label}
 use Rattle.actuator_commands.specs.declared.orders.OrderFault.{OrderFault}
+use Rattle.actuator_commands.specs.declared.orders.OrderFault.TheVariants.{UnknownDevice}
 use Rattle.actuator_commands.specs.Orders.{order_of}
 use Rattle.json_lines.specs.declared.error_lines.ErrorName.{ErrorName}
 use Rattle.json_lines.specs.declared.error_lines.ErrorName.TheVariants as error
@@ -256,20 +257,20 @@ label-done : (id : ℕ) (label : List ℕ) (long : Bool) (known : Option Device)
     (λ it. relabel_effect id label) in
     texts e.desk ≡ text Done → IsSome known × (e.update ≡ Some (relabel_update id label))
 label-done id label true known e = absurd (not-done error.TooLong e)
-label-done id label false None e = absurd (not-done error.UnknownDevice e)
+label-done id label false None e = absurd (not-done (error.Order UnknownDevice) e)
 label-done id label false (Some it) e = (refl, refl)
 
 label-unknown : (id : ℕ) (label : List ℕ) (long : Bool) (known : Option Device)
     → let e : Effect = if long then error_effect error.TooLong else if_learned_else_error known
     (λ it. relabel_effect id label) in
-    texts e.desk ≡ text (Error error.UnknownDevice) → (known ≡ None) × (e.update ≡ None)
+    texts e.desk ≡ text (Error (error.Order UnknownDevice)) → (known ≡ None) × (e.update ≡ None)
 label-unknown id label true known e = let at : 116 ≡ 117 = ap tenth e in absurd (omega (arith, at))
 label-unknown id label false None e = (refl, refl)
 label-unknown id label false (Some it) e = let at : 107 ≡ 117 = ap tenth e in absurd (omega (arith, at))
 
 label-answers : (id : ℕ) (label : List ℕ) (known : Option Device)
     → let e = if_learned_else_error known (λ it. relabel_effect id label) in
-    (texts e.desk ≡ text Done) ⊎ (texts e.desk ≡ text (Error error.UnknownDevice))
+    (texts e.desk ≡ text Done) ⊎ (texts e.desk ≡ text (Error (error.Order UnknownDevice)))
 label-answers id label None = inr (append-nil _)
 label-answers id label (Some it) = inl (append-nil _)
 
@@ -277,7 +278,7 @@ cause-not-done : (cause : Cause) → cause_text cause ≡ text Done → ⊥
 cause-not-done Memory e = not-done error.Memory (append-nil _ ∙ e)
 cause-not-done Store e = not-done error.Store (append-nil _ ∙ e)
 
-cause-not-unknown : (cause : Cause) → cause_text cause ≡ text (Error error.UnknownDevice) → ⊥
+cause-not-unknown : (cause : Cause) → cause_text cause ≡ text (Error (error.Order UnknownDevice)) → ⊥
 cause-not-unknown Memory e = let at : 109 ≡ 117 = ap tenth e in absurd (omega (arith, at))
 cause-not-unknown Store e = let at : 115 ≡ 117 = ap tenth e in absurd (omega (arith, at))
 
@@ -288,7 +289,7 @@ answers_to_labels_are_true state line id label is = record {
   answers = λ short.
       let At = λ (long : Bool) (order : Result Order OrderFault).
       let e : Effect = if long then error_effect error.TooLong else order_effect state order in
-      (texts e.desk ≡ text Done) ⊎ (texts e.desk ≡ text (Error error.UnknownDevice)) in
+      (texts e.desk ≡ text Done) ⊎ (texts e.desk ≡ text (Error (error.Order UnknownDevice))) in
       let at : At false (Ok (Label id label)) = label-answers id label (device_of state.devices id) in
       subst (λ b. At b (order_of line)) (sym (le-ltb max_line (length line) short))
       (subst (At false) (sym is) at);
@@ -309,12 +310,12 @@ answers_to_labels_are_true state line id label is = record {
     done (FailedAtCommit cause) e = absurd (cause-not-done cause e)
 
     unknown : (result : InputResult) → (answer_for_result state (Ordered line) result).desk
-        ≡ text (Error error.UnknownDevice)
+        ≡ text (Error (error.Order UnknownDevice))
         → (result ≡ Applied) × (device_of state.devices id ≡ None) × (update_of state (Ordered line) ≡ None)
     unknown Applied e =
         let At = λ (order : Result Order OrderFault).
         let e : Effect = if long then error_effect error.TooLong else order_effect state order in
-        texts e.desk ≡ text (Error error.UnknownDevice)
+        texts e.desk ≡ text (Error (error.Order UnknownDevice))
         → (device_of state.devices id ≡ None) × (e.update ≡ None) in
         let so = subst At (sym is) (label-unknown id label long (device_of state.devices id)) e in (refl, so.0, so.1)
     unknown (Failed cause) e = absurd (cause-not-unknown cause e)

@@ -16,9 +16,10 @@ use Rattle.teach_in.specs.Ute.{wants_reply, request_in, deletion, ute_reply}
 use Rattle.actuator_commands.specs.Limits.{max_line}
 use Rattle.actuator_commands.specs.declared.orders.Order.{Order}
 use Rattle.actuator_commands.specs.declared.orders.Order.TheVariants.{Base, Label}
+use Rattle.actuator_commands.specs.declared.orders.OrderFault.TheVariants.{UnknownDevice}
 use Rattle.actuator_commands.specs.Orders.{order_of}
 use Rattle.actuator_commands.specs.Packets.{order_telegram, recipient_id}
-use Rattle.json_lines.specs.declared.error_lines.ErrorName.TheVariants.{UnknownDevice}
+use Rattle.json_lines.specs.declared.error_lines.ErrorName.TheVariants.{Order as OrderError}
 use Rattle.json_lines.specs.Lines.{TeachLine, Teach, Done, Error, text}
 use Rattle.gateway_core.specs.Step.{State, Input, Received, Ordered, Effect, effect, device_teach_line}
 use Rattle.gateway_core.specs.Step.{answer_if_applied}
@@ -85,11 +86,11 @@ pub record LabelAnswersAreTrue (state : State) (line : List ℕ) (id : ℕ) (lab
       → (result ≡ Applied) × IsSome (device_of state.devices id)
       × (update_of state (Ordered line) ≡ Some (relabel_update id label))
   pub unknown : (result : InputResult) → (answer_for_result state (Ordered line) result).desk
-      ≡ text (Error UnknownDevice)
+      ≡ text (Error (OrderError UnknownDevice))
       → (result ≡ Applied) × (device_of state.devices id ≡ None) × (update_of state (Ordered line) ≡ None)
   pub answers : length line ≤ max_line
       → ((answer_if_applied state (Ordered line)).desk ≡ text Done)
-      ⊎ ((answer_if_applied state (Ordered line)).desk ≡ text (Error UnknownDevice))
+      ⊎ ((answer_if_applied state (Ordered line)).desk ≡ text (Error (OrderError UnknownDevice)))
 
 abbrev pub AnswersToLabelsAreTrue : Type 0
 AnswersToLabelsAreTrue = (state : State) (line : List ℕ) (id : ℕ) (label : List ℕ) → order_of line ≡ Ok (Label id label)

@@ -31,7 +31,7 @@ use Rattle.actuator_commands.specs.declared.orders.Order.TheVariants.{LearnOn, L
 use Rattle.actuator_commands.specs.declared.orders.Order.TheVariants.{List as ListAll, Status, Base}
 use Rattle.actuator_commands.specs.declared.orders.Order.TheVariants as order
 use Rattle.actuator_commands.specs.declared.orders.OrderFault.{OrderFault}
-use Rattle.actuator_commands.specs.declared.orders.OrderFault.TheVariants.{Syntax, Range, UnknownDevice, WrongProfile}
+use Rattle.actuator_commands.specs.declared.orders.OrderFault.TheVariants.{UnknownDevice}
 use Rattle.actuator_commands.specs.Limits.{max_line}
 use Rattle.actuator_commands.specs.Orders.{order_of}
 use Rattle.actuator_commands.specs.Packets.{order_telegram, recipient_id}
@@ -281,25 +281,19 @@ relabel_effect id label = record (lines_effect NeedsStore (Done ∷ [])) { updat
 
 -- the effect of an order about a device that has to be learned
 abbrev pub if_learned_else_error : Option Device → (Device → Effect) → Effect
-if_learned_else_error None effect_of = lines_effect NeedsStore (Error error.UnknownDevice ∷ [])
+if_learned_else_error None effect_of = lines_effect NeedsStore (Error (error.Order UnknownDevice) ∷ [])
 if_learned_else_error (Some known) effect_of = effect_of known
 
 -- the effect of an order with a profile, if that is supported
 abbrev pub if_supported_else_error : Eep → Effect → Effect
 if_supported_else_error eep effect = if supported eep then effect else error_effect error.UnsupportedProfile
 
-abbrev pub order_error_name : OrderFault → ErrorName
-order_error_name Syntax = error.Syntax
-order_error_name Range = error.Range
-order_error_name UnknownDevice = error.UnknownDevice
-order_error_name WrongProfile = error.WrongProfile
-
 -- The effect of an order to devices: its telegram is sent, or an error reports why there is none. The last case is that
 -- of no order to devices, since each of these has a telegram or a fault.
 abbrev pub send_result_effect : (asks_store : Bool) → Option (Result Telegram OrderFault) → Effect
 send_result_effect asks_store (Some (Ok t)) = send_effect asks_store (spelling (radio_packet t))
 send_result_effect asks_store (Some (Err fault)) =
-    record (error_effect (order_error_name fault)) { need = needs_store_if asks_store }
+    record (error_effect (error.Order fault)) { need = needs_store_if asks_store }
 send_result_effect asks_store None = record no_effect { need = needs_store_if asks_store }
 
 -- the stored device of an order
@@ -319,7 +313,7 @@ base_id_request = record { kind = 5; body = 0x08 ∷ []; opt = [] }
 -- Own choice: the first error of these is reported: too long, syntax and range, which `order_of` finds, an unsupported
 -- profile, an unknown device, a wrong profile, a full registry.
 abbrev pub order_effect : State → Result Order OrderFault → Effect
-order_effect state (Err fault) = error_effect (order_error_name fault)
+order_effect state (Err fault) = error_effect (error.Order fault)
 order_effect state (Ok LearnOn) = mode_effect Learn
 order_effect state (Ok LearnOnAnswer) = mode_effect LearnAnswer
 order_effect state (Ok (order.LearnAs eep)) = if_supported_else_error eep (mode_effect (LearnAs eep))

@@ -16,10 +16,11 @@ use Rattle.teach_in.specs.declared.mode.Mode.TheVariants.{Closed, Learn, LearnAn
 use Rattle.teach_in.specs.declared.outcome.Outcome.{Outcome}
 use Rattle.teach_in.specs.declared.outcome.Outcome.TheVariants.{Accepted, Deleted, Unsupported, General, NoProfile}
 use Rattle.teach_in.specs.declared.outcome.Outcome.TheVariants as outcome
+use Rattle.actuator_commands.specs.declared.orders.OrderFault.TheVariants.{Syntax, Range, UnknownDevice, WrongProfile}
 use Rattle.json_lines.specs.declared.counts.Counts.{Counts}
 use Rattle.json_lines.specs.declared.error_lines.ErrorName.{ErrorName}
-use Rattle.json_lines.specs.declared.error_lines.ErrorName.TheVariants.{Syntax, TooLong, Range, UnknownDevice}
-use Rattle.json_lines.specs.declared.error_lines.ErrorName.TheVariants.{WrongProfile, UnsupportedProfile, Memory, Store}
+use Rattle.json_lines.specs.declared.error_lines.ErrorName.TheVariants.{Order, TooLong, UnsupportedProfile}
+use Rattle.json_lines.specs.declared.error_lines.ErrorName.TheVariants.{Memory, Store}
 use Rattle.json_lines.specs.declared.error_lines.ErrorName.TheVariants as error
 
 -- ---- the content of a line
@@ -149,11 +150,11 @@ code_names = codes "OK" ∷ codes "ERROR" ∷ codes "NOT_SUPPORTED" ∷ codes "W
 
 -- the error's name. Own choice
 abbrev pub error_word : ErrorName → List ℕ
-error_word Syntax = codes "syntax"
+error_word (Order Syntax) = codes "syntax"
+error_word (Order Range) = codes "range"
+error_word (Order UnknownDevice) = codes "unknown_device"
+error_word (Order WrongProfile) = codes "wrong_profile"
 error_word TooLong = codes "too_long"
-error_word Range = codes "range"
-error_word UnknownDevice = codes "unknown_device"
-error_word WrongProfile = codes "wrong_profile"
 error_word error.Full = codes "full"
 error_word UnsupportedProfile = codes "unsupported_profile"
 error_word Memory = codes "memory"

@@ -3,19 +3,15 @@
 ghost use Rattle.std.specs.Prelude.{◌≡◌};
 ghost use Rattle.json_lines.specs.Lines.{Error, text};
 
+use actuator_commands::OrderFault;
+
 /// Why the gateway did not do what it was asked.
 #[derive(Clone, Copy, Debug, PartialEq, Eq)]
 pub enum ErrorName {
-    /// The line does not have the form of an order.
-    Syntax,
+    /// The line is no order, or its device is not learned or has no such order.
+    Order(OrderFault),
     /// The line is longer than an order may be.
     TooLong,
-    /// A number of the order is out of range.
-    Range,
-    /// No device with this ID is learned.
-    UnknownDevice,
-    /// The device does not have the profile that the order requires.
-    WrongProfile,
     /// The registry is full: the maximum number of other devices is learned.
     Full,
     /// The gateway cannot read telegrams of this profile.
@@ -32,11 +28,15 @@ impl ErrorName {
         ensures { result.now ≡ text (Error self) }
     {
         match self {
-            ErrorName::Syntax => b"{\"error\":\"syntax\",\"type\":\"error\"}\n",
+            ErrorName::Order(OrderFault::Syntax) => b"{\"error\":\"syntax\",\"type\":\"error\"}\n",
+            ErrorName::Order(OrderFault::Range) => b"{\"error\":\"range\",\"type\":\"error\"}\n",
+            ErrorName::Order(OrderFault::UnknownDevice) => {
+                b"{\"error\":\"unknown_device\",\"type\":\"error\"}\n"
+            }
+            ErrorName::Order(OrderFault::WrongProfile) => {
+                b"{\"error\":\"wrong_profile\",\"type\":\"error\"}\n"
+            }
             ErrorName::TooLong => b"{\"error\":\"too_long\",\"type\":\"error\"}\n",
-            ErrorName::Range => b"{\"error\":\"range\",\"type\":\"error\"}\n",
-            ErrorName::UnknownDevice => b"{\"error\":\"unknown_device\",\"type\":\"error\"}\n",
-            ErrorName::WrongProfile => b"{\"error\":\"wrong_profile\",\"type\":\"error\"}\n",
             ErrorName::Full => b"{\"error\":\"full\",\"type\":\"error\"}\n",
             ErrorName::UnsupportedProfile => {
                 b"{\"error\":\"unsupported_profile\",\"type\":\"error\"}\n"

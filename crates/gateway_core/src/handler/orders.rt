@@ -10,9 +10,9 @@ use crate::handler::Handler;
 use crate::handler::effect::{
     ReplyAndMode, desk_effect, error_effect, mode_effect, relabel_effect,
 };
-use crate::handler::send::{base_id_request_effect, order_error_name};
+use crate::handler::send::base_id_request_effect;
 use crate::reply::DeskText;
-use actuator_commands::{MAX_LINE, Order, parse};
+use actuator_commands::{MAX_LINE, Order, OrderFault, parse};
 use erp1_telegrams::Eep;
 use json_lines::{ErrorName, device_lines, status_line};
 use learned_devices::{Device, DeviceStore, Label};
@@ -50,7 +50,7 @@ impl<S: DeviceStore> Handler<S> {
     {
         match self.registry.find(id)? {
             Some(device) => self.forget_by_order(device),
-            None => Ok(error_effect(ErrorName::UnknownDevice)),
+            None => Ok(error_effect(ErrorName::Order(OrderFault::UnknownDevice))),
         }
     }
 
@@ -62,7 +62,7 @@ impl<S: DeviceStore> Handler<S> {
     {
         match self.registry.relabel(id, label) {
             Ok(true) => Ok(relabel_effect()),
-            Ok(false) => Ok(error_effect(ErrorName::UnknownDevice)),
+            Ok(false) => Ok(error_effect(ErrorName::Order(OrderFault::UnknownDevice))),
             Err(fault) => Err(Failure::AtCommit(fault)),
         }
     }
@@ -111,7 +111,7 @@ impl<S: DeviceStore> Handler<S> {
         }
         match parse(line) {
             Ok(order) => self.try_order(order),
-            Err(fault) => Ok(error_effect(order_error_name(fault))),
+            Err(fault) => Ok(error_effect(ErrorName::Order(fault))),
         }
     }
 }

@@ -13,7 +13,7 @@ ghost use Rattle.gateway_core.specs.private.Attempts.{MatchesEffect, Attempts};
 use crate::failure::Failure;
 use crate::handler::Handler;
 use crate::handler::effect::{ReplyAndMode, error_effect, send_effect};
-use actuator_commands::{Order, OrderFault, packet_of};
+use actuator_commands::{Order, packet_of};
 use arrayvec::ArrayVec;
 use erp1_telegrams::{Telegram, write};
 use esp3_frames::packet_type::COMMON_COMMAND;
@@ -32,17 +32,6 @@ pub(crate) fn packet_with(telegram: &Telegram) -> ArrayVec<u8, 64>
     match write(telegram, &mut packet) {
         Ok(()) => packet,
         Err(_) => unreachable!(),
-    }
-}
-
-pub(crate) fn order_error_name(fault: OrderFault) -> ErrorName
-    ensures { result ≡ Step.order_error_name fault }
-{
-    match fault {
-        OrderFault::Syntax => ErrorName::Syntax,
-        OrderFault::Range => ErrorName::Range,
-        OrderFault::UnknownDevice => ErrorName::UnknownDevice,
-        OrderFault::WrongProfile => ErrorName::WrongProfile,
     }
 }
 
@@ -67,7 +56,7 @@ fn send(order: &Order, device: Option<&Device>, base: u32) -> ReplyAndMode
 {
     match packet_of(order, device, base) {
         Ok(telegram) => send_effect(packet_with(&telegram)),
-        Err(fault) => error_effect(order_error_name(fault)),
+        Err(fault) => error_effect(ErrorName::Order(fault)),
     }
 }
 

@@ -1,4 +1,5 @@
 //! Lines with known bytes, and the counters.
+use actuator_commands::OrderFault;
 use erp1_telegrams::{BROADCAST, Eep, Telegram};
 use exact_values::{over, scale};
 use json_lines::{
@@ -370,7 +371,7 @@ fn response_lines(rt: HostRuntime) -> Result<(), Fail> {
 
 const OF_ERRORS: [(ErrorName, &str); 9] = [
     (
-        ErrorName::Syntax,
+        ErrorName::Order(OrderFault::Syntax),
         "{\"error\":\"syntax\",\"type\":\"error\"}\n",
     ),
     (
@@ -378,15 +379,15 @@ const OF_ERRORS: [(ErrorName, &str); 9] = [
         "{\"error\":\"too_long\",\"type\":\"error\"}\n",
     ),
     (
-        ErrorName::Range,
+        ErrorName::Order(OrderFault::Range),
         "{\"error\":\"range\",\"type\":\"error\"}\n",
     ),
     (
-        ErrorName::UnknownDevice,
+        ErrorName::Order(OrderFault::UnknownDevice),
         "{\"error\":\"unknown_device\",\"type\":\"error\"}\n",
     ),
     (
-        ErrorName::WrongProfile,
+        ErrorName::Order(OrderFault::WrongProfile),
         "{\"error\":\"wrong_profile\",\"type\":\"error\"}\n",
     ),
     (ErrorName::Full, "{\"error\":\"full\",\"type\":\"error\"}\n"),

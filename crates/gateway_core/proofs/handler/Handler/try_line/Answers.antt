@@ -24,4 +24,4 @@ returns-in-Err g c =
     tries-order g.S.DeviceStore.store_state _ _ c.args.line.now _ (Err c.in-Err.fault) c.if-line-gt-MAX_LINE.false
     (sym c.parse.ensures ∙ c.in-Err.is)
     (tries-alone g.S.DeviceStore.store_state _ _ _
-    (λ devices keeps. rw (← c.order_error_name.ensures) (c.error_effect-in-Err.ensures, keeps)))
+    (λ devices keeps. (c.error_effect-in-Err.ensures, keeps)))
