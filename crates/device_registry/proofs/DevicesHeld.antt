@@ -1,5 +1,5 @@
 -- A database holds one list of devices; how a write of rows changes it.
-use Rattle.std.proofs.Common.{is_some, ◌<◌}
+use Rattle.std.proofs.Common.{is_some, IsTrue, ◌<◌}
 use Rattle.std.proofs.Common.{◌≡◌, ℕ, ◌≤◌, ◌+◌, ◌-◌, Bool, true, false, cond, nat_le}
 use Rattle.std.proofs.Common.{refl, List, [], ◌∷◌}
 use Rattle.std.proofs.Common.{length, map, Some, Option, slice_get, sym, ap, subst, ◌∙◌, arith}
@@ -143,11 +143,11 @@ one_less : (n without : ℕ) → without ≡ n - 1 → n ≤ max_devices → nat
 one_less n without less few = let low : without < max_devices = omega (arith, less, few) in grind (arith, nat_tests)
 
 -- the registry is not full for a known sender
-pub room_for_known : (db : Database) (devices : Devices) (id : ℕ) (it : DeviceData) → IsVersion2RegistryOf db devices
-    → get devices id ≡ Some it → is_full devices id ≡ false
-room_for_known db devices id it had known =
+pub room_for_known : (db : Database) (devices : Devices) (id : ℕ) → IsVersion2RegistryOf db devices
+    → IsTrue (is_some (get devices id)) → is_full devices id ≡ false
+room_for_known db devices id had known =
     one_less (len devices) (len (remove devices id)) (len-remove nat_cmp_total devices id
-    ∙ ap (λ (o : Option DeviceData). cond (is_some o) (len devices - 1) (len devices)) known)
+    ∙ ap (λ b. cond b (len devices - 1) (len devices)) known)
     (few_devices db devices had)
 
 module _ (before after : Database) (devices : Devices) (had : IsVersion2RegistryOf before devices)

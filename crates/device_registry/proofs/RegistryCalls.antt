@@ -6,23 +6,22 @@ use Rattle.std.specs.FinMap.{empty, get, insert}
 use Rattle.sqlite.specs.Order.{Row}
 use Rattle.std.proofs.Common.{◌≡◌, true, false, inl, inr, ℕ, Bool, Option, Result, Ok, Err, IsTrue, IfOk, OnOk}
 use Rattle.std.proofs.Common.{Some, None, is_some, option_map, MatchBool, MatchResult}
-use Rattle.std.proofs.Common.{List, map, refl, sym, ap, subst, ◌∙◌}
+use Rattle.std.proofs.Common.{List, [], map, refl, sym, ap, subst, ◌∙◌}
 use Rattle.sqlite_trees.specs.Tree.{Trees}
 use Rattle.sqlite.specs.Effect.{Database}
 use Rattle.sqlite.specs.State.{State, HasCleanDisk}
-use Rattle.erp1_telegrams.specs.declared.eep.Eep.{Eep}
 use Rattle.learned_devices.specs.declared.Device.{Device}
 use Rattle.learned_devices.specs.declared.fault.LearnFault.TheVariants.{Full, Failed}
 use Rattle.learned_devices.specs.declared.fault.StoreFault.{StoreFault}
 use Rattle.learned_devices.specs.declared.fault.LearnFault.{LearnFault}
-use Rattle.learned_devices.specs.Devices.{Devices, DeviceData, Learn, Relabel, DeviceUpdate}
+use Rattle.learned_devices.specs.Devices.{Devices, DeviceData, Operation, Learn, DeviceUpdate}
 use Rattle.learned_devices.specs.Devices.{with_entry, apply_update, data_after, learn_update}
 use Rattle.learned_devices.specs.Devices.{relabel_update, kept_label, device_data, device, device_of, all_of, is_full}
 use Rattle.learned_devices.specs.DeviceStoreState.{Keeps, Commits, LeavesPending}
 use Rattle.learned_devices.specs.StoreCalls.{RefusesToLearn, LooksUp, Updates, Learns, Relabels, ListsAll}
 use Rattle.device_registry.specs.Holding.{HasDevicesIfOpen, HasSomeDevicesIfOpen, AreVersion2Registries}
 use Rattle.device_registry.specs.Holding.{IsReturnedByClose, WritesRow, registry_state}
-use Rattle.device_registry.specs.private.TableCalls.{LearnsUnlessFull}
+use Rattle.device_registry.specs.private.TableCalls.{LearnsUnlessFull, MakesKnown}
 use Rattle.device_registry.specs.Ready.{IsReadyWith, IsReady, IsReadyIfOpen, KeepsDevicesIfOpen, WritesNothing}
 use Rattle.device_registry.specs.Ready.{CommitsOrMayBeLeft}
 use Rattle.device_registry.specs.Table.Rows.{shown_device}
@@ -328,25 +327,13 @@ puts_it old mid stays well update it makes clean devices shows =
     let was = shown_before old mid stays well clean devices shows in
     becomes devices update it (makes (stays.clean clean) devices (λ _ _. was.holds))
 
--- ---- a label
+-- ---- a known sender
 
--- the registry is not full for a known sender
-pub room_if_known : (s : State) (id : ℕ) (label : List ℕ) (it : DeviceData)
-    → (HasCleanDisk s → (devices : Devices) → HasDevicesIfOpen s devices
-    → data_after (get devices id) (Relabel label) ≡ Some it)
-    → HasCleanDisk s → (devices : Devices) → IsReadyWith s devices → is_full devices id ≡ false
-room_if_known s id label it known clean devices shows =
-    go (get devices id) refl (known clean devices (λ _ _. shows.holds))
-  where
-    go : (o : Option DeviceData) → get devices id ≡ o → data_after o (Relabel label) ≡ Some it
-        → is_full devices id ≡ false
-    go None is none = absurd (let e = none in cc)
-    go (Some was) is some = room_for_known s.now devices id was shows.holds is
-
-is_known : (known : Option DeviceData) (label : List ℕ) (it : DeviceData) → data_after known (Relabel label) ≡ Some it
-    → true ≡ is_some known
-is_known None label it e = absurd (let none = e in cc)
-is_known (Some stored) label it e = refl
+-- the registry is not full for it
+pub room_if_known : (s : State) (it : Device) (operation : Operation) → MakesKnown s it operation
+    → HasCleanDisk s → (devices : Devices) → IsReadyWith s devices → is_full devices it.id ≡ false
+room_if_known s it operation makes clean devices shows =
+    room_for_known s.now devices it.id shows.holds (makes clean devices (λ _ _. shows.holds)).0
 
 pub stays_itself : (s : State) → WritesNothing s s
 stays_itself s = record {
@@ -356,13 +343,6 @@ stays_itself s = record {
 }
 
 -- ---- a look-up first
-
--- the profile and the maker are unchanged
-labels_apart : (was it : Device) (label : List ℕ)
-    → device_data it ≡ record { eep = was.eep; maker = was.maker; label = label }
-    → device_data was ≡ record { eep = it.eep; maker = it.maker; label = was.label }
-labels_apart was it label is =
-    λ i. record { eep = (sym is i).eep; maker = (sym is i).maker; label = was.label }
 
 -- a sender that is known as this device
 pub known_as : (id : ℕ) (known : Option DeviceData) (was : Device) → Some was ≡ option_map (device id) known
@@ -465,29 +445,59 @@ module _ (old mid : State) (id : ℕ) where
           it.0 ∙ ap (λ (d : Devices). device_of d id)
           (registers_once mid.now was.held devices (it.1.now clean is_open) (has clean is_open))
 
-      -- a device with the label that its sender keeps
-      pub keeps_label : (it : Device) (eep : Eep) (maker : Option ℕ) → it.id ≡ id
-          → device_data it ≡ record { eep = eep; maker = maker; label = kept_label (option_map device_data known) }
-          → HasCleanDisk mid → (devices : Devices) → HasDevicesIfOpen mid devices
+      -- an unknown sender gets the empty label
+      pub starts_unlabelled : (it : Device) → known ≡ None → it.id ≡ id → it.label ≡ [] → HasCleanDisk mid
+          → (devices : Devices) → HasDevicesIfOpen mid devices
           → data_after (get devices it.id) (Learn it.eep it.maker) ≡ Some (device_data it)
-      keeps_label it eep maker at is clean devices has =
+      starts_unlabelled it none at empty clean devices has =
           let label : it.label ≡ kept_label (get devices it.id) =
-          ap (λ (l : DeviceData). l.label) is
+          empty ∙ sym (ap (λ o. kept_label (option_map device_data o)) none)
           ∙ ap (λ o. kept_label (option_map device_data o)) (reported_now clean devices has)
           ∙ label_in_device id (get devices id) ∙ ap (λ n. kept_label (get devices n)) (sym at) in
           ap (λ l. Some (record { eep = it.eep; maker = it.maker; label = l })) (sym label)
 
-      -- a known device with another label
-      pub gets_label : (was it : Device) (label : List ℕ) → known ≡ Some was → it.id ≡ id
-          → device_data it ≡ record { eep = was.eep; maker = was.maker; label = label }
-          → HasCleanDisk mid → (devices : Devices) → HasDevicesIfOpen mid devices
-          → data_after (get devices it.id) (Relabel it.label) ≡ Some (device_data it)
-      gets_label was it label some at is clean devices has =
-          ap (λ n. data_after (get devices n) (Relabel it.label)) at
-          ∙ ap (λ o. data_after o (Relabel it.label))
-          (known_as id (get devices id) was (sym some ∙ reported_now clean devices has))
-          ∙ ap (λ (l : DeviceData). Some (record { eep = l.eep; maker = l.maker; label = it.label }))
-          (labels_apart was it label is)
+      -- an operation on a known sender
+      module _ (was it : Device) (some : known ≡ Some was) (at : it.id ≡ id) where
+        pub makes_known : (operation : Operation)
+            → data_after (Some (device_data was)) operation ≡ Some (device_data it) → MakesKnown mid it operation
+        makes_known operation makes clean devices has =
+            let is = ap (get devices) at
+            ∙ known_as id (get devices id) was (sym some ∙ reported_now clean devices has) in
+            (ap is_some is, ap (λ o. data_after o operation) is ∙ makes)
+
+        -- the registry is not full for it
+        has_room : HasCleanDisk mid → (devices : Devices) → HasDevicesIfOpen old devices → is_full devices it.id ≡ false
+        has_room clean devices has =
+            let is = ap (get devices) at
+            ∙ known_as id (get devices id) was (sym some ∙ (looks.devices clean devices has).0) in
+            room_for_known old.now devices it.id (shows_them old devices (looks.clean clean) (ready clean).0 has).holds
+            (ap is_some is)
+
+        -- its device is written: this failed, or it is committed
+        pub learns_failed : {A B : Type 0} (fault : StoreFault)
+            → Updates {A = A} (registry_state mid) (registry_state new) (learn_update it) (Err fault)
+            → Learns {A = B} (registry_state old) (registry_state new) it (Err (Failed fault))
+        learns_failed fault updates = record {
+          clean = λ clean. looks.clean (updates.clean clean);
+          recoverable = updates.recoverable;
+          devices = λ clean devices has.
+              let keeps = kept_here (updates.clean clean) devices has in
+              rw (has_room (updates.clean clean) devices has)
+              (pends_then old mid new (learn_update it) devices keeps (updates.devices clean devices keeps.now));
+        }
+
+        pub learns_known : {A B E : Type 0} (done : A) (also : B)
+            → Updates {A = A} {E = E} (registry_state mid) (registry_state new) (learn_update it) (Ok done)
+            → Learns {A = B} (registry_state old) (registry_state new) it (Ok also)
+        learns_known done also updates = record {
+          clean = λ clean. looks.clean (updates.clean clean);
+          recoverable = updates.recoverable;
+          devices =
+              λ clean devices has. (
+                has_room (updates.clean clean) devices has,
+                updates.devices clean devices (kept_here (updates.clean clean) devices has).now,
+              );
+        }
 
     -- the row of a device is written over the same devices
     pub written_after : {C : Type 0} (state : C → State) (last : C) (update : DeviceUpdate) {T E : Type 0}
@@ -511,58 +521,30 @@ module _ (old mid : State) (id : ℕ) where
     }
 
     -- the write of a label failed, or it is committed
-    pub relabels_failed : {A E F : Type 0} (label : List ℕ) (error : E) (fault : F) (it : DeviceData)
-        → (HasCleanDisk mid → (devices : Devices) → HasDevicesIfOpen mid devices
-        → data_after (get devices id) (Relabel label) ≡ Some it)
+    pub relabels_failed : {A E F : Type 0} (label : List ℕ) (error : E) (fault : F)
+        → (HasCleanDisk mid → (devices : Devices) → HasDevicesIfOpen mid devices → IsTrue (is_some (get devices id)))
         → Updates {A = A} (registry_state mid) (registry_state new) (relabel_update id label) (Err error)
         → Relabels (registry_state old) (registry_state new) id label (Err fault)
-    relabels_failed label error fault it known updates = record {
+    relabels_failed label error fault is_known updates = record {
       clean = λ clean. looks.clean (updates.clean clean);
       recoverable = updates.recoverable;
       devices = λ clean devices has.
           let keeps = kept_here (updates.clean clean) devices has in
-          rw (← is_known (get devices id) label it (known (updates.clean clean) devices keeps.now))
+          rw (is_known (updates.clean clean) devices keeps.now)
           (pends_then old mid new (relabel_update id label) devices keeps (updates.devices clean devices keeps.now));
     }
 
-    pub relabels_known : {A E F : Type 0} (label : List ℕ) (done : A) (it : DeviceData)
-        → (HasCleanDisk mid → (devices : Devices) → HasDevicesIfOpen mid devices
-        → data_after (get devices id) (Relabel label) ≡ Some it)
+    pub relabels_known : {A E F : Type 0} (label : List ℕ) (done : A)
+        → (HasCleanDisk mid → (devices : Devices) → HasDevicesIfOpen mid devices → IsTrue (is_some (get devices id)))
         → Updates {A = A} {E = E} (registry_state mid) (registry_state new) (relabel_update id label) (Ok done)
         → Relabels {E = F} (registry_state old) (registry_state new) id label (Ok true)
-    relabels_known label done it known updates = record {
+    relabels_known label done is_known updates = record {
       clean = λ clean. looks.clean (updates.clean clean);
       recoverable = updates.recoverable;
       devices = λ clean devices has.
-          let now = (kept_here (updates.clean clean) devices has).now in (
-            is_known (get devices id) label it (known (updates.clean clean) devices now),
-            updates.devices clean devices now,
-          );
+          let now = (kept_here (updates.clean clean) devices has).now in
+          (sym (is_known (updates.clean clean) devices now), updates.devices clean devices now);
     }
-
--- the label of a device makes no difference when it is learned
-pub learns_alike : {A : Type 0} (old new : State) (it other : Device) (r : Result A LearnFault) → other.id ≡ it.id
-    → other.eep ≡ it.eep → other.maker ≡ it.maker → Learns (registry_state old) (registry_state new) other r
-    → Learns (registry_state old) (registry_state new) it r
-learns_alike old new it other r id eep maker learns =
-    let same : other ≡ record { id = it.id; eep = it.eep; maker = it.maker; label = other.label } =
-    λ i. record { id = id i; eep = eep i; maker = maker i; label = other.label } in
-    let as_it = subst (λ d. Learns (registry_state old) (registry_state new) d r) same learns in
-    record {
-      clean = as_it.clean;
-      recoverable = as_it.recoverable;
-      devices = λ clean devices has. unlabelled r devices (as_it.devices clean devices has);
-    }
-  where
-    unlabelled : {A : Type 0} (r : Result A LearnFault) (devices : Devices)
-        → MatchResult r (λ _. (is_full devices it.id ≡ false) × Commits (registry_state new) (learn_update it) devices)
-        (RefusesToLearn (registry_state old) (registry_state new)
-        (record { id = it.id; eep = it.eep; maker = it.maker; label = other.label }) devices)
-        → MatchResult r (λ _. (is_full devices it.id ≡ false) × Commits (registry_state new) (learn_update it) devices)
-        (RefusesToLearn (registry_state old) (registry_state new) it devices)
-    unlabelled (Ok receipt) devices then = then
-    unlabelled (Err Full) devices done = done
-    unlabelled (Err (Failed fault)) devices done = done
 
 -- the connection is returned
 pub hands_on : (s : State) → IsWell s → IsReturnedByClose s

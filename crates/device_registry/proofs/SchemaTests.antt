@@ -21,7 +21,7 @@ use Rattle.device_registry.specs.SchemaChecks.{refers_to, is_referenced, has_for
 use Rattle.device_registry.specs.SchemaChecks.{lacks_sequence_table}
 use Rattle.device_registry.specs.SchemaChecks.{admits_tables, is_alone_in_tree}
 use Rattle.device_registry.specs.SchemaChecks.{migration_adds_no_sequence}
-use Rattle.device_registry.specs.SchemaChecks.{is_unaffected, trees_if_unaffected, tree_of_table, trees_of_tables}
+use Rattle.device_registry.specs.SchemaChecks.{is_unaffected, tree_if_unaffected, tree_of_table, tree_of_devices}
 use Rattle.device_registry.proofs.TablesAlone.{meta_lone, devices_lone, spares_meta, spares_devices}
 use Rattle.sqlite_rules.specs.Lists.{Has}
 use Rattle.sqlite_rules.proofs.ListLemmas.{all_has, all_from}
@@ -218,23 +218,21 @@ module _ (version : Version) (schema : Schema) where
   abbrev name : List ℕ
   name = device_table_name version
 
-  pub found : (meta devices : ℕ) → trees_of_tables version schema ≡ Some (meta, devices)
-      → IsPlaced version schema meta devices
-  found meta devices h =
-      let m = and_then_is _ (tree_of_table schema meta_name) (meta, devices) h in
-      let d = and_then_is (trees_if_unaffected version schema m.0) (tree_of_table schema name) (meta, devices) m.2 in
-      let alone = if_is (is_unaffected version schema m.0 d.0) (m.0, d.0) (meta, devices) d.2 in
-      let x : m.0 ≡ meta = ap (λ (o : ℕ × ℕ). o.0) alone.1 in
-      let y : d.0 ≡ devices = ap (λ (o : ℕ × ℕ). o.1) alone.1 in
+  pub found : (meta devices : ℕ) → tree_of_table schema meta_name ≡ Some meta
+      → tree_of_devices version schema meta ≡ Some devices → IsPlaced version schema meta devices
+  found meta devices m h =
+      let d = and_then_is (tree_if_unaffected version schema meta) (tree_of_table schema name) devices h in
+      let alone = if_is (is_unaffected version schema meta d.0) d.0 devices d.2 in
       record {
-        meta_is = named_at schema meta_name meta (m.1 ∙ ap Some x);
-        devices_are = named_at schema name devices (d.1 ∙ ap Some y);
+        meta_is = named_at schema meta_name meta m;
+        devices_are = named_at schema name devices (d.1 ∙ ap Some alone.1);
         alone = left_alone version schema meta devices
-            (ap (λ (o : ℕ × ℕ). is_unaffected version schema o.0 o.1) (sym alone.1) ∙ alone.0);
+            (ap (is_unaffected version schema meta) (sym alone.1) ∙ alone.0);
       }
 
   -- and at which a registry has them
-  pub placed_tables : (t : HasTables version schema) → trees_of_tables version schema ≡ Some (t.meta, t.devices)
+  pub placed_tables : (t : HasTables version schema)
+      → (tree_of_table schema meta_name ≡ Some t.meta) × (tree_of_devices version schema t.meta ≡ Some t.devices)
   placed_tables t =
       let meta : tree_of_table schema meta_name ≡ Some t.meta = rw (t.meta_stands.named, t.meta_stands.there) in
       let devices : tree_of_table schema name ≡ Some t.devices = rw (t.devices_stand.named, t.devices_stand.there) in
@@ -247,7 +245,5 @@ module _ (version : Version) (schema : Schema) where
       let n = is_alone schema name t.devices two.keeps in
       let counted = so_tested version schema t.counted in
       let alone : is_unaffected version schema t.meta t.devices ≡ true = rw (a, c, d, m, n, t.free, counted) refl in
-      let pair : Bool → Option (ℕ × ℕ) = λ b. if b then Some (t.meta, t.devices) else None in
-      ap (option_and_then (λ m. option_and_then (trees_if_unaffected version schema m)
-      (tree_of_table schema name))) meta
-      ∙ ap (option_and_then (trees_if_unaffected version schema t.meta)) devices ∙ ap pair alone
+      let tree : Bool → Option ℕ = λ b. if b then Some t.devices else None in
+      (meta, ap (option_and_then (tree_if_unaffected version schema t.meta)) devices ∙ ap tree alone)

@@ -19,7 +19,7 @@ use Rattle.device_registry.specs.Stored.{AreTablesListed}
 use Rattle.device_registry.specs.Stored.{AdmitsRegistry, AdmitsTables}
 use Rattle.device_registry.specs.Opening.{IsRegistryIn, IsSettledOpen}
 use Rattle.device_registry.specs.private.CatalogRows.{is_catalog_row, are_our_tables}
-use Rattle.device_registry.specs.SchemaChecks.{admits_tables, trees_of_tables}
+use Rattle.device_registry.specs.SchemaChecks.{admits_tables, tree_of_table, tree_of_devices}
 use Rattle.device_registry.proofs.TableTexts.{meta_is, device_is}
 use Rattle.keyed_table.proofs.ListedTables.{same_schema, defined, stands_in}
 use Rattle.device_registry.proofs.SchemaTests.{IsPlaced, found, is_cleared}
@@ -83,10 +83,10 @@ tables_reported version db meta devices sound placed listed =
 
 -- if the two tables are found and listed, the schema has them
 pub tables_taken : (version : Version) (s : State) (meta devices : ℕ) → IsSettledOpen s
-    → trees_of_tables version s.now.schema ≡ Some (meta, devices) → AreTablesListed version s.now.trees
-    → HasTables version s.now.schema
-tables_taken version s meta devices rest is listed =
-    tables_reported version s.now meta devices rest.sound (found version s.now.schema meta devices is) listed
+    → tree_of_table s.now.schema meta_name ≡ Some meta → tree_of_devices version s.now.schema meta ≡ Some devices
+    → AreTablesListed version s.now.trees → HasTables version s.now.schema
+tables_taken version s meta devices rest named is listed =
+    tables_reported version s.now meta devices rest.sound (found version s.now.schema meta devices named is) listed
 
 -- so a registry as this program leaves it is recognized
 pub own_found : (version : Version) (s : State) → IsSettledOpen s → IsRegistryIn version s.now.trees

@@ -62,14 +62,11 @@ abbrev pub tree_of_table : Schema → (name : List ℕ) → Option ℕ
 tree_of_table schema name =
     option_map (λ table. table.tree) (option_and_then (slice_get schema.tables) (table_named schema name))
 
-abbrev pub trees_if_unaffected : Version → Schema → (meta devices : ℕ) → Option (ℕ × ℕ)
-trees_if_unaffected version schema meta devices =
-    if is_unaffected version schema meta devices then Some (meta, devices) else None
+abbrev pub tree_if_unaffected : Version → Schema → (meta devices : ℕ) → Option ℕ
+tree_if_unaffected version schema meta devices =
+    if is_unaffected version schema meta devices then Some devices else None
 
--- the trees of the two tables of this version, if other objects do not affect them
-abbrev pub trees_of_tables : Version → Schema → Option (ℕ × ℕ)
-trees_of_tables version schema =
-    option_and_then
-    (λ meta. option_and_then (trees_if_unaffected version schema meta)
-    (tree_of_table schema (device_table_name version)))
-    (tree_of_table schema meta_name)
+-- the tree of the device table of this version, if other objects do not affect it, nor the version table in this tree
+abbrev pub tree_of_devices : Version → Schema → (meta : ℕ) → Option ℕ
+tree_of_devices version schema meta =
+    option_and_then (tree_if_unaffected version schema meta) (tree_of_table schema (device_table_name version))

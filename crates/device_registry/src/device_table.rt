@@ -2,12 +2,11 @@
 ghost use Rattle.std.specs.Prelude.{◌≡◌, OnOk, IfOk, IsTrue, Some, None};
 ghost use Rattle.std.specs.FinMap.{get};
 ghost use Rattle.sqlite.specs.State.{HasCleanDisk};
-ghost use Rattle.learned_devices.specs.Devices.{Devices, Learn, Relabel, data_after, device_data, learn_update};
-ghost use Rattle.learned_devices.specs.Devices.{relabel_update};
+ghost use Rattle.learned_devices.specs.Devices.{Devices, Operation, Learn, data_after, device_data, learn_update};
 ghost use Rattle.learned_devices.specs.StoreCalls.{LooksUp, Updates, Forgets, ListsAll};
 ghost use Rattle.device_registry.specs.Holding.{HasDevicesIfOpen, IsReturnedByClose, RewritesVersion, WritesRow};
 ghost use Rattle.device_registry.specs.Holding.{registry_state};
-ghost use Rattle.device_registry.specs.private.TableCalls.{LearnsUnlessFull};
+ghost use Rattle.device_registry.specs.private.TableCalls.{LearnsUnlessFull, MakesKnown};
 ghost use Rattle.device_registry.specs.Ready.{IsReady, AreReady};
 
 use crate::queries::{delete_or_rewrite_if_absent, is_full_for, list_devices, look_up, upsert};
@@ -73,17 +72,17 @@ impl<C: SqlConnection> DeviceTable<C> {
         Ok(true)
     }
 
-    /// Stores the device of a known sender; only its label may be new.
-    pub fn relabel(&mut self, device: Device) -> Result<(), Error>
+    /// Stores the device of a known sender, for whom the registry is never full. Implements any operation that makes
+    /// the device of what is stored.
+    pub fn put_known(&mut self, device: Device) -> Result<(), Error>
         requires ready { HasCleanDisk (C.state self.old) → IsReady (C.state self.old) }
-        requires known { HasCleanDisk (C.state self.old) → (devices : Devices)
-            → HasDevicesIfOpen (C.state self.old) devices →
-            data_after (get devices device.id) (Relabel device.label) ≡ Some (device_data device) }
-        ensures updates { Updates (registry_state (C.state self.old)) (registry_state (C.state self.new))
-            (relabel_update device.id device.label) result }
-        ensures written { HasCleanDisk (C.state self.new) → (devices : Devices) →
-            HasDevicesIfOpen (C.state self.old) devices → OnOk result (WritesRow C.state self.new
-            (relabel_update device.id device.label) devices) }
+        requires known { (operation : Operation) × MakesKnown (C.state self.old) device operation }
+        ensures updates { (operation : Operation) → MakesKnown (C.state self.old) device operation →
+            Updates (registry_state (C.state self.old)) (registry_state (C.state self.new))
+            (record { sender = device.id; operation = operation }) result }
+        ensures written { (operation : Operation) → MakesKnown (C.state self.old) device operation →
+            HasCleanDisk (C.state self.new) → (devices : Devices) → HasDevicesIfOpen (C.state self.old) devices →
+            OnOk result (WritesRow C.state self.new (record { sender = device.id; operation = operation }) devices) }
         ensures ready { HasCleanDisk (C.state self.new) → OnOk result (AreReady (C.state self.old)
             (C.state self.new)) }
     {

@@ -1,18 +1,20 @@
 //! Recognizing a registry and its version.
-ghost use Rattle.std.specs.Prelude.{◌≡◌, [], false, Ok, IsTrue, IfOk, OnErr, MatchOption};
+ghost use Rattle.std.specs.Prelude.{◌≡◌, [], false, Some, Ok, IsTrue, IfOk, OnErr, MatchOption};
 ghost use Rattle.sqlite.specs.State.{HasCleanDisk, Survives, Shown, IsUnchanged};
 ghost use Rattle.sqlite.specs.Given.{IsPlain};
 ghost use Rattle.sqlite.specs.Listing.{understood};
 ghost use Rattle.sqlite.specs.Effect.{IsDatabase};
 ghost use Rattle.device_registry.specs.Stored.{HasTables, HasValidRows, IsRegistry, AreTablesListed};
 ghost use Rattle.device_registry.specs.Opening.{IsSettledOpen, KeepsDatabaseIfOpen, IsRegistryIn};
+ghost use Rattle.device_registry.specs.SchemaChecks.{tree_of_table};
+ghost use Rattle.device_registry.specs.Table.{meta_name};
 
 use crate::catalog::are_our_tables;
-use crate::schema_check::trees_of_tables;
+use crate::schema_check::{tree_of_devices, tree_of_table};
 use crate::sql_connection::SqlConnection;
-use crate::table::Version;
 use crate::table::row_codec::{are_ascending_devices, shows_version};
 use crate::table::statements::{LIST_OBJECTS, READ_VERSION};
+use crate::table::{META, Version};
 use learned_devices::MAX_DEVICES;
 use sqlite::{Error, Row};
 
@@ -71,9 +73,11 @@ fn has_valid_rows<C: SqlConnection>(conn: &mut C, version: Version) -> Result<bo
     Ok(are_ascending_devices(&devices))
 }
 
-/// Whether the database is a registry of this version that can be accepted.
-fn is_registry<C: SqlConnection>(conn: &mut C, version: Version) -> Result<bool, Error>
-    requires { HasCleanDisk (C.state conn.old) → IsSettledOpen (C.state conn.old) }
+/// Whether the database, with the version table in this tree, is a registry of this version that can be accepted.
+fn is_registry<C: SqlConnection>(conn: &mut C, version: Version, meta: u32) -> Result<bool, Error>
+    requires rest { HasCleanDisk (C.state conn.old) → IsSettledOpen (C.state conn.old) }
+    requires meta { HasCleanDisk (C.state conn.old) →
+        tree_of_table (C.state conn.old).now.schema meta_name ≡ Some meta }
     ensures ours { HasCleanDisk (C.state conn.new) → IfOk result (λ yes. IsUnchanged (C.state conn.old)
         (C.state conn.new) × (IsTrue yes → IsRegistry version (C.state conn.old).now)) }
     ensures other { HasCleanDisk (C.state conn.new) → result ≡ Ok false → ¬ IsRegistryIn version
@@ -83,7 +87,7 @@ fn is_registry<C: SqlConnection>(conn: &mut C, version: Version) -> Result<bool,
     ensures remains { HasCleanDisk (C.state conn.new) → OnErr result (KeepsDatabaseIfOpen (C.state conn.old)
         (C.state conn.new)) }
 {
-    let Some((_meta, _devices)) = trees_of_tables(conn.schema(), version) else {
+    let Some(_devices) = tree_of_devices(conn.schema(), version, meta) else {
         return Ok(false);
     };
     if !lists_our_tables(conn, version)? {
@@ -103,10 +107,13 @@ pub fn version_of<C: SqlConnection>(conn: &mut C) -> Result<Option<Version>, Err
     ensures remains { HasCleanDisk (C.state conn.new) → OnErr result (KeepsDatabaseIfOpen (C.state conn.old)
         (C.state conn.new)) }
 {
-    if is_registry(conn, Version::First)? {
+    let Some(meta) = tree_of_table(conn.schema(), META) else {
+        return Ok(None);
+    };
+    if is_registry(conn, Version::First, meta)? {
         return Ok(Some(Version::First));
     }
-    if is_registry(conn, Version::Second)? {
+    if is_registry(conn, Version::Second, meta)? {
         return Ok(Some(Version::Second));
     }
     Ok(None)

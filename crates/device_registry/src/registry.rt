@@ -1,14 +1,15 @@
 //! The registry: the device table with a cache.
-ghost use Rattle.std.specs.Prelude.{◌≡◌, [], true, false, Some, None, option_map, IfOk, IsTrue, OnOk};
+ghost use Rattle.std.specs.Prelude.{◌≡◌, [], true, false, Some, None, IfOk, IsTrue, OnOk};
 ghost use Rattle.std.specs.FinMap.{get};
 ghost use Rattle.sqlite.specs.State.{HasCleanDisk};
 ghost use Rattle.learned_devices.specs.Labels.{is_label};
-ghost use Rattle.learned_devices.specs.Devices.{Devices, Learn, Relabel, data_after, kept_label, device_data};
+ghost use Rattle.learned_devices.specs.Devices.{Devices, Operation, Learn, data_after, device_data};
 ghost use Rattle.learned_devices.specs.Devices.{learn_update, relabel_update};
 ghost use Rattle.learned_devices.specs.StoreCalls.{LooksUp, Updates, Learns, Forgets, Relabels, ListsAll};
 ghost use Rattle.device_registry.specs.Holding.{HasDevicesIfOpen, IsReturnedByClose, RewritesVersion, WritesRow};
 ghost use Rattle.device_registry.specs.Holding.{registry_state};
 ghost use Rattle.device_registry.specs.Ready.{IsReady, AreReady};
+ghost use Rattle.device_registry.specs.private.TableCalls.{MakesKnown};
 
 use crate::cache::{Cache, cache_entry, copied, drop_entry, look_up_cached};
 use crate::device_table::DeviceTable;
@@ -46,42 +47,6 @@ impl<C: SqlConnection> Model for RegistryOver<C> {
         × CacheAgreesIfClean (C.state registry.table) registry.cache.entries };
 }
 
-// The device, with the label of `known`, if the sender is known.
-fn with_kept_label(device: Device, known: Option<Device>) -> Device
-    ensures { (result.id ≡ device.id) × (device_data result ≡ record {
-      eep = device.eep;
-      maker = device.maker;
-      label = kept_label (option_map device_data known);
-    }) }
-{
-    let label = match known {
-        Some(known) => known.label,
-        None => Label::empty(),
-    };
-    Device {
-        id: device.id,
-        eep: device.eep,
-        maker: device.maker,
-        label,
-    }
-}
-
-// The device of a known sender, with this label in place of its own.
-fn with_label(id: u32, known: Device, label: Label) -> Device
-    ensures { (result.id ≡ id) × (device_data result ≡ record {
-      eep = known.eep;
-      maker = known.maker;
-      label = label;
-    }) }
-{
-    Device {
-        id,
-        eep: known.eep,
-        maker: known.maker,
-        label,
-    }
-}
-
 impl<C: SqlConnection> RegistryOver<C> {
     // The device of a sender, if it is learned. `Ok` also means that the connection is open.
     fn known(&mut self, id: u32) -> Result<Option<Device>, StoreFault>
@@ -112,7 +77,7 @@ impl<C: SqlConnection> RegistryOver<C> {
         self.known(id)
     }
 
-    // Learns a device with the label that its sender keeps.
+    // Learns a device of an unknown sender, with the empty label, unless 1,000 others are learned.
     fn store_learned(&mut self, device: Device) -> Result<(), LearnFault>
         requires { HasCleanDisk (C.state self.old) → (devices : Devices) → HasDevicesIfOpen (C.state self.old) devices →
             data_after (get devices device.id) (Learn device.eep device.maker) ≡ Some (device_data device) }
@@ -137,7 +102,34 @@ impl<C: SqlConnection> RegistryOver<C> {
         }
     }
 
-    // Stores a device. A known sender keeps its label; an unknown one gets the empty label, which the device has here.
+    // Stores a device of a known sender, by any operation that makes the device of what is stored.
+    fn store_known(&mut self, device: Device) -> Result<(), StoreFault>
+        requires ready { HasCleanDisk (C.state self.old) → IsReady (C.state self.old) }
+        requires known { (operation : Operation) × MakesKnown (C.state self.old) device operation }
+        ensures updates { (operation : Operation) → MakesKnown (C.state self.old) device operation →
+            Updates (registry_state (C.state self.old)) (registry_state (C.state self.new))
+            (record { sender = device.id; operation = operation }) result }
+        ensures written { (operation : Operation) → MakesKnown (C.state self.old) device operation →
+            HasCleanDisk (C.state self.new) → (devices : Devices) → HasDevicesIfOpen (C.state self.old) devices →
+            OnOk result (WritesRow C.state self.new (record { sender = device.id; operation = operation }) devices) }
+    {
+        let id = device.id;
+        let stored = device.copied();
+        drop_entry(&mut self.cache, id);
+        match self.table.put_known(device) {
+            Ok(()) => {
+                cache_entry(&mut self.cache, id, Some(stored));
+                Ok(())
+            }
+            Err(error) => {
+                self.cache.clear();
+                Err(store_fault_of(error))
+            }
+        }
+    }
+
+    // Stores a device. A known sender keeps its label, and its row is written without a count of the others; an unknown
+    // one gets the empty label, which the device has here.
     pub(crate) fn put_keeping_label(&mut self, device: Device) -> Result<(), LearnFault>
         requires { device.label ≡ [] }
         ensures learns { Learns (registry_state (C.state self.old)) (registry_state (C.state self.new)) device result }
@@ -145,8 +137,16 @@ impl<C: SqlConnection> RegistryOver<C> {
             HasDevicesIfOpen (C.state self.old) devices → OnOk result
             (WritesRow C.state self.new (learn_update device) devices) }
     {
-        let known = self.known(device.id)?;
-        self.store_learned(with_kept_label(device, known))
+        match self.known(device.id)? {
+            Some(known) => {
+                self.store_known(Device {
+                    label: known.label,
+                    ..device
+                })?;
+                Ok(())
+            }
+            None => self.store_learned(device),
+        }
     }
 
     /// Learns a device, in place of what was stored for its sender. A known sender keeps its label; an unknown one gets
@@ -163,33 +163,6 @@ impl<C: SqlConnection> RegistryOver<C> {
         DeviceStore::learn(self, device)
     }
 
-    // Stores a device of a known sender, with a new label.
-    fn relabel_known(&mut self, device: Device) -> Result<(), StoreFault>
-        requires ready { HasCleanDisk (C.state self.old) → IsReady (C.state self.old) }
-        requires known { HasCleanDisk (C.state self.old) → (devices : Devices)
-            → HasDevicesIfOpen (C.state self.old) devices
-            → data_after (get devices device.id) (Relabel device.label) ≡ Some (device_data device) }
-        ensures updates { Updates (registry_state (C.state self.old)) (registry_state (C.state self.new))
-            (relabel_update device.id device.label) result }
-        ensures written { HasCleanDisk (C.state self.new) → (devices : Devices) →
-            HasDevicesIfOpen (C.state self.old) devices → OnOk result (WritesRow C.state self.new
-            (relabel_update device.id device.label) devices) }
-    {
-        let id = device.id;
-        let labelled = device.copied();
-        drop_entry(&mut self.cache, id);
-        match self.table.relabel(device) {
-            Ok(()) => {
-                cache_entry(&mut self.cache, id, Some(labelled));
-                Ok(())
-            }
-            Err(error) => {
-                self.cache.clear();
-                Err(store_fault_of(error))
-            }
-        }
-    }
-
     // Gives a sender this label if it is learned, and returns whether it is.
     pub(crate) fn relabel_as(&mut self, id: u32, label: Label) -> Result<bool, StoreFault>
         ensures relabels { Relabels (registry_state (C.state self.old)) (registry_state (C.state self.new)) id label
@@ -201,7 +174,7 @@ impl<C: SqlConnection> RegistryOver<C> {
     {
         match self.known(id)? {
             Some(known) => {
-                self.relabel_known(with_label(id, known, label))?;
+                self.store_known(Device { id, label, ..known })?;
                 Ok(true)
             }
             None => Ok(false),

@@ -6,7 +6,7 @@ ghost use Rattle.sqlite_catalog.specs.Change.{is_used};
 ghost use Rattle.device_registry.specs.SchemaChecks.{refers_to, is_referenced, has_foreign_key_to_ours, is_indexed};
 ghost use Rattle.device_registry.specs.SchemaChecks.{lacks_sequence_table, admits_tables};
 ghost use Rattle.device_registry.specs.SchemaChecks.{migration_adds_no_sequence};
-ghost use Rattle.device_registry.specs.SchemaChecks.{is_alone_in_tree, is_unaffected, tree_of_table, trees_of_tables};
+ghost use Rattle.device_registry.specs.SchemaChecks.{is_alone_in_tree, is_unaffected, tree_of_table, tree_of_devices};
 
 use crate::table::{META, Version};
 use sqlite_schema::names::same_name;
@@ -119,7 +119,8 @@ fn is_unaffected(schema: &Schema, version: Version, meta: u32, devices: u32) -> 
         && migration_adds_no_sequence(schema, version)
 }
 
-fn tree_of_table(schema: &Schema, name: &[u8]) -> Option<u32>
+/// The tree of the table with this name.
+pub fn tree_of_table(schema: &Schema, name: &[u8]) -> Option<u32>
     ensures { result ≡ tree_of_table schema.now name.now }
 {
     let at = schema.table_named(name)?;
@@ -127,14 +128,13 @@ fn tree_of_table(schema: &Schema, name: &[u8]) -> Option<u32>
     Some(table.tree)
 }
 
-/// The trees of the two tables of this version, if other objects do not affect them.
-pub fn trees_of_tables(schema: &Schema, version: Version) -> Option<(u32, u32)>
-    ensures { result ≡ trees_of_tables version schema.now }
+/// The tree of the device table of this version, if other objects do not affect it, nor the version table in this tree.
+pub fn tree_of_devices(schema: &Schema, version: Version, meta: u32) -> Option<u32>
+    ensures { result ≡ tree_of_devices version schema.now meta }
 {
-    let meta = tree_of_table(schema, META)?;
     let devices = tree_of_table(schema, version.device_table_name())?;
     if is_unaffected(schema, version, meta, devices) {
-        Some((meta, devices))
+        Some(devices)
     } else {
         None
     }

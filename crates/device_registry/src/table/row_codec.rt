@@ -39,7 +39,10 @@ fn read_maker(row: &Row, at: usize) -> Option<Option<u16>>
 {
     match row.get_ref(at) {
         Ok(ValueRef::Int(found)) if found == NO_MAKER => Some(None),
-        _ => Some(Some(number_in(row, at, MAX_MAKER)? as u16)),
+        Ok(ValueRef::Int(found)) if 0 <= found && found <= i64::from(MAX_MAKER) => {
+            Some(Some(found as u16))
+        }
+        _ => None,
     }
 }
 

@@ -1,7 +1,7 @@
-use Rattle.std.proofs.Common.{rules, arith, ◌≡◌, sym, Some, IsTrue, subst}
+use Rattle.std.proofs.Common.{rules, arith, ◌≡◌, ◌∙◌, ℕ, sym, Option, Some, option_and_then, IsTrue, subst}
 use Rattle.sqlite.specs.State.{HasCleanDisk}
 use Rattle.sqlite.specs.Effect.{Database}
-use Rattle.device_registry.specs.SchemaChecks.{trees_of_tables}
+use Rattle.device_registry.specs.SchemaChecks.{tree_of_devices}
 use Rattle.device_registry.specs.Stored.{HasTables}
 use Rattle.device_registry.proofs.SchemaTests.{placed_tables}
 use Rattle.device_registry.proofs.TablesRecognized.{tables_taken, own_found}
@@ -11,16 +11,19 @@ use Rattle.device_registry.proofs.recognize.is_registry.Goals as goal
 pub returns-in_default-clause-other : goal.returns-in_default-clause-other
 returns-in_default-clause-other g c clean none own =
     let old = g.C.SqlConnection.state c.args.conn.now in
-    let it = own_found c.args.version old (c.requires clean) own in
-    let is : trees_of_tables c.args.version old.now.schema ≡ Some (it.tables.meta, it.tables.devices) =
-    placed_tables c.args.version old.now.schema it.tables in
+    let it = own_found c.args.version old (c.requires.rest clean) own in
+    let placed = placed_tables c.args.version old.now.schema it.tables in
+    let same : ◌≡◌ {A = Option ℕ} (Some c.args.meta) (Some it.tables.meta) = sym (c.requires.meta clean) ∙ placed.0 in
+    let is : tree_of_devices c.args.version old.now.schema c.args.meta ≡ Some it.tables.devices =
+    subst (λ o. option_and_then (tree_of_devices c.args.version old.now.schema) o ≡ Some it.tables.devices) (sym same)
+    placed.1 in
     absurd (search rules)
 
 pub returns-then-not-branch-clause-other : goal.returns-then-not-branch-clause-other
 returns-then-not-branch-clause-other g c clean none own =
     let old = g.C.SqlConnection.state c.args.conn.now in
     let early : HasCleanDisk old = omega (arith, clean, c.lists_our_tables.ensures.crash.clean) in
-    let rest = c.requires early in
+    let rest = c.requires.rest early in
     let it = own_found c.args.version old rest own in
     absurd (c.lists_our_tables.ensures.other clean (search rules) it.listed)
 
@@ -30,10 +33,10 @@ has_valid_rows-requires g c clean =
     let early : HasCleanDisk old = omega (arith, clean, c.lists_our_tables.ensures.crash.clean) in
     let got = c.in_ok-lists_our_tables.ensures.ours clean in
     let yes : IsTrue c.in_ok-lists_our_tables.field-0 = search rules in
-    let is : trees_of_tables c.args.version old.now.schema ≡ Some
-    (c.in-Some._meta, c.in-Some._devices) = search rules in
+    let is : tree_of_devices c.args.version old.now.schema c.args.meta ≡ Some c.in-Some._devices = search rules in
     subst (λ (db : Database). HasTables c.args.version db.schema) (sym got.0.0.now_is)
-    (tables_taken c.args.version old c.in-Some._meta c.in-Some._devices (c.requires early) is (got.1 yes))
+    (tables_taken c.args.version old c.args.meta c.in-Some._devices (c.requires.rest early) (c.requires.meta early) is
+    (got.1 yes))
 
 pub returns-clause-ours : goal.returns-clause-ours
 returns-clause-ours g c clean =
@@ -43,10 +46,10 @@ returns-clause-ours g c clean =
     let early : HasCleanDisk old = omega (arith, between, c.lists_our_tables.ensures.crash.clean) in
     let got = c.in_ok-lists_our_tables.ensures.ours between in
     let yes : IsTrue c.in_ok-lists_our_tables.field-0 = search rules in
-    let is : trees_of_tables c.args.version old.now.schema ≡ Some
-    (c.in-Some._meta, c.in-Some._devices) = search rules in
+    let is : tree_of_devices c.args.version old.now.schema c.args.meta ≡ Some c.in-Some._devices = search rules in
     taken_if c.args.version c.has_valid_rows.result old mid (g.C.SqlConnection.state c.has_valid_rows.new.conn) got.0
-    (tables_taken c.args.version old c.in-Some._meta c.in-Some._devices (c.requires early) is (got.1 yes)) (got.1 yes)
+    (tables_taken c.args.version old c.args.meta c.in-Some._devices (c.requires.rest early) (c.requires.meta early) is
+    (got.1 yes)) (got.1 yes)
     (c.has_valid_rows.ensures.whole clean)
 
 pub returns-clause-other : goal.returns-clause-other
@@ -56,5 +59,5 @@ returns-clause-other g c clean none own =
     let between : HasCleanDisk mid = omega (arith, clean, c.has_valid_rows.ensures.crash.clean) in
     let early : HasCleanDisk old = omega (arith, between, c.lists_our_tables.ensures.crash.clean) in
     let got = c.in_ok-lists_our_tables.ensures.ours between in
-    let it = own_found c.args.version old (c.requires early) own in
+    let it = own_found c.args.version old (c.requires.rest early) own in
     not_whole c.args.version old mid got.0 (c.has_valid_rows.ensures.other clean none) it.tables it.whole
