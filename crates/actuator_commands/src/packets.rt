@@ -10,7 +10,8 @@ ghost use Rattle.actuator_commands.specs.Packets.{payload_for};
 ghost use Rattle.actuator_commands.specs.Packets.{query_payload, sends, telegram_for, four_bs_to_all, telegram_to_one};
 
 use crate::orders::{Order, OrderFault, Quantity};
-use erp1_telegrams::{BROADCAST, Eep, Telegram, rorg};
+use arrayvec::ArrayVec;
+use erp1_telegrams::{BROADCAST, Contents, Eep, Telegram, rorg};
 use learned_devices::Device;
 
 // The actuators of orders to one device.
@@ -57,10 +58,9 @@ fn to_one(id: u32, payload: &[u8], base: u32) -> Telegram
     requires { IsTrue (payload_length_fits 0xD2 (length payload.now)) }
     ensures { Ok result ≡ telegram_to_one base id (Some payload.now) }
 {
-    match Telegram::new(rorg::VLD, payload, base, 0, id, None) {
-        Ok(telegram) => telegram,
-        Err(_) => unreachable!(),
-    }
+    let mut bytes = ArrayVec::<u8, 14>::new();
+    let _fits = bytes.try_extend_from_slice(payload);
+    Telegram::with_contents(Contents::Vld(bytes), base, 0, id, None)
 }
 
 // A query for a channel, of a switch or of a blind.
@@ -103,10 +103,8 @@ fn to_all(offset: u32, payload: [u8; 4], base: u32) -> Result<Telegram, OrderFau
     if sender == BROADCAST {
         return Err(OrderFault::Range);
     }
-    match Telegram::new(rorg::FOUR_BS, &payload, sender, 0, BROADCAST, None) {
-        Ok(telegram) => Ok(telegram),
-        Err(_) => unreachable!(),
-    }
+    let contents = Contents::FourBs(payload);
+    Ok(Telegram::with_contents(contents, sender, 0, BROADCAST, None))
 }
 
 /// The telegram of an order for which `Order::sends` returns true. `device` is the order's device, if it is learned

@@ -1,2 +1,3 @@
 pub mod Telegram
+pub mod Contents
 pub mod Address

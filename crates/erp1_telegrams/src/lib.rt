@@ -3,6 +3,7 @@
 #![tactic(auto)]
 
 mod address;
+mod contents;
 mod eep;
 pub mod laws;
 pub mod lrn_bit;
@@ -11,6 +12,7 @@ mod serial;
 mod telegram;
 
 pub use address::{FilterReason, filter_reason, is_base_id, is_gateway_id};
+pub use contents::Contents;
 pub use eep::Eep;
 pub use serial::{read, write};
 pub use telegram::{BROADCAST, Telegram, TelegramFault};

@@ -1,9 +1,10 @@
 //! Telegrams, received or to be sent.
-ghost use Rattle.std.specs.Prelude.{◌≡◌, ◌≢◌, ◌↔◌, length, true, false, IsTrue, IfOk, Err, if◌then◌else◌, Some, None};
+ghost use Rattle.std.specs.Prelude.{◌≡◌, ◌≢◌, ◌↔◌, length, true, false, IsTrue, IfOk, Err};
 ghost use Rattle.erp1_telegrams.specs.Telegram.{payload_length_fits, is_decoded_rorg};
+ghost use Rattle.erp1_telegrams.specs.Contents.{rorg_in, payload_in, FitsRorg};
 
+use crate::contents::Contents;
 use crate::rorg;
-use arrayvec::ArrayVec;
 use std::marker::Model;
 use thiserror::Error;
 
@@ -28,8 +29,7 @@ pub enum TelegramFault {
 /// it is the record `Telegram` of `specs/Telegram.antt`.
 #[derive(Clone, Debug, Drop)]
 pub struct Telegram {
-    rorg: u8,
-    payload: ArrayVec<u8, 14>,
+    contents: Contents,
     sender: u32,
     status: u8,
     dest: u32,
@@ -37,22 +37,21 @@ pub struct Telegram {
 }
 
 impl Model for Telegram {
-    ghost use Rattle.std.specs.Prelude.{IsTrue};
-    ghost use Rattle.arrayvec.specs.ArrayVec.{array_vec_len};
-    ghost use Rattle.erp1_telegrams.specs.Telegram.{Telegram as Said, payload_length_fits};
+    ghost use Rattle.erp1_telegrams.specs.Telegram.{Telegram as Said};
+    ghost use Rattle.erp1_telegrams.specs.Contents.{rorg_in, payload_in, FitsRorg};
 
     ghost Value = { Said };
 
     ghost view = { λ t. record {
-      rorg = t.rorg;
-      payload = t.payload.items;
+      rorg = rorg_in t.contents;
+      payload = payload_in t.contents;
       sender = t.sender;
       status = t.status;
       dest = t.dest;
       dbm = t.dbm;
     } };
 
-    ghost invariant = { λ t. IsTrue (payload_length_fits t.rorg (array_vec_len t.payload)) };
+    ghost invariant = { λ t. FitsRorg t.contents };
 }
 
 impl Telegram {
@@ -80,29 +79,52 @@ impl Telegram {
             ↔ ((is_decoded_rorg rorg ≡ true) × (payload_length_fits rorg (length payload.now) ≡ false)) }
         ensures no_other { result ≢ Err TelegramFault.NotRadio }
     {
-        match payload_length_fits(rorg, payload.len()) {
-            None => return Err(TelegramFault::OtherKind),
-            Some(false) => return Err(TelegramFault::BadLength),
-            Some(true) => {}
-        }
-        let Ok(payload) = ArrayVec::try_from(payload) else {
-            return Err(TelegramFault::BadLength);
-        };
-        Ok(Telegram {
-            rorg,
-            payload,
+        let contents = Contents::new(rorg, payload)?;
+        Ok(Telegram::with_contents(contents, sender, status, dest, dbm))
+    }
+
+    /// A telegram with these contents and these parts, to be sent: as `new` makes it, but without an error. A payload
+    /// of VLD has at least one byte (ISO/IEC 14543-3-10, "RORG").
+    pub fn with_contents(
+        contents: Contents,
+        sender: u32,
+        status: u8,
+        dest: u32,
+        dbm: Option<u8>,
+    ) -> Telegram
+        requires { FitsRorg contents }
+        ensures { result ≡ record {
+          rorg = rorg_in contents;
+          payload = payload_in contents;
+          sender = sender;
+          status = status;
+          dest = dest;
+          dbm = dbm;
+        } }
+    {
+        Telegram {
+            contents,
             sender,
             status,
             dest,
             dbm,
-        })
+        }
+    }
+
+    /// The RORG and the payload together, by which a caller decides at once on both (ISO/IEC 14543-3-10, "RORG").
+    pub fn contents(&self) -> &Contents
+        ensures rorg { rorg_in result.now ≡ self.now.rorg }
+        ensures payload { payload_in result.now ≡ self.now.payload }
+        ensures fits { FitsRorg result.now }
+    {
+        &self.contents
     }
 
     /// The RORG: F6 is RPS, D5 1BS, A5 4BS, D2 VLD and D4 UTE (ISO/IEC 14543-3-10, "RORG").
     pub fn rorg(&self) -> u8
         ensures { result ≡ self.now.rorg }
     {
-        self.rorg
+        self.contents.rorg()
     }
 
     /// The payload: 1 byte for RPS and 1BS, 4 bytes for 4BS, 1 to 14 bytes for VLD, and 7 bytes for UTE.
@@ -110,7 +132,7 @@ impl Telegram {
         ensures value { result.now ≡ self.now.payload }
         ensures length_fits { IsTrue (payload_length_fits self.now.rorg (length self.now.payload)) }
     {
-        &self.payload
+        self.contents.payload()
     }
 
     /// The ID of the device that sent it.
@@ -147,18 +169,8 @@ impl Telegram {
 pub(crate) fn is_decoded_rorg(rorg: u8) -> bool
     ensures { result ≡ is_decoded_rorg rorg }
 {
-    payload_length_fits(rorg, 0).is_some()
-}
-
-// Whether a payload of this RORG may have this many bytes. `None` if telegrams with this RORG are not read.
-fn payload_length_fits(rorg: u8, len: usize) -> Option<bool>
-    ensures { result ≡ (if is_decoded_rorg rorg then Some (payload_length_fits rorg len) else None) }
-{
-    match rorg {
-        rorg::RPS | rorg::ONE_BS => Some(len == 1),
-        rorg::FOUR_BS => Some(len == 4),
-        rorg::VLD => Some(1 <= len && len <= 14),
-        rorg::UTE => Some(len == 7),
-        _ => None,
-    }
+    matches!(
+        rorg,
+        rorg::RPS | rorg::ONE_BS | rorg::FOUR_BS | rorg::VLD | rorg::UTE
+    )
 }

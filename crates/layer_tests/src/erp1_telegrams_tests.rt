@@ -1,7 +1,7 @@
 //! Telegrams with known packets, each fault, the capacity that a packet needs, and the IDs of a gateway.
 use arrayvec::ArrayVec;
 use erp1_telegrams::{
-    BROADCAST, Eep, FilterReason, Telegram, TelegramFault, filter_reason, is_base_id,
+    BROADCAST, Contents, Eep, FilterReason, Telegram, TelegramFault, filter_reason, is_base_id,
     is_gateway_id, read, write,
 };
 use esp3_frames::{PacketFault, PacketRef, read_packet};
@@ -72,6 +72,25 @@ fn contact_telegrams(rt: HostRuntime) -> Result<(), Fail> {
         let wanted = (0xD5, payload, 0x0180_0ABC, 0, case.dest, case.dbm);
         assert_eq!(rt; parts(&telegram), wanted, "row {row}");
     }
+    Ok(())
+}
+
+// The contents of a contact's telegram, and the telegram made of them.
+#[test]
+fn contents_of_a_contact(rt: HostRuntime) -> Result<(), Fail> {
+    let packet = read_packet(&CONTACT).ok_or("no packet")?;
+    let telegram = read(&packet)?;
+    let byte = match telegram.contents() {
+        Contents::OneBs([byte]) => Some(*byte),
+        _ => None,
+    };
+    assert_eq!(rt; byte, Some(0x09));
+    let contents = Contents::OneBs([0x09]);
+    let made = Telegram::with_contents(contents, 0x0180_0ABC, 0, BROADCAST, Some(0x2D));
+    assert_eq!(rt; parts(&made), parts(&telegram));
+    let mut out = ArrayVec::<u8, 64>::new();
+    write(&made, &mut out)?;
+    assert_eq!(rt; out.as_slice(), CONTACT_SENT.as_slice());
     Ok(())
 }
 

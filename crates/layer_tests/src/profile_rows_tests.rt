@@ -1,15 +1,12 @@
-//! A number for each kind of row, with its meaning; which profiles an arm reads; and the data of telegrams.
+//! A number for each kind of row, with its meaning; the rows whose conditions hold; and which profiles an arm reads.
 use crate::readings::Wanted::{OutOfRange, Raw, Value, Word};
-use crate::readings::{is_said, telegram};
-use erp1_telegrams::{BROADCAST, Eep, Telegram};
+use crate::readings::is_said;
+use erp1_telegrams::Eep;
 use profile_rows::profile::is_one_of;
 use profile_rows::rows::{
     number, over, over_power, percent_or_word_127, range, reserved, threshold, words,
 };
-use profile_rows::{
-    Reading, Readings, Unreadable, What, checked_data_payload, read_rows, unchecked_payload,
-};
-use std::test::Fail;
+use profile_rows::{Reading, Readings, What, read_rows};
 
 #[test]
 fn numbers(rt: HostRuntime) {
@@ -83,47 +80,4 @@ fn two_types(rt: HostRuntime) {
             "{func} {typ}"
         );
     }
-}
-
-#[test]
-fn payloads(rt: HostRuntime) -> Result<(), Fail> {
-    // each telegram, and its payload for a profile of 4BS
-    let cases: [(u8, &[u8], Result<&[u8; 4], Unreadable>); 4] = [
-        (
-            0xA5,
-            &[0x00, 0x00, 0x80, 0x0F],
-            Ok(&[0x00, 0x00, 0x80, 0x0F]),
-        ),
-        (
-            0xA5,
-            &[0x08, 0x28, 0x46, 0x80],
-            Err(Unreadable::OtherMessage),
-        ),
-        (0xD2, &[0x00, 0x00, 0x80, 0x0F], Err(Unreadable::WrongKind)),
-        (0xD5, &[0x09], Err(Unreadable::WrongKind)),
-    ];
-    for (rorg, payload, wanted) in cases {
-        let telegram = telegram(rorg, payload, 0x00)?;
-        assert_eq!(rt; checked_data_payload(0xA5, &telegram), wanted, "{rorg}");
-    }
-    Ok(())
-}
-
-#[test]
-fn data_payloads(rt: HostRuntime) -> Result<(), Fail> {
-    let telegram = Telegram::new(
-        0xA5,
-        &[0x00, 0x00, 0x80, 0x0F],
-        0x0180_0ABC,
-        0,
-        BROADCAST,
-        None,
-    )?;
-    assert_eq!(rt;
-        unchecked_payload(0xA5, &telegram),
-        Ok(&[0x00, 0x00, 0x80, 0x0F])
-    );
-    let other: Result<&[u8; 4], Unreadable> = unchecked_payload(0xD2, &telegram);
-    assert_eq!(rt; other, Err(Unreadable::WrongKind));
-    Ok(())
 }

@@ -61,7 +61,7 @@ impl Crate {
     }
 }
 
-pub(crate) fn telegram(rorg: u8, payload: &[u8], status: u8) -> Result<Telegram, Fail> {
+fn telegram(rorg: u8, payload: &[u8], status: u8) -> Result<Telegram, Fail> {
     Ok(Telegram::new(rorg, payload, 0x0180_0ABC, status, BROADCAST, None)?)
 }
 

@@ -47,7 +47,7 @@ macro_rules! read_rows {
 ///
 /// ```text
 /// read_profiles! { readings, eep, bytes, 1;
-///     (0xD5, 0x00, [0x01]) => { "CO" (7, 1) [(4, 1) = 1] words(&[(0, "open"), (1, "closed")]); }
+///     (0xD5, 0x00, [0x01]) => { "CO" (7, 1) [] words(&[(0, "open"), (1, "closed")]); }
 /// }
 /// ```
 #[macro_export]

@@ -1,6 +1,6 @@
 //! The 4BS profiles, and decoding telegrams by them.
 
-ghost use Rattle.std.specs.Prelude.{◌≡◌, ℕ, List, true, option_map, Result, Ok, Err, OnErr, MatchResult};
+ghost use Rattle.std.specs.Prelude.{◌≡◌, true, option_map, Ok, Err, OnErr};
 ghost use Rattle.std.specs.Bool.{OnFalse};
 ghost use Rattle.profile_rows.specs.ReadResult.{read_result, entries_if};
 ghost use Rattle.profile_rows.specs.Payload.{is_data, readings_by};
@@ -11,8 +11,9 @@ use crate::{
     gas, humidity, light, light_temperature_occupancy, meter, occupancy, room_operating_panel,
     temperature,
 };
-use erp1_telegrams::{Eep, Telegram};
-use profile_rows::{Readings, Unreadable, checked_data_payload, unchecked_payload};
+use bit_fields::get;
+use erp1_telegrams::{Contents, Eep, Telegram, lrn_bit, rorg};
+use profile_rows::{Readings, Unreadable};
 
 /// Sets `readings` to what the rows of a profile read in a payload, and returns whether the profile has rows. Each
 /// function has the profiles of one FUNC.
@@ -43,34 +44,46 @@ pub fn supports(eep: Eep) -> bool
     read_if_supported(eep, &[0; 4], &mut Readings::new())
 }
 
-// Decodes a payload, or the reason why there is none, by a profile.
-fn read_payload(
-    eep: Eep,
-    payload: Result<&[u8; 4], Unreadable>,
-    readings: &mut Readings,
-) -> Result<(), Unreadable>
-    ensures exact { (said : Result (List ℕ) Unreadable) →
-        MatchResult payload.entry (λ bytes. said ≡ Ok bytes.now) (λ refusal. said ≡ Err refusal) →
-        read_result result readings.new.items ≡ readings_by entries_of (rows_of eep) said }
+// Decodes the payload of a data telegram by a profile.
+fn read_bytes(eep: Eep, bytes: &[u8; 4], readings: &mut Readings) -> Result<(), Unreadable>
+    ensures exact { read_result result readings.new.items ≡ readings_by entries_of (rows_of eep) (Ok bytes.now) }
     ensures err { OnErr result (readings.new ≡ readings.old) }
 {
-    match payload {
-        Ok(bytes) if read_if_supported(eep, bytes, readings) => Ok(()),
-        Err(refusal) if supports(eep) => Err(refusal),
-        _ => Err(Unreadable::NotSupported),
+    if read_if_supported(eep, bytes, readings) {
+        Ok(())
+    } else {
+        Err(Unreadable::NotSupported)
+    }
+}
+
+// The error for a telegram that the profile cannot read for this reason.
+fn refusal_of(eep: Eep, reason: Unreadable) -> Unreadable
+    ensures { Err result ≡ readings_by entries_of (rows_of eep) (Err reason) }
+{
+    if supports(eep) {
+        reason
+    } else {
+        Unreadable::NotSupported
     }
 }
 
 /// Decodes a telegram by a profile: sets `readings` to its readings, in the order of the profile's rows (EnOcean
 /// Equipment Profiles 2.6). On an error `readings` does not change. The first error that applies is returned, in this
 /// order: `NotSupported` if the profile is not supported, `WrongKind` if the telegram does not have the RORG of the
-/// profile, `WrongLength` if the payload does not have four bytes, and `OtherMessage` if the telegram is a 4BS
-/// teach-in.
+/// profile, and `OtherMessage` if the telegram is a 4BS teach-in.
 pub fn read(eep: Eep, telegram: &Telegram, readings: &mut Readings) -> Result<(), Unreadable>
     ensures exact { read_result result readings.new.items ≡ readings_of eep telegram.now }
     ensures err { OnErr result (readings.new ≡ readings.old) }
 {
-    read_payload(eep, checked_data_payload(eep.rorg, telegram), readings)
+    match (eep.rorg, telegram.contents()) {
+        (rorg::FOUR_BS, Contents::FourBs(bytes)) => {
+            match get::<4, { lrn_bit::FOUR_BS_OFFSET }, 1>(bytes) {
+                1 => read_bytes(eep, bytes, readings),
+                _ => Err(refusal_of(eep, Unreadable::OtherMessage)),
+            }
+        }
+        _ => Err(refusal_of(eep, Unreadable::WrongKind)),
+    }
 }
 
 /// The same for a telegram that is known to be data, whose LRN bit is not read again.
@@ -79,5 +92,8 @@ pub fn read_data(eep: Eep, telegram: &Telegram, readings: &mut Readings) -> Resu
     ensures exact { read_result result readings.new.items ≡ readings_of eep telegram.now }
     ensures err { OnErr result (readings.new ≡ readings.old) }
 {
-    read_payload(eep, unchecked_payload(eep.rorg, telegram), readings)
+    match (eep.rorg, telegram.contents()) {
+        (rorg::FOUR_BS, Contents::FourBs(bytes)) => read_bytes(eep, bytes, readings),
+        _ => Err(refusal_of(eep, Unreadable::WrongKind)),
+    }
 }

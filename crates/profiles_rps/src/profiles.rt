@@ -1,15 +1,16 @@
 //! The RPS and 1BS profiles, and decoding telegrams by them.
 
-ghost use Rattle.std.specs.Prelude.{◌≡◌, ℕ, List, true, option_map, Result, Ok, Err, OnErr, MatchResult};
+ghost use Rattle.std.specs.Prelude.{◌≡◌, ℕ, true, option_map, Ok, Err, OnErr};
 ghost use Rattle.std.specs.Bool.{OnFalse};
+ghost use Rattle.bit_fields.specs.Bits.{field};
 ghost use Rattle.profile_rows.specs.ReadResult.{read_result, entries_if};
 ghost use Rattle.profile_rows.specs.Payload.{is_data, readings_by};
 ghost use Rattle.profile_rows.specs.Rows.{rows_entries};
 ghost use Rattle.profiles_rps.specs.Profiles.{rows_of, supported, readings_of};
 
 use bit_fields::get;
-use erp1_telegrams::{Eep, Telegram};
-use profile_rows::{Readings, Unreadable, checked_data_payload, read_profiles, unchecked_payload};
+use erp1_telegrams::{Contents, Eep, Telegram, lrn_bit, rorg};
+use profile_rows::{Readings, Unreadable, read_profiles};
 
 const RELEASED_OR_PRESSED: [(u32, &str); 2] = [(0, "released"), (1, "pressed")];
 
@@ -26,9 +27,11 @@ const ROCKERS_ABCD: [(u32, &str); 8] = [
     (7, "D0"),
 ];
 
-/// Sets `readings` to what the rows of a profile read in a payload, and returns whether the profile has rows.
-#[tactic(auto, unfolding(crate::specs::Profiles::rows_of))]
+/// Sets `readings` to what the rows of a profile read in a payload, and returns whether the profile has rows. A payload
+/// for a 1BS profile is data: its LRN bit, the condition of the rows, is 1 and is not read here.
+#[tactic(auto, unfolding(crate::specs::Profiles::rows_of, profile_rows::specs::Profile::is_one_of))]
 fn read_if_supported(eep: Eep, status: u8, bytes: &[u8; 1], readings: &mut Readings) -> bool
+    requires { eep.rorg ≡ 0xD5 → field bytes.now 4 1 ≡ 1 }
     ensures exact { entries_if result readings.new.items ≡ option_map (rows_entries status bytes.now) (rows_of eep) }
     ensures none { OnFalse result (readings.new ≡ readings.old) }
 {
@@ -50,53 +53,68 @@ fn read_if_supported(eep: Eep, status: u8, bytes: &[u8; 1], readings: &mut Readi
             "R2" (4, 3) [nu = 1 and (7, 1) = 1] words(&ROCKERS_ABCD);
         }
         (0xD5, 0x00, [0x01]) => {
-            "CO" (7, 1) [(4, 1) = 1] words(&[(0, "open"), (1, "closed")]);
+            "CO" (7, 1) [] words(&[(0, "open"), (1, "closed")]);
         }
     }
 }
 
 /// Whether a profile is supported: whether it is in `table` of `specs/Profiles.antt`. `read` returns `NotSupported`
-/// exactly if it is not. The function decodes zeros and drops the readings, so the code names each profile only once,
-/// in `read_if_supported`.
+/// exactly if it is not. The function decodes a byte that is data, and drops the readings, so the code names each
+/// profile only once, in `read_if_supported`.
 pub fn supports(eep: Eep) -> bool
     ensures { result ≡ supported eep }
 {
-    read_if_supported(eep, 0, &[0], &mut Readings::new())
+    read_if_supported(eep, 0, &[0x08], &mut Readings::new())
 }
 
-// Decodes a payload, or the reason why there is none, by a profile.
-fn read_payload(
+// Decodes the byte of a data telegram by a profile.
+fn read_byte(
     eep: Eep,
     status: u8,
-    payload: Result<&[u8; 1], Unreadable>,
+    bytes: &[u8; 1],
     readings: &mut Readings,
 ) -> Result<(), Unreadable>
-    ensures exact { (said : Result (List ℕ) Unreadable) →
-        MatchResult payload.entry (λ bytes. said ≡ Ok bytes.now) (λ refusal. said ≡ Err refusal) →
-        read_result result readings.new.items ≡ readings_by (rows_entries status) (rows_of eep) said }
+    requires { eep.rorg ≡ 0xD5 → field bytes.now 4 1 ≡ 1 }
+    ensures exact { read_result result readings.new.items
+        ≡ readings_by (rows_entries status) (rows_of eep) (Ok bytes.now) }
     ensures err { OnErr result (readings.new ≡ readings.old) }
 {
-    match payload {
-        Ok(bytes) if read_if_supported(eep, status, bytes, readings) => Ok(()),
-        Err(refusal) if supports(eep) => Err(refusal),
-        _ => Err(Unreadable::NotSupported),
+    if read_if_supported(eep, status, bytes, readings) {
+        Ok(())
+    } else {
+        Err(Unreadable::NotSupported)
+    }
+}
+
+// The error for a telegram that the profile cannot read for this reason.
+fn refusal_of(eep: Eep, reason: Unreadable) -> Unreadable
+    ensures { (status : ℕ) → Err result ≡ readings_by (rows_entries status) (rows_of eep) (Err reason) }
+{
+    if supports(eep) {
+        reason
+    } else {
+        Unreadable::NotSupported
     }
 }
 
 /// Decodes a telegram by a profile: sets `readings` to its readings, in the order of the profile's rows (EnOcean
 /// Equipment Profiles 2.6). On an error `readings` does not change. The first error that applies is returned, in this
 /// order: `NotSupported` if the profile is not supported, `WrongKind` if the telegram does not have the RORG of the
-/// profile, `WrongLength` if the payload does not have one byte, and `OtherMessage` if the telegram is a 1BS teach-in.
+/// profile, and `OtherMessage` if the telegram is a 1BS teach-in.
 pub fn read(eep: Eep, telegram: &Telegram, readings: &mut Readings) -> Result<(), Unreadable>
     ensures exact { read_result result readings.new.items ≡ readings_of eep telegram.now }
     ensures err { OnErr result (readings.new ≡ readings.old) }
 {
-    read_payload(
-        eep,
-        telegram.status(),
-        checked_data_payload(eep.rorg, telegram),
-        readings,
-    )
+    match (eep.rorg, telegram.contents()) {
+        (rorg::RPS, Contents::Rps(bytes)) => read_byte(eep, telegram.status(), bytes, readings),
+        (rorg::ONE_BS, Contents::OneBs(bytes)) => {
+            match get::<1, { lrn_bit::ONE_BS_OFFSET }, 1>(bytes) {
+                1 => read_byte(eep, telegram.status(), bytes, readings),
+                _ => Err(refusal_of(eep, Unreadable::OtherMessage)),
+            }
+        }
+        _ => Err(refusal_of(eep, Unreadable::WrongKind)),
+    }
 }
 
 /// The same for a telegram that is known to be data, whose LRN bit is not read again.
@@ -105,10 +123,11 @@ pub fn read_data(eep: Eep, telegram: &Telegram, readings: &mut Readings) -> Resu
     ensures exact { read_result result readings.new.items ≡ readings_of eep telegram.now }
     ensures err { OnErr result (readings.new ≡ readings.old) }
 {
-    read_payload(
-        eep,
-        telegram.status(),
-        unchecked_payload(eep.rorg, telegram),
-        readings,
-    )
+    match (eep.rorg, telegram.contents()) {
+        (rorg::RPS, Contents::Rps(bytes)) => read_byte(eep, telegram.status(), bytes, readings),
+        (rorg::ONE_BS, Contents::OneBs(bytes)) => {
+            read_byte(eep, telegram.status(), bytes, readings)
+        }
+        _ => Err(refusal_of(eep, Unreadable::WrongKind)),
+    }
 }

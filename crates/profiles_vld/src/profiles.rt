@@ -5,7 +5,7 @@ ghost use Rattle.profile_rows.specs.ReadResult.{read_result};
 ghost use Rattle.profiles_vld.specs.Profiles.{payload_readings_of, supported, readings_of};
 
 use crate::{blinds_control, electronic_switches};
-use erp1_telegrams::{Eep, Telegram, rorg};
+use erp1_telegrams::{Contents, Eep, Telegram, rorg};
 use profile_rows::{Readings, Unreadable};
 
 /// Sets `readings` to the readings of a payload by a profile, or returns the first error; `None` if the profile is not
@@ -48,13 +48,11 @@ pub fn read(eep: Eep, telegram: &Telegram, readings: &mut Readings) -> Result<()
     ensures exact { read_result result readings.new.items ≡ readings_of eep telegram.now }
     ensures err { OnErr result (readings.new ≡ readings.old) }
 {
-    if telegram.rorg() == eep.rorg {
-        read_if_supported(eep, telegram.payload(), readings).unwrap_or(Err(
-            Unreadable::NotSupported,
-        ))
-    } else if supports(eep) {
-        Err(Unreadable::WrongKind)
-    } else {
-        Err(Unreadable::NotSupported)
+    match telegram.contents() {
+        Contents::Vld(payload) => {
+            read_if_supported(eep, payload, readings).unwrap_or(Err(Unreadable::NotSupported))
+        }
+        _ if supports(eep) => Err(Unreadable::WrongKind),
+        _ => Err(Unreadable::NotSupported),
     }
 }

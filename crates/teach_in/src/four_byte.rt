@@ -7,7 +7,7 @@ use crate::outcome::Outcome;
 use crate::reply::addressed_reply;
 use crate::verdict::Verdict;
 use bit_fields::get;
-use erp1_telegrams::{Eep, Telegram, is_base_id, rorg};
+use erp1_telegrams::{Contents, Eep, Telegram, is_base_id, rorg};
 
 /// A 4BS teach-in telegram with its sender's profile and maker.
 ///
@@ -83,5 +83,5 @@ pub fn four_byte_reply(query: &FourByteQuery, verdict: &Verdict, base: u32) -> T
     prove!(verdict.id() == query.id() && is_base_id(base));
     let [db3, db2, db1, _] = query.payload;
     let payload = [db3, db2, db1, four_byte_code(verdict.outcome())];
-    addressed_reply(rorg::FOUR_BS, &payload, query.id(), base)
+    addressed_reply(Contents::FourBs(payload), query.id(), base)
 }

@@ -1,5 +1,5 @@
 //! The plan for the sender of a telegram, by the table of plans.
-ghost use Rattle.std.specs.Prelude.{◌≡◌, Bool};
+ghost use Rattle.std.specs.Prelude.{◌≡◌, ◌==◌, ◌&&◌, Bool};
 ghost use Rattle.teach_in.specs.Telegrams.{teach_in_of};
 ghost use Rattle.teach_in.specs.Plans.{add, add_supported, ute_plan, can_be_learned_by, plan_of, plan_row_of};
 
@@ -7,10 +7,10 @@ use crate::mode::Mode;
 use crate::outcome::Outcome;
 use crate::plans::Plan;
 use crate::profiles::supported;
-use crate::telegrams::{Teach, bytes_of, classify};
+use crate::telegrams::{Teach, classify};
 use crate::ute::{DELETION, NOT_USED, UteQuery};
 use bit_fields::get;
-use erp1_telegrams::{Eep, Telegram, rorg};
+use erp1_telegrams::{Contents, Eep, Telegram, rorg};
 use learned_devices::{Device, Label};
 
 /// The profile of a contact, which its teach-in telegram does not contain (EnOcean Equipment Profiles 2.6, "1BS
@@ -68,13 +68,13 @@ fn plan_by_query(telegram: &Telegram, teach: &Teach) -> Plan
     }
 }
 
-// Whether a sender can be learned by this data telegram.
-fn can_be_learned_by(telegram: &Telegram) -> bool
-    ensures { result ≡ can_be_learned_by telegram.now }
+// Whether a sender can be learned with a profile of this RORG by this data telegram.
+fn can_be_learned_by(telegram: &Telegram, rorg: u8) -> bool
+    ensures { result ≡ (can_be_learned_by telegram.now && rorg == telegram.now.rorg) }
 {
-    match telegram.rorg() {
-        rorg::RPS => get::<1, 3, 1>(bytes_of(telegram.payload())) == 1,
-        rorg::VLD => true,
+    match (telegram.contents(), rorg) {
+        (Contents::Rps(bytes), rorg::RPS) => get::<1, 3, 1>(bytes) == 1,
+        (Contents::Vld(_), rorg::VLD) => true,
         _ => false,
     }
 }
@@ -86,8 +86,9 @@ fn plan_by_desk(telegram: &Telegram, teach: &Teach, eep: Eep, known: bool) -> Pl
     match (teach, eep.rorg) {
         (Teach::Contact, rorg::ONE_BS) | (Teach::Bare, rorg::FOUR_BS) => add(telegram, eep, None),
         (Teach::FourByte(query), rorg::FOUR_BS) => add(telegram, eep, Some(query.maker())),
-        (Teach::Plain, rorg) if !known && rorg == telegram.rorg() && can_be_learned_by(telegram) =>
-            { add(telegram, eep, None) }
+        (Teach::Plain, rorg) if !known && can_be_learned_by(telegram, rorg) => add(
+            telegram, eep, None,
+        ),
         _ => Plan::Silent,
     }
 }

@@ -1,18 +1,14 @@
 //! Replies to teach-in telegrams.
-ghost use Rattle.std.specs.Prelude.{◌≡◌, IsTrue, length};
-ghost use Rattle.erp1_telegrams.specs.Telegram.{payload_length_fits, is_decoded_rorg};
+ghost use Rattle.std.specs.Prelude.{◌≡◌};
+ghost use Rattle.erp1_telegrams.specs.Contents.{rorg_in, payload_in, FitsRorg};
 ghost use Rattle.teach_in.specs.Replies;
 
-use erp1_telegrams::Telegram;
+use erp1_telegrams::{Contents, Telegram};
 
 // A telegram from the base ID, addressed to one sender.
-pub(crate) fn addressed_reply(rorg: u8, payload: &[u8], id: u32, base: u32) -> Telegram
-    requires kind { IsTrue (is_decoded_rorg rorg) }
-    requires fits { IsTrue (payload_length_fits rorg (length payload.now)) }
-    ensures { result ≡ Replies.addressed_reply rorg payload.now id base }
+pub(crate) fn addressed_reply(contents: Contents, id: u32, base: u32) -> Telegram
+    requires { FitsRorg contents }
+    ensures { result ≡ Replies.addressed_reply (rorg_in contents) (payload_in contents) id base }
 {
-    match Telegram::new(rorg, payload, base, 0, id, None) {
-        Ok(telegram) => telegram,
-        Err(_) => unreachable!(),
-    }
+    Telegram::with_contents(contents, base, 0, id, None)
 }

@@ -1,11 +1,11 @@
 //! The role of a telegram in teach-in.
-ghost use Rattle.std.specs.Prelude.{◌≡◌, length};
+ghost use Rattle.std.specs.Prelude.{◌≡◌};
 ghost use Rattle.teach_in.specs.Telegrams.{four_byte_role, one_byte_role, teach_in_of, ute_role};
 
 use crate::four_byte::FourByteQuery;
 use crate::ute::UteQuery;
 use bit_fields::get;
-use erp1_telegrams::{Telegram, lrn_bit, rorg};
+use erp1_telegrams::{Contents, Telegram, lrn_bit};
 
 /// The role of a telegram in teach-in.
 ///
@@ -24,17 +24,6 @@ pub enum Teach {
     Ute(UteQuery),
     /// A reply to a teach-in telegram.
     Answer,
-}
-
-// A payload of a known length.
-pub(crate) fn bytes_of<const N: usize>(payload: &[u8]) -> &[u8; N]
-    requires { length payload.now ≡ N }
-    ensures { result.now ≡ payload.now }
-{
-    match <&[u8; N]>::try_from(payload) {
-        Ok(bytes) => bytes,
-        Err(_) => unreachable!(),
-    }
 }
 
 // The role of a 1BS telegram with this byte.
@@ -77,11 +66,10 @@ fn ute_role(id: u32, bytes: &[u8; 7]) -> Teach
 pub fn classify(telegram: &Telegram) -> Teach
     ensures { result ≡ teach_in_of telegram.now }
 {
-    let payload = telegram.payload();
-    match telegram.rorg() {
-        rorg::ONE_BS => one_byte_role(bytes_of(payload)),
-        rorg::FOUR_BS => four_byte_role(telegram.sender(), bytes_of(payload)),
-        rorg::UTE => ute_role(telegram.sender(), bytes_of(payload)),
-        _ => Teach::Plain,
+    match telegram.contents() {
+        Contents::OneBs(bytes) => one_byte_role(bytes),
+        Contents::FourBs(bytes) => four_byte_role(telegram.sender(), bytes),
+        Contents::Ute(bytes) => ute_role(telegram.sender(), bytes),
+        Contents::Rps(_) | Contents::Vld(_) => Teach::Plain,
     }
 }

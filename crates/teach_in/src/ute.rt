@@ -7,7 +7,7 @@ use crate::outcome::Outcome;
 use crate::reply::addressed_reply;
 use crate::verdict::Verdict;
 use bit_fields::get;
-use erp1_telegrams::{Eep, Telegram, is_base_id, rorg};
+use erp1_telegrams::{Contents, Eep, Telegram, is_base_id};
 
 /// A UTE query, with its sender's profile and maker, and its request.
 ///
@@ -118,5 +118,5 @@ pub fn ute_reply(query: &UteQuery, verdict: &Verdict, base: u32) -> Telegram
     let [_, db5, db4, db3, db2, db1, db0] = query.payload;
     let db6 = reply_first_byte(query, ute_code(verdict.outcome()));
     let payload = [db6, db5, db4, db3, db2, db1, db0];
-    addressed_reply(rorg::UTE, &payload, query.id(), base)
+    addressed_reply(Contents::Ute(payload), query.id(), base)
 }

@@ -14,7 +14,3 @@ returns-2-clause-exact c = grind (arith, common_steps)
 pub returns-4-clause-exact : goal.returns-4-clause-exact
 unfolding rows_of
 returns-4-clause-exact c = grind (arith, common_steps)
-
-pub returns-6-clause-exact : goal.returns-6-clause-exact
-unfolding rows_of
-returns-6-clause-exact c = search rules
