@@ -276,10 +276,10 @@ class Orders(GrowthsTest):
         self.assert_growths(56, self.TWO, "add 00000003 D5-00-01\n")
 
     def test_an_add_of_a_known_device(self):
-        self.assert_growths(47, self.TWO, "add 00000001 D5-00-01\n")
+        self.assert_growths(32, self.TWO, "add 00000001 D5-00-01\n")
 
     def test_an_add_of_a_device_with_a_label(self):
-        self.assert_growths(57, self.TWO + self.LABEL, "add 00000001 D5-00-01\n")
+        self.assert_growths(42, self.TWO + self.LABEL, "add 00000001 D5-00-01\n")
 
     def test_a_second_remove(self):
         self.assert_growths(31, self.TWO + "remove 00000001\n", "remove 00000002\n")
