@@ -1,5 +1,5 @@
 //! The contents of telegrams.
-ghost use Rattle.std.specs.Prelude.{◌≡◌, ◌≢◌, length, IfOk, Err, OnErr, MatchResult, true, false, ◌↔◌};
+ghost use Rattle.std.specs.Prelude.{◌≡◌, ◌≢◌, ◌↔◌, length, true, false, IfOk, Err, MatchResult};
 ghost use Rattle.erp1_telegrams.specs.Contents.{rorg_in, payload_in, FitsRorg};
 ghost use Rattle.erp1_telegrams.specs.Telegram.{payload_length_fits, is_decoded_rorg};
 

@@ -1,6 +1,5 @@
 -- The data of a telegram whose contents are known.
-use Rattle.std.proofs.Common.{◌≡◌, ℕ, Bool, true, false, List, length, Ok, Err, refl, sym, ap, ◌∙◌}
-use Rattle.std.specs.Prelude.{◌==◌, not, if◌then◌else◌}
+use Rattle.std.proofs.Common.{◌≡◌, ℕ, true, false, List, length, Ok, Err, refl, sym, ap, ◌∙◌}
 use Rattle.std.proofs.lemmas.Bool.{eq-eqb, ne_eqb}
 use Rattle.erp1_telegrams.specs.Telegram.{Telegram}
 use Rattle.erp1_telegrams.specs.Contents.{rorg_in, payload_in}

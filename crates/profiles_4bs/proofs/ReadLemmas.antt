@@ -1,5 +1,5 @@
 -- The readings of a telegram whose contents are known.
-use Rattle.std.proofs.Common.{◌≡◌, ℕ, true, false, List, Ok, Err, None, length, refl, sym, ap, subst, ◌∙◌, arith}
+use Rattle.std.proofs.Common.{◌≡◌, ℕ, true, List, Ok, Err, None, length, refl, sym, ap, subst, ◌∙◌, arith}
 use Rattle.std.specs.Prelude.{◌==◌}
 use Rattle.std.proofs.lemmas.Bool.{eqb-true, ne_eqb}
 use Rattle.bit_fields.specs.Bits.{field}

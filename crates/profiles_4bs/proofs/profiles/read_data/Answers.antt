@@ -1,4 +1,4 @@
-use Rattle.std.proofs.Common.{◌≡◌, ◌∙◌, rules}
+use Rattle.std.proofs.Common.{◌∙◌}
 use Rattle.profiles_4bs.proofs.ReadLemmas.{of-four, of-another, of-no-rows, lrn-of}
 use Rattle.profiles_4bs.proofs.profiles.read_data.Goals as goal
 use Rattle.profiles_4bs.proofs.profiles.read_data.Goals.{in_default-via-in-165+in_default, in_default-via-in_default}

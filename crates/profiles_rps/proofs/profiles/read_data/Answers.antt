@@ -1,4 +1,4 @@
-use Rattle.std.proofs.Common.{◌≡◌, ◌∙◌, sym, ap, rules}
+use Rattle.std.proofs.Common.{◌≡◌, ◌∙◌, rules}
 use Rattle.profiles_rps.proofs.ReadLemmas.{of-rps, of-one, of-not-rps, of-not-one, of-no-rows, lrn-of}
 use Rattle.profiles_rps.proofs.profiles.read_data.Goals as goal
 use Rattle.profiles_rps.proofs.profiles.read_data.Goals.{in_default-via-in-246+in-OneBs-1, in_default-via-in-213+in-Rps-1}
