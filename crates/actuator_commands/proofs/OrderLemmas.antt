@@ -305,7 +305,7 @@ orders_are_spelled = record {
       in_shape line order spells.0
       ∙ ap (λ b. cond b (Ok order) (Err Range)) (all_tested (words_of order) spells.1);
   out_of_range = λ line e. subst (Speaks line) e (speaks line);
-  no_shape = λ line e order shape. no_syntax order (is_in_range order) (sym (in_shape line order shape) ∙ e);
+  syntax_error_has_no_order = λ line e order shape. no_syntax order (is_in_range order) (sym (in_shape line order shape) ∙ e);
 }
 
 -- ---- for callers

@@ -150,4 +150,4 @@ pub record OrdersAreSpelled : Type 0 where
   pub only : (line : List ℕ) (order : Order) → Spells line order → order_of line ≡ Ok order
   pub out_of_range : (line : List ℕ) → order_of line ≡ Err Range
       → (order : Order) × SpellsButForRange line order × (¬ IsInRange order)
-  pub no_shape : (line : List ℕ) → order_of line ≡ Err Syntax → (order : Order) → ¬ SpellsButForRange line order
+  pub syntax_error_has_no_order : (line : List ℕ) → order_of line ≡ Err Syntax → (order : Order) → ¬ SpellsButForRange line order

@@ -16,7 +16,7 @@ use Rattle.actuator_commands.specs.declared.packets.ActuatorKind.TheVariants as 
 
 -- the profiles of an actuator: of switches and dimmers ("D2-01", with any TYPE), and of blinds ("D2-05-00")
 abbrev pub is_profile_of_actuator : ActuatorKind → Eep → Bool
-is_profile_of_actuator actuator.Switch eep = eep.rorg == 0xD2 && eep.func == 0x01
+is_profile_of_actuator actuator.SwitchOrDimmer eep = eep.rorg == 0xD2 && eep.func == 0x01
 is_profile_of_actuator actuator.Blind eep = eep.rorg == 0xD2 && eep.func == 0x05 && eep.typ == 0x00
 
 -- The message of an order: to the device with an ID, a payload by the device's profile, or none if that has no such
@@ -33,7 +33,7 @@ payload_for actuator payload eep = if is_profile_of_actuator actuator eep then S
 -- the channel, which is 0
 abbrev pub query_payload : (channel : ℕ) → Eep → Option (List ℕ)
 query_payload channel eep =
-    if is_profile_of_actuator actuator.Switch eep then Some (0x03 ∷ channel ∷ [])
+    if is_profile_of_actuator actuator.SwitchOrDimmer eep then Some (0x03 ∷ channel ∷ [])
     else if is_profile_of_actuator actuator.Blind eep && channel == 0 then Some (0x03 ∷ [])
     else None
 
@@ -46,12 +46,12 @@ meter_query_byte channel Power = channel + 128
 abbrev pub message_of : Order → Option Message
 -- "D2-01", command 1: the channel, and the value in percent. The bits DV are 0: immediately
 message_of (Switch id channel on) =
-    Some (ToOne id (payload_for actuator.Switch (0x01 ∷ channel ∷ (if on then 0x64 else 0x00) ∷ [])))
-message_of (Dim id channel value) = Some (ToOne id (payload_for actuator.Switch (0x01 ∷ channel ∷ value ∷ [])))
+    Some (ToOne id (payload_for actuator.SwitchOrDimmer (0x01 ∷ channel ∷ (if on then 0x64 else 0x00) ∷ [])))
+message_of (Dim id channel value) = Some (ToOne id (payload_for actuator.SwitchOrDimmer (0x01 ∷ channel ∷ value ∷ [])))
 message_of (Query id channel) = Some (ToOne id (query_payload channel))
 -- "D2-01", command 6
 message_of (Meter id channel quantity) =
-    Some (ToOne id (payload_for actuator.Switch (0x06 ∷ meter_query_byte channel quantity ∷ [])))
+    Some (ToOne id (payload_for actuator.SwitchOrDimmer (0x06 ∷ meter_query_byte channel quantity ∷ [])))
 -- "D2-05-00", command 1: the position in percent; the angle, which 127 leaves unchanged; REPO and LOCK, which are 0;
 -- and the channel 0 with the command
 message_of (Blind id value) = Some (ToOne id (payload_for actuator.Blind (value ∷ 0x7F ∷ 0x00 ∷ 0x01 ∷ [])))

@@ -18,7 +18,7 @@ use learned_devices::Device;
 #[derive(Clone, Copy)]
 enum ActuatorKind {
     // A switch or a dimmer.
-    Switch,
+    SwitchOrDimmer,
     // A blind.
     Blind,
 }
@@ -29,7 +29,7 @@ impl ActuatorKind {
         ensures { result ≡ is_profile_of_actuator self eep }
     {
         match self {
-            ActuatorKind::Switch => eep.rorg == rorg::VLD && eep.func == 0x01,
+            ActuatorKind::SwitchOrDimmer => eep.rorg == rorg::VLD && eep.func == 0x01,
             ActuatorKind::Blind => eep.rorg == rorg::VLD && eep.func == 0x05 && eep.typ == 0x00,
         }
     }
@@ -74,7 +74,7 @@ fn query_telegram(
     ensures { result ≡ telegram_for (ToOne id (query_payload channel)) (option_copied device.entry) base }
 {
     let device = device.ok_or(OrderFault::UnknownDevice)?;
-    if ActuatorKind::Switch.is_profile_of_actuator(device.eep) {
+    if ActuatorKind::SwitchOrDimmer.is_profile_of_actuator(device.eep) {
         Ok(to_one(id, &[0x03, channel as u8], base))
     } else if ActuatorKind::Blind.is_profile_of_actuator(device.eep) && channel == 0 {
         Ok(to_one(id, &[0x03], base))
@@ -126,17 +126,22 @@ pub fn packet_of(order: &Order, device: Option<&Device>, base: u32) -> Result<Te
     match *order {
         Order::Switch { id, channel, on } => {
             let value = if on { 0x64 } else { 0x00 };
-            ActuatorKind::Switch.telegram(id, &[0x01, channel as u8, value], device, base)
+            ActuatorKind::SwitchOrDimmer.telegram(id, &[0x01, channel as u8, value], device, base)
         }
         Order::Dim { id, channel, value } => {
-            ActuatorKind::Switch.telegram(id, &[0x01, channel as u8, value as u8], device, base)
+            ActuatorKind::SwitchOrDimmer.telegram(
+                id,
+                &[0x01, channel as u8, value as u8],
+                device,
+                base,
+            )
         }
         Order::Query { id, channel } => query_telegram(id, channel, device, base),
         Order::Meter {
             id,
             channel,
             quantity,
-        } => ActuatorKind::Switch.telegram(
+        } => ActuatorKind::SwitchOrDimmer.telegram(
             id,
             &[0x06, meter_query_byte(channel, quantity)],
             device,

@@ -10,7 +10,7 @@ use Rattle.sqlite.specs.State.{State, HasCleanDisk, Survives, Shown, FailsToQuer
 use Rattle.sqlite.specs.Listing.{understood}
 use Rattle.sqlite_sql.specs.Aggregate.{count}
 use Rattle.sqlite.proofs.Callers.{IsPlain}
-use Rattle.keyed_table.specs.Queries.{asked}
+use Rattle.keyed_table.specs.Queries.{lookup_params}
 use Rattle.keyed_table.proofs.Answers as answers
 use Rattle.keyed_table.proofs.TextMeaning.{answer_of}
 use Rattle.learned_devices.specs.Devices.{Devices, is_full, max_devices}
@@ -23,28 +23,28 @@ use Rattle.device_registry.proofs.DevicesHeld.{few_devices, fewer}
 use Rattle.keyed_table.proofs.Statements.{compiled_query_stays}
 
 pub counts : (old new : State) (id : ℕ) (rows : List Row) (devices : Devices) → IsVersion2RegistryOf old.now devices
-    → Shown count_others_sql (asked id) old new rows → rows ≡ (count (len (remove devices id)) ∷ []) ∷ []
+    → Shown count_others_sql (lookup_params id) old new rows → rows ≡ (count (len (remove devices id)) ∷ []) ∷ []
 counts old new id rows devices had h =
     let r = had.registry in
     let d = r.tables.devices in
-    answers.counts data_in d old.now.trees (keyed (old.now.trees d) r.whole.rows r.whole.once) id rows
-    (answer_of (asked id) old new rows (count_means old.now.schema r.tables.devices_at d r.tables.devices_stand) refl h)
+    answers.counts data_in d old.now.trees (keyed (old.now.trees d) r.valid_rows.rows r.valid_rows.ids_differ) id rows
+    (answer_of (lookup_params id) old new rows (count_means old.now.schema r.tables.devices_at d r.tables.devices_are_table) refl h)
     ∙ ap (λ m. (count (len (remove m id)) ∷ []) ∷ []) had.is
 
 pub others_plain : (s : State) → IsReady s → IsPlain (understood s.now.schema count_others_sql)
 others_plain s ready =
     let r = ready.shows.holds.registry in
-    (count_means s.now.schema r.tables.devices_at r.tables.devices r.tables.devices_stand).plain
+    (count_means s.now.schema r.tables.devices_at r.tables.devices r.tables.devices_are_table).is_plain
 
 -- the query writes nothing
 pub others_stay : {V : Type 0} (id : ℕ) (text : List ℕ) (old mid new : State) (items : V → List Row)
     (r : Result V Error)
     → WritesNothing old mid → (HasCleanDisk mid → text ≡ count_others_sql) → (HasCleanDisk mid → IsReady mid)
-    → Survives mid new (CommitsShowing text (asked id) mid)
-    → (HasCleanDisk new → IfOk r (λ v. Shown text (asked id) mid new (items v)))
-    → (HasCleanDisk new → IfErr r (FailsToQuery text (asked id) mid new)) → WritesNothing old new
+    → Survives mid new (CommitsShowing text (lookup_params id) mid)
+    → (HasCleanDisk new → IfOk r (λ v. Shown text (lookup_params id) mid new (items v)))
+    → (HasCleanDisk new → IfErr r (FailsToQuery text (lookup_params id) mid new)) → WritesNothing old new
 others_stay id text old mid new items r first is ready survives shown failed =
-    compiled_query_stays count_others_sql text (asked id) old mid new items r first is
+    compiled_query_stays count_others_sql text (lookup_params id) old mid new items r first is
     (λ clean. others_plain mid (ready clean))
     survives shown failed
 
@@ -64,7 +64,7 @@ full_reported others n is few =
 
 pub reported_full : (old new : State) (id : ℕ) (rows : List Row) (n : ℕ) (row : Row) (more : List Row)
     (devices : Devices)
-    → IsReadyWith old devices → Shown count_others_sql (asked id) old new rows → rows ≡ row ∷ more
+    → IsReadyWith old devices → Shown count_others_sql (lookup_params id) old new rows → rows ≡ row ∷ more
     → column row 0 ≡ Int (pos n) → nat_le max_devices n ≡ is_full devices id
 reported_full old new id rows n row more devices shows h are number =
     full_reported (len (remove devices id)) n (shown_number (count (len (remove devices id))) n row more

@@ -49,15 +49,15 @@ registers : (db : Database) (t : HasTables Second db.schema) → db.trees t.meta
 registers db t one none listed = record {
   registry = record {
     tables = t;
-    whole = record {
+    valid_rows = record {
       row = version_row;
-      one = one;
-      numbered = record { key = refl; number = refl };
+      one_version_row = one;
+      version_row_valid = record { key = refl; number = refl };
       rows = subst (AllByRecursion IsDeviceRow) (sym none) tt;
-      once = subst RowidsDiffer (sym none) tt;
-      few = subst (λ rows. length rows ≤ max_devices) (sym none) (omega arith);
+      ids_differ = subst RowidsDiffer (sym none) tt;
+      at_most_max_devices = subst (λ rows. length rows ≤ max_devices) (sym none) (omega arith);
     };
-    listed = listed;
+    tables_listed = listed;
   };
   is = ap (λ rows. devices_in rows) none;
 }
@@ -67,13 +67,13 @@ module _ (a b c : State) (i j : ℕ) (clear : AdmitsTables a.now.schema) (sound 
     (first : ExecutesInside 0 create_meta_sql [] a b (Ok i))
     (second : ExecutesInside 0 (create_device_sql Second) [] b c (Ok j)) where
   half_counted : lacks_sequence (with_meta a.now.schema) ≡ false
-  half_counted = still_counted a.now.schema (meta_table 0) refl clear.counted
+  half_counted = still_counted a.now.schema (meta_table 0) refl clear.sequence_allowed
 
   half : (b.now.schema ≡ with_meta a.now.schema) × (b.now.trees (next_tree a.now.schema) ≡ []) × IsDatabase b.now
       × KeepsRows a.now.schema.tables a.now.trees b.now.trees
   half =
-      let makes = meta_makes a.now.schema clear.free_meta in
-      let one = runs_as create_meta_sql [] a b a.now.schema refl CreateTable makes.means.is makes.means.plain i first.0
+      let makes = meta_makes a.now.schema clear.meta_name_unused in
+      let one = runs_as create_meta_sql [] a b a.now.schema refl CreateTable makes.means.is makes.means.is_plain i first.0
       in
       let made = creates_table a.step_limit (mode_of a) a.now b.now create_meta_sql one.tally
       (meta_table 0) meta_is half_counted
@@ -91,7 +91,7 @@ module _ (a b c : State) (i j : ℕ) (clear : AdmitsTables a.now.schema) (sound 
       (subst (λ s. is_used s (device_table_name Second) ≡ false) (sym before.0)
       (half_free a.now.schema clear Second)) in
       let two =
-      runs_as (create_device_sql Second) [] b c b.now.schema refl CreateTable makes.means.is makes.means.plain j
+      runs_as (create_device_sql Second) [] b c b.now.schema refl CreateTable makes.means.is makes.means.is_plain j
       second.0 in
       let made =
       creates_table b.step_limit (mode_of b) b.now c.now (create_device_sql Second) two.tally (device_table Second 0)
@@ -144,13 +144,13 @@ makes a b c d i j k clear sound first second third =
     let after = whole a b c i j clear sound first second in
     let it = stand a b c i j clear sound first second in
     let t = it.tables in
-    let means = number_means c.now.schema t.meta_at t.meta t.meta_stands in
+    let means = number_means c.now.schema t.meta_at t.meta t.meta_is_table in
     let three = runs_as write_version_sql [] c d c.now.schema refl
-    (Insert t.meta_at (Values version_terms 3)) means.is means.plain k third.0 in
+    (Insert t.meta_at (Values version_terms 3)) means.is means.is_plain k third.0 in
     let none : c.now.trees t.meta ≡ [] = ap c.now.trees it.meta_is ∙ after.2 in
     let put =
     numbers c.now.schema t.meta_at t.meta c.step_limit (mode_of c) c.now.trees
-    three.tally d.now t.meta_stands.there
+    three.tally d.now t.meta_is_table.there
     (meta_alone c.now.schema t) none three.changed in
     let kept : d.now.trees t.devices ≡ [] = put.2.tables (device_table Second t.devices)
     (devices_lone c.now.schema t).listed
@@ -206,7 +206,7 @@ module _ {S : Type 0} (g : Ghosts S) (old start last : Held S) (is : start ≡ r
   shows clean =
       let done = ran g old start is free it.mid it.made (it.clean clean) in
       let here = subst (IsMade (state g old).now) (sym (it.same clean)) done in (
-        λ devices are. subst (IsVersion2RegistryOf (state g last).now) (sym are) (here.0 (it.listed clean here.1)),
+        λ devices are. subst (IsVersion2RegistryOf (state g last).now) (sym are) (here.0 (it.tables_listed clean here.1)),
         here.1,
         λ table has _ _. here.2 table has,
       )

@@ -14,7 +14,7 @@ use Rattle.device_registry.specs.Table.{meta_table}
 
 unfoldable meta_read : (def : Defined) × ParsesAs create_meta_sql (written.CreateTable def)
 unfolding everything
-meta_read = (_, record { parsed = _; read = refl; is = refl; timeless = refl })
+meta_read = (_, record { parsed = _; read = refl; is = refl; needs_no_time = refl })
 
 pub meta_makes : (schema : Schema) → is_used schema meta_name ≡ false → Makes schema create_meta_sql
 unfolding everything meta_read
@@ -22,7 +22,7 @@ meta_makes = makes (meta_table 0) meta_read.1 refl refl refl refl refl
 
 unfoldable second_read : (def : Defined) × ParsesAs (create_device_sql Second) (written.CreateTable def)
 unfolding everything
-second_read = (_, record { parsed = _; read = refl; is = refl; timeless = refl })
+second_read = (_, record { parsed = _; read = refl; is = refl; needs_no_time = refl })
 
 pub device_makes : (schema : Schema) → is_used schema (device_table_name Second) ≡ false
     → Makes schema (create_device_sql Second)

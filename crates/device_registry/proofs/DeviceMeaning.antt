@@ -43,27 +43,27 @@ columns_read version = column_read (codes "id") ∷ column_read (codes "eep") �
 find_is : IsPlainSelect find_sql
     (plain_select (device_table_name Second) (columns_read Second) (parameter_test Eq (codes "id")) [])
 unfolding everything
-find_is = record { read = record { parsed = _; read = refl; is = refl; timeless = refl } }
+find_is = record { read = record { parsed = _; read = refl; is = refl; needs_no_time = refl } }
 
 all_is : (version : Version) → IsPlainSelect (find_all_sql version)
     (plain_select (device_table_name version) (columns_read version) None (by_column (codes "id") ∷ []))
 unfolding everything
-all_is First = record { read = record { parsed = _; read = refl; is = refl; timeless = refl } }
-all_is Second = record { read = record { parsed = _; read = refl; is = refl; timeless = refl } }
+all_is First = record { read = record { parsed = _; read = refl; is = refl; needs_no_time = refl } }
+all_is Second = record { read = record { parsed = _; read = refl; is = refl; needs_no_time = refl } }
 
 count_is : IsPlainSelect count_others_sql (plain_select (device_table_name Second)
     (One (CallStar (codes "count")) None (codes "count(*)") ∷ []) (parameter_test Ne (codes "id")) [])
 unfolding everything
-count_is = record { read = record { parsed = _; read = refl; is = refl; timeless = refl } }
+count_is = record { read = record { parsed = _; read = refl; is = refl; needs_no_time = refl } }
 
 put_read : ParsesAs upsert_sql (written.Insert conflict.Replace (device_table_name Second) (shown_columns Second)
     (Values ((Parameter 1 ∷ Parameter 2 ∷ Parameter 3 ∷ Parameter 4 ∷ []) ∷ [])) [] [])
 unfolding everything
-put_read = record { parsed = _; read = refl; is = refl; timeless = refl }
+put_read = record { parsed = _; read = refl; is = refl; needs_no_time = refl }
 
 forget_read : ParsesAs delete_sql (written.Delete (device_table_name Second) (parameter_test Eq (codes "id")) [])
 unfolding everything
-forget_read = record { parsed = _; read = refl; is = refl; timeless = refl }
+forget_read = record { parsed = _; read = refl; is = refl; needs_no_time = refl }
 
 -- ---- the commands. The rowid has no collation, and neither has a literal text.
 

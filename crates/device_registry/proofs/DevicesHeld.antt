@@ -21,9 +21,9 @@ use Rattle.device_registry.specs.declared.table.Version.TheVariants.{Second}
 use Rattle.device_registry.specs.Table.{device_table_name, create_device_sql, device_table, meta_name, create_meta_sql}
 use Rattle.device_registry.specs.Table.{meta_table}
 use Rattle.learned_devices.specs.Devices.{Devices, DeviceData, is_full, max_devices}
-use Rattle.device_registry.specs.Stored.{IsRegistry, IsRegistryOfVersion, HoldsAs, IsVersion2RegistryOf, HoldsVersion2}
+use Rattle.device_registry.specs.Stored.{IsRegistry, IsRegistryOfVersion, HoldsInVersion, IsVersion2RegistryOf, HoldsVersion2}
 use Rattle.device_registry.specs.Stored.{IsTableAt}
-use Rattle.device_registry.specs.Stored.{AreTablesListed, IsListedAs}
+use Rattle.device_registry.specs.Stored.{AreTablesListed, HasCatalogText}
 use Rattle.device_registry.specs.Table.Rows.{RowidsDiffer, IsDeviceRow, IsVersionRow, devices_in, upgraded_rows}
 use Rattle.device_registry.specs.Table.Rows.{device_row}
 use Rattle.device_registry.specs.Opening.{DevicesAreLimited}
@@ -38,7 +38,7 @@ use Rattle.sqlite.specs.Program.{overlay}
 use Rattle.sqlite_trees.proofs.TreeLemmas.{all-put_row}
 use Rattle.sqlite_rules.specs.Calls.{ids_of}
 use Rattle.sqlite_rules.specs.declared.error.Rowids.TheVariants.{Given}
-use Rattle.keyed_table.specs.Queries.{asked}
+use Rattle.keyed_table.specs.Queries.{lookup_params}
 use Rattle.keyed_table.specs.Rows.{HasKey, AreKeyed}
 use Rattle.keyed_table.proofs.RowsAsMap.{len_is, differ_from, keyed_without_all}
 use Rattle.keyed_table.proofs.MapWrites.{all_without_all, removes, upserts_map, upserts_keyed}
@@ -67,14 +67,14 @@ registers_by version db a b one other =
     let x = one.registry.tables in
     let y = other.registry.tables in
     let tree =
-    tree_once version db.schema x.devices y.devices x.devices_at y.devices_at x.devices_stand y.devices_stand in
+    tree_once version db.schema x.devices y.devices x.devices_at y.devices_at x.devices_are_table y.devices_are_table in
     sym one.is ∙ ap (λ t. devices_in (upgraded_rows version (db.trees t))) tree ∙ other.is
 
 pub registers_once : (db : Database) (a b : Devices) → IsVersion2RegistryOf db a → IsVersion2RegistryOf db b → a ≡ b
 registers_once = registers_by Second
 
 -- the trees of a sound database determine its devices
-pub held_by : (version : Version) (trees : Trees) (a b : Devices) → HoldsAs version trees a → HoldsAs version trees b
+pub held_by : (version : Version) (trees : Trees) (a b : Devices) → HoldsInVersion version trees a → HoldsInVersion version trees b
     → a ≡ b
 held_by version = listed.held_once (IsRegistryOfVersion version) (registers_by version)
 
@@ -89,7 +89,7 @@ pub listed_still : (version : Version) (before after : Trees) → after catalog_
 listed_still version before after same listed =
     (still meta_name create_meta_sql listed.0, still (device_table_name version) (create_device_sql version) listed.1)
   where
-    still : (name text : List ℕ) → IsListedAs before name text → IsListedAs after name text
+    still : (name text : List ℕ) → HasCatalogText before name text → HasCatalogText after name text
     still name text it = record {
       row = it.row;
       listed = subst (λ rows. Has (put_all [] (map shown rows)) it.row) (sym same) it.listed;
@@ -112,8 +112,8 @@ module _ (before : Database) (registry : IsRegistry Second before) where
       subst (λ db. IsVersion2RegistryOf db devices) same (record {
         registry = record {
           tables = registry.tables;
-          whole = record { row = row; one = one; numbered = version; rows = rows; once = once; few = few };
-          listed = listed_still Second before.trees after.trees objects registry.listed;
+          valid_rows = record { row = row; one_version_row = one; version_row_valid = version; rows = rows; ids_differ = once; at_most_max_devices = few };
+          tables_listed = listed_still Second before.trees after.trees objects registry.tables_listed;
         };
         is = is;
       })
@@ -131,7 +131,7 @@ pub few_devices : (db : Database) (devices : Devices) → IsVersion2RegistryOf d
 few_devices db devices had =
     let r = had.registry in subst (λ m. len m ≤ max_devices) had.is
     (subst (λ n. n ≤ max_devices)
-    (sym (len_is data_in (db.trees r.tables.devices) (keyed _ r.whole.rows r.whole.once))) r.whole.few)
+    (sym (len_is data_in (db.trees r.tables.devices) (keyed _ r.valid_rows.rows r.valid_rows.ids_differ))) r.valid_rows.at_most_max_devices)
 
 pub devices_are_limited : DevicesAreLimited
 devices_are_limited trees devices holds = few_devices holds.db devices holds.holds
@@ -163,14 +163,14 @@ module _ (before after : Database) (devices : Devices) (had : IsVersion2Registry
     rows_register now schema others all once is few =
         let r = had.registry in
         registers_after before r after now schema
-        (objects_spared before sound _ (devices_lone before.schema r.tables).listed after.trees others) r.whole.row
+        (objects_spared before sound _ (devices_lone before.schema r.tables).listed after.trees others) r.valid_rows.row
         (others.tables (meta_table r.tables.meta) (meta_lone before.schema r.tables).listed r.tables.apart
-        ∙ r.whole.one)
-        r.whole.numbered all (differ_from _ once.apart)
+        ∙ r.valid_rows.one_version_row)
+        r.valid_rows.version_row_valid all (differ_from _ once.apart)
         (subst (λ n. n ≤ max_devices) (sym (ap len is) ∙ len_is data_in (after.trees r.tables.devices) once) few) is
 
     there : AreKeyed (before.trees had.registry.tables.devices)
-    there = keyed _ had.registry.whole.rows had.registry.whole.once
+    there = keyed _ had.registry.valid_rows.rows had.registry.valid_rows.ids_differ
 
     pub put_registers : (id : ℕ) (it : DeviceData) → IsShort it.eep → is_label it.label ≡ true
         → is_full devices id ≡ false → after.schema ≡ before.schema
@@ -184,7 +184,7 @@ module _ (before after : Database) (devices : Devices) (had : IsVersion2Registry
         let alone = (devices_alone before.schema r.tables).unindexed in
         let all = subst (AllByRecursion IsDeviceRow) (sym put.rows) (all-put_row IsDeviceRow (device_row id it) _
         (checked d id it label put.judged.3)
-        (all_without_all IsDeviceRow (before.trees d) (ids_of put.found) r.whole.rows)) in
+        (all_without_all IsDeviceRow (before.trees d) (ids_of put.found) r.valid_rows.rows)) in
         rows_register (insert devices id it) schema put.others all
         (upserts_keyed data_in before.schema (device_table Second d) (device_row id it) before.trees after.trees put key
         there alone)
@@ -194,7 +194,7 @@ module _ (before after : Database) (devices : Devices) (had : IsVersion2Registry
         (len-remove nat_cmp_total devices id) room (few_devices before devices had))
 
     pub forgotten_registers : (id : ℕ) (rows : List Row)
-        → IsAnswer (forget_query had.registry.tables.devices) (overlay before.trees []) (asked id) rows
+        → IsAnswer (forget_query had.registry.tables.devices) (overlay before.trees []) (lookup_params id) rows
         → IsStep before.schema before.trees (edit_of before.trees (device_table Second had.registry.tables.devices)
         (ids_of rows) Given 0 []) after
         → IsVersion2RegistryOf after (remove devices id)
@@ -203,7 +203,7 @@ module _ (before after : Database) (devices : Devices) (had : IsVersion2Registry
         let d = r.tables.devices in
         rows_register (remove devices id) step.schema_is step.others
         (subst (AllByRecursion IsDeviceRow) (sym step.rows)
-        (all_without_all IsDeviceRow (before.trees d) (ids_of rows) r.whole.rows))
+        (all_without_all IsDeviceRow (before.trees d) (ids_of rows) r.valid_rows.rows))
         (subst AreKeyed (sym step.rows) (keyed_without_all (before.trees d) (ids_of rows) there))
         (ap devices_in step.rows ∙ removes data_in d id before.trees rows there a ∙ ap (λ m. remove m id) had.is)
         (omega (arith, fewer devices id, few_devices before devices had))
@@ -219,5 +219,5 @@ module _ (before after : Database) (devices : Devices) (had : IsVersion2Registry
         registers_after before r after devices schema
         (objects_spared before sound _ (meta_lone before.schema r.tables).listed after.trees others) version_row version
         (record { key = refl; number = refl })
-        (subst (AllByRecursion IsDeviceRow) (sym same) r.whole.rows) (subst RowidsDiffer (sym same) r.whole.once)
-        (subst (λ rows. length rows ≤ max_devices) (sym same) r.whole.few) (ap devices_in same ∙ had.is)
+        (subst (AllByRecursion IsDeviceRow) (sym same) r.valid_rows.rows) (subst RowidsDiffer (sym same) r.valid_rows.ids_differ)
+        (subst (λ rows. length rows ≤ max_devices) (sym same) r.valid_rows.at_most_max_devices) (ap devices_in same ∙ had.is)

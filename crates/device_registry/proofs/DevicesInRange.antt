@@ -39,7 +39,7 @@ rows-in (row ∷ rows) all =
 
 registers-in : {version : Version} {db : Database} {devices : Devices} → IsRegistryOfVersion version db devices
     → AreInRange devices
-registers-in registers = subst AreInRange registers.is (rows-in _ registers.registry.whole.rows)
+registers-in registers = subst AreInRange registers.is (rows-in _ registers.registry.valid_rows.rows)
 
 found-in : {trees : Trees} {devices : Devices} → OpenFinds trees devices → AreInRange devices
 found-in found = elim found [

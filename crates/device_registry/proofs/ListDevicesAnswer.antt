@@ -17,7 +17,7 @@ use Rattle.keyed_table.proofs.Answers as answers
 use Rattle.keyed_table.proofs.RowsApart.{ranked}
 use Rattle.keyed_table.proofs.RowsAsMap.{entries_ranked}
 use Rattle.keyed_table.proofs.TextMeaning.{answer_of}
-use Rattle.learned_devices.specs.Devices.{Devices, device, all_of}
+use Rattle.learned_devices.specs.Devices.{Devices, device, devices_by_ascending_id}
 use Rattle.device_registry.specs.declared.table.Version.{Version}
 use Rattle.device_registry.specs.declared.table.Version.TheVariants.{First, Second}
 use Rattle.device_registry.specs.Table.{find_all_sql}
@@ -52,20 +52,20 @@ shows_ranked version d db rows all differ a =
     answers.lists data_in d db (stored_keyed version (db d) all differ) rows a ∙ shown_are version (ranked (db d))
 
 pub lists : (old new : State) (rows : List Row) (devices : Devices) → IsVersion2RegistryOf old.now devices
-    → Shown (find_all_sql Second) [] old new rows → map shown_device rows ≡ all_of devices
+    → Shown (find_all_sql Second) [] old new rows → map shown_device rows ≡ devices_by_ascending_id devices
 lists old new rows devices had h =
     let r = had.registry in
     let d = r.tables.devices in
     let table = old.now.trees d in
-    let means = all_means Second old.now.schema r.tables.devices_at d r.tables.devices_stand in
-    ap (map shown_device) (shows_ranked Second d old.now.trees rows r.whole.rows r.whole.once
+    let means = all_means Second old.now.schema r.tables.devices_at d r.tables.devices_are_table in
+    ap (map shown_device) (shows_ranked Second d old.now.trees rows r.valid_rows.rows r.valid_rows.ids_differ
     (answer_of [] old new rows means refl h))
     ∙ map-map shown_device shown (ranked table)
     ∙ sym (map-map (λ entry. device entry.0 entry.1) entry_of (ranked table))
     ∙ ap (map (λ entry. device entry.0 entry.1))
-    (sym (entries_ranked data_in table (keyed table r.whole.rows r.whole.once)) ∙ ap entries had.is)
+    (sym (entries_ranked data_in table (keyed table r.valid_rows.rows r.valid_rows.ids_differ)) ∙ ap entries had.is)
 
 pub all_plain : (s : State) → IsReady s → IsPlain (understood s.now.schema (find_all_sql Second))
 all_plain s ready =
     let r = ready.shows.holds.registry in
-    (all_means Second s.now.schema r.tables.devices_at r.tables.devices r.tables.devices_stand).plain
+    (all_means Second s.now.schema r.tables.devices_at r.tables.devices r.tables.devices_are_table).is_plain

@@ -88,7 +88,7 @@ module _ {S : Type 0} (g : Ghosts S) (old start last : Held S) (is : start ≡ r
       let here = subst (IsMade (state g old).now was.0) (sym (it.same clean)) done in (
         λ devices were. subst (IsVersion2RegistryOf (state g last).now)
             (registers_by First (state g old).now _ devices (record { registry = was.0; is = refl }) were)
-            (here.0 (it.listed clean here.1)),
+            (here.0 (it.tables_listed clean here.1)),
         here.1,
         here.2,
       )

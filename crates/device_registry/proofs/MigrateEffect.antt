@@ -54,15 +54,15 @@ registers db t rows version here all differ few listed =
     record {
       registry = record {
         tables = t;
-        whole = record {
+        valid_rows = record {
           row = version_row;
-          one = version;
-          numbered = record { key = refl; number = refl };
+          one_version_row = version;
+          version_row_valid = record { key = refl; number = refl };
           rows = all-permutation IsDeviceRow rows (db.trees t.devices) here all;
-          once = differ_from _ (keyed_turned rows (db.trees t.devices) here were).apart;
-          few = omega (arith, few, length_permutation rows (db.trees t.devices) here);
+          ids_differ = differ_from _ (keyed_turned rows (db.trees t.devices) here were).apart;
+          at_most_max_devices = omega (arith, few, length_permutation rows (db.trees t.devices) here);
         };
-        listed = listed;
+        tables_listed = listed;
       };
       is = sym (same_map_of data_in rows (db.trees t.devices) here were);
     }
@@ -91,13 +91,13 @@ module _ (a b c d e : State) (i j k l : ℕ) (registry : IsRegistry First a.now)
     made : (b.now.schema ≡ schema_b) × (b.now.trees tree ≡ []) × KeepsRows a.now.schema.tables a.now.trees b.now.trees
         × IsDatabase b.now
     made =
-        let makes = device_makes a.now.schema t.free in
+        let makes = device_makes a.now.schema t.other_version_unused in
         let ran =
-        runs_as (create_device_sql Second) [] a b a.now.schema refl CreateTable makes.means.is makes.means.plain i one.0
+        runs_as (create_device_sql Second) [] a b a.now.schema refl CreateTable makes.means.is makes.means.is_plain i one.0
         in
         let it = creates_table a.step_limit (mode_of a) a.now b.now (create_device_sql Second) ran.tally
         (device_table Second 0)
-        (device_is Second) (still_counted a.now.schema (device_table Second 0) refl t.counted)
+        (device_is Second) (still_counted a.now.schema (device_table Second 0) refl t.sequence_allowed)
         (subst (λ text. Does a.step_limit (mode_of a) [] a.now text None CreateTable (Ok (ran.tally, b.now)))
         makes.alone
         ran.changed) in
@@ -119,7 +119,7 @@ module _ (a b c d e : State) (i j k l : ℕ) (registry : IsRegistry First a.now)
 
     devices_in_b : upgraded_rows First (b.now.trees t.devices) ≡ upgraded_rows First (a.now.trees t.devices)
     devices_in_b = ap (upgraded_rows First) (kept_in_b (device_table First t.devices)
-        (has_got a.now.schema.tables t.devices_at (device_table First t.devices) t.devices_stand.there))
+        (has_got a.now.schema.tables t.devices_at (device_table First t.devices) t.devices_are_table.there))
 
     filled : (c.now.schema ≡ b.now.schema) × SparesOthers b.now.schema tree b.now.trees c.now.trees
         × IsPermutation (upgraded_rows First (a.now.trees t.devices)) (c.now.trees tree) × IsDatabase c.now
@@ -128,12 +128,12 @@ module _ (a b c d e : State) (i j k l : ℕ) (registry : IsRegistry First a.now)
         let to = lone_stands b.now made.3 new_in_b in
         let means = copy_means b.now.schema from.0 t.devices from.1 to.0 tree to.1 in
         let ran = runs_as copy_sql [] b c b.now.schema refl (Insert to.0 (Query (program_of (copy_query t.devices))))
-        means.is means.plain j two.0 in
+        means.is means.is_plain j two.0 in
         let it = copies b.now.schema to.0 tree t.devices b.step_limit (mode_of b) b.now.trees
         ran.tally c.now to.1.there
         (lone_alone new_in_b) made.1
-        (subst (AllByRecursion IsDeviceRow) (sym devices_in_b) registry.whole.rows)
-        (subst RowidsDiffer (sym devices_in_b) registry.whole.once) ran.changed in
+        (subst (AllByRecursion IsDeviceRow) (sym devices_in_b) registry.valid_rows.rows)
+        (subst RowidsDiffer (sym devices_in_b) registry.valid_rows.ids_differ) ran.changed in
         (it.0, it.1, subst (λ rows. IsPermutation rows (c.now.trees tree)) devices_in_b it.2, ran.sound)
 
     -- ---- the old table is dropped
@@ -154,9 +154,9 @@ module _ (a b c d e : State) (i j k l : ℕ) (registry : IsRegistry First a.now)
     left =
         let at = lone_stands c.now filled.3 first_in_c in
         let means = drop_means c.now.schema at.0 t.devices at.1 no_view_in_c in
-        let ran = runs_as drop_sql [] c d c.now.schema refl (DropTable at.0) means.is means.plain k three.0 in
+        let ran = runs_as drop_sql [] c d c.now.schema refl (DropTable at.0) means.is means.is_plain k three.0 in
         let it = drops c.now.schema at.0 (device_table First t.devices) c.step_limit (mode_of c) c.now.trees
-        (statement_of drop_sql (understood c.now.schema drop_sql)) ran.tally d.now at.1.there refl first_in_c.spares
+        (statement_of drop_sql (understood c.now.schema drop_sql)) ran.tally d.now at.1.there refl first_in_c.unreferenced
         ran.changed in (
           it.0 ∙ ap (λ s. without_table s t.devices) schema_c,
           subst (λ (s : Schema). KeepsRows s.tables c.now.trees d.now.trees) (sym it.0) it.1,
@@ -175,14 +175,14 @@ module _ (a b c d e : State) (i j k l : ℕ) (registry : IsRegistry First a.now)
         all_has (λ (x : Table). d.now.trees x.tree ≡ c.now.trees x.tree) d.now.schema.tables table left.1 has
 
     -- the tree of the version never changed
-    version_in_d : d.now.trees t.meta ≡ registry.whole.row ∷ []
+    version_in_d : d.now.trees t.meta ≡ registry.valid_rows.row ∷ []
     version_in_d =
-        let was = has_got a.now.schema.tables t.meta_at (meta_table t.meta) t.meta_stands.there in
+        let was = has_got a.now.schema.tables t.meta_at (meta_table t.meta) t.meta_is_table.there in
         let in_b = subst (λ (s : Schema). Has s.tables (meta_table t.meta)) (sym made.0)
         (has_added a.now sound t (meta_table t.meta) was) in
         kept_in_d (meta_table t.meta) meta_in_d.listed
         ∙ filled.1.tables (meta_table t.meta) in_b (meta_apart a.now sound t)
-        ∙ kept_in_b (meta_table t.meta) was ∙ registry.whole.one
+        ∙ kept_in_b (meta_table t.meta) was ∙ registry.valid_rows.one_version_row
 
     -- ---- the version is written
 
@@ -193,10 +193,10 @@ module _ (a b c d e : State) (i j k l : ℕ) (registry : IsRegistry First a.now)
         let means = renew_means d.now.schema at.0 t.meta at.1 in
         let ran = runs_as rewrite_version_sql [] d e d.now.schema refl (Update at.0 (program_of (renew_query t.meta)))
         means.is
-        means.plain l four.0 in
+        means.is_plain l four.0 in
         let it = renews d.now.schema at.0 t.meta d.step_limit (mode_of d) d.now.trees
-        ran.tally e.now registry.whole.row at.1.there
-        (lone_alone meta_in_d) version_in_d registry.whole.numbered.key
+        ran.tally e.now registry.valid_rows.row at.1.there
+        (lone_alone meta_in_d) version_in_d registry.valid_rows.version_row_valid.key
         ran.changed in
         (it.0, it.1, it.2, ran.sound)
 
@@ -212,7 +212,7 @@ module _ (a b c d e : State) (i j k l : ℕ) (registry : IsRegistry First a.now)
         let devices = upgraded_rows First (a.now.trees t.devices) in (
           registers e.now to.tables devices (ap e.now.trees to.meta_is ∙ written.1)
               (subst (IsPermutation devices) (sym (ap e.now.trees to.devices_are ∙ put)) filled.2)
-              registry.whole.rows registry.whole.once registry.whole.few,
+              registry.valid_rows.rows registry.valid_rows.ids_differ registry.valid_rows.at_most_max_devices,
           written.3,
         )
 

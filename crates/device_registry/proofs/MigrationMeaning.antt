@@ -42,7 +42,7 @@ copied = plain_select (device_table_name First) (column_read (codes "id") ∷ co
 copy_read : ParsesAs copy_sql
     (written.Insert Abort (device_table_name Second) filled (rows.Select (select_of copied)) [] [])
 unfolding everything
-copy_read = record { parsed = _; read = refl; is = refl; timeless = refl }
+copy_read = record { parsed = _; read = refl; is = refl; needs_no_time = refl }
 
 -- the same as a query, before its output is arranged as rows of version 2
 abbrev copy_draft : ℕ → Draft
@@ -87,7 +87,7 @@ module _ (schema : Schema) (at d : ℕ) (it : IsTableAt schema (device_table_nam
 
   drop_read : ParsesAs drop_sql (written.DropTable false (device_table_name First))
   unfolding everything
-  drop_read = record { parsed = _; read = refl; is = refl; timeless = refl }
+  drop_read = record { parsed = _; read = refl; is = refl; needs_no_time = refl }
 
   -- no view has its name
   pub drop_means : view_named schema (device_table_name First) ≡ None → CompilesTo schema drop_sql (DropTable at)

@@ -20,7 +20,7 @@ use Rattle.device_registry.specs.declared.table.Version.TheVariants.{First, Seco
 use Rattle.learned_devices.specs.Devices.{Devices}
 use Rattle.device_registry.specs.Table.{meta_name, device_table_name}
 use Rattle.device_registry.specs.Stored.{HasTables, HasValidRows, IsRegistry, AreTablesListed, IsRegistryOfVersion}
-use Rattle.device_registry.specs.Stored.{HoldsAs}
+use Rattle.device_registry.specs.Stored.{HoldsInVersion}
 use Rattle.device_registry.specs.Stored.{HoldsVersion2}
 use Rattle.device_registry.specs.Stored.{AreVersion2Trees, AdmitsRegistry}
 use Rattle.device_registry.specs.Table.Rows.{devices_in, upgraded_rows}
@@ -60,8 +60,8 @@ taken_if version (Ok is_so) old mid new same tables listed h = (
       (let t : HasTables version mid.now.schema = subst (λ (db : Database). HasTables version db.schema)
       (sym same.0.now_is) tables in record {
         tables = t;
-        whole = h.1 is t;
-        listed = subst (λ (db : Database). AreTablesListed version db.trees) (sym same.0.now_is) listed;
+        valid_rows = h.1 is t;
+        tables_listed = subst (λ (db : Database). AreTablesListed version db.trees) (sym same.0.now_is) listed;
       }),
 )
 taken_if version (Err e) old mid new same tables listed h = tt
@@ -81,7 +81,7 @@ no_place o at some none = let e = sym some ∙ none in cc
 -- the name of one version's table is free in a registry of the other
 other_version : (schema : Schema) → HasTables First schema → HasTables Second schema → ⊥
 other_version schema one two = no_place (table_named schema (device_table_name First)) one.devices_at
-    one.devices_stand.named (unused schema (device_table_name First) two.free).0
+    one.devices_are_table.named (unused schema (device_table_name First) two.other_version_unused).0
 
 one_version : (v w : Version) (schema : Schema) → HasTables v schema → HasTables w schema → v ≡ w
 one_version First First schema one two = refl
@@ -101,12 +101,12 @@ one_schema trees a b p q one two = same_schema trees a.schema b.schema (subst (I
 not_bare : (version : Version) (trees : Trees) (db : Database) → db.trees ≡ trees → IsDatabase db
     → IsRegistry version db → AdmitsRegistry trees → ⊥
 not_bare version trees db same sound registry free =
-    no_place (table_named db.schema meta_name) registry.tables.meta_at registry.tables.meta_stands.named
+    no_place (table_named db.schema meta_name) registry.tables.meta_at registry.tables.meta_is_table.named
     (ap (λ s. table_named s meta_name) (one_schema trees db free.db same free.same sound free.sound)
-    ∙ (unused free.db.schema meta_name free.clear.free_meta).0)
+    ∙ (unused free.db.schema meta_name free.admits_tables.meta_name_unused).0)
 
 bare : (s : State) → IsSettledOpen s → IsTrue (admits_tables s.now.schema) → AdmitsRegistry s.now.trees
-bare s rest clear = record { db = s.now; same = refl; sound = rest.sound; clear = cleared s.now.schema clear }
+bare s rest clear = record { db = s.now; same = refl; sound = rest.sound; admits_tables = cleared s.now.schema clear }
 
 module _ {old new : State} {P : Trees → Type 0} (rest : HasCleanDisk old → IsSettledOpen old)
     (clear : IsTrue (admits_tables old.now.schema)) (survives : Survives old new P) where
@@ -231,7 +231,7 @@ taken_stop {old} {mid} {new} asked first second =
 
 -- the devices of a registry of version 1
 first_shown : (s : State) → IsSettledOpen s → IsRegistry First s.now
-    → (devices : Devices) × IsRegistryOfVersion First s.now devices × HoldsAs First s.now.trees devices
+    → (devices : Devices) × IsRegistryOfVersion First s.now devices × HoldsInVersion First s.now.trees devices
 first_shown s rest it =
     let devices = devices_in (upgraded_rows First (s.now.trees it.tables.devices)) in
     let registers : IsRegistryOfVersion First s.now devices = record { registry = it; is = refl } in (
@@ -378,7 +378,7 @@ pub not_asked : (s : State) (fault : StoreFault) → FailsToOpen s s (Failed fau
 not_asked s fault = record {
   survives = survives_itself s (KeepsFoundDevices s.committed.trees);
   clean = λ clean. clean;
-  other = λ clean is. absurd (let e = is in cc);
+  not_a_registry = λ clean is. absurd (let e = is in cc);
   crash = λ clean trees may. inl may;
 }
 
@@ -389,7 +389,7 @@ refused_first old new fault other survives = record {
   survives = survives_weaker old new (λ _. ⊥) (KeepsFoundDevices old.committed.trees)
       (λ clean trees no. absurd no) survives;
   clean = λ clean. let early : HasCleanDisk old = omega (arith, clean, survives.clean) in early;
-  other = λ clean is. absurd (other is);
+  not_a_registry = λ clean is. absurd (other is);
   crash = λ clean. nothing old new survives clean;
 }
 
@@ -411,7 +411,7 @@ refused_then (Err fault) old mid new was first second other same = record {
       let it = was between in subst (λ found. KeepsFoundDevices found trees) (last old mid it.0 it.1) kept)
       first second;
   clean = λ clean. let early : HasCleanDisk old = omega (arith, clean, second.clean, first.clean) in early;
-  other = λ clean is.
+  not_a_registry = λ clean is.
       let between : HasCleanDisk mid = omega (arith, clean, second.clean) in
       let it = was between in
       let left = same clean (ap Err is) in (
@@ -432,15 +432,15 @@ rows_on (Ok v) old mid new same rest kept =
     λ held. same_rows old mid new same (kept (subst AreVersion2Trees (sym (last old mid same rest)) held))
 rows_on (Err e) old mid new same rest kept = tt
 
-holds_same : (trees : Trees) (v w : Version) (left found : Devices) → HoldsAs v trees left → HoldsAs w trees found
+holds_same : (trees : Trees) (v w : Version) (left found : Devices) → HoldsInVersion v trees left → HoldsInVersion w trees found
     → left ≡ found
 holds_same trees v w left found one two =
     let schema = one_schema trees one.db two.db one.same two.same one.sound two.sound in
     let same = one_version v w two.db.schema (subst (HasTables v) schema one.holds.registry.tables)
     two.holds.registry.tables in
-    held_by w trees left found (subst (λ u. HoldsAs u trees left) same one) two
+    held_by w trees left found (subst (λ u. HoldsInVersion u trees left) same one) two
 
-holds_none : (trees : Trees) (version : Version) (devices : Devices) → HoldsAs version trees devices
+holds_none : (trees : Trees) (version : Version) (devices : Devices) → HoldsInVersion version trees devices
     → AdmitsRegistry trees → ⊥
 holds_none trees version devices holds =
     not_bare version trees holds.db holds.same holds.sound holds.holds.registry
@@ -468,11 +468,11 @@ failed_opens_keep state old new fault clean refused = (
 pub registries_are_recognized : {C : Type 0} (state : C → State) → RegistriesAreRecognized state
 registries_are_recognized state = (
   λ trees it. (it.devices, inl (Second, it.holds)),
-  λ old new fault devices clean refused finds is. (refused.other clean is).0 devices finds,
+  λ old new fault devices clean refused finds is. (refused.not_a_registry clean is).0 devices finds,
 )
 
 pub only_non_registries_are_refused : {C : Type 0} (state : C → State) → OnlyNonRegistriesAreRefused state
-only_non_registries_are_refused state conn last clean refused = (refused.other clean refl).0
+only_non_registries_are_refused state conn last clean refused = (refused.not_a_registry clean refl).0
 
 pub returned_is_found : {C : Type 0} (state : C → State) → ReturnedIsFound state
 returned_is_found state closed opened devices found clean committed has opens =

@@ -27,7 +27,7 @@ renewed_between : (old mid new : State) → HasTables Second old.now.schema → 
     → Survives old mid (λ _. ⊥)
     → RewritesVersion mid new → RewritesVersion old new
 renewed_between old mid new tables same survives renewed =
-    let it = renew_means old.now.schema tables.meta_at tables.meta tables.meta_stands in
+    let it = renew_means old.now.schema tables.meta_at tables.meta tables.meta_is_table in
     updates_from old mid new same survives.limit rewrite_version_sql [] tables.meta_at
     (program_of (renew_query tables.meta)) 1 it.is renewed
 

@@ -16,7 +16,7 @@ use Rattle.learned_devices.specs.declared.fault.StoreFault.{StoreFault}
 use Rattle.learned_devices.specs.declared.fault.LearnFault.{LearnFault}
 use Rattle.learned_devices.specs.Devices.{Devices, DeviceData, Operation, Learn, DeviceUpdate}
 use Rattle.learned_devices.specs.Devices.{with_entry, apply_update, data_after, learn_update}
-use Rattle.learned_devices.specs.Devices.{relabel_update, kept_label, device_data, device, device_of, all_of, is_full}
+use Rattle.learned_devices.specs.Devices.{relabel_update, kept_label, device_data, device, device_of, devices_by_ascending_id, is_full}
 use Rattle.learned_devices.specs.DeviceStoreState.{Keeps, Commits, LeavesPending}
 use Rattle.learned_devices.specs.StoreCalls.{RefusesToLearn, LooksUp, Updates, Learns, Relabels, ListsAll}
 use Rattle.device_registry.specs.Holding.{HasDevicesIfOpen, HasSomeDevicesIfOpen, AreVersion2Registries}
@@ -185,8 +185,8 @@ if_err P (Ok x) is = absurd (cc)
 if_err P (Err e) is = tt
 
 pub reported_all : {E : Type 0} (r : Result (Vec Device Global) E) (rows shown : List Row) (devices : Devices)
-    → IfOk r (λ all. all.items ≡ map shown_device rows) → rows ≡ shown → map shown_device shown ≡ all_of devices
-    → IfOk r (λ all. all.items ≡ all_of devices)
+    → IfOk r (λ all. all.items ≡ map shown_device rows) → rows ≡ shown → map shown_device shown ≡ devices_by_ascending_id devices
+    → IfOk r (λ all. all.items ≡ devices_by_ascending_id devices)
 reported_all (Ok all) rows shown devices read same reported = read ∙ ap (map shown_device) same ∙ reported
 reported_all (Err e) rows shown devices read same reported = tt
 
@@ -210,12 +210,12 @@ module _ (old new : State) (stays : WritesNothing old new) (well : IsWell old) w
 
   pub lists_all : {E : Type 0} (r : Result (Vec Device Global) E)
       → (HasCleanDisk new → (devices : Devices) → HasDevicesIfOpen old devices
-      → IfOk r (λ all. all.items ≡ all_of devices))
+      → IfOk r (λ all. all.items ≡ devices_by_ascending_id devices))
       → ListsAll (registry_state old) (registry_state new) r
   lists_all r reported = record {
     clean = stays.clean;
     recoverable = (keeps_well old new stays well).0;
-    devices = λ clean devices has. on_both (λ all. all.items ≡ all_of devices)
+    devices = λ clean devices has. on_both (λ all. all.items ≡ devices_by_ascending_id devices)
         (Keeps (registry_state old) (registry_state new) devices) r
         (reported clean devices has) (keeps old new stays well clean devices has);
   }

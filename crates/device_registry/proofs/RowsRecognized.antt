@@ -45,7 +45,7 @@ use Rattle.std.proofs.lemmas.Bool.{and_parts}
 version_reads : {version : Version} (old new : State) (rows : List Row) (t : HasTables version old.now.schema)
     → Shown read_version_sql [] old new rows → IsAnswer (version_query t.meta) (overlay old.now.trees []) [] rows
 version_reads old new rows t h =
-    answer_of [] old new rows (version_means old.now.schema t.meta_at t.meta t.meta_stands) refl h
+    answer_of [] old new rows (version_means old.now.schema t.meta_at t.meta t.meta_is_table) refl h
 
 -- ---- ascending rows
 
@@ -196,7 +196,7 @@ module _ (version : Version) where
       → Shown (find_all_sql version) [] mid new devices
       → IsAnswer (all_query version t.devices) (overlay old.now.trees []) [] devices
   devices_read old mid new devices t same h =
-      let means = all_means version old.now.schema t.devices_at t.devices t.devices_stand in
+      let means = all_means version old.now.schema t.devices_at t.devices t.devices_are_table in
       subst (λ (d : Database). IsAnswer (all_query version t.devices) (overlay d.trees []) [] devices) same.0.now_is
       (answer_of [] mid new devices means (ap (λ (d : Database). d.schema) same.0.now_is) h)
 
@@ -219,15 +219,15 @@ module _ (version : Version) where
       rows_are version t.devices old.now.trees devices (devices_read old mid new devices t same second) rise in
       record {
         row = it.0;
-        one = it.1;
-        numbered =
+        one_version_row = it.1;
+        version_row_valid =
             record {
               key = sym (ap (λ r. column r 0) it.2) ∙ shows.key;
               number = sym (ap (λ r. column r 1) it.2) ∙ shows.number;
             };
         rows = are.0;
-        once = are.1;
-        few = omega (arith, few, count);
+        ids_differ = are.1;
+        at_most_max_devices = omega (arith, few, count);
       }
 
   -- a registry's devices are shown in ascending order
@@ -237,8 +237,8 @@ module _ (version : Version) where
   rise_reported old mid new devices t it same h =
       let table = old.now.trees t.devices in
       let up = ranked table in
-      let there = stored_keyed version table it.rows it.once in
-      ap (are_ascending_devices 0) (shows_ranked version t.devices old.now.trees devices it.rows it.once
+      let there = stored_keyed version table it.rows it.ids_differ in
+      ap (are_ascending_devices 0) (shows_ranked version t.devices old.now.trees devices it.rows it.ids_differ
       (devices_read old mid new devices t same h))
       ∙ shown_rise 0 (upgraded_rows version up) (turned version table up (ranked_permutes table there.apart) it.rows)
       (rising_as version up (ranked_rises table)) (from_zero (upgraded_rows version up))
@@ -247,9 +247,9 @@ module _ (version : Version) where
       (it : HasValidRows version old.now.trees t.meta t.devices) → Shown read_version_sql [] old new rows
       → rows ≡ (Int (pos 1) ∷ Int (pos (version_number version)) ∷ []) ∷ []
   version_reported old new rows t it h =
-      shows_one old.now.trees it.row it.one (version_reads old new rows t h)
-      ∙ ap (λ v. (v ∷ column it.row 2 ∷ []) ∷ []) it.numbered.key
-      ∙ ap (λ v. (Int (pos 1) ∷ v ∷ []) ∷ []) it.numbered.number
+      shows_one old.now.trees it.row it.one_version_row (version_reads old new rows t h)
+      ∙ ap (λ v. (v ∷ column it.row 2 ∷ []) ∷ []) it.version_row_valid.key
+      ∙ ap (λ v. (Int (pos 1) ∷ v ∷ []) ∷ []) it.version_row_valid.number
 
 pub shown_if : {V : Type 0} (items : V → List Row) (r : Result V Error) (sql : List ℕ) (old new : State)
     → IsPlain (understood old.now.schema sql) → IfOk r (λ v. Shown sql [] old new (items v))

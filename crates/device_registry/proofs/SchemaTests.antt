@@ -106,31 +106,31 @@ cleared schema h =
     let c = and_parts _ _ b.0 in
     let d = and_parts _ _ c.0 in
     record {
-      free_meta = not-true _ d.0;
-      free_devices =
+      meta_name_unused = not-true _ d.0;
+      device_names_unused =
           by_version (λ version. is_used schema (device_table_name version) ≡ false) (not-true _ d.1) (not-true _ c.1);
-      spared = spared schema (not-true _ b.1);
-      counted = counted schema ∙ not-true _ a.1;
+      unreferenced = spared schema (not-true _ b.1);
+      sequence_allowed = counted schema ∙ not-true _ a.1;
     }
 
 pub is_cleared : (schema : Schema) → AdmitsTables schema → IsTrue (admits_tables schema)
 is_cleared schema it =
     rw (
-      it.free_meta,
-      it.free_devices First,
-      it.free_devices Second,
-      unspared schema it.spared,
-      sym (counted schema) ∙ it.counted,
+      it.meta_name_unused,
+      it.device_names_unused First,
+      it.device_names_unused Second,
+      unspared schema it.unreferenced,
+      sym (counted schema) ∙ it.sequence_allowed,
     ) refl
 
 pub record IsLeftAlone (version : Version) (schema : Schema) (meta devices : ℕ) : Type 0 where
-  pub spared : NoneRefersToOurs schema
+  pub unreferenced : NoneRefersToOurs schema
   pub unindexed : AllByRecursion (λ index. (index.table ≢ meta) × (index.table ≢ devices)) schema.indexes
   pub alone : AllByRecursion (λ table. TreeHasName meta_name meta table
       × TreeHasName (device_table_name version) devices table)
       schema.tables
-  pub free : is_used schema (device_table_name (other version)) ≡ false
-  pub counted : MigrationAddsNoSequence version schema
+  pub other_version_unused : is_used schema (device_table_name (other version)) ≡ false
+  pub sequence_allowed : MigrationAddsNoSequence version schema
 
 same_tree : (a b : ℕ) → a ≡ b → (a == b) ≡ true
 same_tree a b e = grind (arith, nat_tests)
@@ -179,12 +179,12 @@ left_alone version schema meta devices h =
           all_both (TreeHasName meta_name meta) (TreeHasName name devices)
           (λ table. TreeHasName meta_name meta table × TreeHasName name devices table) (λ t p q. (p, q)) schema.tables
           (lone schema meta_name meta y.1) (lone schema name devices z.1);
-      spared = spared schema (not-true _ b.0);
+      unreferenced = spared schema (not-true _ b.0);
       unindexed = all_both (λ index. index.table ≢ meta) (λ index. index.table ≢ devices)
           (λ index. (index.table ≢ meta) × (index.table ≢ devices)) (λ index p q. (p, q)) schema.indexes
           (unindexed schema meta (not-true _ b.1)) (unindexed schema devices (not-true _ a.1));
-      free = not-true _ free.1;
-      counted = are_so version schema count.1;
+      other_version_unused = not-true _ free.1;
+      sequence_allowed = are_so version schema count.1;
     }
 
 and_then_is : {A B : Type 0} (f : A → Option B) (o : Option A) (y : B) → option_and_then f o ≡ Some y
@@ -234,16 +234,16 @@ module _ (version : Version) (schema : Schema) where
   pub placed_tables : (t : HasTables version schema)
       → (tree_of_table schema meta_name ≡ Some t.meta) × (tree_of_devices version schema t.meta ≡ Some t.devices)
   placed_tables t =
-      let meta : tree_of_table schema meta_name ≡ Some t.meta = rw (t.meta_stands.named, t.meta_stands.there) in
-      let devices : tree_of_table schema name ≡ Some t.devices = rw (t.devices_stand.named, t.devices_stand.there) in
-      let a = unspared schema t.spared in
+      let meta : tree_of_table schema meta_name ≡ Some t.meta = rw (t.meta_is_table.named, t.meta_is_table.there) in
+      let devices : tree_of_table schema name ≡ Some t.devices = rw (t.devices_are_table.named, t.devices_are_table.there) in
+      let a = unspared schema t.unreferenced in
       let one = meta_lone schema t in
       let two = devices_lone schema t in
       let c = not_indexed schema t.meta one.unindexed in
       let d = not_indexed schema t.devices two.unindexed in
       let m = is_alone schema meta_name t.meta one.keeps in
       let n = is_alone schema name t.devices two.keeps in
-      let counted = so_tested version schema t.counted in
-      let alone : is_unaffected version schema t.meta t.devices ≡ true = rw (a, c, d, m, n, t.free, counted) refl in
+      let counted = so_tested version schema t.sequence_allowed in
+      let alone : is_unaffected version schema t.meta t.devices ≡ true = rw (a, c, d, m, n, t.other_version_unused, counted) refl in
       let tree : Bool → Option ℕ = λ b. if b then Some t.devices else None in
       (meta, ap (option_and_then (tree_if_unaffected version schema t.meta)) devices ∙ ap tree alone)

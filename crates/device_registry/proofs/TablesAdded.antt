@@ -27,9 +27,9 @@ pub half_free : (schema : Schema) → AdmitsTables schema → (version : Version
     → is_used (with_meta schema) (device_table_name version) ≡ false
 unfolding same_name
 half_free schema clear First =
-    still_free schema meta_name (device_table_name First) _ _ refl (clear.free_devices First)
+    still_free schema meta_name (device_table_name First) _ _ refl (clear.device_names_unused First)
 half_free schema clear Second =
-    still_free schema meta_name (device_table_name Second) _ _ refl (clear.free_devices Second)
+    still_free schema meta_name (device_table_name Second) _ _ refl (clear.device_names_unused Second)
 
 module _ (a c : Database) (clear : AdmitsTables a.schema) (sound : IsDatabase a) (is : c.schema ≡ with_both a.schema)
     (end : IsDatabase c) where
@@ -46,12 +46,12 @@ module _ (a c : Database) (clear : AdmitsTables a.schema) (sound : IsDatabase a)
   owners = owners_below a.schema a.trees sound
 
   half_spared : NoneRefersToOurs (with_meta a.schema)
-  half_spared = spared_still a.schema meta_name _ _ clear.spared
+  half_spared = spared_still a.schema meta_name _ _ clear.unreferenced
 
   meta : IsLone (with_both a.schema) meta_name (meta_table first)
   unfolding same_name
   meta = lone_still (with_meta a.schema) (device_table_name Second) _ _
-      (lone_new a.schema meta_name _ _ refl (spares_meta a.schema clear.spared) owners)
+      (lone_new a.schema meta_name _ _ refl (spares_meta a.schema clear.unreferenced) owners)
 
   devices : IsLone (with_both a.schema) (device_table_name Second) (device_table Second second)
   unfolding same_name

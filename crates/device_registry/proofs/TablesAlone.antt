@@ -43,20 +43,20 @@ pub meta_lone : {version : Version} (schema : Schema) (t : HasTables version sch
     → IsLone schema meta_name (meta_table t.meta)
 unfolding same_name
 meta_lone schema t = record {
-  listed = has_got schema.tables t.meta_at (meta_table t.meta) t.meta_stands.there;
+  listed = has_got schema.tables t.meta_at (meta_table t.meta) t.meta_is_table.there;
   named = refl;
   keeps = all_weaker _ (TreeHasName meta_name t.meta) (λ t both. both.0) schema.tables t.alone;
-  spares = spares_meta schema t.spared;
+  unreferenced = spares_meta schema t.unreferenced;
   unindexed = all_weaker _ (λ index. index.table ≢ t.meta) (λ index both. both.0) schema.indexes t.unindexed;
 }
 
 pub devices_lone : {version : Version} (schema : Schema) (t : HasTables version schema)
     → IsLone schema (device_table_name version) (device_table version t.devices)
 devices_lone {version} schema t = record {
-  listed = has_got schema.tables t.devices_at (device_table version t.devices) t.devices_stand.there;
+  listed = has_got schema.tables t.devices_at (device_table version t.devices) t.devices_are_table.there;
   named = own_name version;
   keeps = all_weaker _ (TreeHasName (device_table_name version) t.devices) (λ t both. both.1) schema.tables t.alone;
-  spares = spares_devices version schema t.spared;
+  unreferenced = spares_devices version schema t.unreferenced;
   unindexed = all_weaker _ (λ index. index.table ≢ t.devices) (λ index both. both.1) schema.indexes t.unindexed;
 }
 
@@ -87,18 +87,18 @@ stand_in version db sound {meta} {devices} one two apart spared free counted =
         devices = devices;
         meta_at = at.0;
         devices_at = to.0;
-        meta_stands = at.1;
-        devices_stand = to.1;
+        meta_is_table = at.1;
+        devices_are_table = to.1;
         apart = apart;
-        spared = spared;
+        unreferenced = spared;
         alone = all_both (TreeHasName meta_name meta) (TreeHasName name devices)
             (λ table. TreeHasName meta_name meta table × TreeHasName name devices table) (λ x p q. (p, q))
             db.schema.tables one.keeps two.keeps;
         unindexed = all_both (λ index. index.table ≢ meta) (λ index. index.table ≢ devices)
             (λ index. (index.table ≢ meta) × (index.table ≢ devices)) (λ x p q. (p, q)) db.schema.indexes
             one.unindexed two.unindexed;
-        free = free;
-        counted = counted;
+        other_version_unused = free;
+        sequence_allowed = counted;
       };
       meta_is = refl;
       devices_are = refl;

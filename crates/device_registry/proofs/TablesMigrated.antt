@@ -39,7 +39,7 @@ module _ (db : Database) (sound : IsDatabase db) (t : HasTables First db.schema)
   pub new_lone : IsLone added (device_table_name Second) (device_table Second fresh)
   unfolding same_name
   new_lone =
-      lone_new schema (device_table_name Second) _ _ refl (spares_devices Second schema t.spared)
+      lone_new schema (device_table_name Second) _ _ refl (spares_devices Second schema t.unreferenced)
       (owners_below schema db.trees sound)
 
   -- ---- and the old one is dropped
@@ -67,5 +67,5 @@ module _ (db : Database) (sound : IsDatabase db) (t : HasTables First db.schema)
       (subst (λ s. IsLone s meta_name (meta_table t.meta)) (sym is) meta_left)
       (subst (λ s. IsLone s (device_table_name Second) (device_table Second fresh)) (sym is) new_left) meta_apart
       (subst NoneRefersToOurs (sym is) (all-filter HasNoReferenceToOurs (λ table. not (table.tree == t.devices))
-      added.tables (spared_still schema (device_table_name Second) _ _ t.spared)))
+      added.tables (spared_still schema (device_table_name Second) _ _ t.unreferenced)))
       (subst (λ s. is_used s (device_table_name First) ≡ false) (sym is) free) tt

@@ -68,17 +68,17 @@ tables_reported version db meta devices sound placed listed =
       devices = devices;
       meta_at = placed.meta_is.at;
       devices_at = placed.devices_are.at;
-      meta_stands = meta_stands;
-      devices_stand = devices_stand;
+      meta_is_table = meta_stands;
+      devices_are_table = devices_stand;
       apart = λ e. names_differ version
           ((all_has _ db.schema.tables (device_table version devices) keeps
           (has_got db.schema.tables placed.devices_are.at (device_table version devices) devices_stand.there)).0
           (sym e));
-      spared = placed.alone.spared;
+      unreferenced = placed.alone.unreferenced;
       alone = keeps;
       unindexed = placed.alone.unindexed;
-      free = placed.alone.free;
-      counted = placed.alone.counted;
+      other_version_unused = placed.alone.other_version_unused;
+      sequence_allowed = placed.alone.sequence_allowed;
     }
 
 -- if the two tables are found and listed, the schema has them
@@ -102,4 +102,4 @@ pub free_found : (s : State) → IsSettledOpen s → AdmitsRegistry s.now.trees 
 free_found s rest free =
     let same : free.db.schema ≡ s.now.schema = same_schema s.now.trees free.db.schema s.now.schema
     (subst (IsSound free.db.schema) free.same free.sound) rest.sound in
-    is_cleared s.now.schema (subst AdmitsTables same free.clear)
+    is_cleared s.now.schema (subst AdmitsTables same free.admits_tables)

@@ -28,7 +28,7 @@ version_terms = lit (Int (pos 1)) ∷ lit Null ∷ lit (Int (pos 2)) ∷ []
 number_read : ParsesAs write_version_sql (written.Insert Abort (codes "enogate_meta") (codes "k" ∷ codes "version" ∷ [])
     (Values ((Integer (codes "1") ∷ Integer (codes "2") ∷ []) ∷ [])) [] [])
 unfolding everything
-number_read = record { parsed = _; read = refl; is = refl; timeless = refl }
+number_read = record { parsed = _; read = refl; is = refl; needs_no_time = refl }
 
 pub number_means : (schema : Schema) (at d : ℕ) → IsTableAt schema (codes "enogate_meta") (meta_table d) at
     → CompilesTo schema write_version_sql (Insert at (source.Values version_terms 3))
@@ -38,7 +38,7 @@ number_means schema at d it = insert_means it _ number_read refl (λ base. rw (i
 renew_read : ParsesAs rewrite_version_sql
     (written.Update (codes "enogate_meta") ((codes "version", Integer (codes "2")) ∷ []) None [])
 unfolding everything
-renew_read = record { parsed = _; read = refl; is = refl; timeless = refl }
+renew_read = record { parsed = _; read = refl; is = refl; needs_no_time = refl }
 
 pub renew_means : (schema : Schema) (at d : ℕ) → IsTableAt schema (codes "enogate_meta") (meta_table d) at
     → CompilesTo schema rewrite_version_sql (Update at (program_of (renew_query d)))
@@ -52,7 +52,7 @@ version_query d = plain_query d [] (col 1 0 ∷ col 1 2 ∷ [])
 version_is : IsPlainSelect read_version_sql
     (plain_select (codes "enogate_meta") (column_read (codes "k") ∷ column_read (codes "version") ∷ []) None [])
 unfolding everything
-version_is = record { read = record { parsed = _; read = refl; is = refl; timeless = refl } }
+version_is = record { read = record { parsed = _; read = refl; is = refl; needs_no_time = refl } }
 
 -- The key has no collation.
 pub version_means : (schema : Schema) (at d : ℕ) → IsTableAt schema (codes "enogate_meta") (meta_table d) at

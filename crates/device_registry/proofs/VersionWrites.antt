@@ -60,7 +60,7 @@ renew_command db devices had =
 renew_known : (db : Database) (devices : Devices) (had : IsVersion2RegistryOf db devices)
     → CompilesTo db.schema rewrite_version_sql (renew_command db devices had)
 renew_known db devices had =
-    let t = had.registry.tables in renew_means db.schema t.meta_at t.meta t.meta_stands
+    let t = had.registry.tables in renew_means db.schema t.meta_at t.meta t.meta_is_table
 
 -- an update that leaves the devices as they are
 module _ (then : Devices → Devices) where
@@ -71,7 +71,7 @@ module _ (then : Devices → Devices) where
   renew_does s after text tally devices had sound same h =
       let r = had.registry in
       let kept = renews s.now.schema r.tables.meta_at r.tables.meta s.step_limit (mode_of s) s.now.trees tally after
-      r.whole.row r.tables.meta_stands.there (meta_alone s.now.schema r.tables) r.whole.one r.whole.numbered.key h in
+      r.valid_rows.row r.tables.meta_is_table.there (meta_alone s.now.schema r.tables) r.valid_rows.one_version_row r.valid_rows.version_row_valid.key h in
       subst (IsVersion2RegistryOf after) (sym same)
       (renewed_registers s.now after devices had sound kept.0 kept.1 kept.2)
 
@@ -88,8 +88,8 @@ effect old new count devices shows h =
     (λ s after text tally devices had sound room. renew_does (λ devices. devices) s after text tally devices had sound
     refl) old new count devices shows.holds h in
     let kept = renews old.now.schema r.tables.meta_at r.tables.meta old.step_limit (mode_of old) old.now.trees
-    w.tally new.now r.whole.row r.tables.meta_stands.there (meta_alone old.now.schema r.tables) r.whole.one
-    r.whole.numbered.key w.changed in
+    w.tally new.now r.valid_rows.row r.tables.meta_is_table.there (meta_alone old.now.schema r.tables) r.valid_rows.one_version_row
+    r.valid_rows.version_row_valid.key w.changed in
     (kept.0, kept.1, kept.2, w.counted ∙ ap (λ rows. unwrap_or rows 0) kept.3)
 
 pub changes_one : (old new : State) (count : ℕ) → IsReady old → Executes rewrite_version_sql [] old new (Ok count)
@@ -108,22 +108,22 @@ renewed_rows : (old new : State) (count : ℕ) (devices : Devices) → IsReadyWi
 renewed_rows old new count devices shows h =
     let r = shows.holds.registry in
     let kept = effect old new count devices shows h in
-    let has = has_got old.now.schema.tables r.tables.meta_at (meta_table r.tables.meta) r.tables.meta_stands.there in
+    let has = has_got old.now.schema.tables r.tables.meta_at (meta_table r.tables.meta) r.tables.meta_is_table.there in
     let typed = all_has _ old.now.schema.tables (meta_table r.tables.meta) (shows.sound.obeys.rules Datatype) has in
     let row_typed =
     subst (AllByRecursion (λ row. passes Datatype old.now.schema old.now.trees (meta_table r.tables.meta) row ≡ true))
-    r.whole.one typed in
-    let same : r.whole.row ≡ version_row =
-    version_is r.tables.meta r.whole.row r.whole.numbered
-    (first_of_both (are_typed (meta_table r.tables.meta).key 0 (meta_table r.tables.meta).columns (drop 1 r.whole.row))
-    (has_computed (meta_table r.tables.meta) r.whole.row) row_typed.0) in
+    r.valid_rows.one_version_row typed in
+    let same : r.valid_rows.row ≡ version_row =
+    version_is r.tables.meta r.valid_rows.row r.valid_rows.version_row_valid
+    (first_of_both (are_typed (meta_table r.tables.meta).key 0 (meta_table r.tables.meta).columns (drop 1 r.valid_rows.row))
+    (has_computed (meta_table r.tables.meta) r.valid_rows.row) row_typed.0) in
     record {
       schema = kept.0;
       rows = λ t h.
           elim (cases_Bool (t.tree == r.tables.meta)) [
             | inl tie ↦
                 let e = same_tree t.tree r.tables.meta tie in
-                ap new.now.trees e ∙ kept.1 ∙ ap (λ x. x ∷ []) (sym same) ∙ sym r.whole.one ∙ sym (ap old.now.trees e)
+                ap new.now.trees e ∙ kept.1 ∙ ap (λ x. x ∷ []) (sym same) ∙ sym r.valid_rows.one_version_row ∙ sym (ap old.now.trees e)
             | inr apart ↦ kept.2.tables t h (other_tree t.tree r.tables.meta apart)
           ];
     }

@@ -22,7 +22,7 @@ use Rattle.device_registry.proofs.DeviceCodec.{IsShort}
 use Rattle.sqlite_rules.specs.Cast.{cast_row}
 use Rattle.sqlite_rules.specs.Edit.{with_rowid}
 use Rattle.sqlite_rules.specs.declared.error.Rowids.TheVariants.{Chosen}
-use Rattle.keyed_table.specs.Queries.{asked, program_of}
+use Rattle.keyed_table.specs.Queries.{lookup_params, program_of}
 use Rattle.keyed_table.proofs.Casts.{casts}
 use Rattle.keyed_table.proofs.TableWrites.{deletes}
 use Rattle.keyed_table.proofs.Upserts.{upserts}
@@ -45,7 +45,7 @@ put_does update id it short label s after text tally devices had sound room h =
     let r = had.registry in
     let table = device_table Second r.tables.devices in
     let stored : cast_row table (device_row id it) ≡ device_row id it = simp casts in
-    let put = upserts s.now.schema r.tables.devices_at table r.tables.devices_stand.there
+    let put = upserts s.now.schema r.tables.devices_at table r.tables.devices_are_table.there
     (devices_alone s.now.schema r.tables) s.step_limit (mode_of s) (upsert_params id it) (device_row id it) stored
     (Values put_terms 5) s.now.trees tally after refl
     (λ rows given. (device_row id it, given.1, ap (with_rowid Chosen (s.now.trees r.tables.devices)) stored)) h in
@@ -61,30 +61,30 @@ put_turns update id it short label =
     turned upsert_sql (upsert_params id it) (λ devices. apply_update devices update) (MakesIt update id it)
     (λ db devices had. InsertOr had.registry.tables.devices_at Replace (Values put_terms 5) [])
     (λ db devices had. tt)
-    (λ db devices had. let t = had.registry.tables in put_means db.schema t.devices_at t.devices t.devices_stand)
+    (λ db devices had. let t = had.registry.tables in put_means db.schema t.devices_at t.devices t.devices_are_table)
     (put_does update id it short label)
 
 forget_does : (id : ℕ) (s : State) (after : Database) (text : List ℕ) (tally : Tally) (devices : Devices)
     (had : IsVersion2RegistryOf s.now devices) → IsDatabase s.now → Unit {0}
-    → Does s.step_limit (mode_of s) (asked id) s.now text None
+    → Does s.step_limit (mode_of s) (lookup_params id) s.now text None
     (Delete had.registry.tables.devices_at (program_of (forget_query had.registry.tables.devices))) (Ok (tally, after))
     → IsVersion2RegistryOf after (remove devices id)
 forget_does id s after text tally devices had sound room h =
     let r = had.registry in
     let it = deletes s.now.schema r.tables.devices_at
-    (device_table Second r.tables.devices) r.tables.devices_stand.there
-    (devices_alone s.now.schema r.tables) s.step_limit (mode_of s) (asked id) s.now.trees tally after
+    (device_table Second r.tables.devices) r.tables.devices_are_table.there
+    (devices_alone s.now.schema r.tables) s.step_limit (mode_of s) (lookup_params id) s.now.trees tally after
     (forget_query r.tables.devices) h in
     forgotten_registers s.now after devices had sound id it.0 it.1 it.2
 
 pub forget_turns : (id : ℕ) (old new : State) (r : Result ℕ Error) → (HasCleanDisk old → IsReady old)
-    → Survives old new (CommitsBy delete_sql (asked id) old)
-    → (HasCleanDisk new → Executes delete_sql (asked id) old new r)
+    → Survives old new (CommitsBy delete_sql (lookup_params id) old)
+    → (HasCleanDisk new → Executes delete_sql (lookup_params id) old new r)
     → CommitsOrMayBeLeft old new (forget_update id) r
 forget_turns id old new r ready =
-    turned delete_sql (asked id) (λ devices. remove devices id) (λ devices. Unit {0})
+    turned delete_sql (lookup_params id) (λ devices. remove devices id) (λ devices. Unit {0})
     (λ db devices had. Delete had.registry.tables.devices_at (program_of (forget_query had.registry.tables.devices)))
     (λ db devices had. tt)
-    (λ db devices had. let t = had.registry.tables in forget_means db.schema t.devices_at t.devices t.devices_stand)
+    (λ db devices had. let t = had.registry.tables in forget_means db.schema t.devices_at t.devices t.devices_are_table)
     (forget_does id)
     old new r ready (λ clean devices shows. tt)

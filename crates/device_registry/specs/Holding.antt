@@ -9,7 +9,7 @@ use Rattle.learned_devices.specs.DeviceStoreState.{DeviceStoreState}
 use Rattle.device_registry.specs.declared.table.Version.{Version}
 use Rattle.device_registry.specs.Table.{upsert_sql, rewrite_version_sql}
 use Rattle.device_registry.specs.Table.Rows.{upsert_params}
-use Rattle.device_registry.specs.Stored.{IsVersion2RegistryOf, HoldsAs, HoldsVersion2, AreVersion2Trees, AdmitsRegistry}
+use Rattle.device_registry.specs.Stored.{IsVersion2RegistryOf, HoldsInVersion, HoldsVersion2, AreVersion2Trees, AdmitsRegistry}
 
 -- while the disk is clean and the connection is open, the registry holds these devices
 abbrev pub HasDevicesIfOpen : State → Devices → Type 0
@@ -49,7 +49,7 @@ DevicesAreCommitted s = HasCleanDisk s → IsTrue s.is_open → (devices : Devic
 -- be created, and there are no devices
 abbrev pub OpenFinds : Trees → Devices → Type 0
 OpenFinds trees devices =
-    ((version : Version) × HoldsAs version trees devices) ⊎ (AdmitsRegistry trees × (devices ≡ empty))
+    ((version : Version) × HoldsInVersion version trees devices) ⊎ (AdmitsRegistry trees × (devices ≡ empty))
 
 -- The registry is opened: it has the devices that were committed last, and a crash leaves only these.
 pub record Opens (old new : State) (devices : Devices) : Type 0 where

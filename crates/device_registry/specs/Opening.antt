@@ -66,7 +66,7 @@ IsForeignDatabase trees = (devices : Devices) → ¬ OpenFinds trees devices
 pub record FailsToOpen (old new : State) (fault : OpenFault) : Type 0 where
   pub survives : Survives old new (KeepsFoundDevices old.committed.trees)
   pub clean : HasCleanDisk new → HasCleanDisk old
-  pub other : HasCleanDisk new → fault ≡ NotARegistry → IsForeignDatabase old.committed.trees × IsUnchanged old new
+  pub not_a_registry : HasCleanDisk new → fault ≡ NotARegistry → IsForeignDatabase old.committed.trees × IsUnchanged old new
       × ((trees : Trees) → new.may_leave trees → old.may_leave trees)
   pub crash : HasCleanDisk new → (trees : Trees) → new.may_leave trees
       → old.may_leave trees ⊎ (IsTrue old.is_open × KeepsFoundDevices old.committed.trees trees)

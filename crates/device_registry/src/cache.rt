@@ -40,7 +40,7 @@ pub fn look_up_cached(cache: &mut Cache, id: u32) -> Option<Option<Device>>
 
 /// Adds or replaces the entry of a sender; a full cache then evicts its least recently used entry. If there is no
 /// memory, the cache does not change.
-pub fn cache_entry(cache: &mut Cache, id: u32, known: Option<Device>)
+pub fn insert_entry(cache: &mut Cache, id: u32, known: Option<Device>)
     ensures put { (cache.new ≡ cache.old)
         ⊎ (cache.new ≡ lru_cache (put_entries nat_eq cache.old id known) cache.old.cap) }
     ensures kept { (entry : _) → Contains cache.new.entries entry →

@@ -6,7 +6,7 @@ ghost use Rattle.sqlite.specs.declared.types.Value.TheVariants.{Int, Text};
 ghost use Rattle.sqlite.specs.State.{HasCleanDisk, IsUnchanged, Survives, Executes, CommitsBy};
 ghost use Rattle.sqlite.specs.State.{Shown, FailsToQuery, CommitsShowing};
 ghost use Rattle.learned_devices.specs.Devices.{Devices, DeviceUpdate, apply_update, forget_update, device_data};
-ghost use Rattle.learned_devices.specs.Devices.{is_full, all_of};
+ghost use Rattle.learned_devices.specs.Devices.{is_full, devices_by_ascending_id};
 ghost use Rattle.learned_devices.specs.Devices.{device_of};
 ghost use Rattle.device_registry.specs.Table.{upsert_sql, delete_sql, rewrite_version_sql};
 ghost use Rattle.device_registry.specs.Stored.{HoldsVersion2};
@@ -83,7 +83,7 @@ pub(crate) fn list_devices<C: SqlConnection>(conn: &mut C) -> Result<Vec<Row>, E
     ensures stays { WritesNothing (C.state conn.old) (C.state conn.new) }
     ensures all { HasCleanDisk (C.state conn.new) → IfOk result (λ rows. IsReady (C.state conn.new) ×
         ((devices : Devices) → IsReadyWith (C.state conn.old) devices
-        → map shown_device rows.items ≡ all_of devices)) }
+        → map shown_device rows.items ≡ devices_by_ascending_id devices)) }
 {
     let all = compile(conn, FIND_ALL)?;
     conn.query_all_prepared(&all, &[])

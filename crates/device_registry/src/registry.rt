@@ -11,7 +11,7 @@ ghost use Rattle.device_registry.specs.Holding.{registry_state};
 ghost use Rattle.device_registry.specs.Ready.{IsReady, AreReady};
 ghost use Rattle.device_registry.specs.private.TableCalls.{MakesKnown};
 
-use crate::cache::{Cache, cache_entry, copied, drop_entry, look_up_cached};
+use crate::cache::{Cache, copied, drop_entry, insert_entry, look_up_cached};
 use crate::device_table::DeviceTable;
 use crate::fault::store_fault_of;
 use crate::sql_connection::SqlConnection;
@@ -60,7 +60,7 @@ impl<C: SqlConnection> RegistryOver<C> {
         match self.table.find(id) {
             Ok(known) => {
                 let copy = copied(&known);
-                cache_entry(&mut self.cache, id, copy);
+                insert_entry(&mut self.cache, id, copy);
                 Ok(known)
             }
             Err(error) => {
@@ -91,7 +91,7 @@ impl<C: SqlConnection> RegistryOver<C> {
         drop_entry(&mut self.cache, id);
         match self.table.learn_unless_full(device) {
             Ok(true) => {
-                cache_entry(&mut self.cache, id, Some(copy));
+                insert_entry(&mut self.cache, id, Some(copy));
                 Ok(())
             }
             Ok(false) => Err(LearnFault::Full),
@@ -118,7 +118,7 @@ impl<C: SqlConnection> RegistryOver<C> {
         drop_entry(&mut self.cache, id);
         match self.table.put_known(device) {
             Ok(()) => {
-                cache_entry(&mut self.cache, id, Some(stored));
+                insert_entry(&mut self.cache, id, Some(stored));
                 Ok(())
             }
             Err(error) => {
@@ -208,7 +208,7 @@ impl<C: SqlConnection> RegistryOver<C> {
         drop_entry(&mut self.cache, id);
         match self.table.forget(id) {
             Ok(()) => {
-                cache_entry(&mut self.cache, id, None);
+                insert_entry(&mut self.cache, id, None);
                 Ok(())
             }
             Err(error) => {

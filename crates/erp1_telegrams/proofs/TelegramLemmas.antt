@@ -240,7 +240,7 @@ same_place b w n i j is below at =
 -- what the code reads from a packet: w is the data after the RORG, and its last five bytes are the ID and the status
 pub record Taken (p : Packet) (w : List ℕ) (id to : ℕ) (level : Option ℕ) : Type 0 where
   pub kind : p.kind ≡ 1
-  pub some : 1 ≤ length p.body
+  pub not_empty : 1 ≤ length p.body
   pub rest : w ≡ drop 1 p.body
   pub long : 5 ≤ length w
   pub sender : id ≡ from_be_bytes w32
@@ -300,7 +300,7 @@ taken_is p w sender dest dbm r h o a b n =
     let rest = h.rest in
     let long = h.long in
     let is_radio : (p.kind == 1) ≡ true = eq-eqb p.kind 1 h.kind in
-    let some : (length p.body == 0) ≡ false = ne_eqb (length p.body) 0 (λ e. let s = h.some in omega arith) in
+    let some : (length p.body == 0) ≡ false = ne_eqb (length p.body) 0 (λ e. let s = h.not_empty in omega arith) in
     let len : length (take (length w - 5) w) ≡ length p.body - 6 =
     omega (arith, length-take (length w - 5) w, ap length rest, length-drop 1 p.body) in
     let made =

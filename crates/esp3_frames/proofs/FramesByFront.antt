@@ -8,9 +8,9 @@ use Rattle.std.proofs.lemmas.Bool.{ne_eqb}
 use Rattle.esp3_frames.specs.Packet.{max_packet, Packet, IsPacket}
 use Rattle.esp3_frames.specs.Framing.{BeginsWithPacket}
 use Rattle.esp3_frames.specs.Framing.Framing.{ends, finds}
-use Rattle.esp3_frames.specs.Frames.{Front, front_of, Frames, frames_after_skipping, frames_of, packets_in}
-use Rattle.esp3_frames.specs.Frames.{rest_of}
-use Rattle.esp3_frames.specs.Frames.Front.{Never, Partial, Whole}
+use Rattle.esp3_frames.specs.PacketsAndRest.{Front, front_of, PacketsAndRest, packets_and_rest_after_skipping, packets_and_rest, packets_in}
+use Rattle.esp3_frames.specs.PacketsAndRest.{rest_of}
+use Rattle.esp3_frames.specs.PacketsAndRest.Front.{Never, Partial, Whole}
 use Rattle.esp3_frames.proofs.PacketLemmas.{packet_length, one_reading, begins_not_may}
 use Rattle.esp3_frames.proofs.FrontLemmas.{front_partial, front_whole}
 use Rattle.esp3_frames.proofs.FramingLemmas.{only_framing, stepped, empty_may_become, front_never}
@@ -21,14 +21,14 @@ cases_front Never = inl refl
 cases_front Partial = inr (inl refl)
 cases_front (Whole p) = inr (inr (p, refl))
 
-after_drop : (n : ℕ) (s : List ℕ) → frames_after_skipping n s ≡ frames_of (drop n s)
-unfolding frames_after_skipping
+after_drop : (n : ℕ) (s : List ℕ) → packets_and_rest_after_skipping n s ≡ packets_and_rest (drop n s)
+unfolding packets_and_rest_after_skipping
 after_drop zero s = refl
 after_drop (suc n) [] = refl
 after_drop (suc n) (b ∷ s) = after_drop n s
 
-pub frames-never : (s : List ℕ) → front_of s ≡ Never → (0 < length s) × (frames_of (drop 1 s) ≡ frames_of s)
-unfolding frames_after_skipping front_of
+pub frames-never : (s : List ℕ) → front_of s ≡ Never → (0 < length s) × (packets_and_rest (drop 1 s) ≡ packets_and_rest s)
+unfolding packets_and_rest_after_skipping front_of
 frames-never [] e = absurd cc
 frames-never (b ∷ s) e = (omega arith, ap (stepped b s) (sym e))
 
@@ -46,30 +46,30 @@ front-no_sync b (h ∷ l ∷ o ∷ k ∷ []) n = no_begin b _ Partial n
 front-no_sync b (h ∷ l ∷ o ∷ k ∷ c ∷ w) n = let e : eqb b 0x55 ≡ false = ne_eqb b 0x55 n in rw e refl
 
 pub frames-skipped : (w : List ℕ) (n : ℕ) → n ≤ length w → ((i : ℕ) → i < n → get_or w i 0 ≢ 0x55)
-    → frames_of (drop n w) ≡ frames_of w
+    → packets_and_rest (drop n w) ≡ packets_and_rest w
 frames-skipped w zero h none = refl
 frames-skipped [] (suc n) h none = absurd (omega arith)
 frames-skipped (b ∷ w) (suc n) h none =
     frames-skipped w n (omega arith) (λ i below. none (suc i) (omega arith))
     ∙ (frames-never (b ∷ w) (front-no_sync b w (none zero (omega arith)))).1
 
-pub frames-partial : (s : List ℕ) → front_of s ≡ Partial → frames_of s ≡ record { ready = []; rest = s }
-unfolding frames_after_skipping
+pub frames-partial : (s : List ℕ) → front_of s ≡ Partial → packets_and_rest s ≡ record { ready = []; rest = s }
+unfolding packets_and_rest_after_skipping
 frames-partial [] e = refl
 frames-partial (b ∷ s) e = ap (stepped b s) e
 
 pub frames-whole : (s : List ℕ) (p : Packet) → front_of s ≡ Whole p
-    → frames_of s ≡ record {
+    → packets_and_rest s ≡ record {
       ready = p ∷ packets_in (drop (length p.body + length p.opt + 7) s);
       rest = rest_of (drop (length p.body + length p.opt + 7) s);
     }
-unfolding frames_after_skipping front_of
+unfolding packets_and_rest_after_skipping front_of
 frames-whole [] p e = absurd cc
 frames-whole (b ∷ s) p e =
     let n : ℕ = length p.body + length p.opt + 6 in
     let m : length p.body + length p.opt + 7 ≡ suc n = omega arith in
-    let onto : Frames → Frames = λ c. record { ready = p ∷ c.ready; rest = c.rest } in
-    ap (stepped b s) e ∙ ap onto (after_drop n s ∙ ap (λ (i : ℕ). frames_of (drop i (b ∷ s))) (sym m))
+    let onto : PacketsAndRest → PacketsAndRest = λ c. record { ready = p ∷ c.ready; rest = c.rest } in
+    ap (stepped b s) e ∙ ap onto (after_drop n s ∙ ap (λ (i : ℕ). packets_and_rest (drop i (b ∷ s))) (sym m))
 
 pub partial_short : (s : List ℕ) → front_of s ≡ Partial → length s < max_packet
 partial_short s e =

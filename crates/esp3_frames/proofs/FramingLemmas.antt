@@ -8,8 +8,8 @@ use Rattle.esp3_frames.specs.Check.{check}
 use Rattle.esp3_frames.specs.Packet.{Packet, spelling, IsPacket}
 use Rattle.esp3_frames.specs.Framing.{BeginsWithPacket, MayBecomePacket, NeverPacket, Framing}
 use Rattle.esp3_frames.specs.Framing.Framing.{ends, skips, finds}
-use Rattle.esp3_frames.specs.Frames.{Front, front_of, Frames, frames_after_skipping, packets_in, rest_of}
-use Rattle.esp3_frames.specs.Frames.Front.{Never, Partial, Whole}
+use Rattle.esp3_frames.specs.PacketsAndRest.{Front, front_of, PacketsAndRest, packets_and_rest_after_skipping, packets_in, rest_of}
+use Rattle.esp3_frames.specs.PacketsAndRest.Front.{Never, Partial, Whole}
 use Rattle.esp3_frames.proofs.PacketLemmas.{split_fronts, one_reading, never-longer, packet_length, begins_not_may}
 use Rattle.esp3_frames.proofs.HeaderLemmas.{packet_parts, tail_check}
 use Rattle.esp3_frames.proofs.FrontLemmas.{test_fitting, fit_parts, front_partial, front_whole}
@@ -39,7 +39,7 @@ begins_cells p s h l o k c t r e hp d =
     let cells : (s ∷ h ∷ l ∷ o ∷ k ∷ c ∷ (m ++ check m ∷ [])) ≡ spelling p = cc in
     let et : t ≡ (m ++ check m ∷ []) ++ r = cc in
     let hq : IsPacket p (s ∷ h ∷ l ∷ o ∷ k ∷ c ∷ (m ++ check m ∷ [])) =
-    record { some = hp.some; body = hp.body; opt = hp.opt; bytes = cells } in
+    record { not_empty = hp.not_empty; body = hp.body; opt = hp.opt; bytes = cells } in
     let parts = packet_parts p s h l o k c (m ++ check m ∷ []) cells in
     let high = parts.high in let low = parts.low in let opts = parts.opts in
     let n : 256 * h + l + o ≡ length m = omega (arith, length-append p.body p.opt) in
@@ -83,27 +83,27 @@ may_become_not_never (s ∷ []) p more hp hm d =
 may_become_not_never (s ∷ h ∷ []) p more hp hm d =
     let e = hp.bytes in let es : s ≡ 0x55 = cc in let eh : h ≡ length p.body / 256 = cc in let body = hp.body in
     kept _ Partial (and_from _ _ (eq-eqb s 0x55 es)
-    (test_fitting h 0 1 (record { high = omega arith; low = omega arith; opts = omega arith; some = omega arith })))
+    (test_fitting h 0 1 (record { high = omega arith; low = omega arith; opts = omega arith; not_empty = omega arith })))
     partial_apart d
 may_become_not_never (s ∷ h ∷ l ∷ []) p more hp hm d =
     let e = hp.bytes in let es : s ≡ 0x55 = cc in let eh : h ≡ length p.body / 256 =
     cc in let el : l ≡ length p.body % 256 = cc in let body = hp.body in
     kept _ Partial (and_from _ _ (eq-eqb s 0x55 es)
-    (test_fitting h l 1 (record { high = omega arith; low = omega arith; opts = omega arith; some = omega arith })))
+    (test_fitting h l 1 (record { high = omega arith; low = omega arith; opts = omega arith; not_empty = omega arith })))
     partial_apart d
 may_become_not_never (s ∷ h ∷ l ∷ o ∷ []) p more hp hm d =
     let e = hp.bytes in let es : s ≡ 0x55 = cc in let eh : h ≡ length p.body / 256 = cc in
     let el : l ≡ length p.body % 256 = cc in let eo : o ≡ length p.opt = cc in let body = hp.body in
-    let opt = hp.opt in let some = hp.some in
+    let opt = hp.opt in let some = hp.not_empty in
     kept _ Partial (and_from _ _ (eq-eqb s 0x55 es)
-    (test_fitting h l o (record { high = omega arith; low = omega arith; opts = omega arith; some = omega arith })))
+    (test_fitting h l o (record { high = omega arith; low = omega arith; opts = omega arith; not_empty = omega arith })))
     partial_apart d
 may_become_not_never (s ∷ h ∷ l ∷ o ∷ k ∷ []) p more hp hm d =
     let e = hp.bytes in let es : s ≡ 0x55 = cc in let eh : h ≡ length p.body / 256 = cc in
     let el : l ≡ length p.body % 256 = cc in let eo : o ≡ length p.opt = cc in let body = hp.body in
-    let opt = hp.opt in let some = hp.some in
+    let opt = hp.opt in let some = hp.not_empty in
     kept _ Partial (and_from _ _ (eq-eqb s 0x55 es)
-    (test_fitting h l o (record { high = omega arith; low = omega arith; opts = omega arith; some = omega arith })))
+    (test_fitting h l o (record { high = omega arith; low = omega arith; opts = omega arith; not_empty = omega arith })))
     partial_apart d
 may_become_not_never (s ∷ h ∷ l ∷ o ∷ k ∷ c ∷ t) p more hp hm d = may_become_cells p s h l o k c t more hp hm d
 
@@ -122,13 +122,13 @@ unfolding front_of
 empty_front = refl
 
 -- the frames of b ∷ s, by its front
-abbrev pub stepped : ℕ → List ℕ → Front → Frames
+abbrev pub stepped : ℕ → List ℕ → Front → PacketsAndRest
 stepped b s f =
     elim f [
-      | Never ↦ frames_after_skipping zero s
+      | Never ↦ packets_and_rest_after_skipping zero s
       | Partial ↦ record { ready = []; rest = b ∷ s }
       | Whole p ↦ let c =
-          frames_after_skipping (length p.body + length p.opt + 6) s in record { ready = p ∷ c.ready; rest = c.rest }
+          packets_and_rest_after_skipping (length p.body + length p.opt + 6) s in record { ready = p ∷ c.ready; rest = c.rest }
     ]
 
 dropped : (b : ℕ) (s v r : List ℕ) (n : ℕ) → (b ∷ s) ≡ v ++ r → length v ≡ suc n → (n ≤ length s) × (r ≡ drop n s)
@@ -141,7 +141,7 @@ dropped b s (x ∷ v) r n e h =
     )
 
 at_front : (b : ℕ) (s : List ℕ) (f : Front) → front_of (b ∷ s) ≡ f
-    → ((n : ℕ) → n ≤ length s → Framing (drop n s) (frames_after_skipping n s).ready (frames_after_skipping n s).rest)
+    → ((n : ℕ) → n ≤ length s → Framing (drop n s) (packets_and_rest_after_skipping n s).ready (packets_and_rest_after_skipping n s).rest)
     → Framing (b ∷ s) (stepped b s f).ready (stepped b s f).rest
 at_front b s Never e ih = skips (front_never (b ∷ s) e) (ih zero (omega arith))
 at_front b s Partial e ih = ends (front_partial (b ∷ s) e)
@@ -153,8 +153,8 @@ at_front b s (Whole p) e ih =
     finds {front = h.front} {s = drop n s} h.whole (h.is ∙ ap (λ (y : List ℕ). h.front ++ y) d.1) (ih n d.0)
 
 pub framing_after : (n : ℕ) (s : List ℕ) → n ≤ length s
-    → Framing (drop n s) (frames_after_skipping n s).ready (frames_after_skipping n s).rest
-unfolding frames_after_skipping
+    → Framing (drop n s) (packets_and_rest_after_skipping n s).ready (packets_and_rest_after_skipping n s).rest
+unfolding packets_and_rest_after_skipping
 framing_after zero [] h = ends (front_partial [] empty_front)
 framing_after (suc n) [] h = absurd (omega arith)
 framing_after (suc n) (b ∷ s) h = framing_after n s (omega arith)
@@ -201,8 +201,8 @@ rest_may_become (skips d c) = rest_may_become c
 rest_may_become (finds hp e c) = rest_may_become c
 
 -- a text that may become a packet contains none, and is its own rest
-pub frames_of-may_become : (w : List ℕ) → MayBecomePacket w → ([] ≡ packets_in w) × (w ≡ rest_of w)
-frames_of-may_become w l = only_framing w [] w (ends l)
+pub packets_and_rest-may_become : (w : List ℕ) → MayBecomePacket w → ([] ≡ packets_in w) × (w ≡ rest_of w)
+packets_and_rest-may_become w l = only_framing w [] w (ends l)
 
 -- a framing continues from its rest
 pub framing-append : {s : List ℕ} {ps : List Packet} {r : List ℕ} (t : List ℕ) (qs : List Packet) (u : List ℕ)

@@ -6,8 +6,8 @@ use Rattle.std.specs.Prelude.{Result, Ok, Err}
 use Rattle.std.proofs.lemmas.Bool.{and_parts, and_from, le-leb, lt-leb, eq-eqb, ne_eqb}
 use Rattle.esp3_frames.specs.Check.{check}
 use Rattle.esp3_frames.specs.Packet.{announces_data, Packet}
-use Rattle.esp3_frames.specs.Frames.{may_begin, Front, front_after_header, front_of}
-use Rattle.esp3_frames.specs.Frames.Front.{Never, Partial, Whole}
+use Rattle.esp3_frames.specs.PacketsAndRest.{may_begin, Front, front_after_header, front_of}
+use Rattle.esp3_frames.specs.PacketsAndRest.Front.{Never, Partial, Whole}
 use Rattle.esp3_frames.specs.Outcome.{decoded_header, header_of}
 use Rattle.esp3_frames.specs.declared.packet.Header.{Header}
 use Rattle.esp3_frames.specs.declared.packet.HeaderFault.{HeaderFault}

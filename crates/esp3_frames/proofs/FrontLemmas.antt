@@ -8,15 +8,15 @@ use Rattle.std.proofs.lemmas.Bool.{and_parts, and_from, leb-true, leb-false, eqb
 use Rattle.esp3_frames.specs.Check.{check}
 use Rattle.esp3_frames.specs.Packet.{announces_data, Packet, IsPacket}
 use Rattle.esp3_frames.specs.Framing.{MayBecomePacket}
-use Rattle.esp3_frames.specs.Frames.{may_begin, Front, front_of}
-use Rattle.esp3_frames.specs.Frames.Front.{Never, Partial, Whole}
+use Rattle.esp3_frames.specs.PacketsAndRest.{may_begin, Front, front_of}
+use Rattle.esp3_frames.specs.PacketsAndRest.Front.{Never, Partial, Whole}
 use Rattle.esp3_frames.proofs.PacketLemmas.{may_become-shorter}
 use Rattle.esp3_frames.proofs.HeaderLemmas.{packet_parts, parts_packet, Fitting, fitting, made, is_made}
 
 pub test_fitting : (h l o : ℕ) → Fitting h l o → announces_data h l o ≡ true
 test_fitting h l o f =
     and_from _ _ (and_from _ _ (lt-ltb h 256 f.high) (lt-ltb l 256 f.low))
-    (and_from _ _ (lt-ltb o 256 f.opts) (lt-ltb 0 _ f.some))
+    (and_from _ _ (lt-ltb o 256 f.opts) (lt-ltb 0 _ f.not_empty))
 
 -- a header that fits, followed by at most the announced lengths, may become a packet
 pub completed : (h l o k : ℕ) (w : List ℕ) → Fitting h l o → length w ≤ 256 * h + l + o
@@ -31,14 +31,14 @@ completed h l o k w f hw =
     let p : Packet = record { kind = k; body = take d m; opt = drop d m } in
     let low = f.low in
     let opts = f.opts in
-    let some = f.some in
+    let some = f.not_empty in
     let high = f.high in
     record {
       packet = p;
       more = z ++ check m ∷ [];
       proper = omega (arith, length-append z (check m ∷ []));
       whole = record {
-        some = omega arith;
+        not_empty = omega arith;
         body = omega arith;
         opt = omega arith;
         bytes = parts_packet p 0x55 h l o k _ (w ++ (z ++ check m ∷ [])) (record {
@@ -188,9 +188,9 @@ fit_parts p s h l o k c w t hp =
     let high = r.high in
     let low = r.low in
     let opts = r.opts in
-    let some = hp.some in
+    let some = hp.not_empty in
     let body = hp.body in
     let opt = hp.opt in
     and_from _ _ (and_from _ _ (eq-eqb s 0x55 sync) (test_fitting h l o
-    (record { high = omega arith; low = omega arith; opts = omega arith; some = omega arith })))
+    (record { high = omega arith; low = omega arith; opts = omega arith; not_empty = omega arith })))
     (eq-eqb c _ r.checked)

@@ -67,14 +67,14 @@ pub record Fitting (h l o : ℕ) : Type 0 where
   pub high : h < 256
   pub low : l < 256
   pub opts : o < 256
-  pub some : 0 < h + l + o
+  pub not_empty : 0 < h + l + o
 
 pub fitting : (h l o : ℕ) → announces_data h l o ≡ true → Fitting h l o
 fitting h l o e =
     let a = and_parts _ _ e in
     let b = and_parts _ _ a.0 in
     let c = and_parts _ _ a.1 in
-    record { high = ltb-true h 256 b.0; low = ltb-true l 256 b.1; opts = ltb-true o 256 c.0; some = ltb-true 0 _ c.1 }
+    record { high = ltb-true h 256 b.0; low = ltb-true l 256 b.1; opts = ltb-true o 256 c.0; not_empty = ltb-true 0 _ c.1 }
 
 -- a packet from its parts
 unfoldable pub made : (k d o : ℕ) (w : List ℕ) → Packet
@@ -85,14 +85,14 @@ pub is_made : (h l o k c : ℕ) (w : List ℕ) → Fitting h l o → c ≡ check
     → IsPacket (made k (256 * h + l) o w) (0x55 ∷ h ∷ l ∷ o ∷ k ∷ c ∷ take (256 * h + l + o + 1) w)
 unfolding made
 is_made h l o k c w f hc hw hk =
-    let high = f.high in let low = f.low in let opts = f.opts in let some = f.some in
+    let high = f.high in let low = f.low in let opts = f.opts in let some = f.not_empty in
     let n : ℕ = 256 * h + l + o in
     let d : ℕ = 256 * h + l in
     let full : length (take n w) ≡ n = omega (arith, length-take n w) in
     let bl : length (take d (take n w)) ≡ d = omega (arith, length-take d (take n w)) in
     let ol : length (drop d (take n w)) ≡ o = omega (arith, length-drop d (take n w)) in
     record {
-      some = omega arith;
+      not_empty = omega arith;
       body = omega arith;
       opt = omega arith;
       bytes = parts_packet _ 0x55 h l o k c (take (n + 1) w) (record {

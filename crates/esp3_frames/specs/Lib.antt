@@ -1,5 +1,5 @@
 pub mod Check
 pub mod Packet
 pub mod Framing
-pub mod Frames
+pub mod PacketsAndRest
 pub mod Outcome

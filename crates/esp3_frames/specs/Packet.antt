@@ -36,7 +36,7 @@ spelling p = (0x55 ∷ header p ++ check (header p) ∷ []) ++ (p.body ++ p.opt 
 
 -- the bytes w are exactly the packet p. Own choice: a packet is not empty
 pub record IsPacket (p : Packet) (w : List ℕ) : Type 0 where
-  pub some : 0 < length p.body + length p.opt
+  pub not_empty : 0 < length p.body + length p.opt
   pub body : length p.body ≤ max_data
   pub opt : length p.opt ≤ max_optional_data
   pub bytes : w ≡ spelling p

@@ -5,8 +5,8 @@ ghost use Rattle.esp3_frames.specs.Check.{check, crc_after_zeros};
 ghost use Rattle.esp3_frames.specs.Packet.{max_data, max_optional_data, max_packet, Packet, IsPacket};
 ghost use Rattle.esp3_frames.specs.Packet.{OneReading};
 ghost use Rattle.esp3_frames.specs.Framing.{Framing, BeginsWithPacket, MayBecomePacket, NeverPacket};
-ghost use Rattle.esp3_frames.specs.Frames.{front_of, front_after_header, may_begin, frames_of, packets_in, rest_of};
-ghost use Rattle.esp3_frames.specs.Frames.Front.{Never, Partial, Whole};
+ghost use Rattle.esp3_frames.specs.PacketsAndRest.{front_of, front_after_header, may_begin, packets_and_rest, packets_in, rest_of};
+ghost use Rattle.esp3_frames.specs.PacketsAndRest.Front.{Never, Partial, Whole};
 ghost use Rattle.esp3_frames.specs.Outcome.{header_of};
 ghost use Rattle.esp3_frames.specs.declared.limits.TheConstants.{MAX_DATA, MAX_OPTIONAL_DATA, MAX_PACKET};
 ghost use Rattle.esp3_frames.specs.declared.packet.Header.{Header};
@@ -75,14 +75,14 @@ pub fn front_cases()
 
 /// The frames of a text, by its front: a byte is skipped, nothing is decided yet, or there is a packet. Bytes up to the
 /// next sync byte are skipped.
-pub fn frames_by_front()
-    ensures never { (w : List ℕ) → front_of w ≡ Never → (0 < length w) × (frames_of (drop 1 w) ≡ frames_of w) }
+pub fn packets_and_rest_by_front()
+    ensures never { (w : List ℕ) → front_of w ≡ Never → (0 < length w) × (packets_and_rest (drop 1 w) ≡ packets_and_rest w) }
     ensures skipped { (w : List ℕ) (n : ℕ) → n ≤ length w → ((i : ℕ) → i < n → slice_index w i ≢ 0x55) →
-        frames_of (drop n w) ≡ frames_of w }
-    ensures partial { (w : List ℕ) → front_of w ≡ Partial → frames_of w ≡ record { ready = []; rest = w } }
+        packets_and_rest (drop n w) ≡ packets_and_rest w }
+    ensures partial { (w : List ℕ) → front_of w ≡ Partial → packets_and_rest w ≡ record { ready = []; rest = w } }
     ensures whole { (w : List ℕ) (p : Packet) → front_of w ≡ Whole p →
         let more = drop (length p.body + length p.opt + 7) w in
-        frames_of w ≡ record { ready = p ∷ packets_in more; rest = rest_of more } }
+        packets_and_rest w ≡ record { ready = p ∷ packets_in more; rest = rest_of more } }
     ensures one { (p : Packet) (w : List ℕ) → IsPacket p w → packets_in w ≡ p ∷ [] }
 {}
 

@@ -1,8 +1,8 @@
 //! Reading and writing headers and whole packets.
 ghost use Rattle.std.specs.Prelude.{◌≡◌, ◌≢◌, ℕ, ◌+◌, ◌*◌, ◌-◌, ◌++◌, length, IfSome, IfNone, IfOk, IfErr, OnOk, OnErr};
 ghost use Rattle.std.specs.Prelude.{Ok, Err};
-ghost use Rattle.esp3_frames.specs.Frames.{front_of};
-ghost use Rattle.esp3_frames.specs.Frames.Front.{Whole};
+ghost use Rattle.esp3_frames.specs.PacketsAndRest.{front_of};
+ghost use Rattle.esp3_frames.specs.PacketsAndRest.Front.{Whole};
 ghost use Rattle.esp3_frames.specs.Packet;
 ghost use Rattle.esp3_frames.specs.Packet.{Packet, IsPacket, spelling};
 ghost use Rattle.esp3_frames.specs.Outcome.{packet_of, decoded_header, header_of, write_result};

@@ -5,8 +5,8 @@ use Rattle.std.proofs.lemmas.List.{get_or-drop, take-append-le}
 use Rattle.std.proofs.lemmas.Bool.{cases_eq, cases_lt}
 use Rattle.esp3_frames.specs.Check.{check}
 use Rattle.esp3_frames.specs.Packet.{max_packet}
-use Rattle.esp3_frames.specs.Frames.{front_of, front_after_header, frames_of, Frames}
-use Rattle.esp3_frames.specs.Frames.Front.{Never, Partial, Whole}
+use Rattle.esp3_frames.specs.PacketsAndRest.{front_of, front_after_header, packets_and_rest, PacketsAndRest}
+use Rattle.esp3_frames.specs.PacketsAndRest.Front.{Never, Partial, Whole}
 use Rattle.esp3_frames.specs.Outcome.{header_of}
 use Rattle.esp3_frames.specs.declared.packet.Header.{Header}
 use Rattle.esp3_frames.proofs.ForCallers.{front-empty, front-good, front_after_header-partial, front_after_header-whole}
@@ -35,7 +35,7 @@ not_empty (found.PartialPacket h) w is n = omega (arith, is.1.0)
 not_empty (found.WholePacket h) w is n = omega (arith, (whole_length w (packet_at h w) is).0)
 
 -- if no packet is ready, a framer's bytes are its rest, and a part of a packet
-pub held_bytes : (x : WindowFront) (w : List ℕ) (f : Frames) → IsWindowFront x w → frames_of w ≡ f
+pub held_bytes : (x : WindowFront) (w : List ℕ) (f : PacketsAndRest) → IsWindowFront x w → packets_and_rest w ≡ f
     → length f.ready ≡ 0 → (front_of w ≡ Partial) × (w ≡ f.rest)
 held_bytes x w f is e none = held w f (not_never x w is) e none
 

@@ -14,6 +14,6 @@ buffered_packet None v = None
 buffered_packet (Some h) v = Some (packet_with h v)
 
 -- there is capacity for every packet, and what is kept has the lengths that its header announced
-pub record Buffered (v : Vec ℕ) (h : Option Header) : Type 0 where
+pub record IsPacketBuffer (v : Vec ℕ) (h : Option Header) : Type 0 where
   pub room : max_packet ≤ vec_capacity v
   pub lengths : IfSome h (λ x. x.data_len + x.opt_len ≡ length v.items)

@@ -5,8 +5,8 @@ ghost use Rattle.std.specs.Prelude.{vec_capacity, Some, None, IsTrue, IsSome, If
 ghost use Rattle.std.specs.Bool.{OnTrue, OnFalse};
 ghost use Rattle.std.specs.Option.{option_map};
 ghost use Rattle.esp3_frames.specs.Framing.{MayBecomePacket};
-ghost use Rattle.esp3_frames.specs.Frames.{front_of, frames_of};
-ghost use Rattle.esp3_frames.specs.Frames.Front.{Whole};
+ghost use Rattle.esp3_frames.specs.PacketsAndRest.{front_of, packets_and_rest};
+ghost use Rattle.esp3_frames.specs.PacketsAndRest.Front.{Whole};
 ghost use Rattle.esp3_frames.specs.Outcome.{packet_of};
 ghost use Rattle.esp3_frames.specs.Packet.{Packet, max_data, max_packet};
 ghost use Rattle.esp3_resync.specs.BufferedPacket.{packet_with};
@@ -43,13 +43,13 @@ pub struct PacketBuf {
 impl Model for PacketBuf {
     ghost use Rattle.std.specs.Prelude.{Option};
     ghost use Rattle.esp3_frames.specs.Packet.{Packet};
-    ghost use Rattle.esp3_resync.specs.BufferedPacket.{Buffered, buffered_packet};
+    ghost use Rattle.esp3_resync.specs.BufferedPacket.{IsPacketBuffer, buffered_packet};
 
     ghost Value = { Option Packet };
 
     ghost view = { λ b. buffered_packet b.header b.bytes.items };
 
-    ghost invariant = { λ b. Buffered b.bytes b.header };
+    ghost invariant = { λ b. IsPacketBuffer b.bytes b.header };
 }
 
 impl PacketBuf {
@@ -86,12 +86,12 @@ pub struct Framer {
 }
 
 impl Model for Framer {
-    ghost use Rattle.esp3_frames.specs.Frames.{Frames, frames_of};
+    ghost use Rattle.esp3_frames.specs.PacketsAndRest.{PacketsAndRest, packets_and_rest};
     ghost use Rattle.esp3_resync.specs.private.WindowFronts.{IsWindowFront};
 
-    ghost Value = { Frames };
+    ghost Value = { PacketsAndRest };
 
-    ghost view = { λ f. frames_of f.window };
+    ghost view = { λ f. packets_and_rest f.window };
 
     ghost invariant = { λ f. IsWindowFront f.front f.window };
 }
@@ -118,7 +118,7 @@ impl Framer {
     /// Processes the next byte of the stream. One byte can make several packets ready. Does not allocate.
     pub fn push(&mut self, b: u8)
         requires { length self.old.ready ≡ 0 }
-        ensures { self.new ≡ frames_of (self.old.rest ++ b ∷ []) }
+        ensures { self.new ≡ packets_and_rest (self.old.rest ++ b ∷ []) }
     {
         let _count = self.push_some(&[b]);
     }
@@ -129,9 +129,9 @@ impl Framer {
         requires { length self.old.ready ≡ 0 }
         ensures within { result ≤ length bytes.now }
         ensures some { 0 < length bytes.now → 0 < result }
-        ensures taken { self.new ≡ frames_of (self.old.rest ++ take result bytes.now) }
+        ensures taken { self.new ≡ packets_and_rest (self.old.rest ++ take result bytes.now) }
         ensures up_to { length self.new.ready ≡ 0 → result ≡ length bytes.now }
-        ensures before { (k : ℕ) → k < result → length (frames_of (self.old.rest ++ take k bytes.now)).ready ≡ 0 }
+        ensures before { (k : ℕ) → k < result → length (packets_and_rest (self.old.rest ++ take k bytes.now)).ready ≡ 0 }
     {
         // The proof uses what the framer holds at the start.
         let _held = &self.window;
@@ -152,8 +152,8 @@ impl Framer {
         requires some { 0 < length bytes.now }
         ensures within { result ≤ length bytes.now }
         ensures some { 0 < result }
-        ensures taken { self.new ≡ frames_of (self.old.rest ++ take result bytes.now) }
-        ensures before { (k : ℕ) → k < result → length (frames_of (self.old.rest ++ take k bytes.now)).ready ≡ 0 }
+        ensures taken { self.new ≡ packets_and_rest (self.old.rest ++ take result bytes.now) }
+        ensures before { (k : ℕ) → k < result → length (packets_and_rest (self.old.rest ++ take k bytes.now)).ready ≡ 0 }
     {
         if let WindowFront::PartialPacket(header) = self.front {
             let count = push_announced(&mut self.window, header, bytes);
@@ -178,10 +178,10 @@ impl Framer {
         requires { length self.now.ready ≡ 0 }
         ensures within { IfSome result (λ r. (0 < r.1) × (r.1 ≤ length bytes.now)) }
         ensures short { IfSome result (λ r. length r.0.body.now ≤ max_data) }
-        ensures taken { IfSome result (λ r. frames_of (self.now.rest ++ take r.1 bytes.now)
+        ensures taken { IfSome result (λ r. packets_and_rest (self.now.rest ++ take r.1 bytes.now)
             ≡ record { ready = packet_of r.0 ∷ []; rest = self.now.rest }) }
         ensures before { IfSome result (λ r. (k : ℕ) → k < r.1 →
-            length (frames_of (self.now.rest ++ take k bytes.now)).ready ≡ 0) }
+            length (packets_and_rest (self.now.rest ++ take k bytes.now)).ready ≡ 0) }
         ensures none { IfNone result (self.now.rest ≡ [] → (p : Packet) → front_of bytes.now ≢ Whole p) }
     {
         let WindowFront::Empty = self.front else {

@@ -1,8 +1,8 @@
 //! The front of a window: a part of a packet, a whole one, or bytes to skip.
 ghost use Rattle.std.specs.Prelude.{◌≡◌, ◌+◌, MatchOption};
-ghost use Rattle.esp3_frames.specs.Frames.{front_of, frames_of};
-ghost use Rattle.esp3_frames.specs.Frames;
-ghost use Rattle.esp3_frames.specs.Frames.Front.{Never};
+ghost use Rattle.esp3_frames.specs.PacketsAndRest.{front_of, packets_and_rest};
+ghost use Rattle.esp3_frames.specs.PacketsAndRest;
+ghost use Rattle.esp3_frames.specs.PacketsAndRest.Front.{Never};
 ghost use Rattle.esp3_resync.specs.private.WindowFronts.{HasHeader, IsWindowFront};
 
 use crate::window::Window;
@@ -45,7 +45,7 @@ fn front_with_header(window: &Window, header: Header) -> Option<WindowFront>
 
 // Whether a packet may begin with these at most five bytes. Missing bytes are assumed to be valid.
 fn may_begin(window: &Window) -> bool
-    ensures { result ≡ Frames.may_begin window.now }
+    ensures { result ≡ PacketsAndRest.may_begin window.now }
 {
     window.byte_or(0, SYNC_BYTE) == SYNC_BYTE
         && announces_data(
@@ -76,7 +76,7 @@ fn front(window: &Window) -> Option<WindowFront>
 
 /// Skips bytes until a packet may begin at the front, and returns the front.
 pub fn resync(window: &mut Window) -> WindowFront
-    ensures frames { frames_of window.new ≡ frames_of window.old }
+    ensures frames { packets_and_rest window.new ≡ packets_and_rest window.old }
     ensures front { IsWindowFront result window.new }
 {
     loop {
@@ -90,7 +90,7 @@ pub fn resync(window: &mut Window) -> WindowFront
 // Skips the first byte, at which no packet begins, and then proceeds as `resync`, so it does not check that byte again.
 fn resync_after_first(window: &mut Window) -> WindowFront
     requires { front_of window.old ≡ Never }
-    ensures frames { frames_of window.new ≡ frames_of window.old }
+    ensures frames { packets_and_rest window.new ≡ packets_and_rest window.old }
     ensures front { IsWindowFront result window.new }
 {
     window.skip_to_next_sync();
@@ -100,7 +100,7 @@ fn resync_after_first(window: &mut Window) -> WindowFront
 /// The same for a window that begins with this header, which is not read again.
 pub fn resync_with_header(window: &mut Window, header: Header) -> WindowFront
     requires { HasHeader window.old header }
-    ensures frames { frames_of window.new ≡ frames_of window.old }
+    ensures frames { packets_and_rest window.new ≡ packets_and_rest window.old }
     ensures front { IsWindowFront result window.new }
 {
     match front_with_header(window, header) {

@@ -1,7 +1,7 @@
 //! The number of bytes that can be processed at once: no byte but the last of them may make a packet ready.
 ghost use Rattle.std.specs.Prelude.{◌≡◌, ◌≢◌, ℕ, ◌<◌, ◌≤◌, ◌++◌, length, take, slice_index};
-ghost use Rattle.esp3_frames.specs.Frames.{front_of};
-ghost use Rattle.esp3_frames.specs.Frames.Front.{Partial};
+ghost use Rattle.esp3_frames.specs.PacketsAndRest.{front_of};
+ghost use Rattle.esp3_frames.specs.PacketsAndRest.Front.{Partial};
 ghost use Rattle.esp3_resync.specs.private.WindowFronts.{HasHeader};
 
 use crate::front::announced_data_len;

@@ -33,7 +33,7 @@ use Rattle.clap.specs.declared.parser.matches.ArgMatches.{ArgMatches}
 use Rattle.clap.proofs.SimpleLemmas.{plain_fields}
 use Rattle.clap.proofs.ValueTestLemmas.{accepts-Accepts}
 use Rattle.gateway_cli.specs.Bases.{base_in}
-use Rattle.gateway_cli.specs.CommandLine.{HasExplain, IsComplete, IsAcceptedByClap, HasLiveOptions, base_rule}
+use Rattle.gateway_cli.specs.CommandLine.{HasExplain, HasRequiredOptions, IsAcceptedByClap, HasLiveOptions, base_rule}
 use Rattle.gateway_cli.specs.CommandLine.{enogate_app}
 use Rattle.gateway_cli.specs.CommandLine.{explain_rule, rows_if_replay_or_live, option_text}
 use Rattle.gateway_cli.proofs.RequiredLemmas.{DefaultFits, HasOne, RowFits, RuleFits, default_one, found_in, given_one}
@@ -202,7 +202,7 @@ Serves name = (name ≡ codes "replay") ⊎ (name ≡ codes "live")
 
 abbrev CompleteIfServing : Shape → Type 0
 CompleteIfServing s = Serves s.name → (words : List Text) → level_fault s [] nothing_held words false [] ≡ []
-    → IsComplete (Some (rows_at s words))
+    → HasRequiredOptions (Some (rows_at s words))
 
 subcommands_complete : All CompleteIfServing (built enogate_app).subs
 subcommands_complete =
@@ -223,31 +223,31 @@ subcommands_complete =
 
 entered_complete : (stop : Option (Text × List Text)) (found : Text × List Row)
     → entered_fault (built enogate_app) stop ≡ [] → entered (built enogate_app) stop ≡ Some found → Serves found.0
-    → IsComplete (Some found)
+    → HasRequiredOptions (Some found)
 entered_complete None found e is named = cc
 entered_complete (Some p) found e is named =
     go (find (λ s. answers_to p.0 (label_of s)) (built enogate_app).subs) refl e is
   where
     go : (o : Option Shape) → find (λ s. answers_to p.0 (label_of s)) (built enogate_app).subs ≡ o
         → option_map_or (λ s. level_fault s [] nothing_held p.1 false []) o [] ≡ []
-        → option_map (λ s. rows_at s p.1) o ≡ Some found → IsComplete (Some found)
+        → option_map (λ s. rows_at s p.1) o ≡ Some found → HasRequiredOptions (Some found)
     go None at e is = cc
     go (Some s) at e is =
         let same : rows_at s p.1 ≡ found = ap (λ (o : Option (Text × List Row)). unwrap_or o found) is in
         let complete = (found_in CompleteIfServing (λ x. answers_to p.0 (label_of x)) (built enogate_app).subs s
         subcommands_complete at).0 in
-        subst (λ (x : Text × List Row). IsComplete (Some x)) same
+        subst (λ (x : Text × List Row). HasRequiredOptions (Some x)) same
         (complete (subst (λ (x : Text × List Row). Serves x.0) (sym same) named) p.1 e)
 
 -- if a base was found, the subcommand is one that serves, with everything that it requires
 complete : (words : List Text) (found : Option (Text × List Row)) (base : ℕ) → IsAcceptedByClap words
     → found ≡ subcommand_of enogate_app words → option_and_then base_in (option_text (codes "base") found) ≡ Some base
-    → IsComplete found
+    → HasRequiredOptions found
 complete words None base taken is read = cc
 complete words (Some found) base taken is read =
     go (bytes_eq found.0 (codes "replay")) (bytes_eq found.0 (codes "live")) refl refl read
   where
-    serves : Serves found.0 → IsComplete (Some found)
+    serves : Serves found.0 → HasRequiredOptions (Some found)
     serves named =
         let app = built enogate_app in
         let rest = argument_words enogate_app words in
@@ -258,7 +258,7 @@ complete words (Some found) base taken is read =
 
     go : (r l : Bool) → bytes_eq found.0 (codes "replay") ≡ r → bytes_eq found.0 (codes "live") ≡ l
         → option_and_then base_in (option_and_then (first_of (codes "base")) (cond (r || l) (Some found.1) None))
-        ≡ Some base → IsComplete (Some found)
+        ≡ Some base → HasRequiredOptions (Some found)
     go true l replay live read = serves (inl ((bytes_eq-Decides found.0 (codes "replay")).0 replay))
     go false true replay live read = serves (inr ((bytes_eq-Decides found.0 (codes "live")).0 live))
     go false false replay live read = cc
@@ -268,14 +268,14 @@ pub complete_so : (words : List Text) (command : Command) (m : ArgMatches) (base
     → (is_simple_and_free (app_of command) ≡ true → fault_of (app_of command) words ≡ [])
     → HasMatchesOf (app_of command) words m
     → option_and_then base_in (option_text (codes "base") (subcommand_rows_of m)) ≡ Some base
-    → IsComplete (subcommand_rows_of m)
+    → HasRequiredOptions (subcommand_rows_of m)
 complete_so words command m base is none found read =
     complete words (subcommand_rows_of m) base (taken_so words command is none) (found_so words command m is found) read
 
 -- ---- the flag
 
 -- what was given to a complete subcommand has the text of `--explain`
-pub has_explain : (found : Option (Text × List Row)) (rows : List Row) → IsComplete found
+pub has_explain : (found : Option (Text × List Row)) (rows : List Row) → HasRequiredOptions found
     → Some rows ≡ option_and_then rows_if_replay_or_live found → HasExplain rows
 has_explain None rows complete is = cc
 has_explain (Some found) rows complete is =

@@ -143,9 +143,9 @@ pub record HasLiveOptions (rows : List Row) : Type 0 where
   pub turns : HasValidTurns rows
 
 -- a subcommand is `replay`, or `live` with everything that it requires, and `--explain` was given or not
-abbrev pub IsComplete : Option (Text × List Row) → Type 0
-IsComplete None = ⊥
-IsComplete (Some (name, rows)) =
+abbrev pub HasRequiredOptions : Option (Text × List Row) → Type 0
+HasRequiredOptions None = ⊥
+HasRequiredOptions (Some (name, rows)) =
     HasExplain rows × ((name ≡ codes "replay") ⊎ ((name ≡ codes "live") × HasLiveOptions rows))
 
 -- it was rejected because memory ran out

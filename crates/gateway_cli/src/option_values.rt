@@ -2,7 +2,7 @@
 ghost use Rattle.std.specs.Prelude.{◌≡◌, Some, codes, is_some, option_and_then, option_map, true};
 ghost use Rattle.clap.specs.Words.{first_of, found_of, rows_of, subcommand_rows_of};
 ghost use Rattle.gateway_cli.specs.Bases.{base_in};
-ghost use Rattle.gateway_cli.specs.CommandLine.{AreLiveOptions, AreTurns, SubcommandAsksFor, HasValidTurns, IsComplete};
+ghost use Rattle.gateway_cli.specs.CommandLine.{AreLiveOptions, AreTurns, SubcommandAsksFor, HasValidTurns, HasRequiredOptions};
 ghost use Rattle.gateway_cli.specs.CommandLine.{HasLiveOptions};
 ghost use Rattle.gateway_cli.specs.CommandLine.{rows_if_replay_or_live};
 ghost use Rattle.gateway_cli.specs.CommandLine.{option_flag, option_text};
@@ -48,7 +48,7 @@ fn base_of(text: &str) -> Option<u32>
 
 /// Whether the flag `--explain` was given.
 pub(super) fn explain_flag(matches: &ArgMatches<'_>) -> bool
-    requires { IsComplete (subcommand_rows_of matches.now) }
+    requires { HasRequiredOptions (subcommand_rows_of matches.now) }
     ensures { result ≡ option_flag (codes "explain") (subcommand_rows_of matches.now) }
 {
     match matches_if_replay_or_live(matches) {
@@ -59,7 +59,7 @@ pub(super) fn explain_flag(matches: &ArgMatches<'_>) -> bool
 
 /// The task of the subcommand.
 pub(super) fn task_value<'a>(matches: &ArgMatches<'a>) -> Task<'a>
-    requires { IsComplete (subcommand_rows_of matches.now) }
+    requires { HasRequiredOptions (subcommand_rows_of matches.now) }
     ensures { SubcommandAsksFor (subcommand_rows_of matches.now) result }
 {
     match matches.subcommand_matches("live") {

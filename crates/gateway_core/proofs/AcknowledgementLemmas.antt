@@ -77,8 +77,8 @@ kept session line is answered outcome word known same at run taken asks in_range
   at = at;
   known = known;
   run = run;
-  taken = taken;
-  asks = asks ∙ ap (λ o. Some (accepted_or_deleted_update o known)) (sym word);
+  is_applied = taken;
+  asks_for_update = asks ∙ ap (λ o. Some (accepted_or_deleted_update o known)) (sym word);
   same_text = subst (λ o. text (Teach line) ≡ text (Teach (device_teach_line known o))) (sym word) same;
   in_range = λ found bytes. in_range (found, bytes);
   is_line_of_device = λ found bytes numbers.
@@ -96,8 +96,8 @@ kept session line is answered outcome word known same at run taken asks in_range
         inputs_are = answered.inputs_are;
         results_are = answered.results_are ∙ ap (λ f. answered.results ++ f ∷ answered.more) taken;
         run = run;
-        asks = asks ∙ ap (λ o. Some (accepted_or_deleted_update o known)) (sym word);
-        spared = spared;
+        asks_for_update = asks ∙ ap (λ o. Some (accepted_or_deleted_update o known)) (sym word);
+        not_overridden_after = spared;
         crash = crash;
       }) all are;
 }

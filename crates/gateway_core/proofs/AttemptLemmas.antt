@@ -30,7 +30,7 @@ use Rattle.json_lines.specs.declared.error_lines.ErrorName.TheVariants as error
 use Rattle.teach_in.specs.declared.verdict.Verdict.{Verdict}
 use Rattle.learned_devices.specs.declared.fault.StoreFault.{StoreFault}
 use Rattle.gateway_core.specs.declared.failure.Failure.{Failure}
-use Rattle.gateway_core.specs.declared.failure.Failure.TheVariants.{Before, AtCommit}
+use Rattle.gateway_core.specs.declared.failure.Failure.TheVariants.{BeforeCommit, AtCommit}
 use Rattle.json_lines.specs.declared.counts.Counts.{Counts}
 use Rattle.json_lines.specs.Counts.{increment_if_any}
 use Rattle.json_lines.specs.Lines.{Error, Teach as TeachOf, TeachLine, text}
@@ -44,7 +44,7 @@ use Rattle.actuator_commands.specs.declared.orders.OrderFault.TheVariants.{Unkno
 use Rattle.actuator_commands.specs.Orders.{order_of}
 use Rattle.gateway_core.specs.Step.{order_effect, line_effect}
 use Rattle.gateway_core.specs.Step.{reading_effect, case_effect, data_case, effect, update_of, need_of, with_update}
-use Rattle.gateway_core.specs.Step.{state_if_applied, with_mode, plan_effect, teach_report_effect, radio_of}
+use Rattle.gateway_core.specs.Step.{state_if_applied, with_mode, plan_effect, teach_report_effect, radio_bytes_of}
 use Rattle.gateway_core.specs.Step.{reply_telegram_of}
 use Rattle.gateway_core.specs.Step.{query_teach_line}
 use Rattle.gateway_core.specs.Step.{if_supported_else_error, mode_effect, error_effect, accept_effect}
@@ -140,21 +140,21 @@ pub teach_line-answer : (state : State) (kind : Teach) (line : TeachLine) (answe
     (desk : List ℕ)
     → outcome ≡ line.outcome → desk ≡ text (TeachOf line)
     → answer ≡ record {
-      radio = radio_of
+      radio = radio_bytes_of
           (reply_telegram_of state.base state.mode kind outcome);
-      explained = [];
+      explanation = [];
       desk = desk;
     }
     → answer ≡ unexplained_answer (teach_report_effect state kind line)
 teach_line-answer state kind line answer outcome desk is says e =
     e
     ∙ ap (λ o. let a : Answer =
-    record { radio = radio_of (reply_telegram_of state.base state.mode kind o); explained = []; desk = desk } in a) is
+    record { radio = radio_bytes_of (reply_telegram_of state.base state.mode kind o); explanation = []; desk = desk } in a) is
     ∙ ap (λ d. let a : Answer =
     record {
       radio =
-          radio_of (reply_telegram_of state.base state.mode kind line.outcome);
-      explained = [];
+          radio_bytes_of (reply_telegram_of state.base state.mode kind line.outcome);
+      explanation = [];
       desk = d;
     } in a)
     (says ∙ sym (append-nil _))
@@ -221,7 +221,7 @@ module _ {S : Type 0} (stored : S → DeviceStoreState) where
       → AppliesOrFails (stored old) (stored new) devices effect r
   applies_or_fails-after old mid new devices effect (Ok done) keeps (gives, made) =
       (gives, made-after old mid new devices effect.update keeps made)
-  applies_or_fails-after old mid new devices effect (Err (Before fault)) keeps (needed, kept) =
+  applies_or_fails-after old mid new devices effect (Err (BeforeCommit fault)) keeps (needed, kept) =
       (needed, keeps-after (stored old) (stored mid) (stored new) devices keeps kept)
   applies_or_fails-after old mid new devices effect (Err (AtCommit fault)) keeps with_pending_update =
       pending-after old mid new devices effect.need (cause_of fault) effect.update keeps with_pending_update
@@ -322,7 +322,7 @@ module _ {S : Type 0} (stored : S → DeviceStoreState) where
       → ChangesOnlyRegistry stored (record { base = base; mode = mode; counts = counts; registry = old }) IsSo
       (record { base = base; mode = mode; counts = counts; registry = new })
   alone base mode counts old new IsSo clean recoverable is_so =
-      record { same = refl; clean = clean; recoverable = λ honest before. recoverable honest; is_so = is_so }
+      record { same = refl; clean = clean; recoverable = λ honest before. recoverable honest; result_for_devices = is_so }
 
   -- with no call of the registry
   pub alone-unasked : (v : HandlerValue S) (IsSo : Devices → Type 0)
@@ -332,7 +332,7 @@ module _ {S : Type 0} (stored : S → DeviceStoreState) where
     same = refl;
     clean = λ honest. honest;
     recoverable = λ honest before. before;
-    is_so = λ honest devices has. is_so devices (keeps-same (stored v.registry) devices has);
+    result_for_devices = λ honest devices has. is_so devices (keeps-same (stored v.registry) devices has);
   }
 
   -- if only the registry has changed
@@ -348,7 +348,7 @@ module _ {S : Type 0} (stored : S → DeviceStoreState) where
         counts = ap (λ (v : HandlerValue S). v.counts) alone.same;
         clean = alone.clean;
         recoverable = alone.recoverable;
-        applies_or_fails = λ honest devices has. applies_or_fails devices (alone.is_so honest devices has);
+        applies_or_fails = λ honest devices has. applies_or_fails devices (alone.result_for_devices honest devices has);
       }
 
   -- the effect by what the handler knows then is the effect by what it knew
@@ -364,7 +364,7 @@ module _ {S : Type 0} (stored : S → DeviceStoreState) where
       → effect.need ≡ NeedsStore → effect.update ≡ Some update
       → FailsToUpdate (stored old) (stored new) devices update failure
       → AppliesOrFails (stored old) (stored new) devices effect (Err failure)
-  refused-applies_or_fails old new devices effect update (Before fault) need changes keeps =
+  refused-applies_or_fails old new devices effect update (BeforeCommit fault) need changes keeps =
       (permitted effect.need (cause_of fault) need, keeps)
   refused-applies_or_fails old new devices effect update (AtCommit fault) need changes pends = rw changes pends
 
@@ -435,15 +435,15 @@ module _ {S : Type 0} (stored : S → DeviceStoreState) where
         → Attempts stored old (λ state. if_full_of_others_else state.devices known (full state) (done state))
         (Err failure)
         new
-    tries-refused (Before fault) learns =
-        tries-registry old new _ _ _ learns.alone
+    tries-refused (BeforeCommit fault) learns =
+        tries-registry old new _ _ _ learns.changes_only_registry
         (λ devices keeps.
         let all = adds devices in (
           permitted _ (cause_of fault) (if_full_of_others_else-need devices known _ _ all.full_needs all.done_needs),
           keeps,
         ))
     tries-refused (AtCommit fault) learns =
-        tries-registry old new _ _ _ learns.alone
+        tries-registry old new _ _ _ learns.changes_only_registry
         (λ devices pends.
         if_full_of_others_else-pending old.registry new.registry devices known (full (state_of old devices))
         (done (state_of old devices)) (adds devices) (cause_of fault) pends)
@@ -453,17 +453,17 @@ module _ {S : Type 0} (stored : S → DeviceStoreState) where
         → Attempts stored old (λ state. if_full_of_others_else state.devices known (full state) (done state))
         (Ok made) new
     tries-full made learns gives =
-        tries-registry old new _ _ _ learns.alone
+        tries-registry old new _ _ _ learns.changes_only_registry
         (λ devices (is, keeps).
         rw (is, (adds devices).stays)
-        (gives-before old new made full devices learns.alone.same (gives devices), keeps))
+        (gives-before old new made full devices learns.changes_only_registry.same (gives devices), keeps))
 
     -- out of memory for the line that reports it
     pub tries-unacknowledged : (fault : StoreFault) → TriesToLearn stored old known (Ok None) new
         → Attempts stored old (λ state. if_full_of_others_else state.devices known (full state) (done state))
-        (Err (Before fault)) new
+        (Err (BeforeCommit fault)) new
     tries-unacknowledged fault learns =
-        tries-registry old new _ _ _ learns.alone
+        tries-registry old new _ _ _ learns.changes_only_registry
         (λ devices (is, keeps).
         let all = adds devices in (
           permitted _ (cause_of fault) (if_full_of_others_else-need devices known _ _ all.full_needs all.done_needs),
@@ -476,17 +476,17 @@ module _ {S : Type 0} (stored : S → DeviceStoreState) where
         → Attempts stored old (λ state. if_full_of_others_else state.devices known (full state) (done state))
         (Ok made) new
     tries-learned committed made learns gives =
-        tries-registry old new _ _ _ learns.alone
+        tries-registry old new _ _ _ learns.changes_only_registry
         (λ devices (is, commits).
         rw (is, (adds devices).learns)
-        (gives-before old new made done devices learns.alone.same (gives devices), commits))
+        (gives-before old new made done devices learns.changes_only_registry.same (gives devices), commits))
 
   module _ (old new : HandlerValue S) (line : TeachLine) (effect : State → Effect)
       (drops : (devices : Devices) → Drops line.id (effect (state_of old devices))) where
     pub tries-unforgotten : (failure : Failure) → TriesToForget stored old line (Err failure) new
         → Attempts stored old effect (Err failure) new
     tries-unforgotten failure forgets =
-        tries-registry old new _ _ _ forgets.alone
+        tries-registry old new _ _ _ forgets.changes_only_registry
         (λ devices.
         let all = drops devices in
         refused-applies_or_fails old.registry new.registry devices (effect (state_of old devices))
@@ -498,10 +498,10 @@ module _ {S : Type 0} (stored : S → DeviceStoreState) where
         → ((devices : Devices) → MatchesEffect made (effect (state_of new devices)))
         → Attempts stored old effect (Ok made) new
     tries-forgotten committed made forgets gives =
-        tries-registry old new _ _ _ forgets.alone
+        tries-registry old new _ _ _ forgets.changes_only_registry
         (λ devices commits.
         rw ((drops devices).forgets)
-        (gives-before old new made effect devices forgets.alone.same (gives devices), commits))
+        (gives-before old new made effect devices forgets.changes_only_registry.same (gives devices), commits))
 
   -- an order's telegram is sent, or an error reports why there is none
   pub telegram-applies_or_fails : (old new : S) (devices : Devices) (asked : Bool)
@@ -601,7 +601,7 @@ module _ {S : Type 0} (stored : S → DeviceStoreState) where
     );
     crash = made-safe old.registry new.registry start.devices (update_of start input) made;
   }
-  applies_or_fails-went old new start input (Err (Before fault)) base mode counts (need, keeps) = record {
+  applies_or_fails-went old new start input (Err (BeforeCommit fault)) base mode counts (need, keeps) = record {
     results = Failed (cause_of fault) ∷ [];
     last = state_after_failure start;
     run = (need, refl, refl);
@@ -634,7 +634,7 @@ module _ {S : Type 0} (stored : S → DeviceStoreState) where
         base = settles.base ∙ over.base;
         clean = over.clean;
         recoverable = over.recoverable;
-        went = λ honest start at.
+        ran_from_any = λ honest start at.
             let come = over.applies_or_fails honest start.devices at.2 in
             let Here = λ (s : State).
             AppliesOrFails (stored old.registry) (stored new.registry) start.devices (effect s input) r in

@@ -10,9 +10,9 @@ use Rattle.gateway_core.specs.SessionCalls.{CrashesEndSessions}
 use Rattle.gateway_core.proofs.CrashLemmas.{safe-weaker, safe-pending, safe-last}
 
 module _ {S : Type 0} (stored : S → DeviceStoreState) where
-  pub crash_after_calls_is_end : CallsAreSessions stored
-  crash_after_calls_is_end old new found inputs answers honest begins handles left may =
-      let went = handles.went honest (initial_state old.base found) begins.at in
+  pub crash_after_calls_ends_session : CallsAreSessions stored
+  crash_after_calls_ends_session old new found inputs answers honest begins handles left may =
+      let went = handles.ran_from_any honest (initial_state old.base found) begins.at in
       record {
         results = went.results;
         last = went.last;
@@ -23,10 +23,10 @@ module _ {S : Type 0} (stored : S → DeviceStoreState) where
         };
       }
 
-  pub crash_in_input_is_end : CrashesEndSessions stored
-  crash_in_input_is_end old new within found inputs answers input update honest early begins handles asks tries left may
+  pub crash_in_input_ends_session : CrashesEndSessions stored
+  crash_in_input_ends_session old new within found inputs answers input update honest early begins handles asks tries left may
       =
-      let went = handles.went early (initial_state old.base found) begins.at in
+      let went = handles.ran_from_any early (initial_state old.base found) begins.at in
       let leaves = tries went.last.devices went.at.2 in
       let is = asks went.last went.at in
       let Before = λ (d : Devices). d ≡ found in
@@ -44,7 +44,7 @@ module _ {S : Type 0} (stored : S → DeviceStoreState) where
 
   pub closed_session_leaves_last : ClosesEndSessions stored
   closed_session_leaves_last old new found inputs answers honest begins handles =
-      let went = handles.went honest (initial_state old.base found) begins.at in (
+      let went = handles.ran_from_any honest (initial_state old.base found) begins.at in (
         went.last.devices,
         went.at.2,
         record {

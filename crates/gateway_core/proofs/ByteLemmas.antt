@@ -10,7 +10,7 @@ use Rattle.std.proofs.Math.Nat.{pow-suc, pow-le-pow_right}
 use Rattle.bit_fields.specs.Bits.{byte_bits, bits, number, field}
 use Rattle.esp3_frames.specs.Check.{check}
 use Rattle.esp3_frames.specs.Packet.{Packet, IsPacket, header}
-use Rattle.esp3_frames.specs.Frames.{packets_in}
+use Rattle.esp3_frames.specs.PacketsAndRest.{packets_in}
 use Rattle.esp3_frames.specs.Framing.{Framing}
 use Rattle.esp3_frames.specs.Framing.Framing.{ends, skips, finds}
 use Rattle.esp3_frames.proofs.ForCallers.{framing_of}

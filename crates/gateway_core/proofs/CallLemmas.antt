@@ -5,8 +5,8 @@ use Rattle.std.proofs.Common.{append-nil, Some}
 use Rattle.std.proofs.Common.{None}
 use Rattle.learned_devices.specs.DeviceStoreState.{DeviceStoreState}
 use Rattle.esp3_frames.specs.Packet.{Packet}
-use Rattle.esp3_frames.specs.Frames.{packets_in, rest_of}
-use Rattle.esp3_frames.proofs.ForCallers.{framing_in_parts, frames_of-may_become, empty_may_become}
+use Rattle.esp3_frames.specs.PacketsAndRest.{packets_in, rest_of}
+use Rattle.esp3_frames.proofs.ForCallers.{framing_in_parts, packets_and_rest-may_become, empty_may_become}
 use Rattle.gateway_core.specs.Step.{Input, Received, Ordered}
 use Rattle.gateway_core.specs.Handling.{HandlerValue, Handles}
 use Rattle.gateway_core.specs.Calls.{GatewayValue, Call, Bytes, Next, Order, Transition, Transitions, bytes_of}
@@ -114,7 +114,7 @@ module _ {S : Type 0} (stored : S → DeviceStoreState) where
 
   pub calls_are_a_run : CallsAreARun stored
   calls_are_a_run base registry calls new moves =
-      let empty = frames_of-may_become [] empty_may_become in
+      let empty = packets_and_rest-may_become [] empty_may_become in
       let on = goes_on [] [] _ calls new (record { packets = sym empty.0; rest = sym empty.1 }) moves in
       record {
         handled = on.handled;

@@ -4,7 +4,7 @@ use Rattle.std.proofs.Common.{append_assoc}
 use Rattle.std.proofs.Math.Seq.{drop-append_seam}
 use Rattle.std.proofs.lemmas.List.{append-nil, map-append}
 use Rattle.esp3_frames.specs.Packet.{Packet}
-use Rattle.esp3_frames.specs.Frames.{packets_in, rest_of}
+use Rattle.esp3_frames.specs.PacketsAndRest.{packets_in, rest_of}
 use Rattle.esp3_frames.proofs.ForCallers.{framing_in_parts}
 use Rattle.gateway_core.specs.Step.{Input, Received, Ordered}
 use Rattle.gateway_core.specs.Run.{Run}

@@ -8,8 +8,8 @@ use Rattle.teach_in.specs.declared.outcome.Outcome.TheVariants.{Accepted, Delete
 use Rattle.teach_in.specs.Telegrams.{teach_in_of}
 use Rattle.json_lines.specs.declared.counts.Counter.TheVariants as count
 use Rattle.json_lines.specs.Counts.{saturated_sum, increment, saturated_increment, increment_if_any}
-use Rattle.teach_in.specs.declared.why.Why.{Why}
-use Rattle.teach_in.specs.declared.why.Why.TheVariants as why
+use Rattle.teach_in.specs.declared.handling_reason.HandlingReason.{HandlingReason}
+use Rattle.teach_in.specs.declared.handling_reason.HandlingReason.TheVariants as why
 use Rattle.json_lines.specs.Lines.{Reading, Teach, ResponseLine, TeachLine, text, texts}
 use Rattle.gateway_core.specs.declared.disposition.Disposition.{Disposition}
 use Rattle.gateway_core.specs.Dispositions.{without_device, counter_for, explanation, packet_line_of}
@@ -136,7 +136,7 @@ applied_packets_are_counted = record {
 -- ---- the line that explains a packet
 
 -- with a word that counts as ignored, the desk receives no other line
-ignoring-says : (why : Why) → counter_for why ≡ count.Ignored → MatchesDeskLines why []
+ignoring-says : (why : HandlingReason) → counter_for why ≡ count.Ignored → MatchesDeskLines why []
 ignoring-says why.Refused is = absurd cc
 ignoring-says why.Response is = absurd cc
 ignoring-says why.EmptyResponse is = refl
@@ -183,9 +183,9 @@ refused-explained : (state : State) (packet : Packet) (result : InputResult) (ca
 refused-explained state packet result cause is answer counts untaken = record {
   disposition = without_device why.Refused;
   is = is;
-  explained = ap (λ (a : Answer). a.explained) answer;
+  explanation = ap (λ (a : Answer). a.explanation) answer;
   says = λ taken. absurd (untaken taken);
-  taken = (λ taken. absurd (untaken taken), λ word. absurd (word refl));
+  is_applied = (λ taken. absurd (untaken taken), λ word. absurd (word refl));
   counts = ap (λ (s : State). s.counts) counts;
 }
 
@@ -195,9 +195,9 @@ explained state packet Applied =
     record {
       disposition = disposition;
       is = is;
-      explained = ap (λ o. explanation (option_map (packet_line_of packet) o)) is;
+      explanation = ap (λ o. explanation (option_map (packet_line_of packet) o)) is;
       says = λ taken. says;
-      taken = (λ taken word. subst (λ w. MatchesDeskLines w (packet_effect state packet).desk) word says, λ word. refl);
+      is_applied = (λ taken word. subst (λ w. MatchesDeskLines w (packet_effect state packet).desk) word says, λ word. refl);
       counts = ap (λ o. increment_if_any state.counts (counter_in o)) is;
     }
 explained state packet (Failed cause) =
@@ -206,7 +206,7 @@ explained state packet (FailedAtCommit cause) =
     refused-explained state packet (FailedAtCommit cause) cause refl refl refl (λ taken. absurd cc)
 
 unexplained : (state : State) (line : List ℕ) (result : InputResult)
-    → (answer_for_result state (Ordered line) result).explained ≡ []
+    → (answer_for_result state (Ordered line) result).explanation ≡ []
 unexplained state line Applied = refl
 unexplained state line (Failed cause) = refl
 unexplained state line (FailedAtCommit cause) = refl

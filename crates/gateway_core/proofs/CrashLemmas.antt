@@ -15,7 +15,7 @@ abbrev over : CrashStates → CrashStates → CrashStates
 over first second =
     record {
       has_commit = cond second.has_commit true first.has_commit;
-      maps = cond second.has_commit second.maps (second.maps ++ first.maps);
+      possible_devices = cond second.has_commit second.possible_devices (second.possible_devices ++ first.possible_devices);
     }
 
 over-reported : (first second : CrashStates) (devices : Devices) (o : Option DeviceUpdate)
@@ -24,8 +24,8 @@ over-reported first second devices (Some update) = refl
 over-reported first second devices None = refl
 
 pushed : (first second : CrashStates) (devices : Devices) (b : Bool) → second.has_commit ≡ b
-    → devices ∷ cond b second.maps (second.maps ++ first.maps)
-    ≡ cond b (devices ∷ second.maps) (devices ∷ second.maps ++ first.maps)
+    → devices ∷ cond b second.possible_devices (second.possible_devices ++ first.possible_devices)
+    ≡ cond b (devices ∷ second.possible_devices) (devices ∷ second.possible_devices ++ first.possible_devices)
 pushed first second devices true is = refl
 pushed first second devices false is = refl
 
@@ -33,7 +33,7 @@ over-pending : (first second : CrashStates) (devices : Devices) (o : Option Devi
     → with_pending_update (over first second) devices o ≡ over first (with_pending_update second devices o)
 over-pending first second devices (Some update) =
     ap (λ (maps : List Devices). let l : CrashStates =
-    record { has_commit = cond second.has_commit true first.has_commit; maps = maps } in l)
+    record { has_commit = cond second.has_commit true first.has_commit; possible_devices = maps } in l)
     (pushed first second (apply_update devices update) second.has_commit refl)
 over-pending first second devices None = refl
 
@@ -97,7 +97,7 @@ crash_consistency_composes Before old mid inputs others results more answers dev
     left_by-append nothing_committed_yet old mid inputs others results more answers run
     ∙ over-by first nothing_committed_yet mid others more in
     subst (λ l. IsCrashConsistent Before l devices) (sym is)
-    (both_safe Before first.has_commit second.has_commit first.maps second.maps devices safe)
+    (both_safe Before first.has_commit second.has_commit first.possible_devices second.possible_devices devices safe)
 
 pub safe-weaker : (P Q : Devices → Type 0) → ((devices : Devices) → P devices → Q devices)
     → (left : CrashStates) (devices : Devices) → IsCrashConsistent P left devices → IsCrashConsistent Q left devices

@@ -11,7 +11,7 @@ use Rattle.profile_rows.specs.Reading.{Entry}
 use Rattle.profile_rows.specs.declared.unreadable.Unreadable.{Unreadable}
 use Rattle.profile_rows.specs.declared.unreadable.Unreadable.TheVariants as unreadable
 use Rattle.learned_devices.specs.declared.Device.{Device}
-use Rattle.learned_devices.specs.Devices.{device_of, all_of, is_full}
+use Rattle.learned_devices.specs.Devices.{device_of, devices_by_ascending_id, is_full}
 use Rattle.teach_in.specs.declared.four_byte.FourByteQuery.{FourByteQuery}
 use Rattle.teach_in.specs.declared.ute.UteQuery.{UteQuery}
 use Rattle.teach_in.specs.declared.mode.Mode.{Mode}
@@ -25,8 +25,8 @@ use Rattle.teach_in.specs.Telegrams.{teach_in_of}
 use Rattle.teach_in.specs.Plans.{add, plan_of}
 use Rattle.teach_in.proofs.ForCallers.{either, LearnsByTold, Hears, AsksDeletion, Refuses, of_plan}
 use Rattle.json_lines.specs.declared.counts.Counter.TheVariants as count
-use Rattle.teach_in.specs.declared.why.Why.{Why}
-use Rattle.teach_in.specs.declared.why.Why.TheVariants as why
+use Rattle.teach_in.specs.declared.handling_reason.HandlingReason.{HandlingReason}
+use Rattle.teach_in.specs.declared.handling_reason.HandlingReason.TheVariants as why
 use Rattle.json_lines.specs.declared.error_lines.ErrorName.{ErrorName}
 use Rattle.json_lines.specs.declared.error_lines.ErrorName.TheVariants as error
 use Rattle.actuator_commands.specs.Limits.{max_line}
@@ -102,7 +102,7 @@ is-failure id kind outcome is = absurd is
 
 other-ignores : (packet : Packet) → counter_for (why_no_telegram_or_response packet) ≡ count.Ignored
 other-ignores packet =
-    let Ignores = λ (why : Why). counter_for why ≡ count.Ignored in
+    let Ignores = λ (why : HandlingReason). counter_for why ≡ count.Ignored in
     either Ignores (packet.kind == 1) _ _ refl (either Ignores (packet.kind == 2) _ _ refl refl)
 
 filtered-ignores : (t : Telegram) → counter_for (why_filtered (filter_reason t)) ≡ count.Ignored
@@ -207,7 +207,7 @@ pub record OfLine (P : Effect → Type 0) (state : State) (spelled : Result Orde
   pub finds : (name : ErrorName) → P (lines_effect NeedsStore (Error name ∷ []))
   pub opens : (set : Mode) → ((eep : Eep) → set ≡ mode.LearnAs eep → spelled ≡ Ok (LearnAs eep)) → P (mode_effect set)
   pub sends : (asked : Bool) (bytes : List ℕ) → P (send_effect asked bytes)
-  pub lists : P (lines_effect NeedsStore (list_lines (all_of state.devices)))
+  pub lists : P (lines_effect NeedsStore (list_lines (devices_by_ascending_id state.devices)))
   pub reports : P (lines_effect NeedsMemory (StatusLine state.counts state.mode ∷ []))
   pub adds : (known : Device) → (spelled ≡ Ok (Add known.id known.eep)) × (known.maker ≡ None)
       → P (ordered_learn_effect known)

@@ -32,8 +32,8 @@ use Rattle.teach_in.specs.Plans.{add, add_supported, plan_in_mode, can_be_learne
 use Rattle.teach_in.specs.Ute as ute
 use Rattle.teach_in.specs.Ute.{request_in, deletion, unused_request}
 use Rattle.teach_in.proofs.ForCallers.{IsOpen, LearnsByTold, either, hears-open, of_plan}
-use Rattle.teach_in.specs.declared.why.Why.{Why}
-use Rattle.teach_in.specs.declared.why.Why.TheVariants as why
+use Rattle.teach_in.specs.declared.handling_reason.HandlingReason.{HandlingReason}
+use Rattle.teach_in.specs.declared.handling_reason.HandlingReason.TheVariants as why
 use Rattle.json_lines.specs.ShownTelegram.{shown_destination}
 use Rattle.gateway_core.specs.declared.disposition.Disposition.{Disposition}
 use Rattle.gateway_core.specs.Dispositions.{without_device, eep_in_query, explanation, packet_line_of, for_device}
@@ -61,7 +61,7 @@ Truth state packet e =
 -- ---- a packet without a telegram
 
 module _ (state : State) (packet : Packet) where
-  of-word : (word one : Why) → word ≡ one → WhyIsTrue state packet (without_device one) one
+  of-word : (word one : HandlingReason) → word ≡ one → WhyIsTrue state packet (without_device one) one
       → Truth state packet (silent_effect false (without_device word))
   of-word word one is means =
       subst (λ w. Truth state packet (silent_effect false (without_device w))) (sym is)
@@ -72,7 +72,7 @@ module _ (state : State) (packet : Packet) where
       → Truth state packet (non_telegram_effect packet None)
   of-none fault is other = by (packet.kind == 1) refl
     where
-      word : (b c : Bool) → Why
+      word : (b c : Bool) → HandlingReason
       word b c = if b then why.NoTelegram else if c then why.EmptyResponse else why.OtherType
 
       by : (b : Bool) → (packet.kind == 1) ≡ b → Truth state packet (non_telegram_effect packet None)
@@ -193,7 +193,7 @@ module _ (t : Telegram) where
   query-speaks : (eep : Eep) (maker : ℕ) → add_supported t eep maker ≢ Silent
   query-speaks eep maker = either (λ p. p ≢ Silent) (supported eep) _ _ (λ e. absurd cc) (λ e. absurd cc)
 
-  speaks : (known : Bool) (kind : Teach) → IsTeachInRequest kind → (plan_row_of t known kind).reported ≢ Silent
+  speaks : (known : Bool) (kind : Teach) → IsTeachInRequest kind → (plan_row_of t known kind).by_own_profile ≢ Silent
   speaks known teach.Contact is e = absurd cc
   speaks known teach.Bare is e = absurd cc
   speaks known (teach.FourByte query) is e = query-speaks _ _ e
@@ -212,7 +212,7 @@ module _ (t : Telegram) where
       by false is e = eqb-false a b is
 
   does-not-fit : (known : Bool) (kind : Teach) (eep : Eep) → IsTeachInRequest kind
-      → (plan_row_of t known kind).given eep
+      → (plan_row_of t known kind).by_desk_profile eep
       ≡ Silent
       → RorgDoesNotFitTeachIn eep kind
   does-not-fit known teach.Contact eep is e = given-silent eep.rorg 0xD5 _ e
@@ -358,7 +358,7 @@ module _ (state : State) (packet : Packet) (t : Telegram) (carried : telegram_of
         of-planned true false (ap is_some is) (λ silent update.
         (without_device why.UnknownSender, refl, (t, heard, plain, is, update, (refl, refl))))
     of-data (Some known) plain is =
-        of-reading known (record { hears = heard; data_alone = plain; is_known = is }) (read_by known.eep t) refl
+        of-reading known (record { not_filtered_out = heard; is_data = plain; is_known = is }) (read_by known.eep t) refl
 
     of-kind : (kind : Teach) (known : Option Device) → teach_in_of t ≡ kind
         → device_of state.devices t.sender ≡ known → Truth state packet (case_effect state t (case_by_role kind known))
@@ -381,7 +381,7 @@ module _ (state : State) (packet : Packet) (t : Telegram) (carried : telegram_of
       by false is =
           subst (λ o. Truth state packet (case_effect state t
           (if o then FilteredOut else case_by_role (teach_in_of t) (device_of state.devices t.sender)))) (sym is)
-          (of-kind (record { carried = carried; heard = is }) (teach_in_of t)
+          (of-kind (record { carried = carried; not_filtered_out = is }) (teach_in_of t)
           (device_of state.devices t.sender) refl refl)
 
 -- ---- each packet
@@ -425,8 +425,8 @@ explanations_are_true state packet =
     record {
       disposition = disposition;
       line = packet_line_of packet disposition;
-      explained = ap (λ o. explanation (option_map (packet_line_of packet) o)) is;
-      word = refl;
+      explanation = ap (λ o. explanation (option_map (packet_line_of packet) o)) is;
+      same_why = refl;
       shows = shows packet disposition (telegram_of packet) refl;
-      means = means;
+      why_is_true = means;
     }

@@ -221,7 +221,7 @@ sessions_leave_prefixes session is =
     elim (stop_steps (λ devices. devices ≡ session.found)
     (crash_states nothing_committed_yet start session.inputs session.results)
     session.last
-    session.interrupted session.left is.safe) [
+    session.interrupted_input session.left is.safe) [
       | inl safe ↦ inl (crash_states_are_prefixes start session.inputs session.results session.left same safe)
       | inr done ↦ inr done
     ]

@@ -9,17 +9,17 @@ use Rattle.teach_in.specs.declared.plans.Plan.{Plan}
 use Rattle.teach_in.specs.declared.plans.Plan.TheVariants.{Silent, Add, Forget, Refuse}
 use Rattle.teach_in.specs.declared.telegrams.Teach.{Teach}
 use Rattle.teach_in.specs.declared.telegrams.Teach.TheVariants.{Plain, Contact, Bare, FourByte, Ute, Answer}
-use Rattle.teach_in.specs.FourByte.{four_byte_code}
+use Rattle.teach_in.specs.FourByte.{four_byte_reply_code}
 use Rattle.teach_in.specs.Telegrams.{teach_in_of}
-use Rattle.teach_in.specs.Ute.{ute_code}
+use Rattle.teach_in.specs.Ute.{ute_reply_code}
 use Rattle.teach_in.specs.Plans.{plan_of}
 use Rattle.teach_in.proofs.ForCallers.{Refuses, AsksDeletion, of_plan, query-sender, ute-sender}
 use Rattle.gateway_core.specs.private.Attempts.{HasReplyCodeIfQuery}
 
 -- a reply can have this outcome
 abbrev CanSay : Teach → Outcome → Type 0
-CanSay (FourByte query) outcome = IsSome (four_byte_code outcome)
-CanSay (Ute query) outcome = IsSome (ute_code outcome)
+CanSay (FourByte query) outcome = IsSome (four_byte_reply_code outcome)
+CanSay (Ute query) outcome = IsSome (ute_reply_code outcome)
 CanSay kind outcome = Unit {0}
 
 can-accept : (kind : Teach) → CanSay kind Accepted

@@ -91,7 +91,7 @@ role-in t =
     )
 
 module _ (t : Telegram) where
-  by-query-in : (known : Bool) (kind : Kind) → IsRoleInRange kind → IsPlanInRange (plan_row_of t known kind).reported
+  by-query-in : (known : Bool) (kind : Kind) → IsRoleInRange kind → IsPlanInRange (plan_row_of t known kind).by_own_profile
   by-query-in known Contact role = ((omega arith, omega arith, omega arith), tt)
   by-query-in known Bare role = tt
   by-query-in known (FourByte query) role = either IsPlanInRange (supported query.eep) _ _ role tt
@@ -103,7 +103,7 @@ module _ (t : Telegram) where
   by-query-in known Answer role = tt
 
   given-in : (known : Bool) (kind : Kind) (eep : Eep) → IsRoleInRange kind → IsProfileInRange eep
-      → IsPlanInRange ((plan_row_of t known kind).given eep)
+      → IsPlanInRange ((plan_row_of t known kind).by_desk_profile eep)
   given-in known Contact eep role is = either IsPlanInRange (eep.rorg == 0xD5) _ _ (is, tt) tt
   given-in known Bare eep role is = either IsPlanInRange (eep.rorg == 0xA5) _ _ (is, tt) tt
   given-in known (FourByte query) eep role is = either IsPlanInRange (eep.rorg == 0xA5) _ _ (is, role.1) tt
@@ -323,7 +323,7 @@ leaves_in_range session is found bytes interrupted =
             | inr yet ↦ yet-in prefix.at prefix.after prefix.more session.left yet parts.1 at
           ]
       | inr done ↦
-          interrupted-in session.last session.interrupted session.left done interrupted
+          interrupted-in session.last session.interrupted_input session.left done interrupted
           (stays_in_range start session.last session.inputs session.results session.answers is.run bytes (found, tt))
     ]
 

@@ -28,7 +28,7 @@ use Rattle.actuator_commands.specs.Orders.{order_of}
 use Rattle.actuator_commands.specs.Packets.{order_telegram, recipient_id}
 use Rattle.json_lines.specs.Lines.{TeachLine, Teach, Done, text, texts}
 use Rattle.gateway_core.specs.Run.{Applied, Failed, FailedAtCommit}
-use Rattle.gateway_core.specs.Step.{State, Received, Ordered, Effect, device_teach_line, radio_of, reply_telegram_of}
+use Rattle.gateway_core.specs.Step.{State, Received, Ordered, Effect, device_teach_line, radio_bytes_of, reply_telegram_of}
 use Rattle.gateway_core.specs.Step.{query_teach_line}
 use Rattle.gateway_core.specs.Step.{packet_effect, line_effect}
 use Rattle.gateway_core.specs.Step.{order_effect, sending_order_effect, send_result_effect, ordered_forget_effect}
@@ -43,20 +43,20 @@ Replies state t outcome bytes =
     (reply : Telegram) × IsReplyTelegram state t outcome reply × (bytes ≡ spelling (radio_packet reply))
 
 -- the bytes of a telegram, if there is one
-telegram-in : (t : Option Telegram) (bytes : List ℕ) → radio_of t ≡ Some bytes
+telegram-in : (t : Option Telegram) (bytes : List ℕ) → radio_bytes_of t ≡ Some bytes
     → (telegram : Telegram) × (t ≡ Some telegram) × (bytes ≡ spelling (radio_packet telegram))
 telegram-in None bytes e = absurd cc
 telegram-in (Some telegram) bytes e = (telegram, refl, ap (λ o. unwrap_or o bytes) (sym e))
 
 -- a UTE query is answered if it waits for a reply
 wanted : (wants : Bool) (reply : Option Telegram) (bytes : List ℕ)
-    → radio_of (if wants then reply else None) ≡ Some bytes → (wants ≡ true) × (radio_of reply ≡ Some bytes)
+    → radio_bytes_of (if wants then reply else None) ≡ Some bytes → (wants ≡ true) × (radio_bytes_of reply ≡ Some bytes)
 wanted true reply bytes e = (refl, e)
 wanted false reply bytes e = absurd cc
 
 reply-is : (state : State) (t : Telegram) (mode : Mode) (kind : Kind) (outcome : Outcome) (bytes : List ℕ)
     → state.mode ≡ mode → teach_in_of t ≡ kind → Hears mode kind
-    → radio_of (reply_telegram_of state.base mode kind outcome) ≡ Some bytes → Replies state t outcome bytes
+    → radio_bytes_of (reply_telegram_of state.base mode kind outcome) ≡ Some bytes → Replies state t outcome bytes
 reply-is state t mode (Ute query) outcome bytes plan_in_mode is hears e =
     let (wants, sent_as) = wanted (wants_reply query) (ute_reply query outcome state.base) bytes e in
     let (reply, says, spelled) = telegram-in (ute_reply query outcome state.base) bytes sent_as in
@@ -194,7 +194,7 @@ radio_is_reply_or_ordered state (Received packet) Applied bytes e =
         reported = stated;
         reply = reply;
         says = says;
-        sent_as = sent_as;
+        bytes_are = sent_as;
       }),
     )
 radio_is_reply_or_ordered state (Ordered line) Applied bytes e =
@@ -208,7 +208,7 @@ radio_is_reply_or_ordered state (Ordered line) Applied bytes e =
         reported = line-sends state bytes line e;
         packet = packet;
         is_packet = is_packet;
-        sent_as = sent_as;
+        bytes_are = sent_as;
       }),
     )
 radio_is_reply_or_ordered state input (Failed cause) bytes e = absurd cc

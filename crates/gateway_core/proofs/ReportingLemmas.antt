@@ -6,7 +6,7 @@ use Rattle.std.proofs.lemmas.Bool.{le-ltb}
 use Rattle.esp3_frames.specs.Packet.{Packet}
 use Rattle.erp1_telegrams.specs.Telegram.{Telegram, telegram_of}
 use Rattle.learned_devices.specs.declared.Device.{Device}
-use Rattle.learned_devices.specs.Devices.{DeviceUpdate, device_of, all_of, relabel_update}
+use Rattle.learned_devices.specs.Devices.{DeviceUpdate, device_of, devices_by_ascending_id, relabel_update}
 use Rattle.teach_in.specs.declared.outcome.Outcome.{Outcome}
 use Rattle.teach_in.specs.declared.outcome.Outcome.TheVariants.{Accepted, Deleted, Unsupported, General, NoProfile}
 use Rattle.teach_in.specs.declared.outcome.Outcome.TheVariants as outcome
@@ -153,7 +153,7 @@ order-line state line ordered =
       finds = λ name e. absurd (other-line (Error name) line (λ never. never) e);
       opens = λ mode is e. absurd (other-line Done line (λ never. never) e);
       sends = λ asked bytes e. absurd (other-line Done line (λ never. never) e);
-      lists = λ e. absurd (listing-other (all_of state.devices) line e);
+      lists = λ e. absurd (listing-other (devices_by_ascending_id state.devices) line e);
       reports = λ e. absurd (other-line (StatusLine state.counts state.mode) line (λ never. never) e);
       adds = λ known spells e. stated Gone line (ordered_learn_effect known) known Accepted e (λ is. (known, is, refl));
       drops = λ known has e. stated Gone line (ordered_forget_effect known) known Deleted e

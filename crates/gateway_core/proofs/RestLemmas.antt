@@ -2,8 +2,8 @@
 use Rattle.std.proofs.Common.{◌≡◌, ℕ, List, [], ◌∷◌, ◌++◌, refl, ap, ap₂, sym, ◌∙◌, append_assoc, map}
 use Rattle.esp3_frames.specs.Packet.{Packet}
 use Rattle.esp3_frames.specs.Framing.{MayBecomePacket}
-use Rattle.esp3_frames.specs.Frames.{packets_in, rest_of}
-use Rattle.esp3_frames.proofs.ForCallers.{framing_in_parts, framing_of, frames_of-may_become, rest_may_become}
+use Rattle.esp3_frames.specs.PacketsAndRest.{packets_in, rest_of}
+use Rattle.esp3_frames.proofs.ForCallers.{framing_in_parts, framing_of, packets_and_rest-may_become, rest_may_become}
 use Rattle.gateway_core.specs.Step.{Input, Received, Ordered}
 use Rattle.gateway_core.specs.Events.{Event, Chunk, Line, new_packets, inputs_of, bytes_in}
 use Rattle.gateway_core.proofs.ChunkLemmas.{new_packets-rest, inputs_of-append}
@@ -12,7 +12,7 @@ pub rest_goes_on : (s : List ℕ) → MayBecomePacket (rest_of s)
 rest_goes_on s = rest_may_become (framing_of s)
 
 rest_of-rest_of : (s : List ℕ) → rest_of (rest_of s) ≡ rest_of s
-rest_of-rest_of s = sym (frames_of-may_become (rest_of s) (rest_goes_on s)).1
+rest_of-rest_of s = sym (packets_and_rest-may_become (rest_of s) (rest_goes_on s)).1
 
 -- the inputs of events depend only on the rest of the stream
 inputs_of-rest : (s : List ℕ) (events : List Event) → inputs_of s events ≡ inputs_of (rest_of s) events

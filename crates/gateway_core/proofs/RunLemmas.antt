@@ -34,7 +34,7 @@ module _ {S : Type 0} (stored : S → DeviceStoreState) where
     base = refl;
     clean = λ honest. honest;
     recoverable = λ honest before. before;
-    went = λ honest start at. record {
+    ran_from_any = λ honest start at. record {
       results = [];
       last = start;
       run = refl;
@@ -50,9 +50,9 @@ module _ {S : Type 0} (stored : S → DeviceStoreState) where
     base = second.base ∙ first.base;
     clean = λ honest. first.clean (second.clean honest);
     recoverable = λ honest before. second.recoverable honest (first.recoverable (second.clean honest) before);
-    went = λ honest start at.
-        let a = first.went (second.clean honest) start at in
-        let b = second.went honest a.last a.at in
+    ran_from_any = λ honest start at.
+        let a = first.ran_from_any (second.clean honest) start at in
+        let b = second.ran_from_any honest a.last a.at in
         let Before = (stored old.registry).may_recover in
         record {
           results = a.results ++ b.results;

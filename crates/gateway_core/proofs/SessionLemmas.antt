@@ -229,7 +229,7 @@ life_keeps it session is spares found =
     spares.0
     first in
     (after_stop Before it (crash_states nothing_committed_yet start session.inputs session.results) session.last
-    session.interrupted
+    session.interrupted_input
     spares.1
     all).safe session.left is.safe
 
@@ -295,14 +295,14 @@ updates_survive_restarts session update sessions last is acknowledged spares are
     let early = crash_states nothing_committed_yet start acknowledged.before acknowledged.results in
     let one =
     reported_kept Before early acknowledged.at.devices
-    (update_of acknowledged.at acknowledged.input) update acknowledged.asks
-    (input-promises acknowledged.at acknowledged.input update acknowledged.asks) in
+    (update_of acknowledged.at acknowledged.input) update acknowledged.asks_for_update
+    (input-promises acknowledged.at acknowledged.input update acknowledged.asks_for_update) in
     let behind = reported_run acknowledged.at session.last acknowledged.input acknowledged.after acknowledged.more
     rest.0 rest.1 in
     let all =
     after_all Before update _
     (state_if_applied acknowledged.at acknowledged.input) session.last acknowledged.after acknowledged.more
-    behind.0 behind.1 acknowledged.spared one in
+    behind.0 behind.1 acknowledged.not_overridden_after one in
     let same : crash_states nothing_committed_yet start session.inputs session.results
     ≡ crash_states (crash_states_after_result early acknowledged.at acknowledged.input Applied)
     (state_if_applied acknowledged.at acknowledged.input) acknowledged.after
@@ -314,9 +314,9 @@ updates_survive_restarts session update sessions last is acknowledged spares are
     ∙ left_by-append nothing_committed_yet start acknowledged.at acknowledged.before
     (acknowledged.input ∷ acknowledged.after) acknowledged.results
     (Applied ∷ acknowledged.more) acknowledged.answers acknowledged.run in
-    let kept = after_stop Before update _ session.last session.interrupted acknowledged.crash all in
+    let kept = after_stop Before update _ session.last session.interrupted_input acknowledged.crash all in
     lives_keep_found update session.left sessions last are spares
-    (kept.safe session.left (subst (λ l. IsCrashConsistent Before (with_interrupted l session.last session.interrupted)
+    (kept.safe session.left (subst (λ l. IsCrashConsistent Before (with_interrupted l session.last session.interrupted_input)
     session.left) same is.safe))
   where
     reported_run : (at last : State) (input : Input) (later : List Input) (more : List InputResult)

@@ -42,13 +42,13 @@ pub record IsDurable (session : Session) (line : TeachLine)
   pub at : State
   pub known : Device
   pub run : Run (initial_state session.base session.found) answered.before answered.results answered.answers at
-  pub taken : answered.result ≡ Applied
-  pub asks : update_of at answered.input ≡ Some (accepted_or_deleted_update line.outcome known)
+  pub is_applied : answered.result ≡ Applied
+  pub asks_for_update : update_of at answered.input ≡ Some (accepted_or_deleted_update line.outcome known)
   pub same_text : text (Teach line) ≡ text (Teach (device_teach_line known line.outcome))
   pub later_sessions_keep : NoneOverrides (accepted_or_deleted_update line.outcome known)
       (state_if_applied at answered.input)
       answered.after answered.more
-      → InterruptedDoesNotOverride (accepted_or_deleted_update line.outcome known) session.last session.interrupted
+      → InterruptedDoesNotOverride (accepted_or_deleted_update line.outcome known) session.last session.interrupted_input
       → (sessions : List Session) (last : Devices)
       → AllByRecursion (SessionDoesNotOverride (accepted_or_deleted_update line.outcome known)) sessions
       → AreSessions session.left sessions last

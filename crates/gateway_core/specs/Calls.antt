@@ -2,7 +2,7 @@
 use Rattle.std.specs.Prelude.{◌≡◌, ℕ, ◌<◌, List, [], ◌∷◌, ◌++◌, length, take, Option, Some, None}
 use Rattle.learned_devices.specs.DeviceStoreState.{DeviceStoreState}
 use Rattle.esp3_frames.specs.Packet.{Packet}
-use Rattle.esp3_frames.specs.Frames.{packets_in, rest_of}
+use Rattle.esp3_frames.specs.PacketsAndRest.{packets_in, rest_of}
 use Rattle.teach_in.specs.declared.mode.Mode.TheVariants.{Closed}
 use Rattle.json_lines.specs.Counts.{zero_counts}
 use Rattle.gateway_core.specs.Step.{Input, Received, Ordered, Answer}

@@ -2,8 +2,8 @@
 use Rattle.std.specs.Prelude.{◌≡◌, ◌↔◌, IsSome, ℕ, List, [], ◌∷◌, Option, Some, None}
 use Rattle.esp3_frames.specs.Packet.{Packet}
 use Rattle.json_lines.specs.declared.counts.Counter.TheVariants as count
-use Rattle.teach_in.specs.declared.why.Why.{Why}
-use Rattle.teach_in.specs.declared.why.Why.TheVariants as why
+use Rattle.teach_in.specs.declared.handling_reason.HandlingReason.{HandlingReason}
+use Rattle.teach_in.specs.declared.handling_reason.HandlingReason.TheVariants as why
 use Rattle.json_lines.specs.Counts.{increment}
 use Rattle.json_lines.specs.Lines.{DeskLine, Reading, ReadingLine, ModuleResponse, ResponseLine, TeachLine, Teach, text}
 use Rattle.json_lines.specs.PacketLines.{packet_text}
@@ -32,7 +32,7 @@ disposition_for_result state packet (FailedAtCommit cause) = Some (without_devic
 
 -- what the desk receives for an applied packet besides the explanation, by the word of the reason: its reading, the
 -- response, the outcome for a sender, or nothing for any other word
-abbrev pub MatchesDeskLines : Why → List DeskLine → Type 0
+abbrev pub MatchesDeskLines : HandlingReason → List DeskLine → Type 0
 MatchesDeskLines why.Read lines = (line : ReadingLine) × (lines ≡ Reading line ∷ [])
 MatchesDeskLines why.Response lines = (line : ModuleResponse) × (lines ≡ ResponseLine line ∷ [])
 MatchesDeskLines (why.TeachIn outcome) lines = (line : TeachLine) × (line.outcome ≡ outcome) × (lines ≡ Teach line ∷ [])
@@ -44,10 +44,10 @@ MatchesDeskLines why lines = lines ≡ []
 pub record IsExplained (state : State) (packet : Packet) (result : InputResult) : Type 0 where
   pub disposition : Disposition
   pub is : disposition_for_result state packet result ≡ Some disposition
-  pub explained : (answer_for_result state (Received packet) result).explained
+  pub explanation : (answer_for_result state (Received packet) result).explanation
       ≡ packet_text (packet_line_of packet disposition)
   pub says : result ≡ Applied → MatchesDeskLines disposition.why (effect state (Received packet)).desk
-  pub taken : (result ≡ Applied) ↔ (¬ (disposition.why ≡ why.Refused))
+  pub is_applied : (result ≡ Applied) ↔ (¬ (disposition.why ≡ why.Refused))
   pub counts : (state_after_result state (Received packet) result).counts
       ≡ increment state.counts (counter_for disposition.why)
 
@@ -55,4 +55,4 @@ pub record IsExplained (state : State) (packet : Packet) (result : InputResult) 
 pub record ExplanationsAreCounted : Type 0 where
   pub packets : (state : State) (packet : Packet) (result : InputResult) → IsExplained state packet result
   pub lines : (state : State) (line : List ℕ) (result : InputResult)
-      → (answer_for_result state (Ordered line) result).explained ≡ []
+      → (answer_for_result state (Ordered line) result).explanation ≡ []

@@ -7,21 +7,21 @@ use Rattle.gateway_core.specs.Run.{InputResult, Applied, Failed, FailedAtCommit,
 -- whether an update was committed, and what a crash may leave since then
 pub record CrashStates : Type 0 where
   pub has_commit : Bool
-  pub maps : List Devices
+  pub possible_devices : List Devices
 
 abbrev pub nothing_committed_yet : CrashStates
-nothing_committed_yet = record { has_commit = false; maps = [] }
+nothing_committed_yet = record { has_commit = false; possible_devices = [] }
 
 -- a committed update leaves only the devices with it
 abbrev pub after_committed_update : CrashStates → Devices → Option DeviceUpdate → CrashStates
 after_committed_update left devices (Some update) =
-    record { has_commit = true; maps = apply_update devices update ∷ [] }
+    record { has_commit = true; possible_devices = apply_update devices update ∷ [] }
 after_committed_update left devices None = left
 
 -- an update that is not committed also leaves the devices with it
 abbrev pub with_pending_update : CrashStates → Devices → Option DeviceUpdate → CrashStates
 with_pending_update left devices (Some update) =
-    record { has_commit = left.has_commit; maps = apply_update devices update ∷ left.maps }
+    record { has_commit = left.has_commit; possible_devices = apply_update devices update ∷ left.possible_devices }
 with_pending_update left devices None = left
 
 abbrev pub crash_states_after_result : CrashStates → State → Input → InputResult → CrashStates
@@ -43,7 +43,7 @@ IsOneOf (first ∷ others) devices = (devices ≡ first) ⊎ IsOneOf others devi
 
 -- the devices are one of those left, or nothing was committed and a crash could leave them before
 abbrev pub IsCrashConsistent : (Before : Devices → Type 0) → CrashStates → (left : Devices) → Type 0
-IsCrashConsistent Before left devices = IsOneOf left.maps devices ⊎ ((left.has_commit ≡ false) × Before devices)
+IsCrashConsistent Before left devices = IsOneOf left.possible_devices devices ⊎ ((left.has_commit ≡ false) × Before devices)
 
 -- crash consistency composes: if each of two consecutive lists of inputs is crash-consistent, so is their concatenation
 abbrev pub CrashConsistencyComposes : (Devices → Type 0) → Type 0

@@ -22,11 +22,11 @@ use Rattle.json_lines.specs.declared.counts.Counter.TheVariants as count
 use Rattle.json_lines.specs.declared.packet.PacketLine.{PacketLine}
 use Rattle.json_lines.specs.declared.packet.ShownPacket.{ShownPacket}
 use Rattle.json_lines.specs.declared.packet.ShownPacket.TheVariants as shown
-use Rattle.teach_in.specs.declared.why.Why.{Why}
-use Rattle.teach_in.specs.declared.why.Why.TheVariants.{Refused, Response, EmptyResponse, OtherType, NoTelegram}
-use Rattle.teach_in.specs.declared.why.Why.TheVariants.{FromBroadcast, ForOthers, TeachInReply, TeachIn, Read}
-use Rattle.teach_in.specs.declared.why.Why.TheVariants.{WindowClosed, OtherMode, UnknownSender}
-use Rattle.teach_in.specs.declared.why.Why.TheVariants.{WrongKind, WrongLength, OtherMessage}
+use Rattle.teach_in.specs.declared.handling_reason.HandlingReason.{HandlingReason}
+use Rattle.teach_in.specs.declared.handling_reason.HandlingReason.TheVariants.{Refused, Response, EmptyResponse, OtherType, NoTelegram}
+use Rattle.teach_in.specs.declared.handling_reason.HandlingReason.TheVariants.{FromBroadcast, ForOthers, TeachInReply, TeachIn, Read}
+use Rattle.teach_in.specs.declared.handling_reason.HandlingReason.TheVariants.{WindowClosed, OtherMode, UnknownSender}
+use Rattle.teach_in.specs.declared.handling_reason.HandlingReason.TheVariants.{WrongKind, WrongLength, OtherMessage}
 use Rattle.json_lines.specs.PacketLines.{packet_text}
 use Rattle.json_lines.specs.ShownTelegram.{ShownTelegram, shown_of}
 use Rattle.gateway_core.specs.declared.disposition.Disposition.{Disposition}
@@ -34,31 +34,31 @@ use Rattle.gateway_core.specs.declared.disposition.Disposition.{Disposition}
 -- ---- reasons
 
 -- of a packet that carries no telegram and is no response
-abbrev pub why_no_telegram_or_response : Packet → Why
+abbrev pub why_no_telegram_or_response : Packet → HandlingReason
 why_no_telegram_or_response packet =
     if packet.kind == 1 then NoTelegram else if packet.kind == 2 then EmptyResponse else OtherType
 
 -- of a telegram that is filtered out
-abbrev pub why_filtered : FilterReason → Why
+abbrev pub why_filtered : FilterReason → HandlingReason
 why_filtered reason.FromBroadcast = FromBroadcast
 why_filtered reason.ForOthers = ForOthers
 
 -- Of a telegram whose plan is to do nothing: data, whose sender was looked up and is not learned, or a teach-in
 -- telegram. The mode does not matter for data.
-abbrev pub why_nothing_done : (is_data_of_unknown : Bool) → Mode → Why
+abbrev pub why_nothing_done : (is_data_of_unknown : Bool) → Mode → HandlingReason
 why_nothing_done true mode = UnknownSender
 why_nothing_done false Closed = WindowClosed
 why_nothing_done false mode = OtherMode
 
 -- of data that the profile of its sender cannot read; an unsupported profile reads nothing
-abbrev pub why_unread : Unreadable → Why
+abbrev pub why_unread : Unreadable → HandlingReason
 why_unread unreadable.NotSupported = OtherMessage
 why_unread unreadable.WrongKind = WrongKind
 why_unread unreadable.WrongLength = WrongLength
 why_unread unreadable.OtherMessage = OtherMessage
 
 -- the counter that a packet increments
-abbrev pub counter_for : Why → Counter
+abbrev pub counter_for : HandlingReason → Counter
 counter_for Refused = count.Refused
 counter_for Response = count.Response
 counter_for (TeachIn outcome) = count.Teach
@@ -79,11 +79,11 @@ counter_for OtherMessage = count.Ignored
 -- ---- the disposition of a packet: the reason, and what is known about its sender
 
 -- nothing is known about its sender, or it has none
-abbrev pub without_device : Why → Disposition
+abbrev pub without_device : HandlingReason → Disposition
 without_device why = record { why = why; eep = None; maker = None }
 
 -- its sender is this device
-abbrev pub for_device : Device → Why → Disposition
+abbrev pub for_device : Device → HandlingReason → Disposition
 for_device known why = record { why = why; eep = Some known.eep; maker = known.maker }
 
 -- ---- the line that explains a packet

@@ -1,7 +1,7 @@
 -- The events of a gateway: chunks of the serial stream, and lines of the desk between them.
 use Rattle.std.specs.Prelude.{◌≡◌, ℕ, List, [], ◌∷◌, ◌++◌, length, map, drop}
 use Rattle.esp3_frames.specs.Packet.{Packet}
-use Rattle.esp3_frames.specs.Frames.{packets_in}
+use Rattle.esp3_frames.specs.PacketsAndRest.{packets_in}
 use Rattle.gateway_core.specs.Step.{State, Input, Received, Ordered, Answer}
 use Rattle.gateway_core.specs.Run.{InputResult, Run, FailAlike}
 

@@ -23,8 +23,8 @@ use Rattle.teach_in.specs.Plans.{plan_of}
 use Rattle.teach_in.specs.Profiles.{supported}
 use Rattle.teach_in.specs.Telegrams.{teach_in_of}
 use Rattle.teach_in.specs.Ute.{request_in, deletion, unused_request}
-use Rattle.teach_in.specs.declared.why.Why.{Why}
-use Rattle.teach_in.specs.declared.why.Why.TheVariants as why
+use Rattle.teach_in.specs.declared.handling_reason.HandlingReason.{HandlingReason}
+use Rattle.teach_in.specs.declared.handling_reason.HandlingReason.TheVariants as why
 use Rattle.json_lines.specs.PacketLines.{packet_text}
 use Rattle.json_lines.specs.ShownTelegram.{ShownTelegram}
 use Rattle.json_lines.specs.declared.packet.PacketLine.{PacketLine}
@@ -38,7 +38,7 @@ use Rattle.gateway_core.specs.Step.{State, Received, answer_if_applied, update_o
 -- the packet carries this telegram, which is addressed to us
 pub record IsNotFilteredOut (state : State) (packet : Packet) (t : Telegram) : Type 0 where
   pub carried : telegram_of packet ≡ Ok t
-  pub heard : is_filtered_out state.base t ≡ false
+  pub not_filtered_out : is_filtered_out state.base t ≡ false
 
 -- a teach-in telegram that is not a reply
 abbrev pub IsTeachInRequest : Teach → Type 0
@@ -50,8 +50,8 @@ IsTeachInRequest kind = ⊥
 
 -- data of a learned device
 pub record IsDataOf (state : State) (packet : Packet) (t : Telegram) (known : Device) : Type 0 where
-  pub hears : IsNotFilteredOut state packet t
-  pub data_alone : teach_in_of t ≡ Plain
+  pub not_filtered_out : IsNotFilteredOut state packet t
+  pub is_data : teach_in_of t ≡ Plain
   pub is_known : device_of state.devices t.sender ≡ Some known
 
 -- the disposition has the profile and maker of this device, or of none
@@ -73,12 +73,12 @@ RorgDoesNotFitTeachIn eep kind = ⊥
 
 -- data of a learned device that its profile cannot read, for one of these faults
 abbrev pub IsUnreadableData : State → Packet → Disposition → (Unreadable → Type 0) → Type 0
-IsUnreadableData state packet disposition Why =
+IsUnreadableData state packet disposition HandlingReason =
     (t : Telegram) × (known : Device) × (fault : Unreadable) × IsDataOf state packet t known
     × (read_by known.eep t ≡ Err fault) × Why fault × HasProfileAndMakerOf disposition (Some known)
 
 -- the meaning of the word, and whose profile and maker the disposition has
-abbrev pub WhyIsTrue : State → Packet → Disposition → Why → Type 0
+abbrev pub WhyIsTrue : State → Packet → Disposition → HandlingReason → Type 0
 WhyIsTrue state packet disposition why.Refused = ⊥
 WhyIsTrue state packet disposition why.Response =
     (packet.kind ≡ 2) × (0 < length packet.body) × HasProfileAndMakerOf disposition None
@@ -167,10 +167,10 @@ Shows packet disposition (shown_as.WithoutTelegram kind size) =
 pub record IsTrulyExplained (state : State) (packet : Packet) : Type 0 where
   pub disposition : Disposition
   pub line : PacketLine
-  pub explained : (answer_if_applied state (Received packet)).explained ≡ packet_text line
-  pub word : line.why ≡ disposition.why
+  pub explanation : (answer_if_applied state (Received packet)).explanation ≡ packet_text line
+  pub same_why : line.why ≡ disposition.why
   pub shows : Shows packet disposition line.packet
-  pub means : WhyIsTrue state packet disposition disposition.why
+  pub why_is_true : WhyIsTrue state packet disposition disposition.why
 
 abbrev pub ExplanationsAreTrue : Type 0
 ExplanationsAreTrue = (state : State) (packet : Packet) → IsTrulyExplained state packet

@@ -46,5 +46,5 @@ module _ {S : Type 0} (stored : S → DeviceStoreState) where
     -- the device store stays sound
     pub recoverable : (stored new.registry).honest → (stored old.registry).sound
         → (stored new.registry).sound
-    pub went : (stored new.registry).honest → (start : State) → HasState stored old start
+    pub ran_from_any : (stored new.registry).honest → (start : State) → HasState stored old start
         → HandlesFrom old start inputs answers new

@@ -77,4 +77,4 @@ HasInterruptedUpdate state (Some input) devices = devices ≡ with_update state.
 abbrev pub SessionsLeavePrefixes : Type 0
 SessionsLeavePrefixes = (session : Session) → IsSession session
     → AfterPrefix (initial_state session.base session.found) session.inputs session.results session.left
-    ⊎ HasInterruptedUpdate session.last session.interrupted session.left
+    ⊎ HasInterruptedUpdate session.last session.interrupted_input session.left

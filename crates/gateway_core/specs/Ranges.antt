@@ -41,7 +41,7 @@ StaysInRange = (old new : State) (inputs : List Input) (results : List InputResu
 abbrev pub SessionsLeaveDevicesInRange : Type 0
 SessionsLeaveDevicesInRange =
     (session : Session) → IsSession session → AreInRange session.found → AllByRecursion PacketBodyIsBytes session.inputs
-    → IfSome session.interrupted PacketBodyIsBytes → AreInRange session.left
+    → IfSome session.interrupted_input PacketBodyIsBytes → AreInRange session.left
 
 -- The teach line has the text of the line of this device, which is in range, and the input makes the update that the
 -- line reports. If the numbers of the line are in range, it is the line of this device.

@@ -9,7 +9,7 @@ use Rattle.gateway_core.specs.declared.reply.Reply.{Reply}
 
 abbrev pub answer_of : Reply → Answer
 answer_of reply =
-    record { radio = option_map (λ bytes. bytes.items) reply.radio; explained = []; desk = desk_bytes reply.desk }
+    record { radio = option_map (λ bytes. bytes.items) reply.radio; explanation = []; desk = desk_bytes reply.desk }
 
 -- the answer to a packet, with the line that explains it
 abbrev pub packet_answer : HandledPacket → Answer

@@ -117,7 +117,7 @@ pub record RepliesTo (state : State) (input : Input) (bytes : List ℕ) : Type 0
   pub reported : (answer_if_applied state input).desk ≡ text (Teach line)
   pub reply : Telegram
   pub says : IsReplyTelegram state telegram line.outcome reply
-  pub sent_as : bytes ≡ spelling (radio_packet reply)
+  pub bytes_are : bytes ≡ spelling (radio_packet reply)
 
 -- the packet that an order sends: the request for the base ID, or the order's telegram
 abbrev pub IsSentByOrder : State → Order → Packet → Type 0
@@ -135,7 +135,7 @@ pub record SendsAsOrdered (state : State) (input : Input) (bytes : List ℕ) : T
   pub reported : (answer_if_applied state input).desk ≡ text Done
   pub packet : Packet
   pub is_packet : IsSentByOrder state order packet
-  pub sent_as : bytes ≡ spelling packet
+  pub bytes_are : bytes ≡ spelling packet
 
 -- only an applied input sends bytes by radio, as a reply or as the desk has ordered
 abbrev pub RadioIsReplyOrOrdered : Type 0

@@ -20,7 +20,7 @@ pub record SessionMayLeave (base : ℕ) (found : Devices) (inputs : List Input) 
     results = results;
     answers = answers;
     last = last;
-    interrupted = interrupted;
+    interrupted_input = interrupted;
     left = left;
   })
 

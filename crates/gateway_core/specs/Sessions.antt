@@ -20,7 +20,7 @@ pub record Session : Type 0 where
   pub results : List InputResult
   pub answers : List Answer
   pub last : State
-  pub interrupted : Option Input
+  pub interrupted_input : Option Input
   pub left : Devices
 
 -- a session begins with the devices found, with the mode closed and all counters 0
@@ -36,7 +36,7 @@ pub record IsSession (session : Session) : Type 0 where
   pub run : Run (initial_state session.base session.found) session.inputs session.results session.answers session.last
   pub safe : IsCrashConsistent (λ devices. devices ≡ session.found)
       (with_interrupted (crash_states nothing_committed_yet (initial_state session.base session.found) session.inputs
-      session.results) session.last session.interrupted)
+      session.results) session.last session.interrupted_input)
       session.left
 
 -- each session finds what the one before left
@@ -69,7 +69,7 @@ InterruptedDoesNotOverride it state (Some input) = IsNotOverriddenBy it (update_
 
 abbrev pub SessionDoesNotOverride : DeviceUpdate → Session → Type 0
 SessionDoesNotOverride it session = NoneOverrides it (initial_state session.base session.found) session.inputs
-    session.results × InterruptedDoesNotOverride it session.last session.interrupted
+    session.results × InterruptedDoesNotOverride it session.last session.interrupted_input
 
 -- the session acknowledged the update, and then nothing in it overrode what that guarantees
 pub record AcknowledgesAndKeeps (session : Session) (update : DeviceUpdate) : Type 0 where
@@ -83,9 +83,9 @@ pub record AcknowledgesAndKeeps (session : Session) (update : DeviceUpdate) : Ty
   pub inputs_are : session.inputs ≡ before ++ input ∷ after
   pub results_are : session.results ≡ results ++ Applied ∷ more
   pub run : Run (initial_state session.base session.found) before results answers at
-  pub asks : update_of at input ≡ Some update
-  pub spared : NoneOverrides update (state_if_applied at input) after more
-  pub crash : InterruptedDoesNotOverride update session.last session.interrupted
+  pub asks_for_update : update_of at input ≡ Some update
+  pub not_overridden_after : NoneOverrides update (state_if_applied at input) after more
+  pub crash : InterruptedDoesNotOverride update session.last session.interrupted_input
 
 -- theorem `updates_survive_restarts`: every later session finds what an acknowledged update guarantees, until an input
 -- overrides it

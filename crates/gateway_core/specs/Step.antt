@@ -10,7 +10,7 @@ use Rattle.erp1_telegrams.specs.Telegram.{Telegram, telegram_of, radio_packet}
 use Rattle.profile_rows.specs.Reading.{Entry}
 use Rattle.profile_rows.specs.declared.unreadable.Unreadable.{Unreadable}
 use Rattle.learned_devices.specs.declared.Device.{Device}
-use Rattle.learned_devices.specs.Devices.{Devices, device_of, all_of, is_full, DeviceUpdate, apply_update}
+use Rattle.learned_devices.specs.Devices.{Devices, device_of, devices_by_ascending_id, is_full, DeviceUpdate, apply_update}
 use Rattle.learned_devices.specs.Devices.{learn_update, forget_update, relabel_update}
 use Rattle.teach_in.specs.declared.mode.Mode.{Mode}
 use Rattle.teach_in.specs.declared.mode.Mode.TheVariants.{Closed, Learn, LearnAnswer, LearnAs}
@@ -41,8 +41,8 @@ use Rattle.json_lines.specs.declared.error_lines.ErrorName.{ErrorName}
 use Rattle.json_lines.specs.declared.error_lines.ErrorName.TheVariants as error
 use Rattle.json_lines.specs.Counts.{increment_if_any}
 use Rattle.json_lines.specs.declared.packet.PacketLine.{PacketLine}
-use Rattle.teach_in.specs.declared.why.Why.{Why}
-use Rattle.teach_in.specs.declared.why.Why.TheVariants as why
+use Rattle.teach_in.specs.declared.handling_reason.HandlingReason.{HandlingReason}
+use Rattle.teach_in.specs.declared.handling_reason.HandlingReason.TheVariants as why
 use Rattle.json_lines.specs.Lines.{DeskLine, Reading, Teach as TeachOf, StatusLine, ResponseLine, Done, Error}
 use Rattle.json_lines.specs.Lines.{TeachLine, ModuleResponse, list_lines, texts}
 use Rattle.gateway_core.specs.declared.disposition.Disposition.{Disposition}
@@ -117,7 +117,7 @@ silent_effect asks_store disposition =
     record no_effect { disposition = Some disposition; need = needs_store_if asks_store }
 
 -- it is ignored, for this reason
-abbrev pub ignored_effect : Why → Effect
+abbrev pub ignored_effect : HandlingReason → Effect
 ignored_effect why = silent_effect false (without_device why)
 
 -- one line for the desk about a packet
@@ -170,15 +170,15 @@ reply_telegram_of base LearnAnswer (teach.FourByte query) outcome = four_byte_re
 reply_telegram_of base mode kind outcome = None
 
 -- the bytes of the packet in which a telegram is sent, if there is one
-abbrev pub radio_of : Option Telegram → Option (List ℕ)
-radio_of = option_map (λ t. spelling (radio_packet t))
+abbrev pub radio_bytes_of : Option Telegram → Option (List ℕ)
+radio_bytes_of = option_map (λ t. spelling (radio_packet t))
 
 -- the outcome for a telegram's sender, for which the device store was asked: reported to the desk, and replied to the
 -- sender
 abbrev pub teach_report_effect : State → Teach → TeachLine → Effect
 teach_report_effect state kind line =
     record (packet_desk_line_effect NeedsStore (without_device (why.TeachIn line.outcome)) (TeachOf line)) {
-      radio = radio_of (reply_telegram_of state.base state.mode kind line.outcome);
+      radio = radio_bytes_of (reply_telegram_of state.base state.mode kind line.outcome);
     }
 
 -- the mode that learns with the desk's profile is for one sender. Own choice
@@ -326,7 +326,7 @@ order_effect state (Ok (order.Add id eep)) =
 order_effect state (Ok (Remove id)) = if_learned_else_error (device_of state.devices id) ordered_forget_effect
 order_effect state (Ok (Label id label)) =
     if_learned_else_error (device_of state.devices id) (λ known. relabel_effect id label)
-order_effect state (Ok ListAll) = lines_effect NeedsStore (list_lines (all_of state.devices))
+order_effect state (Ok ListAll) = lines_effect NeedsStore (list_lines (devices_by_ascending_id state.devices))
 order_effect state (Ok Status) = lines_effect NeedsMemory (StatusLine state.counts state.mode ∷ [])
 order_effect state (Ok Base) = send_effect false (spelling base_id_request)
 order_effect state (Ok order) = sending_order_effect state order
@@ -344,15 +344,15 @@ effect state (Ordered line) = line_effect state line
 -- the bytes to send by radio, if any, the line that explains a packet, and the text for the desk
 pub record Answer : Type 0 where
   pub radio : Option (List ℕ)
-  pub explained : List ℕ
+  pub explanation : List ℕ
   pub desk : List ℕ
 
 -- the answer to an input that is no packet, or to a packet before it is explained
 abbrev pub text_answer : (text : List ℕ) → Answer
-text_answer text = record { radio = None; explained = []; desk = text }
+text_answer text = record { radio = None; explanation = []; desk = text }
 
 abbrev pub unexplained_answer : Effect → Answer
-unexplained_answer effect = record { radio = effect.radio; explained = []; desk = texts effect.desk }
+unexplained_answer effect = record { radio = effect.radio; explanation = []; desk = texts effect.desk }
 
 -- the line that explains an input, by its disposition: a packet has one, an order has none
 abbrev pub packet_line_for : Input → Option Disposition → Option PacketLine
@@ -361,7 +361,7 @@ packet_line_for (Ordered line) disposition = None
 
 -- the answer with this text, or with this line, as its explanation
 abbrev pub with_explanation : (text : List ℕ) → Answer → Answer
-with_explanation text answer = record answer { explained = text }
+with_explanation text answer = record answer { explanation = text }
 
 abbrev pub with_packet_line : Option PacketLine → Answer → Answer
 with_packet_line line = with_explanation (explanation line)

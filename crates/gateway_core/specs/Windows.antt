@@ -21,7 +21,7 @@ pub record LearnsSender (state : State) (packet : Packet) : Type 0 where
   pub known : Device
   pub is_sender : known.id ≡ telegram.sender
   pub update : update_of state (Received packet) ≡ Some (learn_update known)
-  pub learning : state.mode ≢ Closed
+  pub window_open : state.mode ≢ Closed
   pub ute_needs_window_for_all : (query : UteQuery) → teach_in_of telegram ≡ Ute query
       → (state.mode ≡ Learn) ⊎ (state.mode ≡ LearnAnswer)
   pub closes : (eep : Eep) → state.mode ≡ LearnAs eep → new_mode_of state (Received packet) ≡ Some Closed

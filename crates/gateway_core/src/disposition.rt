@@ -10,19 +10,19 @@ use esp3_frames::packet_type::{RADIO_ERP1, RESPONSE};
 use json_lines::Counter;
 use learned_devices::Device;
 use profile_rows::Unreadable;
-use teach_in::{Mode, Teach, Why};
+use teach_in::{HandlingReason, Mode, Teach};
 
 /// Why a packet was handled the way it was, and the profile and maker of its sender, if the device is known.
 #[derive(Clone, Copy, Debug, PartialEq, Eq)]
 pub(crate) struct Disposition {
-    pub(crate) why: Why,
+    pub(crate) why: HandlingReason,
     pub(crate) eep: Option<Eep>,
     pub(crate) maker: Option<u16>,
 }
 
 impl Disposition {
     // Nothing is known about the sender, or there is none.
-    pub(crate) fn without_device(why: Why) -> Disposition
+    pub(crate) fn without_device(why: HandlingReason) -> Disposition
         ensures { result ≡ without_device why }
     {
         Disposition {
@@ -33,7 +33,7 @@ impl Disposition {
     }
 
     // The sender is this device.
-    pub(crate) fn for_device(device: &Device, why: Why) -> Disposition
+    pub(crate) fn for_device(device: &Device, why: HandlingReason) -> Disposition
         ensures { result ≡ Dispositions.for_device device.now why }
     {
         Disposition {
@@ -48,65 +48,65 @@ impl Disposition {
         ensures { result ≡ Dispositions.counter_for self.now.why }
     {
         match self.why {
-            Why::Refused => Counter::Refused,
-            Why::Response => Counter::Response,
-            Why::TeachIn(_) => Counter::Teach,
-            Why::Read => Counter::Reading,
-            Why::EmptyResponse
-            | Why::OtherType
-            | Why::NoTelegram
-            | Why::FromBroadcast
-            | Why::ForOthers
-            | Why::TeachInReply
-            | Why::WindowClosed
-            | Why::OtherMode
-            | Why::UnknownSender
-            | Why::WrongKind
-            | Why::WrongLength
-            | Why::OtherMessage => Counter::Ignored,
+            HandlingReason::Refused => Counter::Refused,
+            HandlingReason::Response => Counter::Response,
+            HandlingReason::TeachIn(_) => Counter::Teach,
+            HandlingReason::Read => Counter::Reading,
+            HandlingReason::EmptyResponse
+            | HandlingReason::OtherType
+            | HandlingReason::NoTelegram
+            | HandlingReason::FromBroadcast
+            | HandlingReason::ForOthers
+            | HandlingReason::TeachInReply
+            | HandlingReason::WindowClosed
+            | HandlingReason::OtherMode
+            | HandlingReason::UnknownSender
+            | HandlingReason::WrongKind
+            | HandlingReason::WrongLength
+            | HandlingReason::OtherMessage => Counter::Ignored,
         }
     }
 }
 
 // Why a packet that carries no telegram and is no response is ignored.
-pub(crate) fn why_no_telegram_or_response(packet: &PacketRef<'_>) -> Why
+pub(crate) fn why_no_telegram_or_response(packet: &PacketRef<'_>) -> HandlingReason
     ensures { result ≡ Dispositions.why_no_telegram_or_response (packet_of packet.now) }
 {
     match packet.kind {
-        RADIO_ERP1 => Why::NoTelegram,
-        RESPONSE => Why::EmptyResponse,
-        _ => Why::OtherType,
+        RADIO_ERP1 => HandlingReason::NoTelegram,
+        RESPONSE => HandlingReason::EmptyResponse,
+        _ => HandlingReason::OtherType,
     }
 }
 
-pub(crate) fn why_filtered(reason: FilterReason) -> Why
+pub(crate) fn why_filtered(reason: FilterReason) -> HandlingReason
     ensures { result ≡ Dispositions.why_filtered reason }
 {
     match reason {
-        FilterReason::FromBroadcast => Why::FromBroadcast,
-        FilterReason::ForOthers => Why::ForOthers,
+        FilterReason::FromBroadcast => HandlingReason::FromBroadcast,
+        FilterReason::ForOthers => HandlingReason::ForOthers,
     }
 }
 
 // Why nothing is done about the sender of a data telegram, if `is_data`, or of a teach-in telegram.
-pub(crate) fn why_nothing_done(is_data: bool, mode: Mode) -> Why
+pub(crate) fn why_nothing_done(is_data: bool, mode: Mode) -> HandlingReason
     ensures { result ≡ Dispositions.why_nothing_done is_data mode }
 {
     match (is_data, mode) {
-        (true, _) => Why::UnknownSender,
-        (false, Mode::Closed) => Why::WindowClosed,
-        (false, Mode::Learn | Mode::LearnAnswer | Mode::LearnAs(_)) => Why::OtherMode,
+        (true, _) => HandlingReason::UnknownSender,
+        (false, Mode::Closed) => HandlingReason::WindowClosed,
+        (false, Mode::Learn | Mode::LearnAnswer | Mode::LearnAs(_)) => HandlingReason::OtherMode,
     }
 }
 
 // Why a data telegram cannot be read.
-pub(crate) fn why_unread(fault: Unreadable) -> Why
+pub(crate) fn why_unread(fault: Unreadable) -> HandlingReason
     ensures { result ≡ Dispositions.why_unread fault }
 {
     match fault {
-        Unreadable::WrongKind => Why::WrongKind,
-        Unreadable::WrongLength => Why::WrongLength,
-        Unreadable::NotSupported | Unreadable::OtherMessage => Why::OtherMessage,
+        Unreadable::WrongKind => HandlingReason::WrongKind,
+        Unreadable::WrongLength => HandlingReason::WrongLength,
+        Unreadable::NotSupported | Unreadable::OtherMessage => HandlingReason::OtherMessage,
     }
 }
 

@@ -15,23 +15,23 @@ pub enum Failure {
 
 impl From<StoreFault> for Failure {
     ghost use Rattle.std.specs.Prelude.{◌≡◌};
-    ghost use Rattle.gateway_core.specs.declared.failure.Failure.TheVariants.{Before};
+    ghost use Rattle.gateway_core.specs.declared.failure.Failure.TheVariants.{BeforeCommit};
 
-    ghost from_gives = { λ fault failure. failure ≡ Before fault };
+    ghost from_gives = { λ fault failure. failure ≡ BeforeCommit fault };
 
     fn from(fault: StoreFault) -> Failure {
-        Failure::Before(fault)
+        Failure::BeforeCommit(fault)
     }
 }
 
 impl From<AllocError> for Failure {
     ghost use Rattle.std.specs.Prelude.{◌≡◌};
     ghost use Rattle.learned_devices.specs.Faults.{out_of_memory};
-    ghost use Rattle.gateway_core.specs.declared.failure.Failure.TheVariants.{Before};
+    ghost use Rattle.gateway_core.specs.declared.failure.Failure.TheVariants.{BeforeCommit};
 
-    ghost from_gives = { λ _ failure. failure ≡ Before out_of_memory };
+    ghost from_gives = { λ _ failure. failure ≡ BeforeCommit out_of_memory };
 
     fn from(error: AllocError) -> Failure {
-        Failure::Before(StoreFault::from(error))
+        Failure::BeforeCommit(StoreFault::from(error))
     }
 }

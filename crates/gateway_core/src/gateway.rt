@@ -2,8 +2,8 @@
 ghost use Rattle.std.specs.Prelude.{◌≡◌, ◌≢◌, ◌↔◌, ◌<◌, ◌≤◌, ℕ, [], ◌∷◌, ◌++◌, List, length, take, true, false};
 ghost use Rattle.std.specs.Prelude.{IfOk, IfSome, IfNone, MatchBool, Some};
 ghost use Rattle.std.specs.Option.{option_map};
-ghost use Rattle.esp3_frames.specs.Frames.{front_of, packets_in};
-ghost use Rattle.esp3_frames.specs.Frames.Front.{Whole};
+ghost use Rattle.esp3_frames.specs.PacketsAndRest.{front_of, packets_in};
+ghost use Rattle.esp3_frames.specs.PacketsAndRest.Front.{Whole};
 ghost use Rattle.esp3_frames.specs.Packet.{Packet};
 ghost use Rattle.esp3_frames.specs.Framing.{MayBecomePacket};
 ghost use Rattle.erp1_telegrams.specs.Address;

@@ -28,7 +28,7 @@ use json_lines::{Counter, Counts};
 use learned_devices::DeviceStore;
 use std::alloc::Global;
 use std::marker::Model;
-use teach_in::{Mode, Why, classify};
+use teach_in::{HandlingReason, Mode, classify};
 
 /// The state of a gateway: base ID of its radio module, learn mode, counters, and the registry of learned devices.
 #[derive(Drop)]
@@ -100,7 +100,7 @@ impl<S: DeviceStore> Handler<S> {
                 },
             ) => (disposition, mode, reply),
             Err(failure) => (
-                Disposition::without_device(Why::Refused),
+                Disposition::without_device(HandlingReason::Refused),
                 None,
                 error_reply(failure),
             ),

@@ -1,6 +1,6 @@
 //! Theorems about the definitions and about every gateway. Each function does nothing: its contract is the theorem.
 ghost use Rattle.std.specs.Prelude.{◌≡◌, ℕ, List, [], ◌++◌};
-ghost use Rattle.esp3_frames.specs.Frames.{packets_in, rest_of};
+ghost use Rattle.esp3_frames.specs.PacketsAndRest.{packets_in, rest_of};
 ghost use Rattle.learned_devices.specs.Devices.{Devices};
 ghost use Rattle.gateway_core.specs.SessionCalls.{CallsAreSessions, ClosesEndSessions, CrashesEndSessions};
 ghost use Rattle.gateway_core.specs.Calls.{CallsAreARun, BytesOneByOne};
@@ -186,13 +186,13 @@ pub fn packets_learn_only_in_windows()
 {}
 
 /// After the calls of a session, a crash leaves what a session may leave.
-pub fn crash_after_calls_is_end<S: DeviceStore>()
+pub fn crash_after_calls_ends_session<S: DeviceStore>()
     ensures { CallsAreSessions S.store_state }
 {}
 
 /// From the write of the next input on, also after its commit and before its answer, a crash leaves what a session
 /// that crashed in that input may leave.
-pub fn crash_in_input_is_end<S: DeviceStore>()
+pub fn crash_in_input_ends_session<S: DeviceStore>()
     ensures { CrashesEndSessions S.store_state }
 {}
 

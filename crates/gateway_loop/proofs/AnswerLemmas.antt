@@ -9,7 +9,7 @@ use Rattle.gateway_loop.specs.Processing.{Answers, LastAnswerCutShort}
 
 module _ {S : Type 0} (stored : S → DeviceStoreState) {O : Type 0} (output : OutputSpec O) where
   pub answers_nothing : (state : HandlerValue S) (o : O) → Answers stored state state [] (output.puts o o)
-  answers_nothing state o = record { answers = []; handled = handles-nothing stored state; out = output.nothing o }
+  answers_nothing state o = record { answers = []; handled = handles-nothing stored state; out = output.puts_nothing o }
 
   pub answers_one : (old new : HandlerValue S) (item : Input) (answer : Answer) (o now : O)
       → Handles stored old (item ∷ []) (answer ∷ []) new → output.puts o now (answer ∷ [])

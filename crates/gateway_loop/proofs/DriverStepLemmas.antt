@@ -4,9 +4,9 @@ use Rattle.std.proofs.Common.{append_assoc, append-nil, arith, length-append, ma
 use Rattle.std.proofs.lemmas.List.{map-append, length-map}
 use Rattle.learned_devices.specs.DeviceStoreState.{DeviceStoreState}
 use Rattle.esp3_frames.specs.Packet.{Packet}
-use Rattle.esp3_frames.specs.Frames.{packets_in, rest_of}
+use Rattle.esp3_frames.specs.PacketsAndRest.{packets_in, rest_of}
 use Rattle.esp3_frames.specs.Framing.{MayBecomePacket}
-use Rattle.esp3_frames.proofs.ForCallers.{frames_of-may_become}
+use Rattle.esp3_frames.proofs.ForCallers.{packets_and_rest-may_become}
 use Rattle.gateway_core.specs.Step.{Input, Received, Ordered, Answer}
 use Rattle.gateway_core.specs.Handling.{HandlerValue}
 use Rattle.gateway_core.specs.Calls.{GatewayValue, Transition, Next, Bytes, Order}
@@ -39,7 +39,7 @@ inputs_of-chunk : (rest bytes : List ℕ) → MayBecomePacket rest
     → inputs_of rest (Chunk bytes ∷ []) ≡ map Received (packets_in (rest ++ bytes))
 inputs_of-chunk rest bytes live =
     append-nil (map Received _) ∙ ap (λ (ps : List Packet). map Received ps)
-    (new_packets-rest rest bytes ∙ ap (λ r. packets_in (r ++ bytes)) (sym (frames_of-may_become rest live).1))
+    (new_packets-rest rest bytes ∙ ap (λ r. packets_in (r ++ bytes)) (sym (packets_and_rest-may_become rest live).1))
 
 module _ {S : Type 0} (stored : S → DeviceStoreState) {O : Type 0} (output : OutputSpec O) where
   -- ---- the ready packets
@@ -74,7 +74,7 @@ module _ {S : Type 0} (stored : S → DeviceStoreState) {O : Type 0} (output : O
       → output.breaks mids now [] answer → DrainsPart stored old new (output.breaks o now)
   drains_part old mid new answer o mids now count some before (packet, first, rest, handled) part = record {
     packets = before.packets ++ packet ∷ [];
-    some = omega (arith, length-append before.packets (packet ∷ []));
+    not_empty = omega (arith, length-append before.packets (packet ∷ []));
     ready = ready_after old.ready mid.ready new.ready before.packets packet before.ready first;
     rest = rest ∙ before.rest;
     answered = rw (map-append Received before.packets (packet ∷ []))
@@ -99,7 +99,7 @@ module _ {O S : Type 0} (stored : S → DeviceStoreState) (output : OutputSpec O
       let rest = old.gateway.now.rest in
       let none : inputs_of rest (Chunk [] ∷ []) ≡ [] =
       inputs_of-chunk rest [] idle.rest ∙ ap (λ r. map Received (packets_in r)) (append-nil rest)
-      ∙ ap (λ (ps : List Packet). map Received ps) (sym (frames_of-may_become rest idle.rest).0) in
+      ∙ ap (λ (ps : List Packet). map Received ps) (sym (packets_and_rest-may_become rest idle.rest).0) in
       let processed = plays_nothing stored output old idle in
       record {
         processed = record { answered = rw none processed.answered; rest = processed.rest; idle = idle };
@@ -165,13 +165,13 @@ module _ {O S : Type 0} (stored : S → DeviceStoreState) (output : OutputSpec O
       let ended = new.gateway.now in
       let new_packets = map Received drained.packets in
       record {
-        begun = Chunk run;
-        begins = (later, whole);
+        begun_event = Chunk run;
+        begun_is_prefix = (later, whole);
         inputs = new_packets;
-        own = new_packets;
-        behind = refl;
-        some = let more = drained.some in omega (arith, more, length-map drained.packets Received);
-        stand = inputs_of-bytes old.gateway.now mid run idle moved
+        begun_inputs = new_packets;
+        inputs_are = refl;
+        not_empty = let more = drained.not_empty in omega (arith, more, length-map drained.packets Received);
+        ready_packets_are = inputs_of-bytes old.gateway.now mid run idle moved
             ∙ ap (λ (ps : List Packet). map Received ps) drained.ready
             ∙ map-append Received drained.packets ended.ready;
         rest = drained.rest ∙ moved.3 ∙ ap (λ w. rest_of (rest ++ w)) (sym (append-nil run));
@@ -199,22 +199,22 @@ module _ {O S : Type 0} (stored : S → DeviceStoreState) (output : OutputSpec O
       let after = now.gateway.now.rest in
       let ended = new.gateway.now in
       let first = inputs_of rest (Chunk bytes ∷ []) in
-      let part = begun-chunk others broken.begun broken.begins in
+      let part = begun-chunk others broken.begun_event broken.begun_is_prefix in
       let run = part.0 in
-      let behind = broken.behind in
+      let behind = broken.inputs_are in
       record {
-        begun = Chunk (bytes ++ run);
-        begins = (part.2, ap (λ w. bytes ++ w) part.3 ∙ sym (append_assoc bytes run part.2));
+        begun_event = Chunk (bytes ++ run);
+        begun_is_prefix = (part.2, ap (λ w. bytes ++ w) part.3 ∙ sym (append_assoc bytes run part.2));
         inputs = first ++ broken.inputs;
-        own = first ++ broken.inputs;
-        behind = refl;
-        some =
-            let some = broken.some in
+        begun_inputs = first ++ broken.inputs;
+        inputs_are = refl;
+        not_empty =
+            let some = broken.not_empty in
             omega (arith, some, ap (λ (is : List Input). length is) behind, length-append first broken.inputs);
-        stand = items-joined rest bytes run
+        ready_packets_are = items-joined rest bytes run
             ∙ items_behind rest after (Chunk bytes ∷ []) (Chunk run ∷ []) before.processed.rest
             ∙ ap (λ (e : Event). first ++ inputs_of after (e ∷ [])) (sym part.1)
-            ∙ ap (λ (is : List Input). first ++ is) broken.stand
+            ∙ ap (λ (is : List Input). first ++ is) broken.ready_packets_are
             ∙ sym (append_assoc first broken.inputs (map Received ended.ready));
         rest = broken.rest ∙ ap (λ (e : Event). rest_of (after ++ bytes_in (e ∷ []))) part.1
             ∙ rest_behind rest after (Chunk bytes ∷ []) (Chunk run ∷ []) before.processed.rest
@@ -228,7 +228,7 @@ module _ {O S : Type 0} (stored : S → DeviceStoreState) (output : OutputSpec O
 
   rest_stays : (old new : GatewayValue S) → HasNoReadyPacket old → new.rest ≡ old.rest
       → new.rest ≡ rest_of (old.rest ++ [])
-  rest_stays old new idle e = e ∙ (frames_of-may_become old.rest idle.rest).1 ∙ ap rest_of (sym (append-nil old.rest))
+  rest_stays old new idle e = e ∙ (packets_and_rest-may_become old.rest idle.rest).1 ∙ ap rest_of (sym (append-nil old.rest))
 
   pub takes_order : (old new : Driver O S) (line : List ℕ) (answer : Answer) → HasNoReadyPacket old.gateway.now
       → Transition stored old.gateway.now (Order line answer) new.gateway.now
@@ -250,13 +250,13 @@ module _ {O S : Type 0} (stored : S → DeviceStoreState) (output : OutputSpec O
       → output.breaks old.reply_sink new.reply_sink [] answer
       → DriverBreaks stored output old new [] (Line line)
   breaks_at_order old new line answer idle (ready, rest, handled) part = record {
-    begun = Line line;
-    begins = refl;
+    begun_event = Line line;
+    begun_is_prefix = refl;
     inputs = Ordered line ∷ [];
-    own = Ordered line ∷ [];
-    behind = refl;
-    some = omega arith;
-    stand = ap (λ (ps : List Packet). Ordered line ∷ map Received ps) (sym (ready ∙ idle.ready));
+    begun_inputs = Ordered line ∷ [];
+    inputs_are = refl;
+    not_empty = omega arith;
+    ready_packets_are = ap (λ (ps : List Packet). Ordered line ∷ map Received ps) (sym (ready ∙ idle.ready));
     rest = rest_stays old.gateway.now new.gateway.now idle rest;
     answered =
         part_one stored output old.gateway.now.handler new.gateway.now.handler (Ordered line) answer old.reply_sink

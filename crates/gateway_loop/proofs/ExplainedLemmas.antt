@@ -12,14 +12,14 @@ module _ (before : Answer → List ℕ) where
   plain_of answer = before answer ++ answer.desk
 
   abbrev explained_of : Answer → List ℕ
-  explained_of answer = before answer ++ (answer.explained ++ answer.desk)
+  explained_of answer = before answer ++ (answer.explanation ++ answer.desk)
 
   explained-text : (answers : List Answer)
       → DifferByExplanations before answers (flat_map plain_of answers) (flat_map explained_of answers)
   explained-text [] = (refl, refl)
   explained-text (answer ∷ answers) =
       let front = before answer in
-      let line = answer.explained in
+      let line = answer.explanation in
       let desk = answer.desk in
       let plain = flat_map plain_of answers in
       let explained = flat_map explained_of answers in (

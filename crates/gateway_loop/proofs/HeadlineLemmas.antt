@@ -139,16 +139,16 @@ module _ {S : Type 0} (state : S → DeviceStoreState) where
       → BringsMore (inputs_of old.rest (events ++ event ∷ later)) b.inputs
   broken_brings old new events event later b =
       let s = old.rest ++ bytes_in events in
-      let own = begun_brings s event b.begun later b.begins in
+      let own = begun_brings s event b.begun_event later b.begun_is_prefix in
       let waits = map Received new.ready in
       let before = inputs_of old.rest events in
       record {
         more = waits ++ own.more;
         whole = inputs_of-append old.rest events (event ∷ later)
             ∙ ap (λ is. before ++ is) own.whole
-            ∙ sym (append_assoc before (inputs_of s (b.begun ∷ [])) own.more)
-            ∙ ap (λ is. is ++ own.more) (sym (inputs_of-append old.rest events (b.begun ∷ [])))
-            ∙ ap (λ is. is ++ own.more) b.stand
+            ∙ sym (append_assoc before (inputs_of s (b.begun_event ∷ [])) own.more)
+            ∙ ap (λ is. is ++ own.more) (sym (inputs_of-append old.rest events (b.begun_event ∷ [])))
+            ∙ ap (λ is. is ++ own.more) b.ready_packets_are
             ∙ append_assoc b.inputs waits own.more;
       }
 
@@ -169,7 +169,7 @@ module _ {S : Type 0} (state : S → DeviceStoreState) where
         → Handles state old.handler items answers new → out answers
         → AsSpecified state base found items out new
     specified items answers out handled is_out =
-        let went = handled.went clean (initial_state base found) begins_at in
+        let went = handled.ran_from_any clean (initial_state base found) begins_at in
         record {
           results = went.results;
           answers = answers;
@@ -186,7 +186,7 @@ module _ {S : Type 0} (state : S → DeviceStoreState) where
                 results = went.results;
                 answers = answers;
                 last = went.last;
-                interrupted = None;
+                interrupted_input = None;
                 left = left;
               } in
               let safe : IsCrashConsistent (λ d. d ≡ found)
@@ -344,15 +344,15 @@ module _ {S : Type 0} (state : S → DeviceStoreState) where
     pub served : (count : ℕ) (summary : Summary) → Serves state at explains old new count summary
         → ServesAsSpecified state serial_in desk_in serial_out desk_out explains (Ok summary) old new count
     served count summary done base found serial desk sent printed began serial_is desk_is sent_is printed_is clean =
-        let of_serial = lost serial _ (serial_in.left old.1) (serial_in.left new.1) serial_is done.serial.gave.all in
-        let of_desk = lost desk _ (desk_in.left old.2) (desk_in.left new.2) desk_is done.desk.gave.all in
+        let of_serial = lost serial _ (serial_in.left old.1) (serial_in.left new.1) serial_is done.serial.bytes_read.all in
+        let of_desk = lost desk _ (desk_in.left old.2) (desk_in.left new.2) desk_is done.desk.bytes_read.all in
         let its = done.processed.answered in
         let radio = all_radio_bytes its.answers in
         let lines = all_desk_text explains its.answers in
         record {
           turns = done.read;
-          serial_rest = of_serial.rest;
-          desk_rest = of_desk.rest;
+          serial_unread = of_serial.rest;
+          desk_unread = of_desk.rest;
           read = record { serial_is = of_serial.whole; desk_is = of_desk.whole };
           serial_left = of_serial.is;
           desk_left = of_desk.is;
@@ -379,7 +379,7 @@ module _ {S : Type 0} (state : S → DeviceStoreState) where
       radio_is : IsPrefix radio (all_radio_bytes (answers ++ last ∷ []))
       lines_are : IsPrefix lines (all_desk_text explains (answers ++ last ∷ []))
 
-    part_is_out : (answers : List Answer) (last : Answer) → (live_output explains).breaks (at old).sinks (at new).sinks
+    part_is_out : (answers : List Answer) (last : Answer) → (live_output explains).breaks (at old).serial_and_desk_sinks (at new).serial_and_desk_sinks
         answers last
         → PartIsOut answers last
     part_is_out answers last breaks =
@@ -428,8 +428,8 @@ module _ {S : Type 0} (state : S → DeviceStoreState) where
         let of_desk = lost desk _ (desk_in.left old.2) (desk_in.left new.2) desk_is took.1 in
         record {
           turns = turns;
-          serial_rest = of_serial.rest;
-          desk_rest = of_desk.rest;
+          serial_unread = of_serial.rest;
+          desk_unread = of_desk.rest;
           read = record {
             serial_is = of_serial.whole
                 ∙ ap (λ (parts : List (List ℕ)). concat parts ++ of_serial.rest)
@@ -460,15 +460,15 @@ module _ {S : Type 0} (state : S → DeviceStoreState) where
       where
         took : (read : List Turn) (chunk : Option (List ℕ)) → NextReadFails (at old) (at new) read chunk → Took read
             chunk
-        took read None fails = (fails.0.gave.all, fails.1.gave.all)
-        took read (Some chunk) fails = (fails.0.gave.all, fails.1.gave.all)
+        took read None fails = (fails.0.bytes_read.all, fails.1.bytes_read.all)
+        took read (Some chunk) fails = (fails.0.bytes_read.all, fails.1.bytes_read.all)
 
     write_to_failed : (count : ℕ) → ServesUntilWrite state at explains old new
         → ServesAsSpecified state serial_in desk_in serial_out desk_out explains (Err Write) old new count
-    write_to_failed count done = by done.chunk done.serial.gave.all done.broken
+    write_to_failed count done = by done.chunk done.serial.bytes_read.all done.broken
       where
         breaks : List Answer → Answer → Type 0
-        breaks = (live_output explains).breaks (at old).sinks (at new).sinks
+        breaks = (live_output explains).breaks (at old).serial_and_desk_sinks (at new).serial_and_desk_sinks
 
         at_event : (read : List Turn) (chunk : Option (List ℕ)) → Took read chunk → (events later : List Event)
             (event : Event)
@@ -488,10 +488,10 @@ module _ {S : Type 0} (state : S → DeviceStoreState) where
             → ServesAsSpecified state serial_in desk_in serial_out desk_out explains (Err Write) old new count
         by None serial broken =
             let events = events_and_chunk broken.before (Some broken.last.chunk) ++ broken.done in
-            at_event done.read None (serial, done.desk.gave.all) events broken.later broken.order broken.whole
+            at_event done.read None (serial, done.desk.bytes_read.all) events broken.later broken.order broken.whole
             broken.broken
         by (Some chunk) serial broken =
-            at_event done.read (Some chunk) (serial, done.desk.gave.all) (events_of_turns done.read) [] (Chunk chunk)
+            at_event done.read (Some chunk) (serial, done.desk.bytes_read.all) (events_of_turns done.read) [] (Chunk chunk)
             refl
             broken
 

@@ -44,13 +44,13 @@ module _ {R D S : Type 0} (stored : S → DeviceStoreState) (serial_sinks : sink
   pub breaks_at : (events : List Event) (event : Event) → DriverBreaks stored output entry now events event
       → Breaks stored entry.gateway.now gateway events event (ways.breaks old_sinks new_sinks)
   breaks_at events event p = rw (e, f, h) (record {
-    begun = p.begun;
-    begins = p.begins;
+    begun_event = p.begun_event;
+    begun_is_prefix = p.begun_is_prefix;
     inputs = p.inputs;
-    own = p.own;
-    behind = p.behind;
-    some = p.some;
-    stand = p.stand;
+    begun_inputs = p.begun_inputs;
+    inputs_are = p.inputs_are;
+    not_empty = p.not_empty;
+    ready_packets_are = p.ready_packets_are;
     rest = p.rest;
     answered = record {
       answers = p.answered.answers;

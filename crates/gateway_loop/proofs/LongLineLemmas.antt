@@ -15,7 +15,7 @@ use Rattle.gateway_core.proofs.ForCallers.{handles_alike}
 use Rattle.esp3_frames.specs.Packet.{Packet}
 use Rattle.gateway_core.specs.Calls.{GatewayValue}
 use Rattle.gateway_core.specs.Events.{Event, Chunk, Line, inputs_of, bytes_in}
-use Rattle.esp3_frames.specs.Frames.{rest_of}
+use Rattle.esp3_frames.specs.PacketsAndRest.{rest_of}
 use Rattle.gateway_loop.specs.Script.{event_of_script_line, chunk_if_decoded}
 use Rattle.gateway_loop.specs.declared.driver.Driver.{Driver}
 use Rattle.gateway_loop.specs.OutputSpecs.{OutputSpec}
@@ -92,13 +92,13 @@ module _ {S : Type 0} (stored : S → DeviceStoreState) where
       let at = at_order old new line items breaks stand part in
       let done = at.answered in
       record {
-        begun = Line long;
-        begins = refl;
+        begun_event = Line long;
+        begun_is_prefix = refl;
         inputs = Ordered long ∷ [];
-        own = Ordered long ∷ [];
-        behind = refl;
-        some = omega arith;
-        stand = ap (λ (is : List Input). Ordered long ∷ is) (sym at.none);
+        begun_inputs = Ordered long ∷ [];
+        inputs_are = refl;
+        not_empty = omega arith;
+        ready_packets_are = ap (λ (is : List Input). Ordered long ∷ is) (sym at.none);
         rest = rest;
         answered = record {
           answers = done.answers;
@@ -141,7 +141,7 @@ module _ {O S : Type 0} (stored : S → DeviceStoreState) (output : OutputSpec O
       (λ _ takes. takes_long short long a b takes)
       (λ _ broken. breaks_long stored old.gateway.now new.gateway.now short long
       (output.breaks old.reply_sink new.reply_sink)
-      broken.begun broken.inputs a b broken.begins broken.stand broken.rest broken.answered))
+      broken.begun_event broken.inputs a b broken.begun_is_prefix broken.ready_packets_are broken.rest broken.answered))
 
   -- what is kept of a line that LF ends stands for the line
   pub kept_line_alike : (lines : LineSource) (kept line : List ℕ) → kept ≡ take max_partial_line line

@@ -3,8 +3,8 @@ use Rattle.std.proofs.Common.{◌≡◌, ◌<◌, ◌^◌, List, [], ◌∷◌}
 use Rattle.std.proofs.Common.{◌++◌, ap, sym, ◌∙◌, append_assoc, append-nil, map}
 use Rattle.std.proofs.Common.{arith, length, length-append}
 use Rattle.learned_devices.specs.DeviceStoreState.{DeviceStoreState}
-use Rattle.esp3_frames.specs.Frames.{rest_of}
-use Rattle.esp3_frames.proofs.ForCallers.{frames_of-may_become}
+use Rattle.esp3_frames.specs.PacketsAndRest.{rest_of}
+use Rattle.esp3_frames.proofs.ForCallers.{packets_and_rest-may_become}
 use Rattle.gateway_core.specs.Step.{Input, Received}
 use Rattle.gateway_core.specs.Events.{Event, inputs_of, bytes_in}
 use Rattle.gateway_core.proofs.ForCallers.{count_on, items_behind, rest_behind}
@@ -20,7 +20,7 @@ module _ {O S : Type 0} (stored : S → DeviceStoreState) (output : OutputSpec O
       let gateway = old.gateway.now in
       record {
         answered = answers_nothing stored output gateway.handler old.reply_sink;
-        rest = (frames_of-may_become gateway.rest idle.rest).1 ∙ ap rest_of (sym (append-nil gateway.rest));
+        rest = (packets_and_rest-may_become gateway.rest idle.rest).1 ∙ ap rest_of (sym (append-nil gateway.rest));
         idle = idle;
       }
 
@@ -47,19 +47,19 @@ module _ {O S : Type 0} (stored : S → DeviceStoreState) (output : OutputSpec O
       let rest = old.gateway.now.rest in
       let after = mid.gateway.now.rest in
       let items = inputs_of rest events in
-      let last = more ++ second.begun ∷ [] in
-      let all : (events ++ more) ++ second.begun ∷ [] ≡ events ++ last = append_assoc events more (second.begun ∷ []) in
+      let last = more ++ second.begun_event ∷ [] in
+      let all : (events ++ more) ++ second.begun_event ∷ [] ≡ events ++ last = append_assoc events more (second.begun_event ∷ []) in
       record {
-        begun = second.begun;
-        begins = second.begins;
+        begun_event = second.begun_event;
+        begun_is_prefix = second.begun_is_prefix;
         inputs = items ++ second.inputs;
-        own = second.own;
-        behind = ap (λ (is : List Input). items ++ is) second.behind
-            ∙ sym (append_assoc items (inputs_of after more) second.own)
-            ∙ ap (λ (is : List Input). is ++ second.own) (sym (items_behind rest after events more first.rest));
-        some = second.some;
-        stand = ap (inputs_of rest) all ∙ items_behind rest after events last first.rest
-            ∙ ap (λ (is : List Input). items ++ is) second.stand
+        begun_inputs = second.begun_inputs;
+        inputs_are = ap (λ (is : List Input). items ++ is) second.inputs_are
+            ∙ sym (append_assoc items (inputs_of after more) second.begun_inputs)
+            ∙ ap (λ (is : List Input). is ++ second.begun_inputs) (sym (items_behind rest after events more first.rest));
+        not_empty = second.not_empty;
+        ready_packets_are = ap (inputs_of rest) all ∙ items_behind rest after events last first.rest
+            ∙ ap (λ (is : List Input). items ++ is) second.ready_packets_are
             ∙ sym (append_assoc items second.inputs (map Received new.gateway.now.ready));
         rest = second.rest ∙ rest_behind rest after events last first.rest
             ∙ ap (λ (es : List Event). rest_of (rest ++ bytes_in es)) (sym all);

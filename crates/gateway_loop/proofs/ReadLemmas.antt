@@ -46,9 +46,9 @@ empty_take n buffer within none = let e = ap length none in omega (arith, within
 
 pub reads_none : (source : SourceValue) → AllReadsSucceed source source []
 reads_none source = record {
-  gave = record { all = Consumes-nil source.left; each = tt };
-  made = made_none source.counts;
-  well = refl;
+  bytes_read = record { all = Consumes-nil source.left; each = tt };
+  calls_made = made_none source.counts;
+  none_failed = refl;
 }
 
 pub reads_more : (old mid new : SourceValue) (reads : List (List ℕ)) (n : ℕ) (buffer : List ℕ)
@@ -59,20 +59,20 @@ reads_more old mid new reads n buffer p within room (some, end) reported =
     let bytes = take n buffer in
     let read : IsNextRead old.left (concat reads) bytes = record {
       short = omega (arith, room, length-take n buffer);
-      empty = λ none. all_read old.left mid.left new.left (concat reads) bytes p.gave.all some none
+      empty = λ none. all_read old.left mid.left new.left (concat reads) bytes p.bytes_read.all some none
           (end (empty_take n buffer within none) (omega (arith, room)));
     } in
     record {
-      gave = record {
+      bytes_read = record {
         all =
             subst (Consumes old.left new.left) (sym (concat-more reads bytes))
-            (Consumes-trans old.left mid.left new.left (concat reads) bytes p.gave.all some);
-        each = reads_and old.left [] reads bytes p.gave.each read;
+            (Consumes-trans old.left mid.left new.left (concat reads) bytes p.bytes_read.all some);
+        each = reads_and old.left [] reads bytes p.bytes_read.each read;
       };
-      made =
+      calls_made =
           made_at old.counts new.counts (length reads + 1) _ (sym (length-append reads (bytes ∷ [])))
-          (made_more old.counts mid.counts new.counts (length reads) p.made (ap (λ t. t.calls) reported));
-      well = ap (λ t. t.failed) reported ∙ p.well;
+          (made_more old.counts mid.counts new.counts (length reads) p.calls_made (ap (λ t. t.calls) reported));
+      none_failed = ap (λ t. t.failed) reported ∙ p.none_failed;
     }
 
 -- one more read, of those that are allowed
@@ -92,10 +92,10 @@ pub reads_fail : (old mid new : SourceValue) (reads : List (List ℕ)) (error : 
     → Keeps mid.left new.left → new.counts ≡ count_call {E = Failed} mid.counts (Err error)
     → OneMoreReadFails old new reads
 reads_fail old mid new reads error p kept reported = record {
-  gave = record {
-    all = Consumes-kept old.left mid.left new.left (concat reads) p.gave.all kept;
-    each = p.gave.each;
+  bytes_read = record {
+    all = Consumes-kept old.left mid.left new.left (concat reads) p.bytes_read.all kept;
+    each = p.bytes_read.each;
   };
-  made = made_more old.counts mid.counts new.counts (length reads) p.made (ap (λ t. t.calls) reported);
-  failed = ap (λ t. t.failed) reported ∙ ap saturated_increment p.well;
+  calls_made = made_more old.counts mid.counts new.counts (length reads) p.calls_made (ap (λ t. t.calls) reported);
+  failed = ap (λ t. t.failed) reported ∙ ap saturated_increment p.none_failed;
 }

@@ -40,13 +40,13 @@ module _ {W S : Type 0} (stored : S → DeviceStoreState) (sink : sinks.Ghosts W
         → Breaks stored entry.gateway.now gateway events event
         (AppendsCutReplayText entry.reply_sink.explains (sink.held entry.reply_sink.sink.now) (sink.held writer))
     broken events event p = rw (e, f) (record {
-      begun = p.begun;
-      begins = p.begins;
+      begun_event = p.begun_event;
+      begun_is_prefix = p.begun_is_prefix;
       inputs = p.inputs;
-      own = p.own;
-      behind = p.behind;
-      some = p.some;
-      stand = p.stand;
+      begun_inputs = p.begun_inputs;
+      inputs_are = p.inputs_are;
+      not_empty = p.not_empty;
+      ready_packets_are = p.ready_packets_are;
       rest = p.rest;
       answered = record {
         answers = p.answered.answers;

@@ -11,7 +11,7 @@ abbrev pub DifferByExplanations : (Answer → List ℕ) → List Answer → (pla
 DifferByExplanations before [] plain explained = (plain ≡ []) × (explained ≡ [])
 DifferByExplanations before (answer ∷ answers) plain explained =
     (rest more : List ℕ) × (plain ≡ before answer ++ (answer.desk ++ rest))
-    × (explained ≡ before answer ++ (answer.explained ++ (answer.desk ++ more)))
+    × (explained ≡ before answer ++ (answer.explanation ++ (answer.desk ++ more)))
     × DifferByExplanations before answers rest more
 
 -- The same for what was written after what a sink held.

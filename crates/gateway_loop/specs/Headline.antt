@@ -28,9 +28,9 @@ pub record IsPrefix (bytes all : List ℕ) : Type 0 where
   pub whole : all ≡ bytes ++ rest
 
 -- the turns read these bytes of the two sources, and left the rest
-pub record ReadInTurns (turns : List Turn) (serial serial_rest desk desk_rest : List ℕ) : Type 0 where
-  pub serial_is : serial ≡ concat (serial_reads turns) ++ serial_rest
-  pub desk_is : desk ≡ concat (desk_reads turns) ++ desk_rest
+pub record ReadInTurns (turns : List Turn) (serial serial_unread desk desk_unread : List ℕ) : Type 0 where
+  pub serial_is : serial ≡ concat (serial_reads turns) ++ serial_unread
+  pub desk_is : desk ≡ concat (desk_reads turns) ++ desk_unread
 
 -- the radio bytes of the answers, and their lines for the desk
 abbrev pub all_radio_bytes : List Answer → List ℕ
@@ -108,11 +108,11 @@ module _ {S : Type 0} (stored : S → DeviceStoreState) where
       (count base : ℕ) (found : Devices) (serial desk sent printed : List ℕ) (old new : GatewayValue S × P × Q × R × D)
       : Type 0 where
     pub turns : List Turn
-    pub serial_rest : List ℕ
-    pub desk_rest : List ℕ
-    pub read : ReadInTurns turns serial serial_rest desk desk_rest
-    pub serial_left : serial_in.left new.1 ≡ Some serial_rest
-    pub desk_left : desk_in.left new.2 ≡ Some desk_rest
+    pub serial_unread : List ℕ
+    pub desk_unread : List ℕ
+    pub read : ReadInTurns turns serial serial_unread desk desk_unread
+    pub serial_left : serial_in.left new.1 ≡ Some serial_unread
+    pub desk_left : desk_in.left new.2 ≡ Some desk_unread
     pub radio : List ℕ
     pub lines : List ℕ
     pub radio_held : serial_out.held new.3 ≡ Some (sent ++ radio)

@@ -22,7 +22,7 @@ pub record LiveValue (S : Type 0) : Type 0 where
   pub gateway : GatewayValue S
   pub serial : SourceValue
   pub desk : SourceValue
-  pub sinks : SinkValue × SinkValue
+  pub serial_and_desk_sinks : SinkValue × SinkValue
 
 abbrev pub live_value : {P Q R D S : Type 0} → sources.Ghosts P → sources.Ghosts Q → sinks.Ghosts R → sinks.Ghosts D
     → GatewayValue S × P × Q × R × D → LiveValue S
@@ -30,7 +30,7 @@ live_value serial_in desk_in serial_out desk_out now = record {
   gateway = now.0;
   serial = source_value serial_in now.1;
   desk = source_value desk_in now.2;
-  sinks = (sink_value serial_out now.3, sink_value desk_out now.4);
+  serial_and_desk_sinks = (sink_value serial_out now.3, sink_value desk_out now.4);
 }
 
 -- The reads of the serial line, and the events, if a chunk was read after some turns, or nothing yet.
@@ -55,8 +55,8 @@ module _ {S : Type 0} (old new : LiveValue S) where
   pub record AllSucceeded (turns : ℕ) : Type 0 where
     pub serial_reads_made : new.serial.counts.calls ≡ old.serial.counts.calls + turns
     pub desk_reads_made : new.desk.counts.calls ≡ old.desk.counts.calls + turns
-    pub serial_writes_succeeded : NoneFailedOrEmpty old.sinks.0.counts new.sinks.0.counts
-    pub desk_writes_succeeded : NoneFailedOrEmpty old.sinks.1.counts new.sinks.1.counts
+    pub serial_writes_succeeded : NoneFailedOrEmpty old.serial_and_desk_sinks.0.counts new.serial_and_desk_sinks.0.counts
+    pub desk_writes_succeeded : NoneFailedOrEmpty old.serial_and_desk_sinks.1.counts new.serial_and_desk_sinks.1.counts
     pub no_serial_read_failed : NoneFailed old.serial.counts new.serial.counts
     pub no_desk_read_failed : NoneFailed old.desk.counts new.desk.counts
 
@@ -65,8 +65,8 @@ module _ {S : Type 0} (old new : LiveValue S) where
 pub record CanCountTurns {S : Type 0} (now : LiveValue S) (turns : ℕ) : Type 0 where
   pub serial_in : HasCountRoom now.serial.counts turns
   pub desk_in : HasCountRoom now.desk.counts turns
-  pub serial_out : HasCountRoom now.sinks.0.counts 0
-  pub desk_out : HasCountRoom now.sinks.1.counts 0
+  pub serial_out : HasCountRoom now.serial_and_desk_sinks.0.counts 0
+  pub desk_out : HasCountRoom now.serial_and_desk_sinks.1.counts 0
 
 module _ {S : Type 0} (stored : S → DeviceStoreState) where
   -- an answer to an order of the last turn was not written completely
@@ -98,7 +98,7 @@ module _ {S T : Type 0} (stored : S → DeviceStoreState) (at : T → LiveValue 
     pub serial : AllReadsSucceed (at old).serial (at new).serial (serial_reads read)
     pub desk : AllReadsSucceed (at old).desk (at new).desk (desk_reads read)
     pub processed : Processes stored (at old).gateway (at new).gateway (events_of_turns read)
-        ((live_output explains).puts (at old).sinks (at new).sinks)
+        ((live_output explains).puts (at old).serial_and_desk_sinks (at new).serial_and_desk_sinks)
     pub counted : summary.items ≡ min (length (inputs_of (at old).gateway.rest (events_of_turns read))) (2 ^ 64 - 1)
 
   -- a read failed, and everything read before it was handled and answered
@@ -107,7 +107,7 @@ module _ {S T : Type 0} (stored : S → DeviceStoreState) (at : T → LiveValue 
     pub chunk : Option (List ℕ)
     pub fails : NextReadFails (at old) (at new) read chunk
     pub processed : Processes stored (at old).gateway (at new).gateway (events_and_chunk read chunk)
-        ((live_output explains).puts (at old).sinks (at new).sinks)
+        ((live_output explains).puts (at old).serial_and_desk_sinks (at new).serial_and_desk_sinks)
 
   -- no read failed, and an answer was not written completely
   pub record ServesUntilWrite (old new : T) : Type 0 where
@@ -116,7 +116,7 @@ module _ {S T : Type 0} (stored : S → DeviceStoreState) (at : T → LiveValue 
     pub serial : AllReadsSucceed (at old).serial (at new).serial (serial_reads_and_chunk read chunk)
     pub desk : AllReadsSucceed (at old).desk (at new).desk (desk_reads read)
     pub broken : BreaksTurn stored (at old).gateway (at new).gateway read chunk
-        ((live_output explains).breaks (at old).sinks (at new).sinks)
+        ((live_output explains).breaks (at old).serial_and_desk_sinks (at new).serial_and_desk_sinks)
 
   -- what was done before a fault; `TooManyTurns` is never returned
   abbrev pub ServesUntil : (old new : T) → RunFault → Type 0

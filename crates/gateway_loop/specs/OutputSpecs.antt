@@ -9,7 +9,7 @@ use Rattle.gateway_core.specs.Step.{Answer}
 pub record OutputSpec (O : Type 0) : Type 1 where
   pub puts : (old new : O) (answers : List Answer) → Type 0
   pub breaks : (old new : O) (complete : List Answer) (cut : Answer) → Type 0
-  pub nothing : (old : O) → puts old old []
+  pub puts_nothing : (old : O) → puts old old []
   pub more : (old mid new : O) (first second : List Answer) → puts old mid first → puts mid new second
       → puts old new (first ++ second)
   pub broken : (old mid new : O) (first second : List Answer) (last : Answer) → puts old mid first
@@ -25,7 +25,7 @@ abbrev pub output_by_view : {O V : Type 0} → (O → V) → OutputSpec V → Ou
 output_by_view view output = record {
   puts = λ old new. output.puts (view old) (view new);
   breaks = λ old new. output.breaks (view old) (view new);
-  nothing = λ old. output.nothing (view old);
+  puts_nothing = λ old. output.puts_nothing (view old);
   more = λ old mid new. output.more (view old) (view mid) (view new);
   broken = λ old mid new. output.broken (view old) (view mid) (view new);
 }
@@ -58,7 +58,7 @@ module _ {V : Type 0} (output : Bool → OutputSpec V) where
   output_by_flag = record {
     puts = PutsByFlag;
     breaks = BreaksByFlag;
-    nothing = λ old. (refl, (output old.0).nothing old.1);
+    puts_nothing = λ old. (refl, (output old.0).puts_nothing old.1);
     more = more_by_flag;
     broken = broken_by_flag;
   }
@@ -91,7 +91,7 @@ module _ {A B : Type 0} (one : OutputSpec A) (other : OutputSpec B) where
   paired_output = record {
     puts = PutsBoth;
     breaks = BreaksInPair;
-    nothing = λ old. (one.nothing old.0, other.nothing old.1);
+    puts_nothing = λ old. (one.puts_nothing old.0, other.puts_nothing old.1);
     more = λ old mid new first second a b. (
       one.more old.0 mid.0 new.0 first second a.0 b.0,
       other.more old.1 mid.1 new.1 first second a.1 b.1,

@@ -2,7 +2,7 @@
 use Rattle.std.specs.Prelude.{◌≡◌, ◌<◌, List, [], ◌∷◌, ◌++◌, length, map, ℕ}
 use Rattle.learned_devices.specs.DeviceStoreState.{DeviceStoreState}
 use Rattle.esp3_frames.specs.Framing.{MayBecomePacket}
-use Rattle.esp3_frames.specs.Frames.{rest_of}
+use Rattle.esp3_frames.specs.PacketsAndRest.{rest_of}
 use Rattle.gateway_core.specs.Step.{Input, Received, Answer}
 use Rattle.gateway_core.specs.Handling.{HandlerValue, Handles}
 use Rattle.gateway_core.specs.Calls.{GatewayValue}
@@ -48,14 +48,14 @@ module _ {S : Type 0} (stored : S → DeviceStoreState) where
   pub record Breaks (old new : GatewayValue S) (events : List Event) (event : Event)
       (breaks : List Answer → Answer → Type 0)
       : Type 0 where
-    pub begun : Event
-    pub begins : IsWholeOrChunkPrefix event begun
+    pub begun_event : Event
+    pub begun_is_prefix : IsWholeOrChunkPrefix event begun_event
     pub inputs : List Input
-    pub own : List Input
-    pub behind : inputs ≡ inputs_of old.rest events ++ own
-    pub some : 0 < length own
-    pub stand : inputs_of old.rest (events ++ begun ∷ []) ≡ inputs ++ map Received new.ready
-    pub rest : new.rest ≡ rest_of (old.rest ++ bytes_in (events ++ begun ∷ []))
+    pub begun_inputs : List Input
+    pub inputs_are : inputs ≡ inputs_of old.rest events ++ begun_inputs
+    pub not_empty : 0 < length begun_inputs
+    pub ready_packets_are : inputs_of old.rest (events ++ begun_event ∷ []) ≡ inputs ++ map Received new.ready
+    pub rest : new.rest ≡ rest_of (old.rest ++ bytes_in (events ++ begun_event ∷ []))
     pub answered : LastAnswerCutShort old.handler new.handler inputs breaks
 
   -- the lines that LF ends in what was read were processed

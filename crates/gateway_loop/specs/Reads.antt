@@ -24,14 +24,14 @@ pub record GivesBytes (old new : SourceValue) (reads : List (List ℕ)) : Type 0
 
 -- exactly this many reads were made, none failed, and they returned these bytes, split in some way
 pub record AllReadsSucceed (old new : SourceValue) (reads : List (List ℕ)) : Type 0 where
-  pub gave : GivesBytes old new reads
-  pub made : CallsMade old.counts new.counts (length reads)
-  pub well : NoneFailed old.counts new.counts
+  pub bytes_read : GivesBytes old new reads
+  pub calls_made : CallsMade old.counts new.counts (length reads)
+  pub none_failed : NoneFailed old.counts new.counts
 
 -- one read more than these was made, and one failed
 pub record OneMoreReadFails (old new : SourceValue) (reads : List (List ℕ)) : Type 0 where
-  pub gave : GivesBytes old new reads
-  pub made : CallsMade old.counts new.counts (length reads + 1)
+  pub bytes_read : GivesBytes old new reads
+  pub calls_made : CallsMade old.counts new.counts (length reads + 1)
   pub failed : FailedOnceMore old.counts new.counts
 
 -- at most this many reads were made; perhaps one failed, and returned nothing

@@ -37,7 +37,7 @@ module _ (says : Answer → List ℕ) where
   text_output = record {
     puts = PutsText;
     breaks = BreaksText;
-    nothing = λ old. record { text = Appends-nil old.held; went = (refl, refl) };
+    puts_nothing = λ old. record { text = Appends-nil old.held; went = (refl, refl) };
     more = λ old mid new first second a b. record {
       text = subst (Appends old.held new.held) (sym (flat_map-append says first second))
           (Appends-trans old.held mid.held new.held (flat_map says first) (flat_map says second) a.text b.text);

@@ -18,7 +18,7 @@ radio_chunk_line (Some bytes) = codes "S " ++ (encode_lower bytes ++ codes "\n")
 
 -- the text for the desk: if packets are explained, the line that explains a packet comes first
 abbrev pub desk_text : (explains : Bool) → Answer → List ℕ
-desk_text explains answer = if explains then answer.explained ++ answer.desk else answer.desk
+desk_text explains answer = if explains then answer.explanation ++ answer.desk else answer.desk
 
 abbrev pub text_of : (explains : Bool) → Answer → List ℕ
 text_of explains answer = radio_chunk_line answer.radio ++ desk_text explains answer

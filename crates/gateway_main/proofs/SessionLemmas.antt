@@ -9,7 +9,7 @@ use Rattle.gateway_core.specs.Step.{Input, Answer}
 use Rattle.gateway_core.specs.Handling.{HandlerValue, Handles}
 use Rattle.gateway_core.specs.SessionCalls.{ClosedSessionLeaves, SessionMayLeave}
 use Rattle.gateway_core.specs.Events.{inputs_of}
-use Rattle.gateway_core.proofs.ForCallers.{crash_after_calls_is_end, closed_session_leaves_last}
+use Rattle.gateway_core.proofs.ForCallers.{crash_after_calls_ends_session, closed_session_leaves_last}
 use Rattle.gateway_main.specs.Started.{Starts}
 use Rattle.gateway_main.specs.SessionRuns.{RunsAreSessions, BrokenRunsAreSessions, ClosedRunsAreSessions}
 use Rattle.gateway_main.specs.SessionRuns.{BrokenClosedRunsAreSessions}
@@ -26,7 +26,7 @@ module _ {C : Type 0} (state : C → State) where
       let P : ℕ → Type 0 = λ b. SessionMayLeave b began.found items answers None left in (
         left,
         inl (Second, held.holds),
-        subst P began.base_is (crash_after_calls_is_end
+        subst P began.base_is (crash_after_calls_ends_session
             (registry_state_of state) old new began.found items answers clean
             began.begins handled
             left (trees, may, held.holds)),

@@ -9,7 +9,7 @@ use Rattle.json_lines.specs.ShownTelegram.{ShownTelegram}
 use Rattle.json_lines.specs.declared.packet.PacketLine.{PacketLine}
 use Rattle.json_lines.specs.declared.packet.ShownPacket.{ShownPacket}
 use Rattle.json_lines.specs.declared.packet.ShownPacket.TheVariants.{Telegram, WithoutTelegram}
-use Rattle.teach_in.specs.declared.why.Why.{Why}
+use Rattle.teach_in.specs.declared.handling_reason.HandlingReason.{HandlingReason}
 use Rattle.json_lines.proofs.CommaTexts.{behind, behind-comma}
 use Rattle.json_lines.proofs.PacketLineTexts.{strength-alone}
 
@@ -28,7 +28,7 @@ reading-goes_on line more =
     ∙ ap (λ (t : List ℕ). slice_index_or t 1 0)
     (behind-comma (text_or_null dbm_text line.dbm) _ (strength-alone line.dbm))
 
-telegram-goes_on : (shown : ShownTelegram) (why : Why) (more : List ℕ)
+telegram-goes_on : (shown : ShownTelegram) (why : HandlingReason) (more : List ℕ)
     → slice_index_or (behind (drop 7 (packet_text (record { packet = Telegram shown; why = why }) ++ more))) 1 0 ≡ 100
 telegram-goes_on shown why more =
     ap (λ (t : List ℕ). slice_index_or (behind t) 1 0) (regrouped (text_or_null dbm_text shown.dbm) _ more)
@@ -41,7 +41,7 @@ third s t e = ap (λ (u : List ℕ). slice_index_or u 2 0) e
 pub distinguishable : (line : DeskLine) (packet : PacketLine) (a b : List ℕ) → text line ++ a ≢ packet_text packet ++ b
 distinguishable line packet = one line packet.packet packet.why
   where
-    one : (line : DeskLine) (packet : ShownPacket) (why : Why) (a b : List ℕ)
+    one : (line : DeskLine) (packet : ShownPacket) (why : HandlingReason) (a b : List ℕ)
         → text line ++ a ≢ packet_text (record { packet = packet; why = why }) ++ b
     one (Reading line) (Telegram shown) why a b e =
         let h : 101 ≡ 100 =

@@ -19,7 +19,7 @@ use Rattle.json_lines.specs.ShownTelegram.{ShownTelegram}
 use Rattle.json_lines.specs.declared.packet.PacketLine.{PacketLine}
 use Rattle.json_lines.specs.declared.packet.ShownPacket.{ShownPacket}
 use Rattle.json_lines.specs.declared.packet.ShownPacket.TheVariants.{Telegram, WithoutTelegram}
-use Rattle.teach_in.specs.declared.why.Why.{Why}
+use Rattle.teach_in.specs.declared.handling_reason.HandlingReason.{HandlingReason}
 use Rattle.json_lines.proofs.CommaTexts.{NoComma, no-decimal, no-maker, no-null, peel}
 use Rattle.json_lines.proofs.HexTexts.{byte_bytes, holds_below-at, id_bytes, on_eep}
 use Rattle.json_lines.proofs.PacketTexts.{mag-minus}
@@ -210,7 +210,7 @@ telegram-pieces dbm dest eep id maker payload rorg status word =
     simp (append_assoc, append-nil) (ap (λ t. codes "{\"dbm\":" ++ t)
     (append_assoc _ (codes "}") (codes "\n") ∙ push dbm (codes ",\"dest\":") _ _ dests))
 
-telegram-line : (shown : ShownTelegram) (why : Why)
+telegram-line : (shown : ShownTelegram) (why : HandlingReason)
     → packet_text (record { packet = Telegram shown; why = why }) ≡ line_of_values (values shown) (reason_word why)
 telegram-line shown why =
     telegram-pieces (text_or_null dbm_text shown.dbm) (text_or_null id_string shown.dest)
@@ -223,14 +223,14 @@ member : (name a b x y : List ℕ) → NoComma a → NoComma b → name ++ (a ++
     → (a ≡ b) × (x ≡ y)
 member name a b x y in_a in_b e = peel a b x y in_a in_b (append_cancel_left name (a ++ 44 ∷ x) (b ++ 44 ∷ y) e)
 
-same-word : (one other : Why) → end_text (reason_word one) ≡ end_text (reason_word other) → one ≡ other
+same-word : (one other : HandlingReason) → end_text (reason_word one) ≡ end_text (reason_word other) → one ≡ other
 same-word one other e =
     one_why one other
     (append_cancel_right (reason_word one) (reason_word other) (codes "\"}\n")
     (append_cancel_left (codes "\"type\":\"packet\",\"why\":\"") (reason_word one ++ codes "\"}\n")
     (reason_word other ++ codes "\"}\n") e))
 
-pub record SameValues (v w : Values) (one other : Why) : Type 0 where
+pub record SameValues (v w : Values) (one other : HandlingReason) : Type 0 where
   pub dbm : v.dbm ≡ w.dbm
   pub dest : v.dest ≡ w.dest
   pub eep : v.eep ≡ w.eep
@@ -241,7 +241,7 @@ pub record SameValues (v w : Values) (one other : Why) : Type 0 where
   pub status : v.status ≡ w.status
   pub why : one ≡ other
 
-same-values : (v w : Values) (one other : Why) → NoCommas v → NoCommas w
+same-values : (v w : Values) (one other : HandlingReason) → NoCommas v → NoCommas w
     → line_of_values v (reason_word one) ≡ line_of_values w (reason_word other) → SameValues v w one other
 same-values v w one other in_v in_w e =
     let dbm = member (codes "{\"dbm\":") v.dbm w.dbm _ _ in_v.dbm in_w.dbm e in
@@ -266,7 +266,7 @@ same-values v w one other in_v in_w e =
 
 -- ---- one line shows a telegram
 
-same-shown : (shown said : ShownTelegram) (one other : Why) → HasFieldsInRange shown → HasFieldsInRange said
+same-shown : (shown said : ShownTelegram) (one other : HandlingReason) → HasFieldsInRange shown → HasFieldsInRange said
     → SameValues (values shown) (values said) one other → shown ≡ said
 same-shown shown said one other in_shown in_said same =
     of-fields shown said
@@ -311,7 +311,7 @@ other-pieces kind size word =
     simp (append_assoc, append-nil) (ap (λ t. codes "{\"kind\":" ++ t)
     (append_assoc _ (codes "}") (codes "\n") ∙ push kind (codes ",\"size\":") _ _ ends))
 
-other-line : (kind size : ℕ) (why : Why)
+other-line : (kind size : ℕ) (why : HandlingReason)
     → packet_text (record { packet = WithoutTelegram kind size; why = why })
     ≡ codes "{\"kind\":" ++ (decimal kind ++ 44 ∷
     (codes "\"size\":" ++ (decimal size ++ 44 ∷ end_text (reason_word why))))
@@ -323,7 +323,7 @@ pub one_packet_line : (line other : PacketLine) → HasPacketNumbersInRange line
     → HasPacketNumbersInRange other.packet → packet_text line ≡ packet_text other → line ≡ other
 one_packet_line line other = one line.packet other.packet line.why other.why
   where
-    one : (a b : ShownPacket) (why by : Why) → HasPacketNumbersInRange a → HasPacketNumbersInRange b
+    one : (a b : ShownPacket) (why by : HandlingReason) → HasPacketNumbersInRange a → HasPacketNumbersInRange b
         → packet_text (record { packet = a; why = why }) ≡ packet_text (record { packet = b; why = by })
         → (let x : PacketLine = record { packet = a; why = why } in x)
         ≡ (let y : PacketLine = record { packet = b; why = by } in y)

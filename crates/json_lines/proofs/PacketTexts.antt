@@ -8,10 +8,10 @@ use Rattle.std.specs.List.{join_by, flat_map}
 use Rattle.std.proofs.lemmas.Grind.{flat_map-append}
 use Rattle.std.proofs.lemmas.Fmt.{length_signed_le}
 use Rattle.json_lines.specs.Lines.{dbm_text, member_text, object_text}
-use Rattle.json_lines.specs.PacketLines.{packet_members, end_members, members_text}
+use Rattle.json_lines.specs.PacketLines.{packet_members, type_and_why_members, members_text}
 use Rattle.json_lines.specs.declared.packet.ShownPacket.{ShownPacket}
 use Rattle.json_lines.specs.declared.packet.ShownPacket.TheVariants.{Telegram, WithoutTelegram}
-use Rattle.teach_in.specs.declared.why.Why.{Why}
+use Rattle.teach_in.specs.declared.handling_reason.HandlingReason.{HandlingReason}
 
 -- a signal strength has a sign and at most three digits
 pub mag-minus : (byte : ℕ) → mag (pos 0 -ℤ pos byte) ≤ byte
@@ -67,10 +67,10 @@ braces : (first last all : List ℕ) → all ≡ first ++ (codes "," ++ last)
     → (((codes "{" ++ first) ++ codes ",") ++ last) ++ codes "}\n" ≡ (codes "{" ++ (all ++ codes "}")) ++ codes "\n"
 braces first last all joined = rw joined (simp append_assoc)
 
-pub line_pieces : (packet : ShownPacket) (why : Why)
-    → (((codes "{" ++ members_text (packet_members packet)) ++ codes ",") ++ members_text (end_members why))
+pub line_pieces : (packet : ShownPacket) (why : HandlingReason)
+    → (((codes "{" ++ members_text (packet_members packet)) ++ codes ",") ++ members_text (type_and_why_members why))
     ++ codes "}\n"
-    ≡ object_text (packet_members packet ++ end_members why) ++ codes "\n"
+    ≡ object_text (packet_members packet ++ type_and_why_members why) ++ codes "\n"
 line_pieces packet why =
-    braces (members_text (packet_members packet)) (members_text (end_members why)) _
-    (behind (packet_members packet) (end_members why) (some_members packet) (lit< tt))
+    braces (members_text (packet_members packet)) (members_text (type_and_why_members why)) _
+    (behind (packet_members packet) (type_and_why_members why) (some_members packet) (lit< tt))

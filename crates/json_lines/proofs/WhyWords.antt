@@ -5,25 +5,25 @@ use Rattle.std.specs.Str.{bytes_eq}
 use Rattle.teach_in.specs.declared.outcome.Outcome.TheVariants.{Accepted, Deleted, Unsupported, Full, General}
 use Rattle.teach_in.specs.declared.outcome.Outcome.TheVariants.{NoProfile}
 use Rattle.json_lines.specs.PacketLines.{reason_word}
-use Rattle.teach_in.specs.declared.why.Why.{Why}
-use Rattle.teach_in.specs.declared.why.Why.TheVariants.{Refused, Response, EmptyResponse, OtherType, NoTelegram}
-use Rattle.teach_in.specs.declared.why.Why.TheVariants.{FromBroadcast, ForOthers, TeachInReply, TeachIn}
-use Rattle.teach_in.specs.declared.why.Why.TheVariants.{WindowClosed, OtherMode, Read, UnknownSender, WrongKind}
-use Rattle.teach_in.specs.declared.why.Why.TheVariants.{WrongLength, OtherMessage}
+use Rattle.teach_in.specs.declared.handling_reason.HandlingReason.{HandlingReason}
+use Rattle.teach_in.specs.declared.handling_reason.HandlingReason.TheVariants.{Refused, Response, EmptyResponse, OtherType, NoTelegram}
+use Rattle.teach_in.specs.declared.handling_reason.HandlingReason.TheVariants.{FromBroadcast, ForOthers, TeachInReply, TeachIn}
+use Rattle.teach_in.specs.declared.handling_reason.HandlingReason.TheVariants.{WindowClosed, OtherMode, Read, UnknownSender, WrongKind}
+use Rattle.teach_in.specs.declared.handling_reason.HandlingReason.TheVariants.{WrongLength, OtherMessage}
 
 -- the first of some reasons with this word, or otherwise the last of all
-with-word : List ℕ → List Why → Why
+with-word : List ℕ → List HandlingReason → HandlingReason
 with-word word [] = OtherMessage
 with-word word (why ∷ others) = if bytes_eq word (reason_word why) then why else with-word word others
 
-every : List Why
+every : List HandlingReason
 every =
     Refused ∷ Response ∷ EmptyResponse ∷ OtherType ∷ NoTelegram ∷ FromBroadcast ∷ ForOthers ∷ TeachInReply
     ∷ TeachIn Accepted ∷ TeachIn Deleted ∷ TeachIn Unsupported ∷ TeachIn Full ∷ TeachIn General ∷ TeachIn NoProfile
     ∷ WindowClosed
     ∷ OtherMode ∷ Read ∷ UnknownSender ∷ WrongKind ∷ WrongLength ∷ []
 
-back : (why : Why) → with-word (reason_word why) every ≡ why
+back : (why : HandlingReason) → with-word (reason_word why) every ≡ why
 unfolding with-word every
 back Refused = refl
 back Response = refl
@@ -47,5 +47,5 @@ back WrongKind = refl
 back WrongLength = refl
 back OtherMessage = refl
 
-pub one_why : (why other : Why) → reason_word why ≡ reason_word other → why ≡ other
+pub one_why : (why other : HandlingReason) → reason_word why ≡ reason_word other → why ≡ other
 one_why why other same = sym (back why) ∙ ap (λ word. with-word word every) same ∙ back other

@@ -9,14 +9,14 @@ use Rattle.json_lines.specs.ShownTelegram.{ShownTelegram}
 use Rattle.json_lines.specs.declared.packet.PacketLine.{PacketLine}
 use Rattle.json_lines.specs.declared.packet.ShownPacket.{ShownPacket}
 use Rattle.json_lines.specs.declared.packet.ShownPacket.TheVariants.{Telegram, WithoutTelegram}
-use Rattle.teach_in.specs.declared.why.Why.{Why}
-use Rattle.teach_in.specs.declared.why.Why.TheVariants.{Refused, Response, EmptyResponse, OtherType, NoTelegram}
-use Rattle.teach_in.specs.declared.why.Why.TheVariants.{FromBroadcast, ForOthers, TeachInReply, TeachIn}
-use Rattle.teach_in.specs.declared.why.Why.TheVariants.{WindowClosed, OtherMode, Read, UnknownSender, WrongKind}
-use Rattle.teach_in.specs.declared.why.Why.TheVariants.{WrongLength, OtherMessage}
+use Rattle.teach_in.specs.declared.handling_reason.HandlingReason.{HandlingReason}
+use Rattle.teach_in.specs.declared.handling_reason.HandlingReason.TheVariants.{Refused, Response, EmptyResponse, OtherType, NoTelegram}
+use Rattle.teach_in.specs.declared.handling_reason.HandlingReason.TheVariants.{FromBroadcast, ForOthers, TeachInReply, TeachIn}
+use Rattle.teach_in.specs.declared.handling_reason.HandlingReason.TheVariants.{WindowClosed, OtherMode, Read, UnknownSender, WrongKind}
+use Rattle.teach_in.specs.declared.handling_reason.HandlingReason.TheVariants.{WrongLength, OtherMessage}
 
 -- the word for the reason; for the outcome for a sender, the outcome's word. Own choice
-abbrev pub reason_word : Why → List ℕ
+abbrev pub reason_word : HandlingReason → List ℕ
 reason_word Refused = codes "refused"
 reason_word Response = codes "response"
 reason_word EmptyResponse = codes "empty_response"
@@ -41,8 +41,8 @@ id_string id = in_quotes (id_text id)
 -- ---- the members of a line, in the byte order of their names
 
 -- how a telegram was received, and its sender. Own choice
-abbrev pub reception_members : ShownTelegram → List (List ℕ × List ℕ)
-reception_members telegram =
+abbrev pub sender_members : ShownTelegram → List (List ℕ × List ℕ)
+sender_members telegram =
     (codes "dbm", text_or_null dbm_text telegram.dbm)
     ∷ (codes "dest", text_or_null id_string telegram.dest)
     ∷ (codes "eep", text_or_null eep_string telegram.eep)
@@ -50,30 +50,30 @@ reception_members telegram =
     ∷ (codes "maker", text_or_null decimal telegram.maker) ∷ []
 
 -- the content of a telegram. Own choice
-abbrev pub content_members : ShownTelegram → List (List ℕ × List ℕ)
-content_members telegram =
+abbrev pub raw_telegram_members : ShownTelegram → List (List ℕ × List ℕ)
+raw_telegram_members telegram =
     (codes "payload", in_quotes (encode_upper telegram.payload))
     ∷ (codes "rorg", in_quotes (byte_text telegram.rorg))
     ∷ (codes "status", in_quotes (byte_text telegram.status)) ∷ []
 
 -- any other packet: its type, and the number of bytes of its data. Own choice
-abbrev pub other_members : (kind size : ℕ) → List (List ℕ × List ℕ)
-other_members kind size = (codes "kind", decimal kind) ∷ (codes "size", decimal size) ∷ []
+abbrev pub non_telegram_members : (kind size : ℕ) → List (List ℕ × List ℕ)
+non_telegram_members kind size = (codes "kind", decimal kind) ∷ (codes "size", decimal size) ∷ []
 
 -- the contents of the packet. Own choice
 abbrev pub packet_members : ShownPacket → List (List ℕ × List ℕ)
-packet_members (Telegram telegram) = reception_members telegram ++ content_members telegram
-packet_members (WithoutTelegram kind size) = other_members kind size
+packet_members (Telegram telegram) = sender_members telegram ++ raw_telegram_members telegram
+packet_members (WithoutTelegram kind size) = non_telegram_members kind size
 
 -- the type of the line, and the reason. Own choice
-abbrev pub end_members : Why → List (List ℕ × List ℕ)
-end_members why = (codes "type", in_quotes (codes "packet")) ∷ (codes "why", in_quotes (reason_word why)) ∷ []
+abbrev pub type_and_why_members : HandlingReason → List (List ℕ × List ℕ)
+type_and_why_members why = (codes "type", in_quotes (codes "packet")) ∷ (codes "why", in_quotes (reason_word why)) ∷ []
 
 -- ---- the lines
 
 -- the text of a line: one object, and a line feed. Own choice
 abbrev pub packet_text : PacketLine → List ℕ
-packet_text line = object_text (packet_members line.packet ++ end_members line.why) ++ codes "\n"
+packet_text line = object_text (packet_members line.packet ++ type_and_why_members line.why) ++ codes "\n"
 
 -- members in their order, with a comma between each two (RFC 8259, "Objects")
 abbrev pub members_text : List (List ℕ × List ℕ) → List ℕ
@@ -84,14 +84,14 @@ members_text = join_by member_text (codes ",")
 abbrev pub max_sender_members : ℕ
 max_sender_members = 75
 
-abbrev pub max_content_members : ℕ
-max_content_members = 66
+abbrev pub max_raw_telegram_members : ℕ
+max_raw_telegram_members = 66
 
-abbrev pub max_end_members : ℕ
-max_end_members = 38
+abbrev pub max_type_and_why_members : ℕ
+max_type_and_why_members = 38
 
 abbrev pub max_packet_line : ℕ
-max_packet_line = max_sender_members + max_content_members + max_end_members + 5
+max_packet_line = max_sender_members + max_raw_telegram_members + max_type_and_why_members + 5
 
 -- ---- the numbers of a packet line are in the ranges of those of a packet
 

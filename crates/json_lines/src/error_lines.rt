@@ -8,7 +8,8 @@ use actuator_commands::OrderFault;
 /// Why the gateway did not do what it was asked.
 #[derive(Clone, Copy, Debug, PartialEq, Eq)]
 pub enum ErrorName {
-    /// The line is no order, or its device is not learned or has no such order.
+    /// The line is no order, or a number of the order is out of range, or its device is not learned or has no such
+    /// order.
     Order(OrderFault),
     /// The line is longer than an order may be.
     TooLong,

@@ -3,7 +3,7 @@ ghost use Rattle.std.specs.Prelude.{◌≡◌, ◌≢◌, ℕ, List, [], ◌∷�
 ghost use Rattle.json_lines.specs.Lines.{DeskLine, HasNumbersInRange, Teach, TeachLine, text, texts};
 ghost use Rattle.json_lines.specs.PacketLines.{HasPacketNumbersInRange, max_packet_line, packet_text, reason_word};
 ghost use Rattle.json_lines.specs.declared.packet.PacketLine.{PacketLine};
-ghost use Rattle.teach_in.specs.declared.why.Why.{Why};
+ghost use Rattle.teach_in.specs.declared.handling_reason.HandlingReason.{HandlingReason};
 ghost use Rattle.json_lines.specs.declared.limits.TheConstants.{MAX_PACKET_LINE};
 
 /// Lines that together have the text of a teach line are one teach line, with the same outcome.
@@ -20,7 +20,7 @@ pub fn teach_texts_are_injective()
 
 /// Each word for a reason stands for one reason.
 pub fn why_words_are_injective()
-    ensures { (why other : Why) → reason_word why ≡ reason_word other → why ≡ other }
+    ensures { (why other : HandlingReason) → reason_word why ≡ reason_word other → why ≡ other }
 {}
 
 /// Packet lines with the same text are equal: they show the same packet, field by field, and the same reason.

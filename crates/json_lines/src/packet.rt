@@ -2,9 +2,9 @@
 
 ghost use Rattle.std.specs.Prelude.{◌≡◌, ◌+◌, ◌≤◌, ◌++◌, length};
 ghost use Rattle.arrayvec.specs.ArrayVec.{array_vec_len};
-ghost use Rattle.json_lines.specs.PacketLines.{content_members, end_members, members_text, other_members};
-ghost use Rattle.json_lines.specs.PacketLines.{packet_members, packet_text, reception_members};
-ghost use Rattle.json_lines.specs.PacketLines.{max_content_members, max_end_members, max_packet_line};
+ghost use Rattle.json_lines.specs.PacketLines.{raw_telegram_members, type_and_why_members, members_text, non_telegram_members};
+ghost use Rattle.json_lines.specs.PacketLines.{packet_members, packet_text, sender_members};
+ghost use Rattle.json_lines.specs.PacketLines.{max_raw_telegram_members, max_type_and_why_members, max_packet_line};
 ghost use Rattle.json_lines.specs.PacketLines.{max_sender_members};
 
 use crate::limits::MAX_PACKET_LINE;
@@ -16,7 +16,7 @@ use crate::why_words::reason_word;
 use arrayvec::ArrayVec;
 use erp1_telegrams::{Eep, Telegram};
 use std::marker::Model;
-use teach_in::Why;
+use teach_in::HandlingReason;
 
 /// A telegram, and what is known about its sender. In contracts its value is what the line shows of it, the record
 /// `ShownTelegram` of `specs/ShownTelegram.antt`.
@@ -58,13 +58,13 @@ pub struct PacketLine {
     /// The contents of the packet.
     pub packet: ShownPacket,
     /// Why it was handled the way it was.
-    pub why: Why,
+    pub why: HandlingReason,
 }
 
 // How a telegram was received, and its sender.
-fn put_reception(shown: &ShownTelegram, out: &mut PacketBuffer)
+fn put_sender_members(shown: &ShownTelegram, out: &mut PacketBuffer)
     requires { array_vec_len out.old + max_sender_members ≤ max_packet_line }
-    ensures items { out.new.items ≡ out.old.items ++ members_text (reception_members shown.now) }
+    ensures items { out.new.items ≡ out.old.items ++ members_text (sender_members shown.now) }
     ensures len { array_vec_len out.new ≤ array_vec_len out.old + max_sender_members }
 {
     put(b"\"dbm\":", out);
@@ -80,10 +80,10 @@ fn put_reception(shown: &ShownTelegram, out: &mut PacketBuffer)
 }
 
 // The content of a telegram.
-fn put_content(shown: &ShownTelegram, out: &mut PacketBuffer)
-    requires { array_vec_len out.old + max_content_members ≤ max_packet_line }
-    ensures items { out.new.items ≡ out.old.items ++ members_text (content_members shown.now) }
-    ensures len { array_vec_len out.new ≤ array_vec_len out.old + max_content_members }
+fn put_raw_telegram_members(shown: &ShownTelegram, out: &mut PacketBuffer)
+    requires { array_vec_len out.old + max_raw_telegram_members ≤ max_packet_line }
+    ensures items { out.new.items ≡ out.old.items ++ members_text (raw_telegram_members shown.now) }
+    ensures len { array_vec_len out.new ≤ array_vec_len out.old + max_raw_telegram_members }
 {
     put(b"\"payload\":", out);
     put_payload(shown.telegram.payload(), out);
@@ -94,9 +94,9 @@ fn put_content(shown: &ShownTelegram, out: &mut PacketBuffer)
 }
 
 // Any other packet.
-fn put_other(kind: u8, size: u16, out: &mut PacketBuffer)
+fn put_non_telegram_members(kind: u8, size: u16, out: &mut PacketBuffer)
     requires { array_vec_len out.old + 25 ≤ max_packet_line }
-    ensures items { out.new.items ≡ out.old.items ++ members_text (other_members kind size) }
+    ensures items { out.new.items ≡ out.old.items ++ members_text (non_telegram_members kind size) }
     ensures len { array_vec_len out.new ≤ array_vec_len out.old + 25 }
 {
     put(b"\"kind\":", out);
@@ -106,25 +106,25 @@ fn put_other(kind: u8, size: u16, out: &mut PacketBuffer)
 }
 
 fn put_packet(packet: &ShownPacket, out: &mut PacketBuffer)
-    requires { array_vec_len out.old + max_sender_members + max_content_members + 1 ≤ max_packet_line }
+    requires { array_vec_len out.old + max_sender_members + max_raw_telegram_members + 1 ≤ max_packet_line }
     ensures items { out.new.items ≡ out.old.items ++ members_text (packet_members packet.now) }
-    ensures len { array_vec_len out.new ≤ array_vec_len out.old + max_sender_members + max_content_members + 1 }
+    ensures len { array_vec_len out.new ≤ array_vec_len out.old + max_sender_members + max_raw_telegram_members + 1 }
 {
     match packet {
         ShownPacket::Telegram(shown) => {
-            put_reception(shown, out);
+            put_sender_members(shown, out);
             put(b",", out);
-            put_content(shown, out);
+            put_raw_telegram_members(shown, out);
         }
-        ShownPacket::WithoutTelegram { kind, size } => put_other(*kind, *size, out),
+        ShownPacket::WithoutTelegram { kind, size } => put_non_telegram_members(*kind, *size, out),
     }
 }
 
 // The type of the line, and the reason.
-fn put_end_members(why: Why, out: &mut PacketBuffer)
-    requires { array_vec_len out.old + max_end_members ≤ max_packet_line }
-    ensures items { out.new.items ≡ out.old.items ++ members_text (end_members why) }
-    ensures len { array_vec_len out.new ≤ array_vec_len out.old + max_end_members }
+fn put_type_and_why_members(why: HandlingReason, out: &mut PacketBuffer)
+    requires { array_vec_len out.old + max_type_and_why_members ≤ max_packet_line }
+    ensures items { out.new.items ≡ out.old.items ++ members_text (type_and_why_members why) }
+    ensures len { array_vec_len out.new ≤ array_vec_len out.old + max_type_and_why_members }
 {
     put(b"\"type\":\"packet\",\"why\":", out);
     put_string(reason_word(why).as_bytes(), out);
@@ -146,7 +146,7 @@ pub fn packet_line(line: &PacketLine) -> ArrayVec<u8, MAX_PACKET_LINE>
     put(b"{", &mut out);
     put_packet(&line.packet, &mut out);
     put(b",", &mut out);
-    put_end_members(line.why, &mut out);
+    put_type_and_why_members(line.why, &mut out);
     put(b"}\n", &mut out);
     out
 }

@@ -3,29 +3,29 @@ ghost use Rattle.std.specs.Prelude.{◌≡◌, ◌≤◌, length};
 ghost use Rattle.json_lines.specs.PacketLines.{reason_word};
 
 use crate::teach::outcome_word;
-use teach_in::Why;
+use teach_in::HandlingReason;
 
 /// The word of a reason, at most 14 bytes.
-pub fn reason_word(why: Why) -> &'static str
+pub fn reason_word(why: HandlingReason) -> &'static str
     ensures text { result.now ≡ reason_word why }
     ensures short { length result.now ≤ 14 }
 {
     match why {
-        Why::Refused => "refused",
-        Why::Response => "response",
-        Why::EmptyResponse => "empty_response",
-        Why::OtherType => "other_type",
-        Why::NoTelegram => "no_telegram",
-        Why::FromBroadcast => "from_broadcast",
-        Why::ForOthers => "for_others",
-        Why::TeachInReply => "teach_in_reply",
-        Why::TeachIn(outcome) => outcome_word(outcome),
-        Why::WindowClosed => "window_closed",
-        Why::OtherMode => "other_mode",
-        Why::Read => "read",
-        Why::UnknownSender => "unknown_sender",
-        Why::WrongKind => "wrong_kind",
-        Why::WrongLength => "wrong_length",
-        Why::OtherMessage => "other_message",
+        HandlingReason::Refused => "refused",
+        HandlingReason::Response => "response",
+        HandlingReason::EmptyResponse => "empty_response",
+        HandlingReason::OtherType => "other_type",
+        HandlingReason::NoTelegram => "no_telegram",
+        HandlingReason::FromBroadcast => "from_broadcast",
+        HandlingReason::ForOthers => "for_others",
+        HandlingReason::TeachInReply => "teach_in_reply",
+        HandlingReason::TeachIn(outcome) => outcome_word(outcome),
+        HandlingReason::WindowClosed => "window_closed",
+        HandlingReason::OtherMode => "other_mode",
+        HandlingReason::Read => "read",
+        HandlingReason::UnknownSender => "unknown_sender",
+        HandlingReason::WrongKind => "wrong_kind",
+        HandlingReason::WrongLength => "wrong_length",
+        HandlingReason::OtherMessage => "other_message",
     }
 }

@@ -31,7 +31,7 @@ use Rattle.sqlite_sql.specs.declared.ops.CompareOp.TheVariants.{Eq, Ne}
 use Rattle.sqlite_sql.proofs.QueryLemmas.{output_cmp_total}
 use Rattle.sqlite_keyed.proofs.SortLemmas.{sorted_unique}
 use Rattle.sqlite.proofs.Callers.{one_permutation}
-use Rattle.keyed_table.specs.Queries.{rows_query, asked, key_differs_from_param, find_query, all_query, count_rows}
+use Rattle.keyed_table.specs.Queries.{rows_query, lookup_params, key_differs_from_param, find_query, all_query, count_rows}
 use Rattle.keyed_table.specs.Queries.{count_others_query, plain_query}
 use Rattle.keyed_table.specs.Rows.{HasKey, AreKeyed, map_of}
 use Rattle.keyed_table.proofs.RowsApart.{ranked, ranked_rises, ranked_permutes}
@@ -164,7 +164,7 @@ truth_back true = refl
 truth_back false = refl
 
 compared : (op : CompareOp) (row : Row) (id : ℕ) (it : HasKey row)
-    → list_all (holds (env_of (asked id) row)) (op2 (Compare op Binary) (col 1 0) (col 0 0) ∷ [])
+    → list_all (holds (env_of (lookup_params id) row)) (op2 (Compare op Binary) (col 1 0) (col 0 0) ∷ [])
     ≡ test op (value_cmp (rowid row) (Int (pos id)))
 unfolding binary
 compared op row id it =
@@ -181,13 +181,13 @@ differs Greater = refl
 module _ {V : Type 0} (value : Row → V) (d : ℕ) (db : Trees) (keyed : AreKeyed (db d)) where
   -- the row of the key, or none
   pub finds : {shown : List Term} (id : ℕ) (rows : List Row)
-      → IsAnswer (find_query d shown) (overlay db []) (asked id) rows
+      → IsAnswer (find_query d shown) (overlay db []) (lookup_params id) rows
       → ((get (map_of value (db d)) id ≡ None) × (rows ≡ []))
       ⊎ ((r : Row) × (get (map_of value (db d)) id ≡ Some (value r))
-      × (rows ≡ eval_all shown (env_of (asked id) r) ∷ []) × (rowid r ≡ Int (pos id)))
+      × (rows ≡ eval_all shown (env_of (lookup_params id) r) ∷ []) × (rowid r ≡ Int (pos id)))
   finds {shown} id rows a =
       let Turned : List Row → Type 0 =
-      λ rs. IsPermutation (map (λ r. eval_all shown (env_of (asked id) r)) rs) rows in
+      λ rs. IsPermutation (map (λ r. eval_all shown (env_of (lookup_params id) r)) rs) rows in
       let turned : Turned (with_key id (db d)) = shows_passing (has_rowid (pos id)) db a
       (all_weaker HasKey _ (λ r it. compared Eq r id it) (db d) keyed.keys) in
       elim (found value id (db d) keyed) [
@@ -225,7 +225,7 @@ module _ {V : Type 0} (value : Row → V) (d : ℕ) (db : Trees) (keyed : AreKey
 
   -- ---- the number of rows with other keys
 
-  pub counts : (id : ℕ) (rows : List Row) → IsAnswer (count_others_query d) (overlay db []) (asked id) rows
+  pub counts : (id : ℕ) (rows : List Row) → IsAnswer (count_others_query d) (overlay db []) (lookup_params id) rows
       → rows ≡ (count (len (remove (map_of value (db d)) id)) ∷ []) ∷ []
   counts id rows a = counted (key_differs_from_param ∷ []) (λ r. not (has_rowid (pos id) r)) d db rows a
       (all_weaker HasKey _ (λ r it. compared Ne r id it ∙ differs _) (db d) keyed.keys)

@@ -60,26 +60,26 @@ codec = record {
 find_is : IsPlainSelect heights.find_sql (plain_select (codes "height") (column_read (codes "id")
     ∷ column_read (codes "metres") ∷ []) (parameter_test Eq (codes "id")) [])
 unfolding everything
-find_is = record { read = record { parsed = _; read = refl; is = refl; timeless = refl } }
+find_is = record { read = record { parsed = _; read = refl; is = refl; needs_no_time = refl } }
 
 all_is : IsPlainSelect heights.all_sql (plain_select (codes "height") (column_read (codes "id")
     ∷ column_read (codes "metres") ∷ []) None (by_column (codes "id") ∷ []))
 unfolding everything
-all_is = record { read = record { parsed = _; read = refl; is = refl; timeless = refl } }
+all_is = record { read = record { parsed = _; read = refl; is = refl; needs_no_time = refl } }
 
 count_is : IsPlainSelect heights.count_others_sql (plain_select (codes "height")
     (One (CallStar (codes "count")) None (codes "count(*)") ∷ []) (parameter_test Ne (codes "id")) [])
 unfolding everything
-count_is = record { read = record { parsed = _; read = refl; is = refl; timeless = refl } }
+count_is = record { read = record { parsed = _; read = refl; is = refl; needs_no_time = refl } }
 
 upsert_read : ParsesAs heights.upsert_sql (written.Insert conflict.Replace (codes "height")
     (codes "id" ∷ codes "metres" ∷ []) (rows.Values ((Parameter 1 ∷ Parameter 2 ∷ []) ∷ [])) [] [])
 unfolding everything
-upsert_read = record { parsed = _; read = refl; is = refl; timeless = refl }
+upsert_read = record { parsed = _; read = refl; is = refl; needs_no_time = refl }
 
 delete_read : ParsesAs heights.delete_sql (written.Delete (codes "height") (parameter_test Eq (codes "id")) [])
 unfolding everything
-delete_read = record { parsed = _; read = refl; is = refl; timeless = refl }
+delete_read = record { parsed = _; read = refl; is = refl; needs_no_time = refl }
 
 pub meant : SqlTextsCompile heights
 unfolding everything
@@ -87,9 +87,9 @@ meant = record {
   find_names = codes "id" ∷ codes "metres" ∷ [];
   all_names = codes "id" ∷ codes "metres" ∷ [];
   count_others_names = codes "count(*)" ∷ [];
-  find = λ schema at d it. select_means find_is it (draft_of (table_of heights d) (find_query d heights.shown))
+  find = λ schema at d it. select_means find_is it (draft_of (table_of heights d) (find_query d heights.select_terms))
       (None ∷ Some Binary ∷ []) (rw (it.there, it.there)) (record { from = refl; accepted = refl });
-  all = λ schema at d it. select_means all_is it (draft_of (table_of heights d) (all_query d heights.shown))
+  all = λ schema at d it. select_means all_is it (draft_of (table_of heights d) (all_query d heights.select_terms))
       (None ∷ Some Binary ∷ []) (rw (it.there, it.there, it.there, it.there)) (record { from = refl; accepted = refl });
   count = λ schema at d it. select_means count_is it (count_draft (table_of heights d)) (None ∷ [])
       (rw (it.there, it.there)) (record { from = refl; accepted = refl });

@@ -25,7 +25,7 @@ use Rattle.sqlite_rules.specs.Edit.{with_rowid}
 use Rattle.sqlite_rules.specs.declared.error.Rowids.TheVariants.{Chosen}
 use Rattle.keyed_table.specs.KeyedMap.{Codec, table_of, IsCodec, SqlTextsCompile, HoldsMap}
 use Rattle.keyed_table.specs.Lone.{IsLone}
-use Rattle.keyed_table.specs.Queries.{asked, program_of, find_query}
+use Rattle.keyed_table.specs.Queries.{lookup_params, program_of, find_query}
 use Rattle.keyed_table.specs.Rows.{HasKey, AreKeyed, entry_of, map_of}
 use Rattle.keyed_table.specs.Stores.{IsReady, CommitsOrMayBeLeft}
 use Rattle.keyed_table.specs.Tables.{IsTableAt}
@@ -50,18 +50,18 @@ module _ {V : Type 0} (c : Codec V) (codec : IsCodec c) (meant : SqlTextsCompile
 
   module _ (old new : State) (m : FinMap nat_cmp V) (h : HoldsMap c old.now m) (rows : List Row) where
     -- the row of a key, or none
-    pub looks_up : (id : ℕ) → Shown c.find_sql (asked id) old new rows
+    pub looks_up : (id : ℕ) → Shown c.find_sql (lookup_params id) old new rows
         → ((get m id ≡ None) × (rows ≡ []))
-        ⊎ ((r : Row) × (get m id ≡ Some (c.value r)) × (rows ≡ eval_all c.shown (env_of (asked id) r) ∷ [])
+        ⊎ ((r : Row) × (get m id ≡ Some (c.value r)) × (rows ≡ eval_all c.select_terms (env_of (lookup_params id) r) ∷ [])
         × (rowid r ≡ Int (pos id)))
     looks_up id shows = subst (λ m. ((get m id ≡ None) × (rows ≡ []))
-        ⊎ ((r : Row) × (get m id ≡ Some (c.value r)) × (rows ≡ eval_all c.shown (env_of (asked id) r) ∷ [])
+        ⊎ ((r : Row) × (get m id ≡ Some (c.value r)) × (rows ≡ eval_all c.select_terms (env_of (lookup_params id) r) ∷ [])
         × (rowid r ≡ Int (pos id)))) h.is (answers.finds c.value h.tree old.now.trees (keyed h) id rows
-        (answer_of (asked id) old new rows (meant.find old.now.schema h.at h.tree h.stands) refl shows))
+        (answer_of (lookup_params id) old new rows (meant.find old.now.schema h.at h.tree h.stands) refl shows))
 
     -- all rows, by rising key
     pub lists : Shown c.all_sql [] old new rows → (all : List Row)
-        × (rows ≡ map (λ r. eval_all c.shown (env_of [] r)) all) × (entries m ≡ map (entry_of c.value) all)
+        × (rows ≡ map (λ r. eval_all c.select_terms (env_of [] r)) all) × (entries m ≡ map (entry_of c.value) all)
     lists shows = (
       ranked (old.now.trees h.tree),
       answers.lists c.value h.tree old.now.trees (keyed h) rows
@@ -70,10 +70,10 @@ module _ {V : Type 0} (c : Codec V) (codec : IsCodec c) (meant : SqlTextsCompile
     )
 
     -- the number of other keys
-    pub counts : (id : ℕ) → Shown c.count_others_sql (asked id) old new rows
+    pub counts : (id : ℕ) → Shown c.count_others_sql (lookup_params id) old new rows
         → rows ≡ (count (len (remove m id)) ∷ []) ∷ []
     counts id shows = answers.counts c.value h.tree old.now.trees (keyed h) id rows
-        (answer_of (asked id) old new rows (meant.count old.now.schema h.at h.tree h.stands) refl shows)
+        (answer_of (lookup_params id) old new rows (meant.count old.now.schema h.at h.tree h.stands) refl shows)
         ∙ ap (λ m. (count (len (remove m id)) ∷ []) ∷ []) h.is
 
   -- ---- writes
@@ -94,7 +94,7 @@ module _ {V : Type 0} (c : Codec V) (codec : IsCodec c) (meant : SqlTextsCompile
   upsert_does : (id : ℕ) (v : V) → c.Fits id v → (s : State) (after : Database) (text : List ℕ) (tally : Tally)
       (m : FinMap nat_cmp V) (h : HoldsMap c s.now m) → IsDatabase s.now → Unit {0}
       → Does s.step_limit (mode_of s) (c.params id v) s.now text None
-      (InsertOr h.at Replace (Values c.sent c.sent_width) []) (Ok (tally, after)) → HoldsMap c after (insert m id v)
+      (InsertOr h.at Replace (Values c.upsert_terms c.upsert_width) []) (Ok (tally, after)) → HoldsMap c after (insert m id v)
   upsert_does id v fits s after text tally m h sound room does =
       let table = table_of c h.tree in
       let new = c.row id v in
@@ -104,7 +104,7 @@ module _ {V : Type 0} (c : Codec V) (codec : IsCodec c) (meant : SqlTextsCompile
       ap (λ r. with_rowid Chosen there (cast_row table r)) (codec.mends h.tree id v)
       ∙ ap (with_rowid Chosen there) (codec.stored h.tree id v) ∙ given_key there new key in
       let it = upserts s.now.schema h.at table h.stands.there (lone_alone h.lone) s.step_limit (mode_of s)
-      (c.params id v) new (codec.stored h.tree id v) (Values c.sent c.sent_width) s.now.trees tally after refl
+      (c.params id v) new (codec.stored h.tree id v) (Values c.upsert_terms c.upsert_width) s.now.trees tally after refl
       (λ rows given. (new, codec.sends s.now h.tree id v rows given, kept)) does in
       changed s.now after m (insert m id v) h it.0
       (subst (AllByRecursion c.IsRow) (sym it.1.rows) (all-put_row c.IsRow new _
@@ -121,19 +121,19 @@ module _ {V : Type 0} (c : Codec V) (codec : IsCodec c) (meant : SqlTextsCompile
       → (HasCleanDisk new → Executes c.upsert_sql (c.params id v) old new r)
       → CommitsOrMayBeLeft (HoldsMap c) old new (λ m. insert m id v) r
   upserts_commit id v fits old new r ready = turned c.upsert_sql (c.params id v) (λ m. insert m id v)
-      (λ m. Unit {0}) (λ db m had. InsertOr had.at Replace (Values c.sent c.sent_width) []) (λ db m had. tt)
+      (λ m. Unit {0}) (λ db m had. InsertOr had.at Replace (Values c.upsert_terms c.upsert_width) []) (λ db m had. tt)
       (λ db m had. meant.upsert db.schema had.at had.tree had.stands) (upsert_does id v fits) old new r ready
       (λ clean m shows. tt)
 
   delete_does : (id : ℕ) (s : State) (after : Database) (text : List ℕ) (tally : Tally) (m : FinMap nat_cmp V)
       (h : HoldsMap c s.now m) → IsDatabase s.now → Unit {0}
-      → Does s.step_limit (mode_of s) (asked id) s.now text None
+      → Does s.step_limit (mode_of s) (lookup_params id) s.now text None
       (Delete h.at (program_of (find_query h.tree (col 1 0 ∷ [])))) (Ok (tally, after))
       → HoldsMap c after (remove m id)
   delete_does id s after text tally m h sound room does =
       let there = s.now.trees h.tree in
       let it = deletes s.now.schema h.at (table_of c h.tree) h.stands.there (lone_alone h.lone) s.step_limit (mode_of s)
-      (asked id) s.now.trees tally after (find_query h.tree (col 1 0 ∷ [])) does in
+      (lookup_params id) s.now.trees tally after (find_query h.tree (col 1 0 ∷ [])) does in
       changed s.now after m (remove m id) h it.2.schema_is
       (subst (AllByRecursion c.IsRow) (sym it.2.rows) (all_without_all c.IsRow there (ids_of it.0) h.rows))
       (subst AreKeyed (sym it.2.rows) (keyed_without_all there (ids_of it.0) (keyed h)))
@@ -142,10 +142,10 @@ module _ {V : Type 0} (c : Codec V) (codec : IsCodec c) (meant : SqlTextsCompile
 
   -- DELETE of a key removes it, or fails
   pub deletes_commit : (id : ℕ) (old new : State) (r : Result ℕ Error) → (HasCleanDisk old → IsReady (HoldsMap c) old)
-      → Survives old new (CommitsBy c.delete_sql (asked id) old)
-      → (HasCleanDisk new → Executes c.delete_sql (asked id) old new r)
+      → Survives old new (CommitsBy c.delete_sql (lookup_params id) old)
+      → (HasCleanDisk new → Executes c.delete_sql (lookup_params id) old new r)
       → CommitsOrMayBeLeft (HoldsMap c) old new (λ m. remove m id) r
-  deletes_commit id old new r ready = turned c.delete_sql (asked id) (λ m. remove m id) (λ m. Unit {0})
+  deletes_commit id old new r ready = turned c.delete_sql (lookup_params id) (λ m. remove m id) (λ m. Unit {0})
       (λ db m had. Delete had.at (program_of (find_query had.tree (col 1 0 ∷ [])))) (λ db m had. tt)
       (λ db m had. meant.delete db.schema had.at had.tree had.stands) (delete_does id) old new r ready
       (λ clean m shows. tt)

@@ -42,7 +42,7 @@ use Rattle.std.specs.List.{AllByRecursion, find, list_any}
 use Rattle.std.specs.List.{AllByRecursion, list_any, position_from}
 use Rattle.sqlite_catalog.proofs.ReadLemmas.{lists_once}
 use Rattle.keyed_table.specs.Stores.{HoldsIn}
-use Rattle.keyed_table.specs.Tables.{IsTableAt, TreeHasName, IsListedAs}
+use Rattle.keyed_table.specs.Tables.{IsTableAt, TreeHasName, HasCatalogText}
 
 -- the table of this name
 pub record IsNamed (schema : Schema) (name : List ℕ) (tree : ℕ) : Type 0 where
@@ -174,7 +174,7 @@ record IsObject (trees : Trees) (name text : List ℕ) : Type 0 where
   name_is : column row 2 ≡ Text name
   sql : column row 4 ≡ Text text
 
-object : (trees : Trees) (name text : List ℕ) → IsListedAs trees name text → IsObject trees name text
+object : (trees : Trees) (name text : List ℕ) → HasCatalogText trees name text → IsObject trees name text
 object trees name text it = elim (put_all_has (map shown (trees catalog_tree)) [] it.row it.listed) [
   | inl new ↦
       let was = has_mapped shown (trees catalog_tree) it.row new in
@@ -197,7 +197,7 @@ module _ (db : Database) (sound : IsDatabase db) where
 
   -- the table of this name is what the text defines
   pub defined : (name : List ℕ) (tree : ℕ) (n : IsNamed db.schema name tree) (text : List ℕ) (made : Table)
-      → IsListedAs db.trees name text → table_defined_by text ≡ Ok made
+      → HasCatalogText db.trees name text → table_defined_by text ≡ Ok made
       → (n.table ≡ record made { tree = tree }) × (tree < 65536)
   defined name tree n text made lists is =
       let it = object db.trees name text lists in

@@ -23,7 +23,7 @@ use Rattle.keyed_table.proofs.TablesAlone.{StandsAlone, stands_alone}
 
 pub lone_alone : {schema : Schema} {name : List ℕ} {table : Table} → IsLone schema name table
     → StandsAlone schema table.tree
-lone_alone {schema} {name} {table} it = stands_alone schema name table.tree it.keeps it.spares it.unindexed
+lone_alone {schema} {name} {table} it = stands_alone schema name table.tree it.keeps it.unreferenced it.unindexed
 
 -- an element that passes has an index
 record IsPlacedAt {X : Type 0} (test : X → Bool) (xs : List X) (i : ℕ) : Type 0 where
@@ -94,7 +94,7 @@ module _ (schema : Schema) (own : List ℕ) (columns : List Column) (checks : Li
         named = it.named;
         keeps = all-append (TreeHasName name table.tree) schema.tables (new ∷ []) it.keeps
             ((λ e. absurd (omega (arith, low, e))), tt);
-        spares = all-append (HasNoReferenceTo name) schema.tables (new ∷ []) it.spares (tt, tt);
+        unreferenced = all-append (HasNoReferenceTo name) schema.tables (new ∷ []) it.unreferenced (tt, tt);
         unindexed = all-append (λ index. index.table ≢ table.tree) schema.indexes [] it.unindexed tt;
       }
 
@@ -107,7 +107,7 @@ module _ (schema : Schema) (own : List ℕ) (columns : List Column) (checks : Li
     keeps = all-append (TreeHasName own (next_tree schema)) schema.tables (new ∷ [])
         (all_from _ schema.tables (λ table has e.
         absurd (let low = table_below schema table has in omega (arith, low, e)))) ((λ e. itself), tt);
-    spares = all-append (HasNoReferenceTo own) schema.tables (new ∷ []) spares (tt, tt);
+    unreferenced = all-append (HasNoReferenceTo own) schema.tables (new ∷ []) spares (tt, tt);
     unindexed = all-append (λ index. index.table ≢ next_tree schema) schema.indexes []
         (all_weaker (λ index. index.table < next_tree schema) (λ index. index.table ≢ next_tree schema)
         (λ index low e. omega (arith, low, e)) schema.indexes owners) tt;
@@ -124,7 +124,7 @@ lone_left schema tree {name} {table} other it = record {
   listed = has_kept (λ t. not (t.tree == tree)) schema.tables table it.listed (apart_trees table.tree tree other);
   named = it.named;
   keeps = all-filter (TreeHasName name table.tree) (λ t. not (t.tree == tree)) schema.tables it.keeps;
-  spares = all-filter (HasNoReferenceTo name) (λ t. not (t.tree == tree)) schema.tables it.spares;
+  unreferenced = all-filter (HasNoReferenceTo name) (λ t. not (t.tree == tree)) schema.tables it.unreferenced;
   unindexed = all-filter (λ index. index.table ≢ table.tree) (λ index. not (index.table == tree)) schema.indexes
       it.unindexed;
 }

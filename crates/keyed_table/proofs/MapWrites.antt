@@ -36,8 +36,8 @@ use Rattle.sqlite_rules.specs.declared.error.Rowids.TheVariants.{Chosen}
 use Rattle.sqlite_rules.specs.Keys.{conflicts}
 use Rattle.sqlite_rules.specs.Lists.{Has}
 use Rattle.sqlite_rules.proofs.ListLemmas.{all_has}
-use Rattle.keyed_table.specs.Queries.{asked, find_query, rows_query}
-use Rattle.keyed_table.specs.Rows.{HasKey, IsNew, AreKeyed, map_of}
+use Rattle.keyed_table.specs.Queries.{lookup_params, find_query, rows_query}
+use Rattle.keyed_table.specs.Rows.{HasKey, HasNewKey, AreKeyed, map_of}
 use Rattle.keyed_table.proofs.Answers.{finds, truth_back, shows_all, env_of}
 use Rattle.keyed_table.proofs.RowsApart.{untaken, put_in_empty}
 use Rattle.keyed_table.proofs.RowsAsMap.{key_is, keyed_put, keyed_without_all, keyed_turned, map_without, map_replaced}
@@ -68,7 +68,7 @@ remove_absent m id none = same_map nat_cmp_total nat_cmp-IsAntisymmetric _ _ (λ
 module _ {V : Type 0} (value : Row → V) where
   -- DELETE .. WHERE the key is this one
   pub removes : (d id : ℕ) (db : Trees) (rows : List Row) → AreKeyed (db d)
-      → IsAnswer (find_query d (col 1 0 ∷ [])) (overlay db []) (asked id) rows
+      → IsAnswer (find_query d (col 1 0 ∷ [])) (overlay db []) (lookup_params id) rows
       → map_of value (without_all (db d) (ids_of rows)) ≡ remove (map_of value (db d)) id
   removes d id db rows keyed a = elim (finds value d db keyed id rows a) [
     | inl none ↦ rw none.1 (sym (remove_absent (map_of value (db d)) id none.0))
@@ -109,7 +109,7 @@ ids_are id (x ∷ more) h = (h x (inl refl), ids_are id more (λ y there. h y (i
 module _ {V : Type 0} (value : Row → V) (schema : Schema) (table : Table) (new : Row) (before after : Trees)
     (it : IsUpserted schema table new before after) (key : HasKey new) (keyed : AreKeyed (before table.tree))
     (unindexed : AllByRecursion (λ index. index.table ≢ table.tree) schema.indexes) where
-  free : IsNew new (without_all (before table.tree) (ids_of it.found))
+  free : HasNewKey new (without_all (before table.tree) (ids_of it.found))
   free = untaken new _ it.fresh
 
   -- INSERT OR REPLACE

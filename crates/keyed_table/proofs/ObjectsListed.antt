@@ -17,7 +17,7 @@ use Rattle.sqlite_trees.specs.Tree.{Trees}
 use Rattle.sqlite_rules.proofs.ListLemmas.{some_has, some_from}
 use Rattle.std.proofs.lemmas.Bool.{and_parts}
 use Rattle.keyed_table.specs.Objects.{list_objects_sql, has_text, is_catalog_row}
-use Rattle.keyed_table.specs.Tables.{catalog_rows, IsListedAs}
+use Rattle.keyed_table.specs.Tables.{catalog_rows, HasCatalogText}
 use Rattle.keyed_table.proofs.ObjectsMeaning.{list_query_is}
 use Rattle.keyed_table.proofs.ObjectsAnswer.{listing_shows}
 
@@ -58,7 +58,7 @@ answered test db rows it =
 
 here : (trees : Trees) (name text : List ℕ)
     → list_any (λ r. is_catalog_row name text (line r)) (catalog_rows trees) ≡ true
-    → IsListedAs trees name text
+    → HasCatalogText trees name text
 here trees name text h =
     let hit = some_has (λ r. is_catalog_row name text (line r)) _ h in
     let passes = and_parts _ _ hit.2 in
@@ -78,13 +78,13 @@ lists_as old new rows sound shows test =
 
 -- what the query shows is listed
 pub reported : (old new : State) (rows : List Row) → IsDatabase old.now → Shown list_objects_sql [] old new rows
-    → (name text : List ℕ) → list_any (is_catalog_row name text) rows ≡ true → IsListedAs old.now.trees name text
+    → (name text : List ℕ) → list_any (is_catalog_row name text) rows ≡ true → HasCatalogText old.now.trees name text
 reported old new rows sound shows name text h =
     here old.now.trees name text (sym (lists_as old new rows sound shows (is_catalog_row name text)) ∙ h)
 
 -- what is listed is shown by the query
 pub shows_line : (old new : State) (rows : List Row) → IsDatabase old.now → Shown list_objects_sql [] old new rows
-    → (name text : List ℕ) → IsListedAs old.now.trees name text → list_any (is_catalog_row name text) rows ≡ true
+    → (name text : List ℕ) → HasCatalogText old.now.trees name text → list_any (is_catalog_row name text) rows ≡ true
 shows_line old new rows sound shows name text it =
     let passes : is_catalog_row name text (line it.row) ≡ true =
     ap (λ v. has_text v name && has_text (column it.row 5) text) it.name_is

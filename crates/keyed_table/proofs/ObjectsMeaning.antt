@@ -30,7 +30,7 @@ list_select = plain_select (codes "sqlite_schema")
 
 list_is : IsPlainSelect list_objects_sql list_select
 unfolding everything
-list_is = record { read = record { parsed = _; read = refl; is = refl; timeless = refl } }
+list_is = record { read = record { parsed = _; read = refl; is = refl; needs_no_time = refl } }
 
 -- if no table or view has the name, compiling the text fails with `NoSuchTable`
 module _ (schema : Schema) (no_table : table_named schema (codes "sqlite_schema") ≡ None)

@@ -14,7 +14,7 @@ use Rattle.sqlite_trees.proofs.TreeLemmas.{IsTable-put_row, all-put_row}
 use Rattle.sqlite_trees.proofs.ListLemmas.{all_weaker, all_both, all-permutation, along_permutation}
 use Rattle.sqlite_rules.specs.Edit.{put_all, is_taken}
 use Rattle.sqlite_keyed.proofs.ListLemmas.{none_from_any}
-use Rattle.keyed_table.specs.Rows.{are_tied, IsNew, RowidsAreUntied}
+use Rattle.keyed_table.specs.Rows.{are_tied, HasNewKey, RowidsAreUntied}
 
 pub untied : (a b : Row) → are_tied a b ≡ false → are_tied b a ≡ false
 untied a b h = sym ((eq_by_cmp_equiv value_cmp_total).symm (rowid a) (rowid b)) ∙ h
@@ -23,16 +23,16 @@ untied a b h = sym ((eq_by_cmp_equiv value_cmp_total).symm (rowid a) (rowid b)) 
 abbrev IsNewTo : List Row → Row → Type 0
 IsNewTo rows new = AllByRecursion (λ r. are_tied new r ≡ false) rows
 
-pub turned : (new : Row) (rows : List Row) → IsNew new rows → IsNewTo rows new
+pub turned : (new : Row) (rows : List Row) → HasNewKey new rows → IsNewTo rows new
 turned new rows = all_weaker (λ r. are_tied r new ≡ false) (λ r. are_tied new r ≡ false) (λ r. untied r new) rows
 
-back : (new : Row) (rows : List Row) → IsNewTo rows new → IsNew new rows
+back : (new : Row) (rows : List Row) → IsNewTo rows new → HasNewKey new rows
 back new rows = all_weaker (λ r. are_tied new r ≡ false) (λ r. are_tied r new ≡ false) (λ r. untied new r) rows
 
-pub untaken : (new : Row) (rows : List Row) → is_taken rows new ≡ false → IsNew new rows
+pub untaken : (new : Row) (rows : List Row) → is_taken rows new ≡ false → HasNewKey new rows
 untaken new rows = none_from_any (λ r. are_tied r new) rows
 
-pub apart_put : (new : Row) (rows : List Row) → IsNew new rows → RowidsAreUntied rows
+pub apart_put : (new : Row) (rows : List Row) → HasNewKey new rows → RowidsAreUntied rows
     → RowidsAreUntied (put_row new rows)
 apart_put new [] free apart = (tt, tt)
 apart_put new (r ∷ rows) free apart =
@@ -45,7 +45,7 @@ apart_put new (r ∷ rows) free apart =
     ]
 
 -- a row that is inserted beside the others is one more
-pub put_permutes : (new : Row) (rows : List Row) → IsNew new rows → IsPermutation (new ∷ rows) (put_row new rows)
+pub put_permutes : (new : Row) (rows : List Row) → HasNewKey new rows → IsPermutation (new ∷ rows) (put_row new rows)
 put_permutes new [] free = IsPermutation-refl (new ∷ [])
 put_permutes new (r ∷ rows) free =
     elim (value_cmp (rowid r) (rowid new)) as (λ o. is_eq o ≡ false
@@ -98,13 +98,13 @@ apart_turned xs ys same = (along_permutation Turns (λ xs. (IsPermutation-refl x
 
 -- ---- rows that are inserted one after another
 
-puts_permute : (rows there : List Row) → RowidsAreUntied rows → AllByRecursion (λ new. IsNew new there) rows
+puts_permute : (rows there : List Row) → RowidsAreUntied rows → AllByRecursion (λ new. HasNewKey new there) rows
     → IsPermutation (rows ++ there) (put_all there rows)
 puts_permute [] there once free = IsPermutation-refl there
 puts_permute (new ∷ rows) there once free =
     let put = put_row new there in
-    let still : AllByRecursion (λ r. IsNew r put) rows =
-    all_both (λ r. are_tied new r ≡ false) (λ r. IsNew r there) (λ r. IsNew r put)
+    let still : AllByRecursion (λ r. HasNewKey r put) rows =
+    all_both (λ r. are_tied new r ≡ false) (λ r. HasNewKey r there) (λ r. HasNewKey r put)
     (λ r other beside. all-put_row (λ b. are_tied b r ≡ false) new there other beside) rows once.0 free.1 in
     IsPermutation-trans _ _ _
     (IsPermutation-sym _ _ (IsPermutation-middle rows new there))
@@ -116,6 +116,6 @@ pub put_in_empty : (rows : List Row) → RowidsAreUntied rows → IsPermutation 
 put_in_empty rows once = subst (λ rs. IsPermutation rs (put_all [] rows)) (append-nil rows)
     (puts_permute rows [] once (free_all rows))
   where
-    free_all : (rows : List Row) → AllByRecursion (λ new. IsNew new []) rows
+    free_all : (rows : List Row) → AllByRecursion (λ new. HasNewKey new []) rows
     free_all [] = tt
     free_all (row ∷ rows) = (tt, free_all rows)

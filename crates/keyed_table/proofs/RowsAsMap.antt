@@ -25,7 +25,7 @@ use Rattle.sqlite_trees.proofs.ListLemmas.{ascending_weaker}
 use Rattle.sqlite_trees.proofs.TreeLemmas.{all-put_row}
 use Rattle.sqlite_rules.specs.Edit.{without_all}
 use Rattle.sqlite_catalog.proofs.LayoutLemmas.{ascending_filter}
-use Rattle.keyed_table.specs.Rows.{natural_in, key_in, HasKey, are_tied, IsNew, RowidsAreUntied, AreKeyed, entry_of}
+use Rattle.keyed_table.specs.Rows.{natural_in, key_in, HasKey, are_tied, HasNewKey, RowidsAreUntied, AreKeyed, entry_of}
 use Rattle.keyed_table.specs.Rows.{map_of, RowidsDiffer}
 use Rattle.keyed_table.proofs.RowsApart.{put_permutes, apart_turned, apart_put, ranked, ranked_rises}
 use Rattle.keyed_table.proofs.RowsApart.{ranked_permutes, turned, untied}
@@ -79,7 +79,7 @@ with_key id = filter (has_rowid (pos id))
 
 -- ---- rows that stay keyed
 
-pub keyed_put : (new : Row) (rows : List Row) → HasKey new → IsNew new rows → AreKeyed rows
+pub keyed_put : (new : Row) (rows : List Row) → HasKey new → HasNewKey new rows → AreKeyed rows
     → AreKeyed (put_row new rows)
 keyed_put new rows key free keyed = record {
   keys = all-put_row HasKey new rows key keyed.keys;
@@ -162,7 +162,7 @@ module _ {V : Type 0} (value : Row → V) where
 
   -- ---- inserted rows
 
-  pub map_put : (new : Row) (rows : List Row) → HasKey new → IsNew new rows → AreKeyed rows
+  pub map_put : (new : Row) (rows : List Row) → HasKey new → HasNewKey new rows → AreKeyed rows
       → map_of value (put_row new rows) ≡ insert (map_of value rows) (key_in new) (value new)
   map_put new rows key free keyed =
       sym (same_map_of (new ∷ rows) (put_row new rows) (put_permutes new rows free)
@@ -218,7 +218,7 @@ module _ {V : Type 0} (value : Row → V) where
       ∙ ap (λ m. insert m id v) (map_without rows id all) ∙ insert_removed (map_of value rows) id v
 
   pub map_replaced : (new : Row) (rows : List Row) (gone : List ℤ) (id : ℕ) → key_in new ≡ id → HasKey new
-      → AreKeyed rows → AllByRecursion (λ i. i ≡ pos id) gone → IsNew new (without_all rows gone)
+      → AreKeyed rows → AllByRecursion (λ i. i ≡ pos id) gone → HasNewKey new (without_all rows gone)
       → map_of value (put_row new (without_all rows gone)) ≡ insert (map_of value rows) id (value new)
   map_replaced new rows gone id is key keyed same free =
       map_put new (without_all rows gone) key free (keyed_without_all rows gone keyed)

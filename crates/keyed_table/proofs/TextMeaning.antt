@@ -29,7 +29,7 @@ pub answer_of : {schema : Schema} {text : List ℕ} {q : Query} {names : List (L
     (rows : List Row) → CompilesTo schema text (Select (program_of q) names) → old.now.schema ≡ schema
     → Shown text params old new rows → IsAnswer q (overlay old.now.trees []) params rows
 answer_of {schema} {text} params old new rows it has h =
-    (reads_as text params old new schema has _ it.is it.plain it.unlisted rows h).answer Null
+    (reads_as text params old new schema has _ it.is it.is_plain it.reads_no_listing rows h).answer Null
 
 -- a text means the command of its statement
 module _ (schema : Schema) {text : List ℕ} {s : Statement} (c : Command) (it : ParsesAs text s)
@@ -37,14 +37,14 @@ module _ (schema : Schema) {text : List ℕ} {s : Statement} (c : Command) (it :
     (unshown : (base : ℕ) → returning schema base s ≡ Ok None) (is : (base : ℕ) → command schema [] base s ≡ Ok c) where
   compiled_as : compiled schema text ≡ Ok (with_command it.parsed ([], (c, None)))
   unfolding compiled planned meaning
-  compiled_as = rw (it.read, it.is, it.timeless, untimed, unshown, is)
+  compiled_as = rw (it.read, it.is, it.needs_no_time, untimed, unshown, is)
 
   pub understood_as : understood schema text ≡ Ok (with_command it.parsed ([], (c, None)))
   unfolding understood
   understood_as = rw compiled_as
 
   pub means : CompilesTo schema text c
-  means = record { is = rw understood_as; plain = rw understood_as (refl, refl); unlisted = rw compiled_as }
+  means = record { is = rw understood_as; is_plain = rw understood_as (refl, refl); reads_no_listing = rw compiled_as }
 
 -- the draft of a query over this table that has no groups
 abbrev pub draft_of : Table → Query → Draft

@@ -59,7 +59,7 @@ module _ {M : Type 0} {Holds : Database → M → Type 0} (sql : List ℕ) (para
   wrote_as old new count m had h =
       let it = means old.now m had in
       wrote old new (command old.now m had) _ params count (is_write old.now m had)
-      (runs_as sql params old new old.now.schema refl (command old.now m had) it.is it.plain count h)
+      (runs_as sql params old new old.now.schema refl (command old.now m had) it.is it.is_plain count h)
 
   pub made : (old new : State) (count : ℕ) (m : M) → HasRoom m → IsReadyWith Holds old m
       → Executes sql params old new (Ok count) → IsReadyWith Holds new (then m)
@@ -79,7 +79,7 @@ module _ {M : Type 0} {Holds : Database → M → Type 0} (sql : List ℕ) (para
       let k = command s.now m shows.holds in
       let it = means s.now m shows.holds in
       let is = is_write s.now m shows.holds in
-      elim (commits_as sql params s k it.is it.plain trees h) [
+      elim (commits_as sql params s k it.is it.is_plain trees h) [
         | inl named ↦
             elim named.0 [
               | inl commit ↦ absurd (no_commit k is commit)

@@ -30,10 +30,10 @@ heights = record {
   Fits = λ id metres. Unit {0};
   value = λ row. id_in (column row 2);
   row = λ id metres. Int (pos id) ∷ Null ∷ Int metres ∷ [];
-  shown = col 1 0 ∷ col 1 2 ∷ [];
+  select_terms = col 1 0 ∷ col 1 2 ∷ [];
   params = λ id metres. Int (pos id) ∷ Int metres ∷ [];
-  sent = col 0 0 ∷ lit Null ∷ col 0 1 ∷ [];
-  sent_width = 3;
+  upsert_terms = col 0 0 ∷ lit Null ∷ col 0 1 ∷ [];
+  upsert_width = 3;
   find_sql = codes "SELECT id, metres FROM height WHERE id = ?1";
   all_sql = codes "SELECT id, metres FROM height ORDER BY id";
   count_others_sql = codes "SELECT count(*) FROM height WHERE id <> ?1";

@@ -32,11 +32,11 @@ pub record Codec (V : Type 0) : Type 1 where
   pub value : Row → V
   pub row : ℕ → V → Row
   -- what SELECT shows of a row
-  pub shown : List Term
+  pub select_terms : List Term
   -- the parameters of the upsert, and the row that it sends
   pub params : ℕ → V → Row
-  pub sent : List Term
-  pub sent_width : ℕ
+  pub upsert_terms : List Term
+  pub upsert_width : ℕ
   pub find_sql : List ℕ
   pub all_sql : List ℕ
   pub count_others_sql : List ℕ
@@ -57,7 +57,7 @@ module _ {V : Type 0} (c : Codec V) where
     pub stored : (tree id : ℕ) (v : V) → cast_row (table_of c tree) (c.row id v) ≡ c.row id v
     pub mends : (tree id : ℕ) (v : V) → mended Replace (table_of c tree) (c.row id v) ≡ c.row id v
     pub sends : (db : Database) (tree id : ℕ) (v : V) (rows : List Row)
-        → IsSource db (stamped (table_of c tree) (c.params id v)) (Values c.sent c.sent_width) rows
+        → IsSource db (stamped (table_of c tree) (c.params id v)) (Values c.upsert_terms c.upsert_width) rows
         → rows ≡ c.row id v ∷ []
     pub passing_is_row : (tree id : ℕ) (v : V) → c.Fits id v → IsJudged (table_of c tree) (c.row id v) None
         → c.IsRow (c.row id v)
@@ -68,13 +68,13 @@ module _ {V : Type 0} (c : Codec V) where
     pub all_names : List (List ℕ)
     pub count_others_names : List (List ℕ)
     pub find : (schema : Schema) (at d : ℕ) → IsTableAt schema c.name (table_of c d) at
-        → CompilesTo schema c.find_sql (Select (program_of (find_query d c.shown)) find_names)
+        → CompilesTo schema c.find_sql (Select (program_of (find_query d c.select_terms)) find_names)
     pub all : (schema : Schema) (at d : ℕ) → IsTableAt schema c.name (table_of c d) at
-        → CompilesTo schema c.all_sql (Select (program_of (all_query d c.shown)) all_names)
+        → CompilesTo schema c.all_sql (Select (program_of (all_query d c.select_terms)) all_names)
     pub count : (schema : Schema) (at d : ℕ) → IsTableAt schema c.name (table_of c d) at
         → CompilesTo schema c.count_others_sql (Select (program_of (count_others_query d)) count_others_names)
     pub upsert : (schema : Schema) (at d : ℕ) → IsTableAt schema c.name (table_of c d) at
-        → CompilesTo schema c.upsert_sql (InsertOr at Replace (Values c.sent c.sent_width) [])
+        → CompilesTo schema c.upsert_sql (InsertOr at Replace (Values c.upsert_terms c.upsert_width) [])
     pub delete : (schema : Schema) (at d : ℕ) → IsTableAt schema c.name (table_of c d) at
         → CompilesTo schema c.delete_sql (Delete at (program_of (find_query d (col 1 0 ∷ []))))
 

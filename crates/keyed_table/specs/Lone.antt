@@ -12,5 +12,5 @@ pub record IsLone (schema : Schema) (name : List ℕ) (table : Table) : Type 0 w
   pub listed : Has schema.tables table
   pub named : same_name table.name name ≡ true
   pub keeps : AllByRecursion (TreeHasName name table.tree) schema.tables
-  pub spares : AllByRecursion (HasNoReferenceTo name) schema.tables
+  pub unreferenced : AllByRecursion (HasNoReferenceTo name) schema.tables
   pub unindexed : AllByRecursion (λ index. index.table ≢ table.tree) schema.indexes

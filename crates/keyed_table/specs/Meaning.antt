@@ -13,10 +13,10 @@ pub record ParsesAs (text : List ℕ) (statement : Statement) : Type 0 where
   pub parsed : Parsed
   pub read : first text ≡ Ok parsed
   pub is : parsed.statement ≡ statement
-  pub timeless : parsed.formats ≡ []
+  pub needs_no_time : parsed.formats ≡ []
 
 -- the meaning of the text under the schema: a statement of one command, without RETURNING and time
 pub record CompilesTo (schema : Schema) (text : List ℕ) (c : Command) : Type 0 where
   pub is : command_of (understood schema text) ≡ c
-  pub plain : IsPlain (understood schema text)
-  pub unlisted : reads_listing schema text ≡ false
+  pub is_plain : IsPlain (understood schema text)
+  pub reads_no_listing : reads_listing schema text ≡ false

@@ -34,8 +34,8 @@ abbrev pub program_of : Query → Program
 program_of q = record { lets = []; body = q }
 
 -- the key as the parameter of a statement
-abbrev pub asked : (id : ℕ) → Row
-asked id = Int (pos id) ∷ []
+abbrev pub lookup_params : (id : ℕ) → Row
+lookup_params id = Int (pos id) ∷ []
 
 -- the key is the first parameter
 abbrev pub key_equals_param : Term

@@ -34,8 +34,8 @@ abbrev pub are_tied : (a b : Row) → Bool
 are_tied a b = is_eq (value_cmp (rowid a) (rowid b))
 
 -- no row has the rowid of this one
-abbrev pub IsNew : Row → List Row → Type 0
-IsNew new = AllByRecursion (λ r. are_tied r new ≡ false)
+abbrev pub HasNewKey : Row → List Row → Type 0
+HasNewKey new = AllByRecursion (λ r. are_tied r new ≡ false)
 
 -- no two rows have rowids that SQL compares as equal
 abbrev pub RowidsAreUntied : List Row → Type 0

@@ -69,7 +69,7 @@ abbrev pub catalog_rows : Trees → List Row
 catalog_rows trees = put_all [] (map shown (trees catalog_tree))
 
 -- an object of this name is listed with this text
-pub record IsListedAs (trees : Trees) (name text : List ℕ) : Type 0 where
+pub record HasCatalogText (trees : Trees) (name text : List ℕ) : Type 0 where
   pub row : Row
   pub listed : Has (catalog_rows trees) row
   pub name_is : column row 2 ≡ Text name

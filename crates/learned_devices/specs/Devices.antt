@@ -28,8 +28,8 @@ abbrev pub device_of : Devices → (id : ℕ) → Option Device
 device_of devices id = option_map (device id) (get devices id)
 
 -- all devices, by rising ID
-abbrev pub all_of : Devices → List Device
-all_of devices = map (λ entry. device entry.0 entry.1) (entries devices)
+abbrev pub devices_by_ascending_id : Devices → List Device
+devices_by_ascending_id devices = map (λ entry. device entry.0 entry.1) (entries devices)
 
 -- the maximum number of devices that are kept. Own choice
 abbrev pub max_devices : ℕ

@@ -6,7 +6,7 @@ use Rattle.std.specs.FinMap.{get}
 use Rattle.learned_devices.specs.declared.Device.{Device}
 use Rattle.learned_devices.specs.declared.fault.LearnFault.{LearnFault}
 use Rattle.learned_devices.specs.declared.fault.LearnFault.TheVariants.{Full, Failed}
-use Rattle.learned_devices.specs.Devices.{Devices, DeviceUpdate, device_of, all_of, is_full, learn_update}
+use Rattle.learned_devices.specs.Devices.{Devices, DeviceUpdate, device_of, devices_by_ascending_id, is_full, learn_update}
 use Rattle.learned_devices.specs.Devices.{forget_update, relabel_update}
 use Rattle.learned_devices.specs.DeviceStoreState.{DeviceStoreState, Keeps, Commits, LeavesPending}
 
@@ -61,4 +61,4 @@ pub record ListsAll {E : Type 0} (old new : DeviceStoreState) (result : Result (
   pub clean : new.honest → old.honest
   pub recoverable : new.honest → new.sound
   pub devices : new.honest → (devices : Devices) → old.holds devices
-      → MatchResult result (λ all. (all.items ≡ all_of devices) × Keeps old new devices) (λ _. Keeps old new devices)
+      → MatchResult result (λ all. (all.items ≡ devices_by_ascending_id devices) × Keeps old new devices) (λ _. Keeps old new devices)

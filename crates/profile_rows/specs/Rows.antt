@@ -9,34 +9,34 @@ use Rattle.bit_fields.specs.Bits.{field}
 use Rattle.profile_rows.specs.Reading.{Meaning, value, word, raw, out_of_range, Entry}
 
 -- the meaning of the number in a field
-pub data Kind : Type 0 where
+pub data RowKind : Type 0 where
   -- a value with a unit: the first number means the third, in tenths of the unit, and the second means the fourth;
   -- linear between them
-  range : ℕ → ℕ → ℤ → ℤ → List ℕ → Kind
+  range : ℕ → ℕ → ℤ → ℤ → List ℕ → RowKind
   -- the word listed with the number
-  words : List (ℕ × List ℕ) → Kind
+  words : List (ℕ × List ℕ) → RowKind
   -- one word below a number, another from that number on
-  threshold : ℕ → List ℕ → List ℕ → Kind
+  threshold : ℕ → List ℕ → List ℕ → RowKind
   -- 0 to 100 percent, and a word for 127
-  percent_or_word_127 : List ℕ → Kind
+  percent_or_word_127 : List ℕ → RowKind
   -- a value with a unit: the number divided by a divisor
-  over : ℕ → List ℕ → Kind
+  over : ℕ → List ℕ → RowKind
   -- a value with a unit: the number divided by ten to the power of another field, given by its offset and length
-  over_power : ℕ → ℕ → List ℕ → Kind
+  over_power : ℕ → ℕ → List ℕ → RowKind
   -- the number itself
-  number : Kind
+  number : RowKind
   -- all numbers are reserved: none has a meaning
-  reserved : Kind
+  reserved : RowKind
 
 -- the condition under which a row is read
 pub data Condition : Type 0 where
   always : Condition
   -- the field at this offset, of this length, is this number
-  where_field : ℕ → ℕ → ℕ → Condition
+  field_equals : ℕ → ℕ → ℕ → Condition
   -- the field at this offset, of this length, is above this number
-  where_above : ℕ → ℕ → ℕ → Condition
+  field_above : ℕ → ℕ → ℕ → Condition
   -- the bit NU of the status is this number
-  where_nu : ℕ → Condition
+  nu_equals : ℕ → Condition
   both : Condition → Condition → Condition
 
 -- a row: its name, the offset and length of its field, its condition, and the meaning of its number
@@ -45,7 +45,7 @@ pub record Row : Type 0 where
   pub offset : ℕ
   pub len : ℕ
   pub condition : Condition
-  pub kind : Kind
+  pub kind : RowKind
 
 -- the bit NU of a status byte (ISO/IEC 14543-3-10, "Status": the fourth bit from the left)
 abbrev pub nu_bit : (status : ℕ) → ℕ
@@ -54,9 +54,9 @@ nu_bit status = field (status ∷ []) 3 1
 -- a condition holds for a telegram with this status and this payload
 abbrev pub condition_holds : Condition → (status : ℕ) (payload : List ℕ) → Bool
 condition_holds always status payload = true
-condition_holds (where_field offset len n) status payload = field payload offset len == n
-condition_holds (where_above offset len n) status payload = nat_lt n (field payload offset len)
-condition_holds (where_nu n) status payload = nu_bit status == n
+condition_holds (field_equals offset len n) status payload = field payload offset len == n
+condition_holds (field_above offset len n) status payload = nat_lt n (field payload offset len)
+condition_holds (nu_equals n) status payload = nu_bit status == n
 condition_holds (both a b) status payload = condition_holds a status payload && condition_holds b status payload
 
 -- a value with a unit, or no value
@@ -91,7 +91,7 @@ abbrev pub quotient : (divisor : ℕ) (unit : List ℕ) (n : ℕ) → Meaning
 quotient divisor unit n = value (lowest (pos n) divisor) unit
 
 -- the meaning of the number n in a field of this payload
-abbrev pub row_meaning : Kind → (payload : List ℕ) → ℕ → Meaning
+abbrev pub row_meaning : RowKind → (payload : List ℕ) → ℕ → Meaning
 row_meaning (range a b x y unit) payload n = scaled_or_out_of_range a b x y unit n
 row_meaning (words list) payload n = word_for list n
 row_meaning (threshold bound below from) payload n = word_at_threshold bound below from n

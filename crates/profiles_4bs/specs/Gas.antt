@@ -1,6 +1,6 @@
 -- The gas sensor (EnOcean Equipment Profiles 2.6, "A5-09: Gas Sensor"; its rows are an own choice).
 use Rattle.std.specs.Prelude.{pos, List, [], ◌∷◌, codes}
-use Rattle.profile_rows.specs.Rows.{Row, range, always, where_field}
+use Rattle.profile_rows.specs.Rows.{Row, range, always, field_equals}
 use Rattle.profile_rows.specs.Profile.{ProfileGroup}
 
 -- the concentration of CO2, with the humidity and the temperature if there are sensors for these
@@ -10,7 +10,7 @@ carbon_dioxide =
       name = codes "HUM";
       offset = 0;
       len = 8;
-      condition = where_field 29 1 1;
+      condition = field_equals 29 1 1;
       kind = range 0 200 (pos 0) (pos 1000) (codes "%");
     }
     ∷ record {
@@ -24,7 +24,7 @@ carbon_dioxide =
       name = codes "TMP";
       offset = 16;
       len = 8;
-      condition = where_field 30 1 1;
+      condition = field_equals 30 1 1;
       kind = range 0 255 (pos 0) (pos 510) (codes "C");
     }
     ∷ []

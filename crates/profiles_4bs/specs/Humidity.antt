@@ -1,6 +1,6 @@
 -- The temperature and humidity sensors (EnOcean Equipment Profiles 2.6, "A5-04: Temperature and Humidity Sensor").
 use Rattle.std.specs.Prelude.{ℤ, pos, List, [], ◌∷◌, codes}
-use Rattle.profile_rows.specs.Rows.{Row, range, always, where_field}
+use Rattle.profile_rows.specs.Rows.{Row, range, always, field_equals}
 use Rattle.profile_rows.specs.Profile.{ProfileGroup}
 use Rattle.profiles_4bs.specs.Tenths.{minus}
 
@@ -18,7 +18,7 @@ humidity_and_temperature coldest hottest =
       name = codes "TMP";
       offset = 16;
       len = 8;
-      condition = where_field 30 1 1;
+      condition = field_equals 30 1 1;
       kind = range 0 250 coldest hottest (codes "C");
     }
     ∷ []

@@ -1,6 +1,6 @@
 -- The light sensors (EnOcean Equipment Profiles 2.6, "A5-06: Light Sensor").
 use Rattle.std.specs.Prelude.{ℤ, pos, List, [], ◌∷◌, codes}
-use Rattle.profile_rows.specs.Rows.{Row, range, always, where_field}
+use Rattle.profile_rows.specs.Rows.{Row, range, always, field_equals}
 use Rattle.profile_rows.specs.Profile.{ProfileGroup}
 
 -- the supply voltage, and the one of two illuminations that the range select chooses: first the bounds of ILL2, then
@@ -18,14 +18,14 @@ voltage_and_light darkest2 brightest2 darkest1 brightest1 =
       name = codes "ILL2";
       offset = 8;
       len = 8;
-      condition = where_field 31 1 1;
+      condition = field_equals 31 1 1;
       kind = range 0 255 darkest2 brightest2 (codes "lx");
     }
     ∷ record {
       name = codes "ILL1";
       offset = 16;
       len = 8;
-      condition = where_field 31 1 0;
+      condition = field_equals 31 1 0;
       kind = range 0 255 darkest1 brightest1 (codes "lx");
     }
     ∷ []

@@ -1,6 +1,6 @@
 -- The meters (EnOcean Equipment Profiles 2.6, "A5-12: Automated Meter Reading (AMR)"; their rows are an own choice).
 use Rattle.std.specs.Prelude.{ℕ, List, [], ◌∷◌, codes}
-use Rattle.profile_rows.specs.Rows.{Row, over_power, number, always, where_field}
+use Rattle.profile_rows.specs.Rows.{Row, over_power, number, always, field_equals}
 use Rattle.profile_rows.specs.Profile.{ProfileGroup}
 
 -- The meter reading divided by ten to the power of the field of two bits at offset 30, and the tariff as the number
@@ -11,10 +11,10 @@ reading_and_tariff cumulative current =
       name = codes "MR";
       offset = 0;
       len = 24;
-      condition = where_field 29 1 0;
+      condition = field_equals 29 1 0;
       kind = over_power 30 2 cumulative;
     }
-    ∷ record { name = codes "MR"; offset = 0; len = 24; condition = where_field 29 1 1; kind = over_power 30 2 current }
+    ∷ record { name = codes "MR"; offset = 0; len = 24; condition = field_equals 29 1 1; kind = over_power 30 2 current }
     ∷ record { name = codes "TI"; offset = 24; len = 4; condition = always; kind = number }
     ∷ []
 

@@ -1,6 +1,6 @@
 -- The occupancy sensor (EnOcean Equipment Profiles 2.6, "A5-07: Occupancy Sensor").
 use Rattle.std.specs.Prelude.{pos, List, [], ◌∷◌, codes}
-use Rattle.profile_rows.specs.Rows.{Row, range, threshold, always, where_field}
+use Rattle.profile_rows.specs.Rows.{Row, range, threshold, always, field_equals}
 use Rattle.profile_rows.specs.Profile.{ProfileGroup}
 
 -- the supply voltage if it is available, and whether there is motion
@@ -10,7 +10,7 @@ voltage_and_motion =
       name = codes "SVC";
       offset = 0;
       len = 8;
-      condition = where_field 31 1 1;
+      condition = field_equals 31 1 1;
       kind = range 0 250 (pos 0) (pos 50) (codes "V");
     }
     ∷ record {

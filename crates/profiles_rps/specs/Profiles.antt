@@ -11,8 +11,8 @@ use Rattle.profiles_rps.specs.Rps.{push_button, two_rockers, four_rockers}
 use Rattle.profiles_rps.specs.OneByte.{single_contact}
 
 -- the supported profiles (own choice), and their rows
-abbrev pub table : List ProfileGroup
-table =
+abbrev pub all_profiles : List ProfileGroup
+all_profiles =
     record { rorg = 0xF6; func = 0x01; types = 0x01 ∷ []; rows = push_button }
     ∷ record { rorg = 0xF6; func = 0x02; types = 0x01 ∷ 0x02 ∷ []; rows = two_rockers }
     ∷ record { rorg = 0xF6; func = 0x03; types = 0x01 ∷ 0x02 ∷ []; rows = four_rockers }
@@ -21,7 +21,7 @@ table =
 
 -- the rows of a profile, if it is supported
 unfoldable pub rows_of : Eep → Option (List Row)
-rows_of eep = rows_in table eep
+rows_of eep = rows_in all_profiles eep
 
 -- a profile is supported if it has rows
 abbrev pub supported : Eep → Bool

@@ -1,6 +1,6 @@
 -- The rows of the RPS profiles (EnOcean Equipment Profiles 2.6, "RPS Telegram").
 use Rattle.std.specs.Prelude.{ℕ, List, [], ◌∷◌, codes}
-use Rattle.profile_rows.specs.Rows.{Row, words, number, always, where_field, where_nu, both}
+use Rattle.profile_rows.specs.Rows.{Row, words, number, always, field_equals, nu_equals, both}
 
 -- the words of a button, and of the energy bow
 abbrev pub released_or_pressed : List (ℕ × List ℕ)
@@ -23,14 +23,14 @@ none_or_three = (0, codes "none") ∷ (3, codes "three_or_four") ∷ []
 -- F6-02-01 and F6-02-02: Rocker Switch, 2 Rocker
 abbrev pub two_rockers : List Row
 two_rockers =
-    record { name = codes "R1"; offset = 0; len = 3; condition = where_nu 1; kind = words rockers_ab }
-    ∷ record { name = codes "buttons"; offset = 0; len = 3; condition = where_nu 0; kind = words none_or_three }
+    record { name = codes "R1"; offset = 0; len = 3; condition = nu_equals 1; kind = words rockers_ab }
+    ∷ record { name = codes "buttons"; offset = 0; len = 3; condition = nu_equals 0; kind = words none_or_three }
     ∷ record { name = codes "EB"; offset = 3; len = 1; condition = always; kind = words released_or_pressed }
     ∷ record {
       name = codes "R2";
       offset = 4;
       len = 3;
-      condition = both (where_nu 1) (where_field 7 1 1);
+      condition = both (nu_equals 1) (field_equals 7 1 1);
       kind = words rockers_ab;
     }
     ∷ []
@@ -46,14 +46,14 @@ rockers_abcd =
 -- itself
 abbrev pub four_rockers : List Row
 four_rockers =
-    record { name = codes "R1"; offset = 0; len = 3; condition = where_nu 1; kind = words rockers_abcd }
-    ∷ record { name = codes "buttons"; offset = 0; len = 3; condition = where_nu 0; kind = number }
+    record { name = codes "R1"; offset = 0; len = 3; condition = nu_equals 1; kind = words rockers_abcd }
+    ∷ record { name = codes "buttons"; offset = 0; len = 3; condition = nu_equals 0; kind = number }
     ∷ record { name = codes "EB"; offset = 3; len = 1; condition = always; kind = words released_or_pressed }
     ∷ record {
       name = codes "R2";
       offset = 4;
       len = 3;
-      condition = both (where_nu 1) (where_field 7 1 1);
+      condition = both (nu_equals 1) (field_equals 7 1 1);
       kind = words rockers_abcd;
     }
     ∷ []

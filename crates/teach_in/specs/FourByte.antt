@@ -24,13 +24,13 @@ query_of sender payload =
 -- DB0 of a reply with this outcome, if there is one: the learn bit DB0.3 is 0; DB0.4 is 1, for a reply; DB0.7 is 1, for
 -- a profile; DB0.6 is 1 if the profile is supported, and DB0.5 if the sender is learned. Own choice: the other bits are
 -- 0
-abbrev pub four_byte_code : Outcome → Option ℕ
-four_byte_code Accepted = Some 0xF0
-four_byte_code Unsupported = Some 0x90
-four_byte_code Full = Some 0xD0
-four_byte_code outcome = None
+abbrev pub four_byte_reply_code : Outcome → Option ℕ
+four_byte_reply_code Accepted = Some 0xF0
+four_byte_reply_code Unsupported = Some 0x90
+four_byte_reply_code Full = Some 0xD0
+four_byte_reply_code outcome = None
 
 -- the reply to a query, from the gateway with this base ID, addressed to the sender: the query, except for DB0
 abbrev pub four_byte_reply : FourByteQuery → Outcome → (base : ℕ) → Option Telegram
 four_byte_reply query outcome base =
-    option_map (λ code. addressed_reply 0xA5 (take 3 query.payload ++ code ∷ []) query.id base) (four_byte_code outcome)
+    option_map (λ code. addressed_reply 0xA5 (take 3 query.payload ++ code ∷ []) query.id base) (four_byte_reply_code outcome)

@@ -45,31 +45,31 @@ can_be_learned_by t = (t.rorg == 0xF6 && field t.payload 3 1 == 1) || t.rorg == 
 
 -- a row of the table: the plan by the telegram's own profile, in the modes Learn and LearnAnswer, and by the profile
 -- that the desk has given, in the mode LearnAs
-pub record Row : Type 0 where
-  pub reported : Plan
-  pub given : Eep → Plan
+pub record PlanRow : Type 0 where
+  pub by_own_profile : Plan
+  pub by_desk_profile : Eep → Plan
 
 -- The table: a row for each role of a telegram in teach-in; for data it depends on whether the sender is already known.
-abbrev pub plan_row_of : Telegram → (known : Bool) → Teach → Row
-plan_row_of t known Contact = record { reported = add t contact_eep None; given = λ eep. add_if_rorg 0xD5 t eep None }
-plan_row_of t known Bare = record { reported = Refuse NoProfile; given = λ eep. add_if_rorg 0xA5 t eep None }
+abbrev pub plan_row_of : Telegram → (known : Bool) → Teach → PlanRow
+plan_row_of t known Contact = record { by_own_profile = add t contact_eep None; by_desk_profile = λ eep. add_if_rorg 0xD5 t eep None }
+plan_row_of t known Bare = record { by_own_profile = Refuse NoProfile; by_desk_profile = λ eep. add_if_rorg 0xA5 t eep None }
 plan_row_of t known (FourByte query) = record {
-  reported = add_supported t query.eep query.maker;
-  given = λ eep. add_if_rorg 0xA5 t eep (Some query.maker);
+  by_own_profile = add_supported t query.eep query.maker;
+  by_desk_profile = λ eep. add_if_rorg 0xA5 t eep (Some query.maker);
 }
 plan_row_of t known Plain = record {
-  reported = Silent;
-  given = λ eep. if not known && can_be_learned_by t then add_if_rorg t.rorg t eep None else Silent;
+  by_own_profile = Silent;
+  by_desk_profile = λ eep. if not known && can_be_learned_by t then add_if_rorg t.rorg t eep None else Silent;
 }
-plan_row_of t known (Ute query) = record { reported = ute_plan t query; given = λ eep. Silent }
-plan_row_of t known Answer = record { reported = Silent; given = λ eep. Silent }
+plan_row_of t known (Ute query) = record { by_own_profile = ute_plan t query; by_desk_profile = λ eep. Silent }
+plan_row_of t known Answer = record { by_own_profile = Silent; by_desk_profile = λ eep. Silent }
 
 -- the plan of a row in each mode
-abbrev pub plan_in_mode : Row → Mode → Plan
+abbrev pub plan_in_mode : PlanRow → Mode → Plan
 plan_in_mode row Closed = Silent
-plan_in_mode row Learn = row.reported
-plan_in_mode row LearnAnswer = row.reported
-plan_in_mode row (LearnAs eep) = row.given eep
+plan_in_mode row Learn = row.by_own_profile
+plan_in_mode row LearnAnswer = row.by_own_profile
+plan_in_mode row (LearnAs eep) = row.by_desk_profile eep
 
 -- the plan for the sender of a telegram, by the mode and by whether it is known
 abbrev pub plan_of : Telegram → Mode → (known : Bool) → Plan

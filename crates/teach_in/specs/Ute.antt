@@ -41,13 +41,13 @@ abbrev pub unused_request : ℕ
 unused_request = 3
 
 -- DB6.5 and DB6.4 of a reply with this outcome, if there is one
-abbrev pub ute_code : Outcome → Option ℕ
-ute_code Accepted = Some 1
-ute_code Deleted = Some 2
-ute_code Unsupported = Some 3
-ute_code Full = Some 0
-ute_code General = Some 0
-ute_code outcome = None
+abbrev pub ute_reply_code : Outcome → Option ℕ
+ute_reply_code Accepted = Some 1
+ute_reply_code Deleted = Some 2
+ute_reply_code Unsupported = Some 3
+ute_reply_code Full = Some 0
+ute_reply_code General = Some 0
+ute_reply_code outcome = None
 
 -- DB6 of a reply: DB6.7 as in the query, DB6.6 is 0, then the code, and the command 1 in DB6.3 to DB6.0
 abbrev pub reply_first_byte : UteQuery → (code : ℕ) → ℕ
@@ -57,4 +57,4 @@ reply_first_byte query code = 128 * field query.payload 0 1 + 16 * code + 1
 abbrev pub ute_reply : UteQuery → Outcome → (base : ℕ) → Option Telegram
 ute_reply query outcome base =
     option_map (λ code. addressed_reply 0xD4 (reply_first_byte query code ∷ drop 1 query.payload) query.id base)
-    (ute_code outcome)
+    (ute_reply_code outcome)

@@ -1,7 +1,7 @@
 //! 4BS teach-in with a profile, and the replies to it.
 ghost use Rattle.std.specs.Prelude.{◌≡◌, true, Some, IsSome};
 ghost use Rattle.erp1_telegrams.specs.Address.{is_base_id};
-ghost use Rattle.teach_in.specs.FourByte.{four_byte_code, four_byte_reply, query_of};
+ghost use Rattle.teach_in.specs.FourByte.{four_byte_reply_code, four_byte_reply, query_of};
 
 use crate::outcome::Outcome;
 use crate::reply::addressed_reply;
@@ -58,9 +58,9 @@ impl FourByteQuery {
 }
 
 // DB0 of a reply with this outcome.
-fn four_byte_code(outcome: Outcome) -> u8
-    requires { IsSome (four_byte_code outcome) }
-    ensures { Some result ≡ four_byte_code outcome }
+fn four_byte_reply_code(outcome: Outcome) -> u8
+    requires { IsSome (four_byte_reply_code outcome) }
+    ensures { Some result ≡ four_byte_reply_code outcome }
 {
     match outcome {
         Outcome::Accepted => 0xF0,
@@ -76,12 +76,12 @@ fn four_byte_code(outcome: Outcome) -> u8
 /// EnOcean Equipment Profiles 2.6, "4BS Telegram", variation 3.
 pub fn four_byte_reply(query: &FourByteQuery, verdict: &Verdict, base: u32) -> Telegram
     requires id { verdict.now.id ≡ query.now.id }
-    requires outcome { IsSome (four_byte_code verdict.now.outcome) }
+    requires outcome { IsSome (four_byte_reply_code verdict.now.outcome) }
     requires base { is_base_id base ≡ true }
     ensures { Some result ≡ four_byte_reply query.now verdict.now.outcome base }
 {
     prove!(verdict.id() == query.id() && is_base_id(base));
     let [db3, db2, db1, _] = query.payload;
-    let payload = [db3, db2, db1, four_byte_code(verdict.outcome())];
+    let payload = [db3, db2, db1, four_byte_reply_code(verdict.outcome())];
     addressed_reply(Contents::FourBs(payload), query.id(), base)
 }

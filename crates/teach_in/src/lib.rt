@@ -3,6 +3,7 @@
 #![tactic(auto)]
 
 mod four_byte;
+mod handling_reason;
 mod mode;
 mod outcome;
 mod planning;
@@ -12,9 +13,9 @@ mod reply;
 mod telegrams;
 mod ute;
 mod verdict;
-mod why;
 
 pub use four_byte::{FourByteQuery, four_byte_reply};
+pub use handling_reason::HandlingReason;
 pub use mode::Mode;
 pub use outcome::Outcome;
 pub use planning::{plan, plan_for};
@@ -23,4 +24,3 @@ pub use profiles::supported;
 pub use telegrams::{Teach, classify};
 pub use ute::{UteQuery, ute_reply};
 pub use verdict::Verdict;
-pub use why::Why;

@@ -8,7 +8,7 @@ use crate::outcome::Outcome;
 use crate::plans::Plan;
 use crate::profiles::supported;
 use crate::telegrams::{Teach, classify};
-use crate::ute::{DELETION, NOT_USED, UteQuery};
+use crate::ute::{DELETION_REQUEST, UNUSED_REQUEST, UteQuery};
 use bit_fields::get;
 use erp1_telegrams::{Contents, Eep, Telegram, rorg};
 use learned_devices::{Device, Label};
@@ -49,8 +49,8 @@ fn ute_plan(telegram: &Telegram, query: &UteQuery) -> Plan
     ensures { result ≡ ute_plan telegram.now query.now }
 {
     match query.request() {
-        DELETION => Plan::Forget(telegram.sender()),
-        NOT_USED => Plan::Refuse(Outcome::General),
+        DELETION_REQUEST => Plan::Forget(telegram.sender()),
+        UNUSED_REQUEST => Plan::Refuse(Outcome::General),
         _ => add_supported(telegram, query.eep(), query.maker()),
     }
 }

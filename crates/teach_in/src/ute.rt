@@ -1,7 +1,7 @@
 //! UTE (universal teach-in): queries that teach devices in and out, and the replies to them.
 ghost use Rattle.std.specs.Prelude.{◌≡◌, true, ◌==◌, ◌<◌, Some, IsSome};
 ghost use Rattle.erp1_telegrams.specs.Address.{is_base_id};
-ghost use Rattle.teach_in.specs.Ute.{query_of, reply_first_byte, request_in, ute_code, ute_reply, wants_reply};
+ghost use Rattle.teach_in.specs.Ute.{query_of, reply_first_byte, request_in, ute_reply_code, ute_reply, wants_reply};
 
 use crate::outcome::Outcome;
 use crate::reply::addressed_reply;
@@ -21,10 +21,10 @@ pub struct UteQuery {
 }
 
 /// The request to forget the sender.
-pub(crate) const DELETION: u32 = 1;
+pub(crate) const DELETION_REQUEST: u32 = 1;
 
 /// The request that is not in use.
-pub(crate) const NOT_USED: u32 = 3;
+pub(crate) const UNUSED_REQUEST: u32 = 3;
 
 impl UteQuery {
     // The query of this sender with these bytes.
@@ -72,7 +72,7 @@ impl UteQuery {
         get::<7, 1, 1>(&self.payload) == 0
     }
 
-    // Its request: `DELETION`, `NOT_USED`, or any other, which asks to learn the sender.
+    // Its request: `DELETION_REQUEST`, `UNUSED_REQUEST`, or any other, which asks to learn the sender.
     pub(crate) fn request(&self) -> u32
         ensures { result ≡ request_in self.now }
     {
@@ -81,9 +81,9 @@ impl UteQuery {
 }
 
 // DB6.5 and DB6.4 of a reply with this outcome.
-fn ute_code(outcome: Outcome) -> u32
-    requires { IsSome (ute_code outcome) }
-    ensures code { Some result ≡ ute_code outcome }
+fn ute_reply_code(outcome: Outcome) -> u32
+    requires { IsSome (ute_reply_code outcome) }
+    ensures code { Some result ≡ ute_reply_code outcome }
     ensures fits { result < 4 }
 {
     match outcome {
@@ -110,13 +110,13 @@ fn reply_first_byte(query: &UteQuery, code: u32) -> u8
 /// EnOcean Equipment Profiles 2.6, "Universal Uni- and Bidirectional Teach-in".
 pub fn ute_reply(query: &UteQuery, verdict: &Verdict, base: u32) -> Telegram
     requires id { verdict.now.id ≡ query.now.id }
-    requires outcome { IsSome (ute_code verdict.now.outcome) }
+    requires outcome { IsSome (ute_reply_code verdict.now.outcome) }
     requires base { is_base_id base ≡ true }
     ensures { Some result ≡ ute_reply query.now verdict.now.outcome base }
 {
     prove!(verdict.id() == query.id() && is_base_id(base));
     let [_, db5, db4, db3, db2, db1, db0] = query.payload;
-    let db6 = reply_first_byte(query, ute_code(verdict.outcome()));
+    let db6 = reply_first_byte(query, ute_reply_code(verdict.outcome()));
     let payload = [db6, db5, db4, db3, db2, db1, db0];
     addressed_reply(Contents::Ute(payload), query.id(), base)
 }

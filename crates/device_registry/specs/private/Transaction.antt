@@ -18,5 +18,5 @@ pub record IsMidTransactionWithTables {S : Type 0} (g : Ghosts S) (version : Ver
   pub inside : HasCleanDisk (state g new) → IsTrue (state g new).in_transaction
   pub clean : HasCleanDisk (state g new) → HasCleanDisk (state g mid)
   pub same : HasCleanDisk (state g new) → (state g new).now ≡ (state g mid).now
-  pub listed : HasCleanDisk (state g new) → IsDatabase (state g new).now
+  pub tables_listed : HasCleanDisk (state g new) → IsDatabase (state g new).now
       → AreTablesListed version (state g new).now.trees

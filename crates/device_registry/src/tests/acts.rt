@@ -90,7 +90,7 @@ fn take<R: Remembering>(rt: &impl Abort, registry: &mut R, act: Act) -> Result<(
         Act::Forgets(id) => forget(rt, registry, id),
         Act::Counts(wanted) => count(rt, registry, wanted),
         Act::Lists(at, wanted) => list(rt, registry, at, wanted),
-        Act::Remembers(id, wanted) => cache_entry(rt, registry, id, wanted),
+        Act::Remembers(id, wanted) => insert_entry(rt, registry, id, wanted),
         Act::RemembersSoMany(wanted) => remember_so_many(rt, registry, wanted),
         Act::Many(act, count) => take_many(rt, registry, act, count),
     }
@@ -227,7 +227,7 @@ fn list_varied<R: Remembering>(rt: &impl Abort, registry: &mut R, count: u32) ->
     Ok(())
 }
 
-fn cache_entry<R: Remembering>(
+fn insert_entry<R: Remembering>(
     rt: &impl Abort,
     registry: &R,
     id: u32,
@@ -247,7 +247,7 @@ fn remember_contacts<R: Remembering>(
     count: u32,
 ) -> Result<(), Fail> {
     for id in 0..count {
-        cache_entry(rt, registry, id, Some(Some(contact(id))))?;
+        insert_entry(rt, registry, id, Some(Some(contact(id))))?;
     }
     Ok(())
 }

@@ -14,10 +14,10 @@ HasRunningCrcs g w c = (i : ℕ) → i ≤ length w → slice_index c i ≡ chec
 
 -- Of the bytes in b, those from the start on are held, and c has their running CRCs.
 pub record HasRunningChecks (b : Vec ℕ) (start : ℕ) (c : Vec ℕ) : Type 0 where
-  pub memory : (room ≤ vec_capacity b) × (room < vec_capacity c)
+  pub has_capacity : (room ≤ vec_capacity b) × (room < vec_capacity c)
   pub within : (start ≤ length b.items) × (length b.items ≤ room)
-  pub few : length b.items ≤ start + max_packet
-  pub places : length b.items < length c.items
+  pub at_most_one_packet : length b.items ≤ start + max_packet
+  pub enough_slots : length b.items < length c.items
   -- all bytes that came before those in b
-  pub gone : List ℕ
-  pub noted : HasRunningCrcs gone b.items c.items
+  pub dropped : List ℕ
+  pub noted : HasRunningCrcs dropped b.items c.items

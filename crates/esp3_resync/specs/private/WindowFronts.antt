@@ -1,8 +1,8 @@
 -- A framer's knowledge about the front of its bytes.
 use Rattle.std.specs.Prelude.{◌≡◌, ◌≢◌, ℕ, ◌+◌, ◌<◌, ◌≤◌, List, [], ◌⊎◌, length, take, drop, slice_index, Ok}
 use Rattle.esp3_frames.specs.Packet.{Packet}
-use Rattle.esp3_frames.specs.Frames.{front_of}
-use Rattle.esp3_frames.specs.Frames.Front.{Partial, Whole}
+use Rattle.esp3_frames.specs.PacketsAndRest.{front_of}
+use Rattle.esp3_frames.specs.PacketsAndRest.Front.{Partial, Whole}
 use Rattle.esp3_frames.specs.Outcome.{header_of}
 use Rattle.esp3_frames.specs.declared.packet.Header.{Header}
 use Rattle.esp3_resync.specs.BufferedPacket.{packet_with}

@@ -8,14 +8,14 @@ use Rattle.teach_in.specs.declared.outcome.Outcome.{Outcome}
 use Rattle.teach_in.specs.declared.outcome.Outcome.TheVariants.{Accepted}
 use Rattle.teach_in.specs.declared.telegrams.Teach.{Teach}
 use Rattle.teach_in.specs.declared.telegrams.Teach.TheVariants.{FourByte, Ute}
-use Rattle.teach_in.specs.FourByte.{four_byte_code}
-use Rattle.teach_in.specs.Ute.{ute_code}
+use Rattle.teach_in.specs.FourByte.{four_byte_reply_code}
+use Rattle.teach_in.specs.Ute.{ute_reply_code}
 use Rattle.json_lines.specs.declared.counts.Counter.TheVariants as count
 use Rattle.json_lines.specs.declared.counts.Counts.{Counts}
-use Rattle.teach_in.specs.declared.why.Why.TheVariants as why
+use Rattle.teach_in.specs.declared.handling_reason.HandlingReason.TheVariants as why
 use Rattle.teach_in.specs.declared.verdict.Verdict.{Verdict}
 use Rattle.gateway_core.specs.declared.failure.Failure.{Failure}
-use Rattle.gateway_core.specs.declared.failure.Failure.TheVariants.{Before, AtCommit}
+use Rattle.gateway_core.specs.declared.failure.Failure.TheVariants.{BeforeCommit, AtCommit}
 use Rattle.json_lines.specs.Counts.{increment, increment_if_any}
 use Rattle.json_lines.specs.Lines.{Teach as TeachOf, TeachLine, text}
 use Rattle.gateway_core.specs.declared.disposition.Disposition.{Disposition}
@@ -57,7 +57,7 @@ module _ (old new : DeviceStoreState) (devices : Devices) where
   -- the effect happens, or the input fails
   abbrev pub AppliesOrFails : Effect → Result HandlerEffect Failure → Type 0
   AppliesOrFails effect (Ok done) = MatchesEffect done effect × IsUpdateCommitted effect.update
-  AppliesOrFails effect (Err (Before fault)) = MayFailFor effect.need (cause_of fault) × Keeps old new devices
+  AppliesOrFails effect (Err (BeforeCommit fault)) = MayFailFor effect.need (cause_of fault) × Keeps old new devices
   AppliesOrFails effect (Err (AtCommit fault)) = IsPending effect.need (cause_of fault) effect.update
 
 -- the effect, by what the handler knows, happens or fails; it is not counted yet, and its mode is not set
@@ -76,8 +76,8 @@ pub record Attempts {S : Type 0} (stored : S → DeviceStoreState) (old : Handle
 
 -- a reply to the telegram, if it may get one, can be made for this outcome of this sender
 abbrev pub HasReplyCodeIfQuery : Teach → (id : ℕ) → Outcome → Type 0
-HasReplyCodeIfQuery (FourByte query) id outcome = (id ≡ query.id) × IsSome (four_byte_code outcome)
-HasReplyCodeIfQuery (Ute query) id outcome = (id ≡ query.id) × IsSome (ute_code outcome)
+HasReplyCodeIfQuery (FourByte query) id outcome = (id ≡ query.id) × IsSome (four_byte_reply_code outcome)
+HasReplyCodeIfQuery (Ute query) id outcome = (id ≡ query.id) × IsSome (ute_reply_code outcome)
 HasReplyCodeIfQuery kind id outcome = Unit {0}
 
 -- what is committed is reported with this line
@@ -94,7 +94,7 @@ pub record ChangesOnlyRegistry {S : Type 0} (stored : S → DeviceStoreState) (o
   pub clean : (stored new.registry).honest → (stored old.registry).honest
   pub recoverable : (stored new.registry).honest → (stored old.registry).sound
       → (stored new.registry).sound
-  pub is_so : (stored new.registry).honest → (devices : Devices) → (stored old.registry).holds devices
+  pub result_for_devices : (stored new.registry).honest → (devices : Devices) → (stored old.registry).holds devices
       → IsSo devices
 
 abbrev pub ReportsLearnedIfCommitted : Device → Result (Option (Verdict × List ℕ)) Failure → Type 0
@@ -108,7 +108,7 @@ ReportsForgottenIfCommitted line result = Unit {0}
 module _ (old new : DeviceStoreState) (devices : Devices) where
   -- a failure leaves what was known, and perhaps the update, if the call that commits it failed
   abbrev pub FailsToUpdate : DeviceUpdate → Failure → Type 0
-  FailsToUpdate update (Before fault) = Keeps old new devices
+  FailsToUpdate update (BeforeCommit fault) = Keeps old new devices
   FailsToUpdate update (AtCommit fault) = LeavesPending old new update devices
 
   -- a device is committed, or the registry is full, or the input fails
@@ -116,7 +116,7 @@ module _ (old new : DeviceStoreState) (devices : Devices) where
   LearnsOrFails known (Ok (Some committed)) =
       (is_full devices known.id ≡ false) × Commits new (learn_update known) devices
   LearnsOrFails known (Ok None) = (is_full devices known.id ≡ true) × Keeps old new devices
-  LearnsOrFails known (Err (Before fault)) = Keeps old new devices
+  LearnsOrFails known (Err (BeforeCommit fault)) = Keeps old new devices
   LearnsOrFails known (Err (AtCommit fault)) =
       MatchBool (is_full devices known.id) (Keeps old new devices) (LeavesPending old new (learn_update known) devices)
 
@@ -129,14 +129,14 @@ module _ (old new : DeviceStoreState) (devices : Devices) where
 pub record TriesToLearn {S : Type 0} (stored : S → DeviceStoreState) (old : HandlerValue S) (known : Device)
     (result : Result (Option (Verdict × List ℕ)) Failure) (new : HandlerValue S) : Type 0 where
   pub reported : ReportsLearnedIfCommitted known result
-  pub alone : ChangesOnlyRegistry stored old
+  pub changes_only_registry : ChangesOnlyRegistry stored old
       (λ devices. LearnsOrFails (stored old.registry) (stored new.registry) devices known result) new
 
 -- a sender is forgotten, and this line reports it
 pub record TriesToForget {S : Type 0} (stored : S → DeviceStoreState) (old : HandlerValue S) (line : TeachLine)
     (result : Result (Verdict × List ℕ) Failure) (new : HandlerValue S) : Type 0 where
   pub reported : ReportsForgottenIfCommitted line result
-  pub alone : ChangesOnlyRegistry stored old
+  pub changes_only_registry : ChangesOnlyRegistry stored old
       (λ devices. ForgetsOrFails (stored old.registry) (stored new.registry) devices line.id result) new
 
 -- ---- the answer and the state

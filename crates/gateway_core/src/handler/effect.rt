@@ -15,7 +15,7 @@ use crate::reply::{DeskText, Reply};
 use arrayvec::ArrayVec;
 use json_lines::{ErrorName, done_line};
 use std::marker::Model;
-use teach_in::{Mode, Why};
+use teach_in::{HandlingReason, Mode};
 
 // The result of a packet: its disposition, and the rest.
 #[derive(Drop)]
@@ -85,7 +85,7 @@ pub(crate) fn packet_desk_effect(disposition: Disposition, desk: DeskText) -> Pa
 }
 
 // A packet without a text for the desk, whether its sender was looked up or not.
-pub(crate) fn ignored_effect(why: Why) -> PacketEffect
+pub(crate) fn ignored_effect(why: HandlingReason) -> PacketEffect
     ensures { (asked : Bool) → MatchesEffect result (Step.silent_effect asked (without_device why)) }
 {
     packet_desk_effect(Disposition::without_device(why), DeskText::Nothing)
@@ -129,7 +129,7 @@ pub(crate) fn send_effect(packet: ArrayVec<u8, 64>) -> ReplyAndMode
 pub(crate) fn error_reply(failure: Failure) -> Reply
     ensures { answer_of result ≡ text_answer (cause_text (cause_in failure)) }
 {
-    let (Failure::Before(fault) | Failure::AtCommit(fault)) = failure;
+    let (Failure::BeforeCommit(fault) | Failure::AtCommit(fault)) = failure;
     let name = if fault.is_memory() {
         ErrorName::Memory
     } else {

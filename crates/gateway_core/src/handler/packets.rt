@@ -23,7 +23,7 @@ use json_lines::{reading_line, response_line};
 use learned_devices::{Device, DeviceStore};
 use profile_rows::Readings;
 use std::alloc::{AllocError, Global};
-use teach_in::{Teach, Why};
+use teach_in::{HandlingReason, Teach};
 
 // The reading line for a telegram of this device, if its profile can read the telegram.
 fn reading(alloc: Global, telegram: &Telegram, device: &Device) -> Result<PacketEffect, AllocError>
@@ -35,7 +35,7 @@ fn reading(alloc: Global, telegram: &Telegram, device: &Device) -> Result<Packet
     match profiles::read_data(device.eep, telegram, &mut readings) {
         Ok(()) => {
             let line = reading_line(alloc, telegram, device.eep, &readings)?;
-            let disposition = Disposition::for_device(device, Why::Read);
+            let disposition = Disposition::for_device(device, HandlingReason::Read);
             Ok(packet_desk_effect(disposition, DeskText::Owned(line)))
         }
         Err(fault) => {
@@ -74,7 +74,7 @@ impl<S: DeviceStore> Handler<S> {
             return Ok(ignored_effect(why_filtered(reason)));
         }
         match teach {
-            Teach::Answer => Ok(ignored_effect(Why::TeachInReply)),
+            Teach::Answer => Ok(ignored_effect(HandlingReason::TeachInReply)),
             Teach::Contact | Teach::Bare | Teach::FourByte(_) | Teach::Ute(_) => {
                 self.try_plan(telegram, teach, false)
             }
@@ -91,7 +91,7 @@ impl<S: DeviceStore> Handler<S> {
             return Ok(ignored_effect(why_no_telegram_or_response(packet)));
         };
         let line = response_line(self.alloc, response.code, response.bytes)?;
-        let disposition = Disposition::without_device(Why::Response);
+        let disposition = Disposition::without_device(HandlingReason::Response);
         Ok(packet_desk_effect(disposition, DeskText::Owned(line)))
     }
 }

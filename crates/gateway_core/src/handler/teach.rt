@@ -6,7 +6,7 @@ ghost use Rattle.teach_in.specs.Plans.{plan_of};
 ghost use Rattle.teach_in.specs.Telegrams.{teach_in_of};
 ghost use Rattle.gateway_core.specs.Replies.{answer_of};
 ghost use Rattle.gateway_core.specs.Step;
-ghost use Rattle.gateway_core.specs.Step.{accept_effect, if_full_of_others_else, delete_effect, plan_effect, radio_of};
+ghost use Rattle.gateway_core.specs.Step.{accept_effect, if_full_of_others_else, delete_effect, plan_effect, radio_bytes_of};
 ghost use Rattle.gateway_core.specs.Step.{reply_telegram_of, device_teach_line};
 ghost use Rattle.gateway_core.specs.private.Attempts.{MatchesEffect, HasReplyCodeIfQuery, Attempts, state_of};
 
@@ -21,7 +21,9 @@ use erp1_telegrams::{Eep, Telegram};
 use json_lines::{Line, teach_line};
 use learned_devices::{Device, DeviceStore};
 use std::alloc::AllocError;
-use teach_in::{Mode, Outcome, Plan, Teach, Verdict, Why, four_byte_reply, plan_for, ute_reply};
+use teach_in::{
+    HandlingReason, Mode, Outcome, Plan, Teach, Verdict, four_byte_reply, plan_for, ute_reply,
+};
 
 // The mode that learns with the desk's profile is for one sender.
 fn mode_set_by_learning(mode: Mode) -> Option<Mode>
@@ -39,7 +41,7 @@ impl<S: DeviceStore> Handler<S> {
     fn radio_reply(&self, teach: &Teach, verdict: &Verdict) -> Option<ArrayVec<u8, 64>>
         requires { HasReplyCodeIfQuery teach.now verdict.now.id verdict.now.outcome }
         ensures { option_map (λ bytes. bytes.items) result
-            ≡ radio_of (reply_telegram_of self.now.base self.now.mode teach.now verdict.now.outcome) }
+            ≡ radio_bytes_of (reply_telegram_of self.now.base self.now.mode teach.now verdict.now.outcome) }
     {
         match (self.mode, teach) {
             (_, Teach::Ute(query)) if query.wants_reply() => {
@@ -56,7 +58,7 @@ impl<S: DeviceStore> Handler<S> {
     fn reply_with_teach_line(&self, teach: &Teach, verdict: &Verdict, line: Line) -> Reply
         requires { HasReplyCodeIfQuery teach.now verdict.now.id verdict.now.outcome }
         ensures { answer_of result ≡ record {
-          radio = radio_of (reply_telegram_of self.now.base self.now.mode teach.now verdict.now.outcome);
+          radio = radio_bytes_of (reply_telegram_of self.now.base self.now.mode teach.now verdict.now.outcome);
           explained = [];
           desk = line;
         } }
@@ -86,7 +88,7 @@ impl<S: DeviceStore> Handler<S> {
         let verdict = Verdict::refused(id, outcome);
         let line = draft.tell(&verdict);
         Ok(PacketEffect {
-            disposition: Disposition::without_device(Why::TeachIn(outcome)),
+            disposition: Disposition::without_device(HandlingReason::TeachIn(outcome)),
             effect: ReplyAndMode {
                 mode: None,
                 reply: self.reply_with_teach_line(teach, &verdict, line),
@@ -105,7 +107,10 @@ impl<S: DeviceStore> Handler<S> {
             result self.new }
     {
         let (id, eep, maker) = (device.id, device.eep, device.maker);
-        let disposition = Disposition::for_device(&device, Why::TeachIn(Outcome::Accepted));
+        let disposition = Disposition::for_device(
+            &device,
+            HandlingReason::TeachIn(Outcome::Accepted),
+        );
         let Some((verdict, line)) = self.learn(device)? else {
             let full = self.refuse(teach, id, Some(eep), maker, Outcome::Full)?;
             return Ok(full);
@@ -127,7 +132,7 @@ impl<S: DeviceStore> Handler<S> {
         let (eep, maker) = eep_and_maker_in_query(teach);
         let (verdict, line) = self.forget(id, eep, maker)?;
         Ok(PacketEffect {
-            disposition: Disposition::without_device(Why::TeachIn(Outcome::Deleted)),
+            disposition: Disposition::without_device(HandlingReason::TeachIn(Outcome::Deleted)),
             effect: ReplyAndMode {
                 mode: None,
                 reply: self.reply_with_teach_line(teach, &verdict, line),

@@ -22,7 +22,7 @@ module _ {S : Type 0} (stored : S → DeviceStoreState) where
   -- the same, if an answer was not written completely
   pub record DrainsPart (old new : GatewayValue S) (breaks : List Answer → Answer → Type 0) : Type 0 where
     pub packets : List Packet
-    pub some : 0 < length packets
+    pub not_empty : 0 < length packets
     pub ready : old.ready ≡ packets ++ new.ready
     pub rest : new.rest ≡ old.rest
     pub answered : LastAnswerCutShort stored old.handler new.handler (map Received packets) breaks

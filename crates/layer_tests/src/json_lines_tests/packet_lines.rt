@@ -2,7 +2,7 @@
 use erp1_telegrams::{BROADCAST, Eep, Telegram};
 use json_lines::{MAX_PACKET_LINE, PacketLine, ShownPacket, ShownTelegram, packet_line};
 use std::test::Fail;
-use teach_in::{Outcome, Why};
+use teach_in::{HandlingReason, Outcome};
 
 struct OfTelegram {
     dbm: Option<u8>,
@@ -13,7 +13,7 @@ struct OfTelegram {
     payload: &'static [u8],
     rorg: u8,
     status: u8,
-    why: Why,
+    why: HandlingReason,
     line: &'static str,
 }
 
@@ -32,7 +32,7 @@ const OF_TELEGRAMS: [OfTelegram; 4] = [
         payload: &[0x09],
         rorg: 0xD5,
         status: 0x00,
-        why: Why::Read,
+        why: HandlingReason::Read,
         line: "{\"dbm\":-45,\"dest\":null,\"eep\":\"D5-00-01\",\"id\":\"01800ABC\",\"maker\":null,\
             \"payload\":\"09\",\"rorg\":\"D5\",\"status\":\"00\",\"type\":\"packet\",\"why\":\"read\"}\n",
     },
@@ -46,7 +46,7 @@ const OF_TELEGRAMS: [OfTelegram; 4] = [
         payload: &[0xF0],
         rorg: 0xF6,
         status: 0x3A,
-        why: Why::ForOthers,
+        why: HandlingReason::ForOthers,
         line: "{\"dbm\":null,\"dest\":\"FF800001\",\"eep\":null,\"id\":\"000000FE\",\"maker\":0,\
             \"payload\":\"F0\",\"rorg\":\"F6\",\"status\":\"3A\",\"type\":\"packet\",\"why\":\"for_others\"}\n",
     },
@@ -60,7 +60,7 @@ const OF_TELEGRAMS: [OfTelegram; 4] = [
         payload: &[0],
         rorg: 0xD2,
         status: 0,
-        why: Why::TeachIn(Outcome::Full),
+        why: HandlingReason::TeachIn(Outcome::Full),
         line: "{\"dbm\":0,\"dest\":\"00000000\",\"eep\":null,\"id\":\"00000000\",\"maker\":null,\
             \"payload\":\"00\",\"rorg\":\"D2\",\"status\":\"00\",\"type\":\"packet\",\"why\":\"full\"}\n",
     },
@@ -78,7 +78,7 @@ const OF_TELEGRAMS: [OfTelegram; 4] = [
         payload: &[0, 1, 2, 3, 4, 5, 6, 7, 8, 9, 10, 11, 12, 255],
         rorg: 0xD2,
         status: 0x8F,
-        why: Why::TeachInReply,
+        why: HandlingReason::TeachInReply,
         line: LONGEST,
     },
 ];
@@ -117,7 +117,7 @@ fn telegrams(rt: HostRuntime) -> Result<(), Fail> {
 struct OfAnother {
     kind: u8,
     size: u16,
-    why: Why,
+    why: HandlingReason,
     line: &'static str,
 }
 
@@ -125,103 +125,103 @@ const OF_OTHERS: [OfAnother; 17] = [
     OfAnother {
         kind: 4,
         size: 12,
-        why: Why::OtherType,
+        why: HandlingReason::OtherType,
         line: "{\"kind\":4,\"size\":12,\"type\":\"packet\",\"why\":\"other_type\"}\n",
     },
     OfAnother {
         kind: 255,
         size: 65535,
-        why: Why::EmptyResponse,
+        why: HandlingReason::EmptyResponse,
         line: "{\"kind\":255,\"size\":65535,\"type\":\"packet\",\"why\":\"empty_response\"}\n",
     },
     OfAnother {
         kind: 0,
         size: 0,
-        why: Why::Refused,
+        why: HandlingReason::Refused,
         line: "{\"kind\":0,\"size\":0,\"type\":\"packet\",\"why\":\"refused\"}\n",
     },
     OfAnother {
         kind: 4,
         size: 12,
-        why: Why::Response,
+        why: HandlingReason::Response,
         line: "{\"kind\":4,\"size\":12,\"type\":\"packet\",\"why\":\"response\"}\n",
     },
     OfAnother {
         kind: 4,
         size: 12,
-        why: Why::NoTelegram,
+        why: HandlingReason::NoTelegram,
         line: "{\"kind\":4,\"size\":12,\"type\":\"packet\",\"why\":\"no_telegram\"}\n",
     },
     OfAnother {
         kind: 4,
         size: 12,
-        why: Why::FromBroadcast,
+        why: HandlingReason::FromBroadcast,
         line: "{\"kind\":4,\"size\":12,\"type\":\"packet\",\"why\":\"from_broadcast\"}\n",
     },
     OfAnother {
         kind: 4,
         size: 12,
-        why: Why::WindowClosed,
+        why: HandlingReason::WindowClosed,
         line: "{\"kind\":4,\"size\":12,\"type\":\"packet\",\"why\":\"window_closed\"}\n",
     },
     OfAnother {
         kind: 4,
         size: 12,
-        why: Why::OtherMode,
+        why: HandlingReason::OtherMode,
         line: "{\"kind\":4,\"size\":12,\"type\":\"packet\",\"why\":\"other_mode\"}\n",
     },
     OfAnother {
         kind: 4,
         size: 12,
-        why: Why::UnknownSender,
+        why: HandlingReason::UnknownSender,
         line: "{\"kind\":4,\"size\":12,\"type\":\"packet\",\"why\":\"unknown_sender\"}\n",
     },
     OfAnother {
         kind: 4,
         size: 12,
-        why: Why::WrongKind,
+        why: HandlingReason::WrongKind,
         line: "{\"kind\":4,\"size\":12,\"type\":\"packet\",\"why\":\"wrong_kind\"}\n",
     },
     OfAnother {
         kind: 4,
         size: 12,
-        why: Why::WrongLength,
+        why: HandlingReason::WrongLength,
         line: "{\"kind\":4,\"size\":12,\"type\":\"packet\",\"why\":\"wrong_length\"}\n",
     },
     OfAnother {
         kind: 4,
         size: 12,
-        why: Why::OtherMessage,
+        why: HandlingReason::OtherMessage,
         line: "{\"kind\":4,\"size\":12,\"type\":\"packet\",\"why\":\"other_message\"}\n",
     },
     OfAnother {
         kind: 4,
         size: 12,
-        why: Why::TeachIn(Outcome::Accepted),
+        why: HandlingReason::TeachIn(Outcome::Accepted),
         line: "{\"kind\":4,\"size\":12,\"type\":\"packet\",\"why\":\"accepted\"}\n",
     },
     OfAnother {
         kind: 4,
         size: 12,
-        why: Why::TeachIn(Outcome::Deleted),
+        why: HandlingReason::TeachIn(Outcome::Deleted),
         line: "{\"kind\":4,\"size\":12,\"type\":\"packet\",\"why\":\"deleted\"}\n",
     },
     OfAnother {
         kind: 4,
         size: 12,
-        why: Why::TeachIn(Outcome::Unsupported),
+        why: HandlingReason::TeachIn(Outcome::Unsupported),
         line: "{\"kind\":4,\"size\":12,\"type\":\"packet\",\"why\":\"unsupported\"}\n",
     },
     OfAnother {
         kind: 4,
         size: 12,
-        why: Why::TeachIn(Outcome::General),
+        why: HandlingReason::TeachIn(Outcome::General),
         line: "{\"kind\":4,\"size\":12,\"type\":\"packet\",\"why\":\"general\"}\n",
     },
     OfAnother {
         kind: 4,
         size: 12,
-        why: Why::TeachIn(Outcome::NoProfile),
+        why: HandlingReason::TeachIn(Outcome::NoProfile),
         line: "{\"kind\":4,\"size\":12,\"type\":\"packet\",\"why\":\"no_profile\"}\n",
     },
 ];

@@ -1,7 +1,7 @@
 use Rattle.std.proofs.Common.{rules, arith, subst}
 use Rattle.sqlite.specs.State.{HasCleanDisk, Shown}
 use Rattle.device_registry.specs.Table.{count_others_sql}
-use Rattle.keyed_table.specs.Queries.{asked}
+use Rattle.keyed_table.specs.Queries.{lookup_params}
 use Rattle.keyed_table.proofs.Statements.{query_ready}
 use Rattle.device_registry.proofs.CountOthersAnswer.{others_plain, others_stay, reported_full}
 use Rattle.device_registry.proofs.queries.is_full_for.Goals as goal
@@ -40,11 +40,11 @@ returns-clause-full g c clean =
     let early : HasCleanDisk mid = omega (arith, clean, c.query_by_sender.ensures.survives.clean) in
     let ready = c.in_ok-others.ensures.ready early in
     let rows = c.in_ok-rows.rows.items in
-    let shown : Shown count_others_sql (asked c.args.id) mid new rows =
-    subst (λ t. Shown t (asked c.args.id) mid new rows) (c.in_ok-others.ensures.text early)
+    let shown : Shown count_others_sql (lookup_params c.args.id) mid new rows =
+    subst (λ t. Shown t (lookup_params c.args.id) mid new rows) (c.in_ok-others.ensures.text early)
     (c.in_ok-rows.ensures.shown clean) in
     let reported = c.in_ok-shown_count.ensures.number in (
-      query_ready count_others_sql (asked c.args.id) mid new rows (others_plain mid ready) ready shown,
+      query_ready count_others_sql (lookup_params c.args.id) mid new rows (others_plain mid ready) ready shown,
       λ devices shows.
           let showed = (c.compile.ensures.stays.goes_on early ready.shows.is_open).1 devices shows in
           reported_full mid new c.args.id rows c.in_ok-shown_count.field-0 reported.0 reported.1 devices showed shown

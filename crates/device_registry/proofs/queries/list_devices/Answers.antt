@@ -1,6 +1,6 @@
 use Rattle.std.proofs.Common.{◌≡◌, arith, [], map, subst}
 use Rattle.sqlite.specs.State.{HasCleanDisk, Shown}
-use Rattle.learned_devices.specs.Devices.{Devices, all_of}
+use Rattle.learned_devices.specs.Devices.{Devices, devices_by_ascending_id}
 use Rattle.device_registry.specs.Ready.{IsReadyWith, IsReady}
 use Rattle.device_registry.specs.Table.Rows.{shown_device}
 use Rattle.device_registry.specs.declared.table.Version.TheVariants.{Second}
@@ -27,7 +27,7 @@ returns-clause-all g c clean =
     let early : HasCleanDisk mid = omega (arith, clean, c.query_all_prepared.ensures.survives.clean) in
     let ready = c.in_ok-all.ensures.ready early in
     ok_then (λ v. Shown text [] mid new v.items) (λ v. IsReady new
-    × ((devices : Devices) → IsReadyWith old devices → map shown_device v.items ≡ all_of devices))
+    × ((devices : Devices) → IsReadyWith old devices → map shown_device v.items ≡ devices_by_ascending_id devices))
     c.query_all_prepared.result
     (λ v shown.
     let all = subst (λ t. Shown t [] mid new v.items) (c.in_ok-all.ensures.text early) shown in (

@@ -4,7 +4,7 @@ use Rattle.learned_devices.specs.Devices.{Devices, device_of}
 use Rattle.device_registry.specs.Ready.{IsReadyWith, IsReady}
 use Rattle.device_registry.specs.Table.Rows.{IsDeviceOrNone}
 use Rattle.device_registry.specs.Table.{find_sql}
-use Rattle.keyed_table.specs.Queries.{asked}
+use Rattle.keyed_table.specs.Queries.{lookup_params}
 use Rattle.keyed_table.proofs.Statements.{compiled_query_stays, query_survives, answered_same, ok_then}
 use Rattle.device_registry.proofs.FindAnswer.{find_plain, looked_up}
 use Rattle.device_registry.proofs.queries.look_up.Goals as goal
@@ -22,20 +22,20 @@ returns g c =
     let before = λ (clean : HasCleanDisk new).
     let early : HasCleanDisk mid = omega (arith, clean, rows.survives.clean) in early in
     record {
-      stays = compiled_query_stays find_sql text (asked id) old mid new (λ v. v.items) c.query_by_sender.result
+      stays = compiled_query_stays find_sql text (lookup_params id) old mid new (λ v. v.items) c.query_by_sender.result
           c.compile.ensures.stays find.text plain rows.survives rows.shown rows.failed;
-      same = λ clean. answered_same find_sql text (asked id) old mid new (λ v. v.items) c.query_by_sender.result
+      same = λ clean. answered_same find_sql text (lookup_params id) old mid new (λ v. v.items) c.query_by_sender.result
           (find.same (before clean)) (find.text (before clean)) (plain (before clean)) (rows.shown clean);
-      survives = query_survives find_sql text (asked id) old mid new c.compile.ensures.survives find.text plain
+      survives = query_survives find_sql text (lookup_params id) old mid new c.compile.ensures.survives find.text plain
           rows.survives;
       found = λ clean.
           let ready = find.ready (before clean) in
-          ok_then (λ v. Shown text (asked id) mid new v.items)
+          ok_then (λ v. Shown text (lookup_params id) mid new v.items)
           (λ v. IsReady new × ((devices : Devices) → IsReadyWith old devices
           → IsDeviceOrNone (device_of devices id) v.items))
           c.query_by_sender.result
           (λ v shown.
-          let all = subst (λ t. Shown t (asked id) mid new v.items) (find.text (before clean)) shown in
+          let all = subst (λ t. Shown t (lookup_params id) mid new v.items) (find.text (before clean)) shown in
           let found = looked_up mid new id v.items ready all in (
             found.0,
             λ devices shows. found.1 devices

@@ -17,7 +17,7 @@ use Rattle.device_registry.proofs.recognize.has_valid_rows.Goals as goal
 pub query_rows-requires : goal.query_rows-requires
 query_rows-requires g c clean =
     let t = c.requires clean in
-    (version_means (g.C.SqlConnection.state c.args.conn.now).now.schema t.meta_at t.meta t.meta_stands).plain
+    (version_means (g.C.SqlConnection.state c.args.conn.now).now.schema t.meta_at t.meta t.meta_is_table).is_plain
 
 pub query_rows-requires-2 : goal.query_rows-requires-2
 query_rows-requires-2 g c clean =
@@ -26,7 +26,7 @@ query_rows-requires-2 g c clean =
     let t = c.requires early in
     let same = ap (λ (d : Database). d.schema) (c.in_ok-versions.ensures.shown clean).1.0.now_is in
     let plain = subst (λ s. IsPlain (understood s (find_all_sql c.args.version))) (sym same)
-    (all_means c.args.version old.now.schema t.devices_at t.devices t.devices_stand).plain in
+    (all_means c.args.version old.now.schema t.devices_at t.devices t.devices_are_table).is_plain in
     rw c.find_all_sql.ensures plain
 
 pub returns-then-not-shows_version-clause-other : goal.returns-then-not-shows_version-clause-other
@@ -71,7 +71,7 @@ returns-then-len-gt-MAX_DEVICES-clause-other g c clean none t it =
     (c.in_ok-versions.ensures.shown between).1
     (rw c.find_all_sql.ensures at (c.in_ok-devices.ensures.shown clean)).0 in
     let many : max_devices < length c.in_ok-devices.devices.items = search rules in
-    absurd (reported_count _ _ count it.few many)
+    absurd (reported_count _ _ count it.at_most_max_devices many)
 
 pub returns-clause-other : goal.returns-clause-other
 returns-clause-other g c clean none t it =

@@ -25,7 +25,7 @@ returns-then-not-branch-clause-other g c clean none own =
     let early : HasCleanDisk old = omega (arith, clean, c.lists_our_tables.ensures.crash.clean) in
     let rest = c.requires.rest early in
     let it = own_found c.args.version old rest own in
-    absurd (c.lists_our_tables.ensures.other clean (search rules) it.listed)
+    absurd (c.lists_our_tables.ensures.other clean (search rules) it.tables_listed)
 
 pub has_valid_rows-requires : goal.has_valid_rows-requires
 has_valid_rows-requires g c clean =
@@ -60,4 +60,4 @@ returns-clause-other g c clean none own =
     let early : HasCleanDisk old = omega (arith, between, c.lists_our_tables.ensures.crash.clean) in
     let got = c.in_ok-lists_our_tables.ensures.ours between in
     let it = own_found c.args.version old (c.requires.rest early) own in
-    not_whole c.args.version old mid got.0 (c.has_valid_rows.ensures.other clean none) it.tables it.whole
+    not_whole c.args.version old mid got.0 (c.has_valid_rows.ensures.other clean none) it.tables it.valid_rows

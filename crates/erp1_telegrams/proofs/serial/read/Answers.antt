@@ -11,7 +11,7 @@ returns c =
     let taken : Taken (packet_of c.args.p.now) _ c.from_be_bytes-sender.result c.destination_and_dbm-dest.result.0
     c.destination_and_dbm-dest.result.1 = record {
       kind = c.if-p-ne-RADIO_ERP1.false;
-      some = c.in-len1-up.len_at_least;
+      not_empty = c.in-len1-up.len_at_least;
       rest = take_all (length b - 1) (drop 1 b) (omega (arith, length-drop 1 b));
       long = c.in-len5-up.len_at_least;
       sender = c.from_be_bytes-sender.ensures;

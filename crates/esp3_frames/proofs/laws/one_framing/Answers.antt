@@ -1,4 +1,4 @@
-use Rattle.esp3_frames.proofs.FramingLemmas.{framing_of, only_framing, rest_may_become, frames_of-may_become}
+use Rattle.esp3_frames.proofs.FramingLemmas.{framing_of, only_framing, rest_may_become, packets_and_rest-may_become}
 use Rattle.esp3_frames.proofs.laws.one_framing.Goals as goal
 
 pub returns-clause-some : goal.returns-clause-some
@@ -11,4 +11,4 @@ pub returns-clause-rest : goal.returns-clause-rest
 returns-clause-rest c s = rest_may_become (framing_of s)
 
 pub returns-clause-whole_rest : goal.returns-clause-whole_rest
-returns-clause-whole_rest c = frames_of-may_become
+returns-clause-whole_rest c = packets_and_rest-may_become

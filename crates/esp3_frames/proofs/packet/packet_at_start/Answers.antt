@@ -1,8 +1,8 @@
 use Rattle.std.proofs.Common.{ℕ, ◌+◌, ◌<◌, List, length, take, drop, arith, sym, ap, ◌∙◌, length-take}
 use Rattle.std.specs.Prelude.{Option, Some, None, IfNone, Ok}
 use Rattle.esp3_frames.specs.Packet.{Packet}
-use Rattle.esp3_frames.specs.Frames.{front_after_header}
-use Rattle.esp3_frames.specs.Frames.Front.{Whole}
+use Rattle.esp3_frames.specs.PacketsAndRest.{front_after_header}
+use Rattle.esp3_frames.specs.PacketsAndRest.Front.{Whole}
 use Rattle.esp3_frames.specs.Outcome.{decoded_header, header_of}
 use Rattle.esp3_frames.proofs.FrontByHeader.{short-no_whole, announced-no_whole, front-bad, front-good}
 use Rattle.esp3_frames.proofs.FrontByHeader.{front_after_header-whole, front_after_header-never}

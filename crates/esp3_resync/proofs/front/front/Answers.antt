@@ -1,7 +1,7 @@
 use Rattle.std.proofs.Common.{◌<◌, ◌∙◌, length, take, sym, ap, cond, arith}
 use Rattle.std.proofs.lemmas.Bool.{eqb-true, eqb-false}
 use Rattle.std.proofs.lemmas.List.{nil_from_length}
-use Rattle.esp3_frames.specs.Frames.Front.{Never, Partial}
+use Rattle.esp3_frames.specs.PacketsAndRest.Front.{Never, Partial}
 use Rattle.esp3_frames.specs.Outcome.{header_of}
 use Rattle.esp3_frames.proofs.ForCallers.{front-short, front-bad}
 use Rattle.esp3_resync.proofs.front.front.Goals as goal

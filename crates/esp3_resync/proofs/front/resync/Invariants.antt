@@ -1,9 +1,9 @@
 use Rattle.std.proofs.Common.{◌≡◌, length}
-use Rattle.esp3_frames.specs.Frames.{frames_of}
+use Rattle.esp3_frames.specs.PacketsAndRest.{packets_and_rest}
 use Rattle.esp3_resync.proofs.front.resync.Given as goal
 
 abbrev pub invariant-loop-front : goal.invariant-loop-front
-invariant-loop-front l = frames_of l.window ≡ frames_of l.fn.window
+invariant-loop-front l = packets_and_rest l.window ≡ packets_and_rest l.fn.window
 
 abbrev pub decreases-loop-front : goal.decreases-loop-front
 decreases-loop-front l = length l.window

@@ -13,7 +13,7 @@ returns-clause-running c =
     let s = c.args.start in
     let r = c.requires.running in
     let within = r.within in
-    let few = r.few in
+    let few = r.at_most_one_packet in
     let n : ℕ = c.args.bytes.now.len - s in
     let all : n ≡ length (drop s w) = omega (arith, length-drop s w) in
     let moved : c.truncate.new.self.items ≡ drop s w =
@@ -23,18 +23,18 @@ returns-clause-running c =
     ∙ take-paste w 0 (drop s w) n (omega arith) (omega arith) ∙ take_all n (drop s w) (omega arith) in
     let beside = c.copy_within-2.ensures in
     let same = λ (k : ℕ) (below : k ≤ length w - s).
-    beside.by_index.0 k 0 (omega arith) (omega (arith, r.memory.1, within.1))
+    beside.by_index.0 k 0 (omega arith) (omega (arith, r.has_capacity.1, within.1))
     ∙ ap (λ j. get_or c.args.checks.now.items (s + j) 0) (omega arith)
     in
     record {
-      memory = (
-        omega (arith, r.memory.0, c.truncate.ensures.capacity, c.copy_within.ensures.capacity),
-        omega (arith, r.memory.1, beside.capacity),
+      has_capacity = (
+        omega (arith, r.has_capacity.0, c.truncate.ensures.capacity, c.copy_within.ensures.capacity),
+        omega (arith, r.has_capacity.1, beside.capacity),
       );
       within = (omega arith, omega (arith, ap length moved, length-drop s w, within.1));
-      few = omega (arith, ap length moved, length-drop s w);
-      places = omega (arith, ap length moved, length-drop s w, beside.len, r.places);
-      gone = r.gone ++ take s w;
-      noted = subst (λ (y : List ℕ). HasRunningCrcs (r.gone ++ take s w) y c.copy_within-2.new.self.items) (sym moved)
-          (noted_moved r.gone w c.args.checks.now.items c.copy_within-2.new.self.items s within.0 same r.noted);
+      at_most_one_packet = omega (arith, ap length moved, length-drop s w);
+      enough_slots = omega (arith, ap length moved, length-drop s w, beside.len, r.enough_slots);
+      dropped = r.dropped ++ take s w;
+      noted = subst (λ (y : List ℕ). HasRunningCrcs (r.dropped ++ take s w) y c.copy_within-2.new.self.items) (sym moved)
+          (noted_moved r.dropped w c.args.checks.now.items c.copy_within-2.new.self.items s within.0 same r.noted);
     }

@@ -76,7 +76,7 @@ returns-in_default-clause-whole g c =
       λ ok. absurd cc,
       λ all. absurd (not_failed (counts c.args.serial_in.now) (counts c.read.new.self) c.args.turns room.serial_in
           (ap (λ t. t.failed) c.in_default.ensures.counted
-          ∙ ap saturated_increment serial.well) all.no_serial_read_failed),
+          ∙ ap saturated_increment serial.none_failed) all.no_serial_read_failed),
     )
 
 -- ---- an answer to a packet is not written completely
@@ -174,7 +174,7 @@ returns-in_default-read-clause-whole g c =
     λ room. (
       λ ok. absurd cc,
       λ all. absurd (not_failed (counts c.args.desk_in.now) (counts c.read-in-loop-turn.new.self) c.args.turns
-          room.desk_in (ap (λ t. t.failed) c.in_default-read.ensures.counted ∙ ap saturated_increment desk.well)
+          room.desk_in (ap (λ t. t.failed) c.in_default-read.ensures.counted ∙ ap saturated_increment desk.none_failed)
           all.no_desk_read_failed),
     )
 
@@ -340,8 +340,8 @@ returns-clause-whole g c =
         serial_writes_succeeded = well_at g.R.Sink.counts c.args.serial_out.now now.serial.now _
             (search rules) out.0.went;
         desk_writes_succeeded = well_at g.D.Sink.counts c.args.desk_out.now now.desk.now _ (search rules) out.1.went;
-        no_serial_read_failed = serial.well;
-        no_desk_read_failed = desk.well;
+        no_serial_read_failed = serial.none_failed;
+        no_desk_read_failed = desk.none_failed;
       },
       λ _. refl,
     )

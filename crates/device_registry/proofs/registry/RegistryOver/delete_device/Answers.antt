@@ -8,10 +8,10 @@ invariant_of-self g c = (
   c.forget.ensures.forgets.recoverable,
   changed_recalled (g.C.SqlConnection.state c.self.inside.table) (g.C.SqlConnection.state c.forget.new.self)
       (forget_update c.args.id) None
-      c.self.inside.cache.entries c.drop_entry.new.cache.entries c.cache_entry.new.cache.entries
+      c.self.inside.cache.entries c.drop_entry.new.cache.entries c.insert_entry.new.cache.entries
       c.forget.ensures.forgets.clean c.in-Ok.ensures.ready c.in-Ok.ensures.forgets.devices
       (λ clean devices has. refl) c.self.invariant.1
-      c.drop_entry.ensures.kept c.cache_entry.ensures.kept,
+      c.drop_entry.ensures.kept c.insert_entry.ensures.kept,
 )
 
 pub returns-in-Ok-clause-forgets : goal.returns-in-Ok-clause-forgets

@@ -39,10 +39,10 @@ invariant_of-self-in-Ok g c =
       c.find.ensures.looks_up.recoverable,
       found_recalled old (g.C.SqlConnection.state c.find.new.self) c.args.id c.in-Ok.known
           c.look_up_cached.new.cache.entries
-          c.cache_entry.new.cache.entries c.find.ensures.looks_up.clean c.in-Ok.ensures.ready
+          c.insert_entry.new.cache.entries c.find.ensures.looks_up.clean c.in-Ok.ensures.ready
           c.in-Ok.ensures.looks_up.devices
           (fewer_recalled old c.self.inside.cache.entries c.look_up_cached.new.cache.entries c.self.invariant.1
-          c.look_up_cached.ensures.kept) (rw c.copied-copy.ensures at c.cache_entry.ensures.kept),
+          c.look_up_cached.ensures.kept) (rw c.copied-copy.ensures at c.insert_entry.ensures.kept),
     )
 
 pub returns-in-Ok-clause-looks_up : goal.returns-in-Ok-clause-looks_up

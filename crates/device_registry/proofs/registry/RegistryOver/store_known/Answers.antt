@@ -19,11 +19,11 @@ invariant_of-self g c =
     let updates = c.in-Ok.ensures.updates known.0 known.1 in (
       updates.recoverable,
       changed_recalled old new update (Some c.copied-stored.result)
-          c.self.inside.cache.entries c.drop_entry.new.cache.entries c.cache_entry.new.cache.entries
+          c.self.inside.cache.entries c.drop_entry.new.cache.entries c.insert_entry.new.cache.entries
           updates.clean c.in-Ok.ensures.ready updates.devices
           (λ clean devices has. ap (λ it. Some it) c.copied-stored.ensures
           ∙ sym (ap (option_map (device c.args.device.id)) (known.1 clean devices has).1))
-          c.self.invariant.1 c.drop_entry.ensures.kept c.cache_entry.ensures.kept,
+          c.self.invariant.1 c.drop_entry.ensures.kept c.insert_entry.ensures.kept,
     )
 
 pub returns-in-Ok-clause-updates : goal.returns-in-Ok-clause-updates

@@ -20,11 +20,11 @@ invariant_of-self g c =
     c.learn_unless_full.ensures.adds in (
       adds.recoverable,
       changed_recalled old new (learn_update c.args.device) (Some c.copied-copy.result) c.self.inside.cache.entries
-          c.drop_entry.new.cache.entries c.cache_entry.new.cache.entries adds.clean c.in-Ok-true.ensures.ready
+          c.drop_entry.new.cache.entries c.insert_entry.new.cache.entries adds.clean c.in-Ok-true.ensures.ready
           (λ clean devices has. (adds.devices clean devices has).1)
           (λ clean devices has. ap (λ it. Some it) c.copied-copy.ensures
           ∙ sym (ap (option_map (device c.args.device.id)) ((rw (← c.self.view_is) at c.requires) clean devices has)))
-          c.self.invariant.1 c.drop_entry.ensures.kept c.cache_entry.ensures.kept,
+          c.self.invariant.1 c.drop_entry.ensures.kept c.insert_entry.ensures.kept,
     )
 
 pub returns-in-Ok-true-clause-learns : goal.returns-in-Ok-true-clause-learns

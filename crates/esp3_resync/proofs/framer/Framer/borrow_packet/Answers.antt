@@ -1,7 +1,7 @@
 use Rattle.std.proofs.Common.{◌≡◌, ℕ, ◌+◌, List, [], ◌++◌, length, take, sym, ap, ◌∙◌, subst, arith, length-take}
 use Rattle.std.specs.Prelude.{Option, Some, None, IfSome}
 use Rattle.std.proofs.lemmas.List.{take-take}
-use Rattle.esp3_frames.specs.Frames.{frames_of}
+use Rattle.esp3_frames.specs.PacketsAndRest.{packets_and_rest}
 use Rattle.esp3_frames.specs.Outcome.{packet_of}
 use Rattle.esp3_frames.specs.Packet.{IsPacket}
 use Rattle.esp3_frames.proofs.ForCallers.{whole_length}
@@ -47,8 +47,8 @@ returns-clause-before c =
     let packet = packet_of r.0 in
     let whole = whole_length b packet is.0 in
     let n : ℕ = length packet.body + length packet.opt + 7 in
-    ap (λ (y : List ℕ). length (frames_of (y ++ take k b)).ready) (sym h.1 ∙ nil)
-    ∙ ap (λ (y : List ℕ). length (frames_of y).ready) (sym (take-take k n b (omega (arith, below, is.1))))
+    ap (λ (y : List ℕ). length (packets_and_rest (y ++ take k b)).ready) (sym h.1 ∙ nil)
+    ∙ ap (λ (y : List ℕ). length (packets_and_rest y).ready) (sym (take-take k n b (omega (arith, below, is.1))))
     ∙ quiet_part_of_packet packet (take n b) k whole.2 (omega (arith, below, is.1, whole.0, length-take n b)))
     c.packet_at_start.result c.packet_at_start.ensures.some
 

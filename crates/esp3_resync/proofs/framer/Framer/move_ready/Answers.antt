@@ -2,7 +2,7 @@ use Rattle.std.proofs.Common.{◌≡◌, ℕ, ◌+◌, List, ◌∷◌, length, 
 use Rattle.std.proofs.Common.{length-drop}
 use Rattle.std.proofs.lemmas.List.{drop-drop}
 use Rattle.esp3_frames.specs.Packet.{Packet}
-use Rattle.esp3_frames.specs.Frames.{frames_of, Frames}
+use Rattle.esp3_frames.specs.PacketsAndRest.{packets_and_rest, PacketsAndRest}
 use Rattle.esp3_frames.specs.declared.packet.Header.{Header}
 use Rattle.esp3_frames.proofs.ForCallers.{frames-whole}
 use Rattle.esp3_resync.specs.BufferedPacket.{packet_with}
@@ -15,7 +15,7 @@ pub returns-in_default : goal.returns-in_default
 returns-in_default c =
     let s = c.self.inside.window in
     let r = unready_partial s (not_whole c.self.inside.front s c.self.invariant c.in_default.not-WholePacket) in
-    let e = ap (λ (x : Frames). length x.ready) c.self.view_is in
+    let e = ap (λ (x : PacketsAndRest). length x.ready) c.self.view_is in
     record {
       ready = (λ t. absurd cc, λ h. absurd (omega (arith, r, e, h)));
       room = c.requires;
@@ -59,7 +59,7 @@ returns-clause-ready c =
     let s = c.self.inside.window in
     let h = c.in-WholePacket.header in
     let r = ready_whole s _ (is_whole c.self.inside.front s h c.in-WholePacket.is c.self.invariant) in
-    let e = ap (λ (x : Frames). length x.ready) c.self.view_is in
+    let e = ap (λ (x : PacketsAndRest). length x.ready) c.self.view_is in
     (λ _. omega (arith, r, e), λ _. refl)
 
 pub returns-clause-taken : goal.returns-clause-taken
@@ -80,13 +80,13 @@ returns-clause-taken c =
     c.skip-2.ensures ∙ ap (drop 1) (c.move_into.ensures.rest ∙ ap (drop k) c.skip.ensures)
     ∙ drop-drop 1 k (drop 6 s) ∙ drop-drop (k + 1) 6 s ∙ ap (λ i. drop i s) count
     in
-    let behind : frames_of c.resync-self-inside.new.window ≡ frames_of (drop n s) =
-    c.resync-self-inside.ensures.frames ∙ ap frames_of left in
+    let behind : packets_and_rest c.resync-self-inside.new.window ≡ packets_and_rest (drop n s) =
+    c.resync-self-inside.ensures.frames ∙ ap packets_and_rest left in
     let here = frames-whole s p whole in
-    let ready = λ (x : Frames). x.ready in
-    let rest = λ (x : Frames). x.rest in (
+    let ready = λ (x : PacketsAndRest). x.ready in
+    let rest = λ (x : PacketsAndRest). x.rest in (
       omega (arith, parts.0, ap length items, length-take (h.data_len + h.opt_len) (drop 6 s), length-drop 6 s),
-      sym (ap ready c.self.view_is) ∙ ap ready here ∙ ap (λ (q : Packet). q ∷ (frames_of (drop n s)).ready)
+      sym (ap ready c.self.view_is) ∙ ap ready here ∙ ap (λ (q : Packet). q ∷ (packets_and_rest (drop n s)).ready)
           (ap (packet_with h) (sym items))
           ∙ ap (λ (ps : List Packet). packet_with h c.move_into.new.to.items ∷ ps) (sym (ap ready behind)),
       ap rest behind ∙ sym (ap rest here) ∙ ap rest c.self.view_is,

@@ -1,6 +1,6 @@
 use Rattle.std.proofs.Common.{◌≡◌, List, ℕ, [], ◌++◌, length, take, sym, ap, ◌∙◌, arith, length-append, length-take}
-use Rattle.esp3_frames.specs.Frames.{Frames, frames_of}
-use Rattle.esp3_resync.proofs.FramesLemmas.{few, frames_of-noise, noise_taken, unready_partial}
+use Rattle.esp3_frames.specs.PacketsAndRest.{PacketsAndRest, packets_and_rest}
+use Rattle.esp3_resync.proofs.FramesLemmas.{few, packets_and_rest-noise, noise_taken, unready_partial}
 use Rattle.esp3_resync.proofs.HeaderLemmas.{held_bytes, is_empty, no_header}
 use Rattle.esp3_resync.proofs.framer.Framer.push_some.Goals as goal
 
@@ -15,14 +15,14 @@ returns-in-PartialPacket-clause-taken c =
     let t = take c.push_announced-count.result c.args.bytes.now in
     let h = held_bytes c.self.inside.front w c.args.self.now c.self.invariant c.self.view_is c.requires.none in
     c.resync_with_header-self-inside.ensures.frames
-    ∙ ap frames_of (c.push_announced-count.ensures.taken ∙ ap (λ (y : List ℕ). y ++ t) h.1)
+    ∙ ap packets_and_rest (c.push_announced-count.ensures.taken ∙ ap (λ (y : List ℕ). y ++ t) h.1)
 
 pub returns-in-PartialPacket-clause-before : goal.returns-in-PartialPacket-clause-before
 returns-in-PartialPacket-clause-before c = λ k below.
     let w = c.self.inside.window in
     let t = take k c.args.bytes.now in
     let h = held_bytes c.self.inside.front w c.args.self.now c.self.invariant c.self.view_is c.requires.none in
-    ap (λ (y : List ℕ). length (frames_of (y ++ t)).ready) (sym h.1)
+    ap (λ (y : List ℕ). length (packets_and_rest (y ++ t)).ready) (sym h.1)
     ∙ unready_partial (w ++ t) (c.push_announced-count.ensures.before k below)
 
 pub push_header_bytes-count-requires : goal.push_header_bytes-count-requires
@@ -40,7 +40,7 @@ returns-then-count-gt0-clause-taken c =
     let n = c.len_before_sync-count.result in
     let h = held_bytes c.self.inside.front c.self.inside.window f c.self.invariant c.self.view_is c.requires.none in
     let nil : w ≡ [] = is_empty c.self.inside.front w c.in-Empty.is c.self.invariant in
-    noise_taken w (take n b) f nil h.1 c.self.view_is (frames_of-noise b n c.len_before_sync-count.ensures.none)
+    noise_taken w (take n b) f nil h.1 c.self.view_is (packets_and_rest-noise b n c.len_before_sync-count.ensures.none)
 
 pub returns-then-count-gt0-clause-before : goal.returns-then-count-gt0-clause-before
 returns-then-count-gt0-clause-before c = λ k below.
@@ -48,9 +48,9 @@ returns-then-count-gt0-clause-before c = λ k below.
     let b = c.args.bytes.now in
     let h = held_bytes c.self.inside.front w c.args.self.now c.self.invariant c.self.view_is c.requires.none in
     let nil : w ≡ [] = is_empty c.self.inside.front w c.in-Empty.is c.self.invariant in
-    ap (λ (y : List ℕ). length (frames_of (y ++ take k b)).ready) (sym h.1 ∙ nil)
-    ∙ ap (λ (y : Frames). length y.ready)
-    (frames_of-noise b k (λ i less. c.len_before_sync-count.ensures.none i (omega (arith, less, below))))
+    ap (λ (y : List ℕ). length (packets_and_rest (y ++ take k b)).ready) (sym h.1 ∙ nil)
+    ∙ ap (λ (y : PacketsAndRest). length y.ready)
+    (packets_and_rest-noise b k (λ i less. c.len_before_sync-count.ensures.none i (omega (arith, less, below))))
 
 pub returns-clause-taken : goal.returns-clause-taken
 returns-clause-taken c =
@@ -58,7 +58,7 @@ returns-clause-taken c =
     let t = take c.push_header_bytes-count.result c.args.bytes.now in
     let h = held_bytes c.self.inside.front w c.args.self.now c.self.invariant c.self.view_is c.requires.none in
     c.resync-self-inside.ensures.frames
-    ∙ ap frames_of (c.push_header_bytes-count.ensures.taken ∙ ap (λ (y : List ℕ). y ++ t) h.1)
+    ∙ ap packets_and_rest (c.push_header_bytes-count.ensures.taken ∙ ap (λ (y : List ℕ). y ++ t) h.1)
 
 pub returns-clause-before : goal.returns-clause-before
 returns-clause-before c = λ k below.
@@ -67,7 +67,7 @@ returns-clause-before c = λ k below.
     let n = c.push_header_bytes-count.result in
     let h = held_bytes c.self.inside.front w c.args.self.now c.self.invariant c.self.view_is c.requires.none in
     let first = c.push_header_bytes-count.ensures in
-    ap (λ (y : List ℕ). length (frames_of (y ++ take k b)).ready) (sym h.1)
+    ap (λ (y : List ℕ). length (packets_and_rest (y ++ take k b)).ready) (sym h.1)
     ∙ few 6 (w ++ take k b)
     (omega (
       arith,

@@ -1,5 +1,5 @@
 use Rattle.std.proofs.Common.{◌-◌, length, drop, sym, ap, ◌∙◌, arith, length-take, length-drop}
-use Rattle.esp3_frames.specs.Frames.{Frames}
+use Rattle.esp3_frames.specs.PacketsAndRest.{PacketsAndRest}
 use Rattle.esp3_resync.proofs.FramesLemmas.{idle, run_more, quiet_more, quiet_before, none_ready}
 use Rattle.esp3_resync.proofs.HeaderLemmas.{not_never}
 use Rattle.esp3_resync.proofs.framer.Framer.push_until_ready.Goals as goal
@@ -47,4 +47,4 @@ pub returns-clause-before : goal.returns-clause-before
 returns-clause-before c = λ k within.
     let before = c.loop-count.invariant in
     quiet_before c.args.self.now.rest c.args.bytes.now c.loop-count.count k
-    (ap (λ (x : Frames). length x.ready) (sym before.taken) ∙ before.none) (omega (arith, within))
+    (ap (λ (x : PacketsAndRest). length x.ready) (sym before.taken) ∙ before.none) (omega (arith, within))

@@ -10,7 +10,7 @@ pub returns : goal.returns
 returns c =
     let b = c.self.inside.bytes.items in
     let r = c.self.invariant in
-    let g = r.gone in
+    let g = r.dropped in
     let start = c.self.inside.start in
     let from = c.args.from in
     let len = c.args.len in

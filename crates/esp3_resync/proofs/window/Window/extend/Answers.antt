@@ -14,7 +14,7 @@ invariant_of-self c =
     let r = made.ensures.running in
     let room = made.ensures.room in
     let added = c.extend_from_slice-has_room in
-    let some : is_ok added.result ≡ true = added.ensures.succeeds (omega (arith, r.memory.0, room)) in
+    let some : is_ok added.result ≡ true = added.ensures.succeeds (omega (arith, r.has_capacity.0, room)) in
     let items : added.new.self.items ≡ b ++ t = added.ensures.items ∙ cond-true (is_ok added.result) _ _ some in
     let size : length added.new.self.items ≡ length b + length t = omega (arith, ap length items, length-append b t) in
     let held : length b ≤ made.result + length c.args.self.now =
@@ -25,16 +25,16 @@ invariant_of-self c =
     let e = places.new.checks.items in
     let same : length d ≡ places.new.checks.len = omega (arith, c.record_checks.ensures.len, before.len) in
     let checks = take_at d (drop (length d) e) places.new.checks.len same in
-    let noted : HasRunningCrcs r.gone b e = λ i within. places.ensures.same i (omega (arith, r.places))
+    let noted : HasRunningCrcs r.dropped b e = λ i within. places.ensures.same i (omega (arith, r.enough_slots))
     ∙ r.noted i within in
     record {
-      memory = (
-        omega (arith, r.memory.0, added.ensures.capacity),
-        omega (arith, r.memory.1, places.ensures.capacity),
+      has_capacity = (
+        omega (arith, r.has_capacity.0, added.ensures.capacity),
+        omega (arith, r.has_capacity.1, places.ensures.capacity),
       );
       within = (omega (arith, r.within.0), omega (arith, room));
-      few = omega (arith, c.requires);
-      places = omega (
+      at_most_one_packet = omega (arith, c.requires);
+      enough_slots = omega (
         arith,
         ap length checks,
         c.record_checks.ensures.len,
@@ -42,9 +42,9 @@ invariant_of-self c =
         places.ensures.enough,
         c.len.ensures,
       );
-      gone = r.gone;
-      noted = subst (HasRunningCrcs r.gone added.new.self.items) (sym checks)
-          (subst (λ (y : List ℕ). HasRunningCrcs r.gone y d) (sym items)
-          (c.record_checks.ensures.noted r.gone b (omega (arith, c.len.ensures))
-          (subst (HasRunningCrcs r.gone b) (sym before.value) noted)));
+      dropped = r.dropped;
+      noted = subst (HasRunningCrcs r.dropped added.new.self.items) (sym checks)
+          (subst (λ (y : List ℕ). HasRunningCrcs r.dropped y d) (sym items)
+          (c.record_checks.ensures.noted r.dropped b (omega (arith, c.len.ensures))
+          (subst (HasRunningCrcs r.dropped b) (sym before.value) noted)));
     }

@@ -12,14 +12,14 @@ invariant_of-result c =
     c.in_ok-push.ensures.items ∙ ap (λ (y : List ℕ). y ++ 0 ∷ []) c.in_ok-checks.ensures.items in
     let zero : get_or d 0 0 ≡ 0 = ap (λ (y : List ℕ). get_or y 0 0) one in
     record {
-      memory = (
+      has_capacity = (
         omega (arith, c.in_ok-bytes.ensures.exact),
         omega (arith, c.in_ok-checks.ensures.exact, c.in_ok-push.ensures.capacity),
       );
       within = (omega arith, omega (arith, ap length none));
-      few = omega (arith, ap length none);
-      places = omega (arith, ap length none, ap length one);
-      gone = [];
+      at_most_one_packet = omega (arith, ap length none);
+      enough_slots = omega (arith, ap length none, ap length one);
+      dropped = [];
       noted = λ i within.
           let first : i ≡ 0 = omega (arith, ap length none) in
           ap (λ k. get_or d k 0) first ∙ zero ∙ sym check_nil ∙ ap (λ k. check (take k b)) (sym first);

@@ -1,6 +1,6 @@
 use Rattle.std.proofs.Common.{◌≡◌, List, ℕ, [], ◌∷◌, ◌++◌, take, sym, ap, ◌∙◌}
 use Rattle.esp3_frames.specs.Packet.{Packet}
-use Rattle.esp3_frames.specs.Frames.{Frames, frames_of}
+use Rattle.esp3_frames.specs.PacketsAndRest.{PacketsAndRest, packets_and_rest}
 use Rattle.esp3_frames.specs.Outcome.{packet_of}
 use Rattle.gateway_core.specs.Calls.{GatewayValue}
 use Rattle.gateway_core.proofs.gateway.GatewayOver.handle_front_packet.Goals as goal
@@ -20,14 +20,14 @@ returns-clause-taken g c =
     } in
     let ready : framer.ready ≡ [] = ap (λ (v : GatewayValue Over). v.ready) c.self.view_is ∙ c.requires in
     let rest : framer.rest ≡ old.rest = ap (λ (v : GatewayValue Over). v.rest) c.self.view_is in
-    let framed : frames_of (old.rest ++ bytes) ≡ record { ready = packet ∷ []; rest = framer.rest } =
-    ap (λ (r : List ℕ). frames_of (r ++ bytes)) (sym rest) ∙ c.in_ok-packet.ensures.taken in (
+    let framed : packets_and_rest (old.rest ++ bytes) ≡ record { ready = packet ∷ []; rest = framer.rest } =
+    ap (λ (r : List ℕ). packets_and_rest (r ++ bytes)) (sym rest) ∙ c.in_ok-packet.ensures.taken in (
       mid,
       (
         c.requires,
         ap (λ (v : GatewayValue Over). v.handler) c.self.view_is,
-        sym (ap (λ (f : Frames). f.ready) framed),
-        sym (ap (λ (f : Frames). f.rest) framed ∙ rest),
+        sym (ap (λ (f : PacketsAndRest). f.ready) framed),
+        sym (ap (λ (f : PacketsAndRest). f.rest) framed ∙ rest),
       ),
       (packet, ap (λ (ps : List Packet). packet ∷ ps) (sym ready), rest, c.packet.ensures),
     )

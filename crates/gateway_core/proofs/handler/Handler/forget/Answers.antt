@@ -10,7 +10,7 @@ returns-in_err-draft g c =
     let error = err_from_is_err_and c.from_residual.result c.from_residual.ensures.1 in
     rw (error.1, error.2) (record {
       reported = tt;
-      alone = alone-unasked g.S.DeviceStore.store_state _ _
+      changes_only_registry = alone-unasked g.S.DeviceStore.store_state _ _
           (λ devices keeps. keeps);
     })
 
@@ -18,7 +18,7 @@ pub returns-in-Err : goal.returns-in-Err
 returns-in-Err g c =
     rw (← c.self.view_is) (record {
       reported = tt;
-      alone = alone g.S.DeviceStore.store_state _ _ _ _ _ _ c.forget.ensures.forgets.clean
+      changes_only_registry = alone g.S.DeviceStore.store_state _ _ _ _ _ _ c.forget.ensures.forgets.clean
           c.forget.ensures.forgets.recoverable
           (λ honest devices has. c.in-Err.ensures.forgets.devices honest devices has);
     })
@@ -33,7 +33,7 @@ returns g c =
             c.committed-verdict.ensures.outcome,
         c.tell-line.ensures ∙ c.in_ok-draft.ensures.line,
       );
-      alone = alone g.S.DeviceStore.store_state _ _ _ _ _ _ c.forget.ensures.forgets.clean
+      changes_only_registry = alone g.S.DeviceStore.store_state _ _ _ _ _ _ c.forget.ensures.forgets.clean
           c.forget.ensures.forgets.recoverable
           (λ honest devices has. c.in-Ok.ensures.forgets.devices honest devices has);
     })

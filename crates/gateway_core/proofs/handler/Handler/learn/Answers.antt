@@ -13,7 +13,7 @@ returns-in_err-draft g c =
     let error = err_from_is_err_and c.from_residual.result c.from_residual.ensures.1 in
     rw (error.1, error.2) (record {
       reported = tt;
-      alone = alone-unasked g.S.DeviceStore.store_state _ _
+      changes_only_registry = alone-unasked g.S.DeviceStore.store_state _ _
           (λ devices keeps. keeps);
     })
 
@@ -21,12 +21,12 @@ pub returns-in-Err-Full : goal.returns-in-Err-Full
 returns-in-Err-Full g c =
     rw (← c.self.view_is) (record {
       reported = tt;
-      alone =
+      changes_only_registry =
           alone g.S.DeviceStore.store_state _ _ _ _ _ _ c.learn.ensures.learns.clean c.learn.ensures.learns.recoverable
           (λ honest devices has.
-          let Why = λ (why : LearnFault). RefusesToLearn (g.S.DeviceStore.store_state c.self.inside.registry)
+          let HandlingReason = λ (why : LearnFault). RefusesToLearn (g.S.DeviceStore.store_state c.self.inside.registry)
           (g.S.DeviceStore.store_state c.learn.new.self) c.args.device devices why in
-          let full : Why fault.Full = subst Why c.in-Err-Full.field-0-is
+          let full : Why fault.Full = subst HandlingReason c.in-Err-Full.field-0-is
           (c.in-Err-Full.ensures.learns.devices honest devices has) in full);
     })
 
@@ -34,12 +34,12 @@ pub returns-in-Err-Failed : goal.returns-in-Err-Failed
 returns-in-Err-Failed g c =
     rw (← c.self.view_is) (record {
       reported = tt;
-      alone =
+      changes_only_registry =
           alone g.S.DeviceStore.store_state _ _ _ _ _ _ c.learn.ensures.learns.clean c.learn.ensures.learns.recoverable
           (λ honest devices has.
-          let Why = λ (why : LearnFault). RefusesToLearn (g.S.DeviceStore.store_state c.self.inside.registry)
+          let HandlingReason = λ (why : LearnFault). RefusesToLearn (g.S.DeviceStore.store_state c.self.inside.registry)
           (g.S.DeviceStore.store_state c.learn.new.self) c.args.device devices why in
-          let pends : Why (fault.Failed c.in-Err-Failed.fault) = subst Why c.in-Err-Failed.field-0-is
+          let pends : HandlingReason (fault.Failed c.in-Err-Failed.fault) = subst HandlingReason c.in-Err-Failed.field-0-is
           (c.in-Err-Failed.ensures.learns.devices honest devices has) in pends);
     })
 
@@ -53,7 +53,7 @@ returns g c =
             c.committed-verdict.ensures.outcome,
         c.tell-line.ensures ∙ c.in_ok-draft.ensures.line,
       );
-      alone =
+      changes_only_registry =
           alone g.S.DeviceStore.store_state _ _ _ _ _ _ c.learn.ensures.learns.clean c.learn.ensures.learns.recoverable
           c.in-Ok.ensures.learns.devices;
     })

@@ -4,7 +4,7 @@ use crate::outcome::Outcome;
 
 /// Why a packet was handled the way it was.
 #[derive(Clone, Copy, Debug, PartialEq, Eq)]
-pub enum Why {
+pub enum HandlingReason {
     /// It failed: out of memory, or an error of the device store.
     Refused,
     /// The packet is a response.

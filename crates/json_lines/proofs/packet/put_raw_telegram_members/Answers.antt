@@ -1,5 +1,5 @@
 use Rattle.json_lines.proofs.PacketTexts.{content_pieces}
-use Rattle.json_lines.proofs.packet.put_content.Goals as goal
+use Rattle.json_lines.proofs.packet.put_raw_telegram_members.Goals as goal
 
 pub returns-clause-items : goal.returns-clause-items
 returns-clause-items c = rw (

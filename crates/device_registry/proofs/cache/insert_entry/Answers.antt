@@ -1,5 +1,5 @@
 use Rattle.device_registry.proofs.CacheSteps.{kept_if, put_or_not}
-use Rattle.device_registry.proofs.cache.cache_entry.Goals as goal
+use Rattle.device_registry.proofs.cache.insert_entry.Goals as goal
 
 pub returns-clause-put : goal.returns-clause-put
 returns-clause-put c = put_or_not c.put-replaced.result c.args.cache.now c.put-replaced.new.self c.args.id c.args.known

@@ -1,5 +1,5 @@
 use Rattle.std.proofs.Common.{rules}
-use Rattle.teach_in.proofs.ute.ute_code.Goals as goal
+use Rattle.teach_in.proofs.ute.ute_reply_code.Goals as goal
 
 pub returns-in-Accepted-clause-code : goal.returns-in-Accepted-clause-code
 returns-in-Accepted-clause-code c = search rules

@@ -31,29 +31,29 @@ front_of (s ∷ h ∷ l ∷ o ∷ k ∷ c ∷ w) =
 front_of w = if may_begin w then Partial else Never
 
 -- the packets of a stream, and the rest after them
-pub record Frames : Type 0 where
+pub record PacketsAndRest : Type 0 where
   pub ready : List Packet
   pub rest : List ℕ
 
 -- the frames after the next n bytes, which belong to a packet
-unfoldable pub frames_after_skipping : (skip : ℕ) → List ℕ → Frames
-frames_after_skipping n [] = record { ready = []; rest = [] }
-frames_after_skipping (suc n) (b ∷ s) = frames_after_skipping n s
-frames_after_skipping zero (b ∷ s) =
+unfoldable pub packets_and_rest_after_skipping : (skip : ℕ) → List ℕ → PacketsAndRest
+packets_and_rest_after_skipping n [] = record { ready = []; rest = [] }
+packets_and_rest_after_skipping (suc n) (b ∷ s) = packets_and_rest_after_skipping n s
+packets_and_rest_after_skipping zero (b ∷ s) =
     elim (front_of (b ∷ s)) [
-      | Never ↦ frames_after_skipping zero s
+      | Never ↦ packets_and_rest_after_skipping zero s
       | Partial ↦ record { ready = []; rest = b ∷ s }
       | Whole p ↦ let c =
-          frames_after_skipping (length p.body + length p.opt + 6) s in record { ready = p ∷ c.ready; rest = c.rest }
+          packets_and_rest_after_skipping (length p.body + length p.opt + 6) s in record { ready = p ∷ c.ready; rest = c.rest }
     ]
 
-abbrev pub frames_of : List ℕ → Frames
-frames_of s = frames_after_skipping zero s
+abbrev pub packets_and_rest : List ℕ → PacketsAndRest
+packets_and_rest s = packets_and_rest_after_skipping zero s
 
 -- the packets in a stream
 abbrev pub packets_in : List ℕ → List Packet
-packets_in s = (frames_of s).ready
+packets_in s = (packets_and_rest s).ready
 
 -- the rest of a stream after its packets
 abbrev pub rest_of : List ℕ → List ℕ
-rest_of s = (frames_of s).rest
+rest_of s = (packets_and_rest s).rest

@@ -1,5 +1,5 @@
 use Rattle.esp3_frames.proofs.ForCallers.{frames-never, frames-skipped, frames-partial, frames-whole, packets_in-one}
-use Rattle.esp3_frames.proofs.laws.frames_by_front.Goals as goal
+use Rattle.esp3_frames.proofs.laws.packets_and_rest_by_front.Goals as goal
 
 pub returns-clause-never : goal.returns-clause-never
 returns-clause-never c = frames-never

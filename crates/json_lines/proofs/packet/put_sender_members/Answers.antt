@@ -1,5 +1,5 @@
 use Rattle.json_lines.proofs.PacketTexts.{sender_pieces}
-use Rattle.json_lines.proofs.packet.put_reception.Goals as goal
+use Rattle.json_lines.proofs.packet.put_sender_members.Goals as goal
 
 pub returns-clause-items : goal.returns-clause-items
 returns-clause-items c = rw (

@@ -1,7 +1,7 @@
 use Rattle.json_lines.specs.Lines.{in_quotes}
 use Rattle.json_lines.specs.PacketLines.{reason_word}
 use Rattle.json_lines.proofs.PacketTexts.{end_pieces}
-use Rattle.json_lines.proofs.packet.put_end_members.Goals as goal
+use Rattle.json_lines.proofs.packet.put_type_and_why_members.Goals as goal
 
 pub returns-clause-items : goal.returns-clause-items
 returns-clause-items c = rw (
