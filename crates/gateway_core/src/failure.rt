@@ -8,7 +8,7 @@ use std::alloc::AllocError;
 #[derive(Clone, Copy)]
 pub enum Failure {
     /// Nothing was written.
-    Before(StoreFault),
+    BeforeCommit(StoreFault),
     /// The write was tried. After a crash its update may be there.
     AtCommit(StoreFault),
 }
