@@ -8,8 +8,7 @@ use Rattle.device_registry.specs.declared.fault.OpenFault.TheVariants as opening
 use Rattle.gateway_core.specs.Handling.{HandlerValue}
 use Rattle.gateway_core.specs.SessionCalls.{BeginsSession}
 use Rattle.gateway_main.specs.declared.fault.Fault.{Fault}
-use Rattle.gateway_main.specs.declared.fault.Fault.TheVariants.{NotARegistry, Store, Memory, CannotOpenFile}
-use Rattle.gateway_main.specs.declared.fault.Fault.TheVariants.{Read, Write, TooManyTurns}
+use Rattle.gateway_main.specs.declared.fault.Fault.TheVariants.{NotARegistry, Store, Memory, CannotOpenFile, Run}
 
 -- The gateway knows the devices that were committed last. A crash leaves these, in a registry.
 pub record Starts {C : Type 0} (state : C → State) (database : C) (base : ℕ) (now : HandlerValue C) : Type 0 where
@@ -27,6 +26,4 @@ MayFailToStart {C} state database NotARegistry =
 MayFailToStart state database Store = ⊤
 MayFailToStart state database Memory = ⊤
 MayFailToStart state database CannotOpenFile = ⊥
-MayFailToStart state database Read = ⊥
-MayFailToStart state database Write = ⊥
-MayFailToStart state database TooManyTurns = ⊥
+MayFailToStart state database (Run stopped) = ⊥
