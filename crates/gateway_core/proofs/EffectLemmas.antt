@@ -43,7 +43,7 @@ use Rattle.json_lines.specs.Lines.{Reading, StatusLine, ResponseLine, Error, Rea
 use Rattle.json_lines.specs.Lines.{list_lines}
 use Rattle.gateway_core.specs.declared.disposition.Disposition.{Disposition}
 use Rattle.gateway_core.specs.Dispositions.{without_device, counter_for, for_device}
-use Rattle.gateway_core.specs.Dispositions.{why_filtered, why_nothing_done, why_no_telegram_or_response, why_unread}
+use Rattle.gateway_core.specs.Dispositions.{why_nothing_done, why_no_telegram_or_response, why_unread}
 use Rattle.gateway_core.specs.Profiles.{read_by}
 use Rattle.gateway_core.specs.Responses.{response_in}
 use Rattle.gateway_core.specs.Step.{State, Input, Received, Ordered, Effect, silent_effect}
@@ -104,10 +104,6 @@ other-ignores : (packet : Packet) → counter_for (why_no_telegram_or_response p
 other-ignores packet =
     let Ignores = λ (why : HandlingReason). counter_for why ≡ count.Ignored in
     either Ignores (packet.kind == 1) _ _ refl (either Ignores (packet.kind == 2) _ _ refl refl)
-
-filtered-ignores : (t : Telegram) → counter_for (why_filtered (filter_reason t)) ≡ count.Ignored
-filtered-ignores t =
-    either (λ reason. counter_for (why_filtered reason) ≡ count.Ignored) (t.sender == 0xFFFF_FFFF) _ _ refl refl
 
 silent-ignores : (asked : Bool) (mode : Mode) → counter_for (why_nothing_done asked mode) ≡ count.Ignored
 silent-ignores true mode = refl
@@ -172,7 +168,7 @@ module _ (P : Effect → Type 0) (state : State) (t : Telegram) (each : OfTelegr
   of-case : (over : Bool)
       → P (case_effect state t
       (if over then FilteredOut else case_by_role (teach_in_of t) (device_of state.devices t.sender)))
-  of-case true = each.unsays false _ (filtered-ignores t)
+  of-case true = each.unsays false _ refl
   of-case false = of-kind (teach_in_of t) (device_of state.devices t.sender)
 
   -- so it holds for the effect of this one

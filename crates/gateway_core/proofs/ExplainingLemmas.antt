@@ -38,7 +38,7 @@ use Rattle.json_lines.specs.ShownTelegram.{shown_destination}
 use Rattle.gateway_core.specs.declared.disposition.Disposition.{Disposition}
 use Rattle.gateway_core.specs.Dispositions.{without_device, eep_in_query, explanation, packet_line_of, for_device}
 use Rattle.gateway_core.specs.Dispositions.{shown_packet}
-use Rattle.gateway_core.specs.Dispositions.{why_filtered, why_no_telegram_or_response, why_nothing_done}
+use Rattle.gateway_core.specs.Dispositions.{why_no_telegram_or_response, why_nothing_done}
 use Rattle.gateway_core.specs.Profiles.{read_by}
 use Rattle.gateway_core.specs.Responses.{response_from, response_in}
 use Rattle.gateway_core.specs.Explaining.{RorgDoesNotFitTeachIn, ExplanationsAreTrue, IsNotFilteredOut, IsDataOf}
@@ -239,20 +239,20 @@ others false false false is isnt = (refl, refl)
 
 module _ (state : State) (packet : Packet) (t : Telegram) (carried : telegram_of packet ≡ Ok t) where
   of-passed : is_filtered_out state.base t ≡ true
-      → Truth state packet (silent_effect false (without_device (why_filtered (filter_reason t))))
+      → Truth state packet (silent_effect false (without_device (why.FilteredOut (filter_reason t))))
   of-passed over = by (t.sender == 0xFFFF_FFFF) refl
     where
       by : (b : Bool) → (t.sender == 0xFFFF_FFFF) ≡ b
-          → Truth state packet (silent_effect false (without_device (why_filtered (filter_reason t))))
+          → Truth state packet (silent_effect false (without_device (why.FilteredOut (filter_reason t))))
       by true is =
-          of-word state packet (why_filtered (filter_reason t)) why.FromBroadcast
-          (ap (λ b. why_filtered (if b then reason.FromBroadcast else reason.ForOthers)) is)
+          of-word state packet (why.FilteredOut (filter_reason t)) (why.FilteredOut reason.FromBroadcast)
+          (ap (λ b. why.FilteredOut (if b then reason.FromBroadcast else reason.ForOthers)) is)
           (t, carried, eqb-true t.sender 0xFFFF_FFFF is, (refl, refl))
       by false is =
           let both = others (t.sender == 0xFFFF_FFFF) (t.dest == 0xFFFF_FFFF)
           (is_gateway_id state.base t.dest) over is in
-          of-word state packet (why_filtered (filter_reason t)) why.ForOthers
-          (ap (λ b. why_filtered (if b then reason.FromBroadcast else reason.ForOthers)) is)
+          of-word state packet (why.FilteredOut (filter_reason t)) (why.FilteredOut reason.ForOthers)
+          (ap (λ b. why.FilteredOut (if b then reason.FromBroadcast else reason.ForOthers)) is)
           (t, carried, eqb-false t.sender 0xFFFF_FFFF is, eqb-false t.dest 0xFFFF_FFFF both.0, both.1, (refl, refl))
 
   module _ (heard : IsNotFilteredOut state packet t) where

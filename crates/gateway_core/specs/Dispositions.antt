@@ -24,7 +24,7 @@ use Rattle.json_lines.specs.declared.packet.ShownPacket.{ShownPacket}
 use Rattle.json_lines.specs.declared.packet.ShownPacket.TheVariants as shown
 use Rattle.teach_in.specs.declared.handling_reason.HandlingReason.{HandlingReason}
 use Rattle.teach_in.specs.declared.handling_reason.HandlingReason.TheVariants.{Refused, Response, EmptyResponse, OtherType, NoTelegram}
-use Rattle.teach_in.specs.declared.handling_reason.HandlingReason.TheVariants.{FromBroadcast, ForOthers, TeachInReply, TeachIn, Read}
+use Rattle.teach_in.specs.declared.handling_reason.HandlingReason.TheVariants.{FilteredOut, TeachInReply, TeachIn, Read}
 use Rattle.teach_in.specs.declared.handling_reason.HandlingReason.TheVariants.{WindowClosed, OtherMode, UnknownSender}
 use Rattle.teach_in.specs.declared.handling_reason.HandlingReason.TheVariants.{WrongKind, WrongLength, OtherMessage}
 use Rattle.json_lines.specs.PacketLines.{packet_text}
@@ -37,11 +37,6 @@ use Rattle.gateway_core.specs.declared.disposition.Disposition.{Disposition}
 abbrev pub why_no_telegram_or_response : Packet → HandlingReason
 why_no_telegram_or_response packet =
     if packet.kind == 1 then NoTelegram else if packet.kind == 2 then EmptyResponse else OtherType
-
--- of a telegram that is filtered out
-abbrev pub why_filtered : FilterReason → HandlingReason
-why_filtered reason.FromBroadcast = FromBroadcast
-why_filtered reason.ForOthers = ForOthers
 
 -- Of a telegram whose plan is to do nothing: data, whose sender was looked up and is not learned, or a teach-in
 -- telegram. The mode does not matter for data.
@@ -66,8 +61,7 @@ counter_for Read = count.Reading
 counter_for EmptyResponse = count.Ignored
 counter_for OtherType = count.Ignored
 counter_for NoTelegram = count.Ignored
-counter_for FromBroadcast = count.Ignored
-counter_for ForOthers = count.Ignored
+counter_for (FilteredOut reason) = count.Ignored
 counter_for TeachInReply = count.Ignored
 counter_for WindowClosed = count.Ignored
 counter_for OtherMode = count.Ignored

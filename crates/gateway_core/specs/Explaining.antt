@@ -24,6 +24,7 @@ use Rattle.teach_in.specs.Profiles.{supported}
 use Rattle.teach_in.specs.Telegrams.{teach_in_of}
 use Rattle.teach_in.specs.Ute.{request_in, deletion, unused_request}
 use Rattle.teach_in.specs.declared.handling_reason.HandlingReason.{HandlingReason}
+use Rattle.erp1_telegrams.specs.declared.address.FilterReason.TheVariants as reason
 use Rattle.teach_in.specs.declared.handling_reason.HandlingReason.TheVariants as why
 use Rattle.json_lines.specs.PacketLines.{packet_text}
 use Rattle.json_lines.specs.ShownTelegram.{ShownTelegram}
@@ -88,9 +89,9 @@ WhyIsTrue state packet disposition why.OtherType =
     (packet.kind ≢ 1) × (packet.kind ≢ 2) × HasProfileAndMakerOf disposition None
 WhyIsTrue state packet disposition why.NoTelegram =
     (packet.kind ≡ 1) × IsErr (telegram_of packet) × HasProfileAndMakerOf disposition None
-WhyIsTrue state packet disposition why.FromBroadcast =
+WhyIsTrue state packet disposition (why.FilteredOut reason.FromBroadcast) =
     (t : Telegram) × (telegram_of packet ≡ Ok t) × (t.sender ≡ 0xFFFF_FFFF) × HasProfileAndMakerOf disposition None
-WhyIsTrue state packet disposition why.ForOthers =
+WhyIsTrue state packet disposition (why.FilteredOut reason.ForOthers) =
     (t : Telegram) × (telegram_of packet ≡ Ok t) × (t.sender ≢ 0xFFFF_FFFF) × (t.dest ≢ 0xFFFF_FFFF)
     × (is_gateway_id state.base t.dest ≡ false) × HasProfileAndMakerOf disposition None
 WhyIsTrue state packet disposition why.TeachInReply =

@@ -48,7 +48,7 @@ use Rattle.json_lines.specs.Lines.{TeachLine, ModuleResponse, list_lines, texts}
 use Rattle.gateway_core.specs.declared.disposition.Disposition.{Disposition}
 use Rattle.gateway_core.specs.Dispositions.{without_device, counter_for, eep_in_query, explanation, packet_line_of}
 use Rattle.gateway_core.specs.Dispositions.{maker_in_query, for_device}
-use Rattle.gateway_core.specs.Dispositions.{why_filtered, why_nothing_done, why_no_telegram_or_response, why_unread}
+use Rattle.gateway_core.specs.Dispositions.{why_nothing_done, why_no_telegram_or_response, why_unread}
 use Rattle.gateway_core.specs.Profiles.{read_by}
 use Rattle.gateway_core.specs.Responses.{response_in}
 
@@ -225,7 +225,7 @@ abbrev pub is_learned : Devices → (id : ℕ) → Bool
 is_learned devices id = is_some (device_of devices id)
 
 abbrev pub case_effect : State → Telegram → TelegramCase → Effect
-case_effect state t FilteredOut = ignored_effect (why_filtered (filter_reason t))
+case_effect state t FilteredOut = ignored_effect (why.FilteredOut (filter_reason t))
 case_effect state t TeachInAnswer = ignored_effect why.TeachInReply
 case_effect state t TeachInTelegram =
     plan_effect state t false (plan_of t state.mode (is_learned state.devices t.sender))

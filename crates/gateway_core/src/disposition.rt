@@ -4,7 +4,7 @@ ghost use Rattle.esp3_frames.specs.Outcome.{packet_of};
 ghost use Rattle.gateway_core.specs.Dispositions;
 ghost use Rattle.gateway_core.specs.Dispositions.{without_device, eep_in_query, maker_in_query};
 
-use erp1_telegrams::{Eep, FilterReason};
+use erp1_telegrams::Eep;
 use esp3_frames::PacketRef;
 use esp3_frames::packet_type::{RADIO_ERP1, RESPONSE};
 use json_lines::Counter;
@@ -55,8 +55,7 @@ impl Disposition {
             HandlingReason::EmptyResponse
             | HandlingReason::OtherType
             | HandlingReason::NoTelegram
-            | HandlingReason::FromBroadcast
-            | HandlingReason::ForOthers
+            | HandlingReason::FilteredOut(_)
             | HandlingReason::TeachInReply
             | HandlingReason::WindowClosed
             | HandlingReason::OtherMode
@@ -76,15 +75,6 @@ pub(crate) fn why_no_telegram_or_response(packet: &PacketRef<'_>) -> HandlingRea
         RADIO_ERP1 => HandlingReason::NoTelegram,
         RESPONSE => HandlingReason::EmptyResponse,
         _ => HandlingReason::OtherType,
-    }
-}
-
-pub(crate) fn why_filtered(reason: FilterReason) -> HandlingReason
-    ensures { result ≡ Dispositions.why_filtered reason }
-{
-    match reason {
-        FilterReason::FromBroadcast => HandlingReason::FromBroadcast,
-        FilterReason::ForOthers => HandlingReason::ForOthers,
     }
 }
 

@@ -4,10 +4,11 @@ use Rattle.std.specs.Prelude.{if◌then◌else◌}
 use Rattle.std.specs.Str.{bytes_eq}
 use Rattle.teach_in.specs.declared.outcome.Outcome.TheVariants.{Accepted, Deleted, Unsupported, Full, General}
 use Rattle.teach_in.specs.declared.outcome.Outcome.TheVariants.{NoProfile}
+use Rattle.erp1_telegrams.specs.declared.address.FilterReason.TheVariants.{FromBroadcast, ForOthers}
 use Rattle.json_lines.specs.PacketLines.{reason_word}
 use Rattle.teach_in.specs.declared.handling_reason.HandlingReason.{HandlingReason}
 use Rattle.teach_in.specs.declared.handling_reason.HandlingReason.TheVariants.{Refused, Response, EmptyResponse, OtherType, NoTelegram}
-use Rattle.teach_in.specs.declared.handling_reason.HandlingReason.TheVariants.{FromBroadcast, ForOthers, TeachInReply, TeachIn}
+use Rattle.teach_in.specs.declared.handling_reason.HandlingReason.TheVariants.{FilteredOut, TeachInReply, TeachIn}
 use Rattle.teach_in.specs.declared.handling_reason.HandlingReason.TheVariants.{WindowClosed, OtherMode, Read, UnknownSender, WrongKind}
 use Rattle.teach_in.specs.declared.handling_reason.HandlingReason.TheVariants.{WrongLength, OtherMessage}
 
@@ -18,7 +19,7 @@ with-word word (why ∷ others) = if bytes_eq word (reason_word why) then why el
 
 every : List HandlingReason
 every =
-    Refused ∷ Response ∷ EmptyResponse ∷ OtherType ∷ NoTelegram ∷ FromBroadcast ∷ ForOthers ∷ TeachInReply
+    Refused ∷ Response ∷ EmptyResponse ∷ OtherType ∷ NoTelegram ∷ FilteredOut FromBroadcast ∷ FilteredOut ForOthers ∷ TeachInReply
     ∷ TeachIn Accepted ∷ TeachIn Deleted ∷ TeachIn Unsupported ∷ TeachIn Full ∷ TeachIn General ∷ TeachIn NoProfile
     ∷ WindowClosed
     ∷ OtherMode ∷ Read ∷ UnknownSender ∷ WrongKind ∷ WrongLength ∷ []
@@ -30,8 +31,8 @@ back Response = refl
 back EmptyResponse = refl
 back OtherType = refl
 back NoTelegram = refl
-back FromBroadcast = refl
-back ForOthers = refl
+back (FilteredOut FromBroadcast) = refl
+back (FilteredOut ForOthers) = refl
 back TeachInReply = refl
 back (TeachIn Accepted) = refl
 back (TeachIn Deleted) = refl

@@ -9,9 +9,10 @@ use Rattle.json_lines.specs.ShownTelegram.{ShownTelegram}
 use Rattle.json_lines.specs.declared.packet.PacketLine.{PacketLine}
 use Rattle.json_lines.specs.declared.packet.ShownPacket.{ShownPacket}
 use Rattle.json_lines.specs.declared.packet.ShownPacket.TheVariants.{Telegram, WithoutTelegram}
+use Rattle.erp1_telegrams.specs.declared.address.FilterReason.TheVariants.{FromBroadcast, ForOthers}
 use Rattle.teach_in.specs.declared.handling_reason.HandlingReason.{HandlingReason}
 use Rattle.teach_in.specs.declared.handling_reason.HandlingReason.TheVariants.{Refused, Response, EmptyResponse, OtherType, NoTelegram}
-use Rattle.teach_in.specs.declared.handling_reason.HandlingReason.TheVariants.{FromBroadcast, ForOthers, TeachInReply, TeachIn}
+use Rattle.teach_in.specs.declared.handling_reason.HandlingReason.TheVariants.{FilteredOut, TeachInReply, TeachIn}
 use Rattle.teach_in.specs.declared.handling_reason.HandlingReason.TheVariants.{WindowClosed, OtherMode, Read, UnknownSender, WrongKind}
 use Rattle.teach_in.specs.declared.handling_reason.HandlingReason.TheVariants.{WrongLength, OtherMessage}
 
@@ -22,8 +23,8 @@ reason_word Response = codes "response"
 reason_word EmptyResponse = codes "empty_response"
 reason_word OtherType = codes "other_type"
 reason_word NoTelegram = codes "no_telegram"
-reason_word FromBroadcast = codes "from_broadcast"
-reason_word ForOthers = codes "for_others"
+reason_word (FilteredOut FromBroadcast) = codes "from_broadcast"
+reason_word (FilteredOut ForOthers) = codes "for_others"
 reason_word TeachInReply = codes "teach_in_reply"
 reason_word (TeachIn outcome) = outcome_word outcome
 reason_word WindowClosed = codes "window_closed"

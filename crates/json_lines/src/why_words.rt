@@ -3,6 +3,7 @@ ghost use Rattle.std.specs.Prelude.{◌≡◌, ◌≤◌, length};
 ghost use Rattle.json_lines.specs.PacketLines.{reason_word};
 
 use crate::teach::outcome_word;
+use erp1_telegrams::FilterReason;
 use teach_in::HandlingReason;
 
 /// The word of a reason, at most 14 bytes.
@@ -16,8 +17,8 @@ pub fn reason_word(why: HandlingReason) -> &'static str
         HandlingReason::EmptyResponse => "empty_response",
         HandlingReason::OtherType => "other_type",
         HandlingReason::NoTelegram => "no_telegram",
-        HandlingReason::FromBroadcast => "from_broadcast",
-        HandlingReason::ForOthers => "for_others",
+        HandlingReason::FilteredOut(FilterReason::FromBroadcast) => "from_broadcast",
+        HandlingReason::FilteredOut(FilterReason::ForOthers) => "for_others",
         HandlingReason::TeachInReply => "teach_in_reply",
         HandlingReason::TeachIn(outcome) => outcome_word(outcome),
         HandlingReason::WindowClosed => "window_closed",

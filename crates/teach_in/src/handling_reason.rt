@@ -1,6 +1,7 @@
 //! The reason why a packet was handled the way it was. Its word is in `why_words.rt` of `json_lines`, and the counter
 //! that it increments in `disposition.rt` of `gateway_core`.
 use crate::outcome::Outcome;
+use erp1_telegrams::FilterReason;
 
 /// Why a packet was handled the way it was.
 #[derive(Clone, Copy, Debug, PartialEq, Eq)]
@@ -15,10 +16,8 @@ pub enum HandlingReason {
     OtherType,
     /// The packet contains no telegram that can be read.
     NoTelegram,
-    /// The telegram's sender is the broadcast ID.
-    FromBroadcast,
-    /// The telegram is addressed to another device.
-    ForOthers,
+    /// The telegram is filtered out, for this reason.
+    FilteredOut(FilterReason),
     /// The telegram is a teach-in reply.
     TeachInReply,
     /// The telegram's sender was to be learned or forgotten, with this outcome.

@@ -10,7 +10,7 @@ ghost use Rattle.gateway_core.specs.Responses;
 ghost use Rattle.gateway_core.specs.Step.{case_effect, data_case, reading_effect, telegram_effect, non_telegram_effect};
 ghost use Rattle.gateway_core.specs.private.Attempts.{MatchesEffect, Attempts};
 
-use crate::disposition::{Disposition, why_filtered, why_no_telegram_or_response, why_unread};
+use crate::disposition::{Disposition, why_no_telegram_or_response, why_unread};
 use crate::failure::Failure;
 use crate::handler::Handler;
 use crate::handler::effect::{PacketEffect, ignored_effect, packet_desk_effect};
@@ -71,7 +71,7 @@ impl<S: DeviceStore> Handler<S> {
         ensures { Attempts S.store_state self.old (λ state. telegram_effect state telegram.now) result self.new }
     {
         if let Some(reason) = filter_reason(self.base, telegram) {
-            return Ok(ignored_effect(why_filtered(reason)));
+            return Ok(ignored_effect(HandlingReason::FilteredOut(reason)));
         }
         match teach {
             Teach::Answer => Ok(ignored_effect(HandlingReason::TeachInReply)),

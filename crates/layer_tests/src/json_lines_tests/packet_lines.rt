@@ -1,5 +1,5 @@
 //! Packet lines with known bytes.
-use erp1_telegrams::{BROADCAST, Eep, Telegram};
+use erp1_telegrams::{BROADCAST, Eep, FilterReason, Telegram};
 use json_lines::{MAX_PACKET_LINE, PacketLine, ShownPacket, ShownTelegram, packet_line};
 use std::test::Fail;
 use teach_in::{HandlingReason, Outcome};
@@ -46,7 +46,7 @@ const OF_TELEGRAMS: [OfTelegram; 4] = [
         payload: &[0xF0],
         rorg: 0xF6,
         status: 0x3A,
-        why: HandlingReason::ForOthers,
+        why: HandlingReason::FilteredOut(FilterReason::ForOthers),
         line: "{\"dbm\":null,\"dest\":\"FF800001\",\"eep\":null,\"id\":\"000000FE\",\"maker\":0,\
             \"payload\":\"F0\",\"rorg\":\"F6\",\"status\":\"3A\",\"type\":\"packet\",\"why\":\"for_others\"}\n",
     },
@@ -155,7 +155,7 @@ const OF_OTHERS: [OfAnother; 17] = [
     OfAnother {
         kind: 4,
         size: 12,
-        why: HandlingReason::FromBroadcast,
+        why: HandlingReason::FilteredOut(FilterReason::FromBroadcast),
         line: "{\"kind\":4,\"size\":12,\"type\":\"packet\",\"why\":\"from_broadcast\"}\n",
     },
     OfAnother {

@@ -31,7 +31,7 @@ returns-in-Some g c =
     c.in-Some.is in
     rw (← c.self.view_is)
     (tries-alone g.S.DeviceStore.store_state _ _ _
-    (λ devices keeps. rw (found.0, ← found.1, ← c.why_filtered.ensures) (c.ignored_effect.ensures false, keeps)))
+    (λ devices keeps. rw (found.0, ← found.1) (c.ignored_effect.ensures false, keeps)))
 
 pub returns-in-Answer : goal.returns-in-Answer
 returns-in-Answer g c =
