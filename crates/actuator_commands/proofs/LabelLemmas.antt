@@ -10,7 +10,7 @@ use Rattle.std.specs.Result.{result_ok}
 use Rattle.std.specs.Str.{IsUtf8}
 use Rattle.learned_devices.specs.Labels.{max_label, is_label, is_label_of_any_length}
 use Rattle.learned_devices.proofs.LabelLemmas.{name-utf8}
-use Rattle.actuator_commands.specs.Words.{Literal, Id, Text, SpellsWord, id_in, is_nonempty_label, label_in, map_two}
+use Rattle.actuator_commands.specs.Words.{Literal, Id, LabelText, SpellsWord, id_in, is_nonempty_label, label_in, map_two}
 use Rattle.actuator_commands.specs.Words.{label_if_well_formed}
 use Rattle.actuator_commands.specs.declared.orders.Order.TheVariants.{Label}
 use Rattle.actuator_commands.specs.declared.orders.OrderFault.TheVariants.{Range}

@@ -6,7 +6,7 @@ use Rattle.std.specs.List.{AllByRecursion, AllZip, join_with_byte, list_all}
 use Rattle.std.proofs.lemmas.Bool.{and_parts, le-leb, leb-true, ne_eqb}
 use Rattle.std.proofs.lemmas.List.Splits.{join_with_byte-slice_split}
 use Rattle.std.proofs.lemmas.Slice.Zip.{AllZip-long}
-use Rattle.actuator_commands.specs.Words.{words, Word, Literal, Id, Profile, Number, Text, SpellsWord, IsWordInRange}
+use Rattle.actuator_commands.specs.Words.{words, Word, Literal, Id, Profile, Number, LabelText, SpellsWord, IsWordInRange}
 use Rattle.actuator_commands.specs.Words.{is_word_in_range, id_in}
 use Rattle.actuator_commands.specs.Words.{map_two, map_three, label_in}
 use Rattle.learned_devices.specs.Labels.{max_label}
@@ -229,7 +229,7 @@ words-in_range (Profile eep ∷ some) is = (tt, words-in_range some is)
 words-in_range (Number most n ∷ some) is =
     let parts = and_parts (nat_le n most) (list_all is_word_in_range some) is in
     (leb-true n most parts.0, words-in_range some parts.1)
-words-in_range (Text name ∷ some) is =
+words-in_range (LabelText name ∷ some) is =
     let parts = and_parts (nat_le (length name) max_label) (list_all is_word_in_range some) is in
     (leb-true (length name) max_label parts.0, words-in_range some parts.1)
 
@@ -239,7 +239,7 @@ all_tested (Literal name ∷ some) is = all_tested some is.1
 all_tested (Id id ∷ some) is = rw (ne_eqb id 0xFFFF_FFFF is.0) (all_tested some is.1)
 all_tested (Profile eep ∷ some) is = all_tested some is.1
 all_tested (Number most n ∷ some) is = rw (le-leb n most is.0) (all_tested some is.1)
-all_tested (Text name ∷ some) is = rw (le-leb (length name) max_label is.0) (all_tested some is.1)
+all_tested (LabelText name ∷ some) is = rw (le-leb (length name) max_label is.0) (all_tested some is.1)
 
 -- ---- both
 

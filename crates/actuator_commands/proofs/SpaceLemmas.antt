@@ -13,7 +13,7 @@ use Rattle.std.proofs.lemmas.List.Splits.{slice_split_none, slice_split_at}
 use Rattle.hex.specs.Hex.{decode_of, is_hex_digit}
 use Rattle.hex.proofs.HexLemmas.{decode_of-ok}
 use Rattle.erp1_telegrams.specs.declared.eep.Eep.{Eep}
-use Rattle.actuator_commands.specs.Words.{words, Word, Literal, Id, Profile, Number, Text}
+use Rattle.actuator_commands.specs.Words.{words, Word, Literal, Id, Profile, Number, LabelText}
 use Rattle.actuator_commands.specs.Words.{SpellsId, SpellsEep, SpellsWord}
 use Rattle.actuator_commands.specs.declared.orders.Order.{Order}
 use Rattle.actuator_commands.specs.declared.orders.Order.TheVariants.{LearnOn, Label, Switch, Meter, Central}
@@ -71,14 +71,14 @@ is_plain (Literal name) = list_all (λ b. not (b == 32)) name
 is_plain (Id id) = true
 is_plain (Profile eep) = true
 is_plain (Number most n) = true
-is_plain (Text name) = false
+is_plain (LabelText name) = false
 
 word-lacks : (text : List ℕ) (word : Word) → is_plain word ≡ true → SpellsWord text word → LacksSpace text
 word-lacks text (Literal name) plain is = subst LacksSpace (sym is) (lacks name plain)
 word-lacks text (Id id) plain (bytes, four, decoded, is) = digits-lack text bytes decoded
 word-lacks text (Profile eep) plain spells = profile-lacks text eep spells
 word-lacks text (Number most n) plain (is, below) = subst LacksSpace (sym is) (number-lacks n below)
-word-lacks text (Text name) plain spells = absurd cc
+word-lacks text (LabelText name) plain spells = absurd cc
 
 words-lack : (texts : List (List ℕ)) (some : List Word) → list_all is_plain some ≡ true → AllZip SpellsWord texts some
     → AllByRecursion LacksSpace texts

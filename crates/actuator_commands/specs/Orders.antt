@@ -3,7 +3,7 @@ use Rattle.std.specs.Prelude.{◌≡◌, ℕ, Bool, ◌&&◌, List, [], ◌∷�
 use Rattle.std.specs.Prelude.{option_map, if◌then◌else◌}
 use Rattle.std.specs.List.{AllByRecursion, AllZip, join_with_byte, list_all}
 use Rattle.actuator_commands.specs.Limits.{max_channel, max_offset, max_value, max_ramp}
-use Rattle.actuator_commands.specs.Words.{words, Word, Literal, Id, Profile, Number, Text, SpellsWord, IsWordInRange}
+use Rattle.actuator_commands.specs.Words.{words, Word, Literal, Id, Profile, Number, LabelText, SpellsWord, IsWordInRange}
 use Rattle.actuator_commands.specs.Words.{state_name, quantity_name, is_word_in_range, id_in, eep_in, number_in}
 use Rattle.actuator_commands.specs.Words.{state_in, quantity_in, label_in, map_two, map_three}
 use Rattle.actuator_commands.specs.declared.orders.Order.{Order}
@@ -17,7 +17,7 @@ use Rattle.actuator_commands.specs.declared.orders.OrderFault.TheVariants.{Synta
 -- the words of a label: one, or none if it is empty. Own choice.
 abbrev pub label_word_if_any : List ℕ → List Word
 label_word_if_any [] = []
-label_word_if_any (first ∷ more) = Text (first ∷ more) ∷ []
+label_word_if_any (first ∷ more) = LabelText (first ∷ more) ∷ []
 
 -- The table of the orders: the words of each, as written in its lines. Own choice.
 abbrev pub words_of : Order → List Word

@@ -23,7 +23,7 @@ pub data Word : Type 0 where
   Id : (id : ℕ) → Word
   Profile : (eep : Eep) → Word
   Number : (most n : ℕ) → Word
-  Text : (name : List ℕ) → Word
+  LabelText : (name : List ℕ) → Word
 
 -- the words for on and off, and for the quantities that are measured. Own choice.
 abbrev pub state_name : (is_on : Bool) → List ℕ
@@ -66,7 +66,7 @@ SpellsWord text (Literal name) = text ≡ name
 SpellsWord text (Id id) = SpellsId text id
 SpellsWord text (Profile eep) = SpellsEep text eep
 SpellsWord text (Number most n) = SpellsNumber text n
-SpellsWord text (Text name) = (text ≡ name) × (is_nonempty_label name ≡ true)
+SpellsWord text (LabelText name) = (text ≡ name) × (is_nonempty_label name ≡ true)
 
 -- the word's number is in range, or its length; no device has the broadcast ID (EnOcean Serial Protocol 3, "Packet type
 -- 1: RADIO_ERP1")
@@ -75,7 +75,7 @@ IsWordInRange (Literal name) = Unit {0}
 IsWordInRange (Id id) = id ≢ 0xFFFF_FFFF
 IsWordInRange (Profile eep) = Unit {0}
 IsWordInRange (Number most n) = n ≤ most
-IsWordInRange (Text name) = length name ≤ max_label
+IsWordInRange (LabelText name) = length name ≤ max_label
 
 -- ---- the same as functions; theorems `ids_are_spelled` and `orders_are_spelled`: they agree
 
@@ -94,7 +94,7 @@ is_word_in_range (Literal name) = true
 is_word_in_range (Id id) = not (id == 0xFFFF_FFFF)
 is_word_in_range (Profile eep) = true
 is_word_in_range (Number most n) = nat_le n most
-is_word_in_range (Text name) = nat_le (length name) max_label
+is_word_in_range (LabelText name) = nat_le (length name) max_label
 
 -- the number of two hexadecimal digits
 abbrev pub byte_of_decoded : Result (List ℕ) FromHexError → Option ℕ

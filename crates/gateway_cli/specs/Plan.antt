@@ -27,6 +27,6 @@ abbrev pub plan_of : Options → Plan
 plan_of options = record {
   db = options.db;
   base = options.base;
-  explain = options.explain;
+  explain_packets = options.explain_packets;
   service = service_of options.task;
 }

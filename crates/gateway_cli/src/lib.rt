@@ -29,7 +29,7 @@ pub struct Options<'a> {
     /// The path of the database with the learned devices, or `None` to keep them only in memory.
     pub db: Option<&'a str>,
     /// Whether the desk receives a line for each packet: what it was, what was done with it, and why.
-    pub explain: bool,
+    pub explain_packets: bool,
     /// The task of the gateway.
     pub task: Task<'a>,
 }
@@ -100,7 +100,7 @@ pub fn read<'a>(alloc: Global, words: &'a [String]) -> Result<Options<'a>, Comma
     ensures base { IfOk result (λ options. base_of_command_line (map string_bytes words.now) ≡ Some options.base) }
     ensures db { IfOk result (λ options.
         option_map (λ path. path.now) options.db ≡ db_of_command_line (map string_bytes words.now)) }
-    ensures explain { IfOk result (λ options. options.explain ≡ explain_of_command_line (map string_bytes words.now)) }
+    ensures explain { IfOk result (λ options. options.explain_packets ≡ explain_of_command_line (map string_bytes words.now)) }
     ensures task { IfOk result (λ options. AsksFor (map string_bytes words.now) options.task) }
     ensures is_base_id { IfOk result (λ options. Address.is_base_id options.base ≡ true) }
     ensures refused { IfErr result (RefusesCommandLine (map string_bytes words.now)) }
@@ -112,7 +112,7 @@ pub fn read<'a>(alloc: Global, words: &'a [String]) -> Result<Options<'a>, Comma
         Some(base) => Ok(Options {
             base,
             db: text_value(&matches, "db"),
-            explain: explain_flag(&matches),
+            explain_packets: explain_flag(&matches),
             task: task_value(&matches),
         }),
         None => Err(CommandLineFault::BadBase),

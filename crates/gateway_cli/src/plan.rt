@@ -13,7 +13,7 @@ pub struct Plan<'a> {
     /// The base ID of the radio module.
     pub base: u32,
     /// Whether the desk receives a line for each packet: what it was, what was done with it, and why.
-    pub explain: bool,
+    pub explain_packets: bool,
     /// The service of the gateway.
     pub service: Service<'a>,
 }
@@ -63,7 +63,7 @@ impl<'a> Options<'a> {
         Plan {
             db: self.db,
             base: self.base,
-            explain: self.explain,
+            explain_packets: self.explain_packets,
             service: service_of(self.task),
         }
     }

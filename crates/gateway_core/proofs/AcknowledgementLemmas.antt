@@ -54,14 +54,14 @@ BeginsInRange session = AreInRange session.found × AllByRecursion PacketBodyIsB
 
 -- so the state is in range when an input is answered, and the input is of bytes
 at-input : (session : Session) (line : TeachLine) (answered : AnswersWithTeachLine session line) (at : State)
-    → Run (initial_state session.base session.found) answered.before answered.results answered.answers at
+    → Run (initial_state session.base session.found) answered.earlier_inputs answered.earlier_results answered.earlier_answers at
     → BeginsInRange session
     → IsStateInRange at × PacketBodyIsBytes answered.input
 at-input session line answered at run (found, bytes) =
     let parts =
-    parted-bytes answered.before answered.after answered.input
+    parted-bytes answered.earlier_inputs answered.later_inputs answered.input
     (subst (AllByRecursion PacketBodyIsBytes) answered.inputs_are bytes) in (
-      stays_in_range (initial_state session.base session.found) at answered.before answered.results answered.answers run
+      stays_in_range (initial_state session.base session.found) at answered.earlier_inputs answered.earlier_results answered.earlier_answers run
           parts.0
           (found, tt),
       parts.1,
@@ -70,11 +70,11 @@ at-input session line answered at run (found, bytes) =
 kept : (session : Session) (line : TeachLine) → IsSession session → (answered : AnswersWithTeachLine session line)
     → (outcome : Outcome)
     → line.outcome ≡ outcome → (known : Device) → text (Teach line) ≡ text (Teach (device_teach_line known outcome))
-    → (at : State) → Run (initial_state session.base session.found) answered.before answered.results answered.answers at
+    → (at : State) → Run (initial_state session.base session.found) answered.earlier_inputs answered.earlier_results answered.earlier_answers at
     → answered.result ≡ Applied → update_of at answered.input ≡ Some (accepted_or_deleted_update outcome known)
     → (BeginsInRange session → HasDeviceNumbersInRange known) → IsDurable session line answered
 kept session line is answered outcome word known same at run taken asks in_range = record {
-  at = at;
+  state_before = at;
   known = known;
   run = run;
   is_applied = taken;
@@ -86,15 +86,15 @@ kept session line is answered outcome word known same at run taken asks in_range
       (subst (λ o. text (Teach line) ≡ text (Teach (device_teach_line known o))) (sym word) same);
   later_sessions_keep = λ spared crash sessions last all are.
       updates_survive_restarts session (accepted_or_deleted_update line.outcome known) sessions last is (record {
-        before = answered.before;
+        earlier_inputs = answered.earlier_inputs;
         input = answered.input;
-        after = answered.after;
-        results = answered.results;
-        more = answered.more;
-        answers = answered.answers;
-        at = at;
+        later_inputs = answered.later_inputs;
+        earlier_results = answered.earlier_results;
+        later_results = answered.later_results;
+        earlier_answers = answered.earlier_answers;
+        state_before = at;
         inputs_are = answered.inputs_are;
-        results_are = answered.results_are ∙ ap (λ f. answered.results ++ f ∷ answered.more) taken;
+        results_are = answered.results_are ∙ ap (λ f. answered.earlier_results ++ f ∷ answered.later_results) taken;
         run = run;
         asks_for_update = asks ∙ ap (λ o. Some (accepted_or_deleted_update o known)) (sym word);
         not_overridden_after = spared;
@@ -104,13 +104,13 @@ kept session line is answered outcome word known same at run taken asks in_range
 
 pub accepted_or_deleted_is_durable : AcceptedOrDeletedIsDurable
 accepted_or_deleted_is_durable session line is answered word =
-    let whole : Run (initial_state session.base session.found) (answered.before ++ answered.input ∷ answered.after)
-    (answered.results ++ answered.result ∷ answered.more) (answered.answers ++ answered.answer ∷ answered.later)
+    let whole : Run (initial_state session.base session.found) (answered.earlier_inputs ++ answered.input ∷ answered.later_inputs)
+    (answered.earlier_results ++ answered.result ∷ answered.later_results) (answered.earlier_answers ++ answered.answer ∷ answered.later_answers)
     session.last
     = rw (sym answered.inputs_are, sym answered.results_are, sym answered.answers_are) is.run in
-    let part = parted (initial_state session.base session.found) session.last answered.before answered.after
+    let part = parted (initial_state session.base session.found) session.last answered.earlier_inputs answered.later_inputs
     answered.input
-    answered.results answered.more answered.result answered.answers answered.later answered.answer
+    answered.earlier_results answered.later_results answered.result answered.earlier_answers answered.later_answers answered.answer
     answered.as_many_results
     answered.as_many_answers whole in
     let reports = teach_lines_are_true part.at answered.input answered.result line

@@ -44,7 +44,7 @@ use Rattle.actuator_commands.specs.declared.orders.OrderFault.TheVariants.{Unkno
 use Rattle.actuator_commands.specs.Orders.{order_of}
 use Rattle.gateway_core.specs.Step.{order_effect, line_effect}
 use Rattle.gateway_core.specs.Step.{reading_effect, case_effect, data_case, effect, update_of, need_of, with_update}
-use Rattle.gateway_core.specs.Step.{state_if_applied, with_mode, plan_effect, teach_report_effect, radio_bytes_of}
+use Rattle.gateway_core.specs.Step.{state_after_applied_input, with_mode, plan_effect, teach_report_effect, radio_bytes_of}
 use Rattle.gateway_core.specs.Step.{reply_telegram_of}
 use Rattle.gateway_core.specs.Step.{query_teach_line}
 use Rattle.gateway_core.specs.Step.{if_supported_else_error, mode_effect, error_effect, accept_effect}
@@ -585,7 +585,7 @@ module _ {S : Type 0} (stored : S → DeviceStoreState) where
       → HandlesFrom stored old start (input ∷ []) (explained_answer_to input r ∷ []) new
   applies_or_fails-went old new start input (Ok done) base mode counts ((says, counted, mode_effect), made) = record {
     results = Applied ∷ [];
-    last = state_if_applied start input;
+    last = state_after_applied_input start input;
     run = (
       tt,
       ap (λ a. with_packet_line (packet_line_for input a) done.answer) counted

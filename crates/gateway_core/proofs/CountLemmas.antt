@@ -15,7 +15,7 @@ use Rattle.gateway_core.specs.declared.disposition.Disposition.{Disposition}
 use Rattle.gateway_core.specs.Dispositions.{without_device, counter_for, explanation, packet_line_of}
 use Rattle.gateway_core.specs.Counting.{AppliedPacketsAreCounted, IsExplained, ExplanationsAreCounted, MatchesDeskLines}
 use Rattle.gateway_core.specs.Counting.{disposition_for_result}
-use Rattle.gateway_core.specs.Step.{State, Input, Received, Ordered, counter_in, counter_if_applied, packet_effect}
+use Rattle.gateway_core.specs.Step.{State, Input, Received, Ordered, counter_in, counter_for_applied_input, packet_effect}
 use Rattle.gateway_core.specs.Step.{device_teach_line}
 use Rattle.gateway_core.specs.Step.{Answer, Cause, Effect, query_teach_line}
 use Rattle.gateway_core.specs.Run.{InputResult, Applied, Failed, FailedAtCommit, answer_for_result, state_after_result}
@@ -29,7 +29,7 @@ count_on a b c n m is on = omega (arith, is, on)
 
 -- an applied input is not counted as failed
 unrefused : (state : State) (input : Input)
-    → (increment_if_any state.counts (counter_if_applied state input)).refused ≡ state.counts.refused
+    → (increment_if_any state.counts (counter_for_applied_input state input)).refused ≡ state.counts.refused
 unrefused state =
     of_effect (λ e. (increment_if_any state.counts (counter_in e.disposition)).refused ≡ state.counts.refused) state
     (λ packet. record {
@@ -60,7 +60,7 @@ unrefused state =
     ignores disposition is = ap (λ c. (increment state.counts c).refused) is
 
 -- an applied packet is counted, and a line is not
-packets-counted : (state : State) (packet : Packet) → IsSome (counter_if_applied state (Received packet))
+packets-counted : (state : State) (packet : Packet) → IsSome (counter_for_applied_input state (Received packet))
 packets-counted state packet =
     of_packet (λ e. IsSome (counter_in e.disposition)) state packet (record {
       telegrams = λ t is. record {
@@ -74,7 +74,7 @@ packets-counted state packet =
       hears = λ response. refl;
     })
 
-lines-uncounted : (state : State) (line : List ℕ) → counter_if_applied state (Ordered line) ≡ None
+lines-uncounted : (state : State) (line : List ℕ) → counter_for_applied_input state (Ordered line) ≡ None
 lines-uncounted state line =
     of_line (λ e. counter_in e.disposition ≡ None) state line (record {
       denies = λ name. refl;
@@ -91,7 +91,7 @@ lines-uncounted state line =
 -- the counter of teach-in is incremented exactly when the answer is a teach line
 teach-counted : (state : State) (line : TeachLine) (packet : Packet)
     → texts (packet_effect state packet).desk ≡ text (Teach line)
-    → counter_if_applied state (Received packet) ≡ Some count.Teach
+    → counter_for_applied_input state (Received packet) ≡ Some count.Teach
 teach-counted state line packet =
     of_packet (λ e. texts e.desk ≡ text (Teach line) → counter_in e.disposition ≡ Some count.Teach) state packet
     (record {
@@ -106,7 +106,7 @@ teach-counted state line packet =
       hears = λ response e. absurd (other-line (ResponseLine response) line (λ never. never) e);
     })
 
-counted-answered : (state : State) (packet : Packet) → counter_if_applied state (Received packet) ≡ Some count.Teach
+counted-answered : (state : State) (packet : Packet) → counter_for_applied_input state (Received packet) ≡ Some count.Teach
     → (line : TeachLine) × (texts (packet_effect state packet).desk ≡ text (Teach line))
 counted-answered state packet =
     of_packet (λ e. counter_in e.disposition ≡ Some count.Teach → (line : TeachLine)

@@ -11,7 +11,7 @@ use Rattle.learned_devices.specs.Devices.{DeviceData, Devices, Operation, Learn,
 use Rattle.learned_devices.specs.Devices.{kept_label, data_after}
 use Rattle.learned_devices.specs.Devices.{apply_update, device, learn_update, forget_update, relabel_update}
 use Rattle.learned_devices.proofs.ForCallers.{get-entered}
-use Rattle.gateway_core.specs.Step.{State, Input, Answer, update_of, with_update, state_if_applied}
+use Rattle.gateway_core.specs.Step.{State, Input, Answer, update_of, with_update, state_after_applied_input}
 use Rattle.gateway_core.specs.Run.{InputResult, Applied, Failed, FailedAtCommit, state_after_result, Run}
 use Rattle.gateway_core.specs.Promises.{Promises, IsPromiseKeptBy}
 use Rattle.gateway_core.specs.CrashStates.{CrashStates, nothing_committed_yet, after_committed_update}
@@ -283,37 +283,37 @@ updates_survive_restarts session update sessions last is acknowledged spares are
     let start = initial_state session.base session.found in
     let P = λ (inputs : List Input) (results : List InputResult). Run start inputs results session.answers session.last
     in
-    let whole : Run start (acknowledged.before ++ acknowledged.input ∷ acknowledged.after)
-    (acknowledged.results ++ Applied ∷ acknowledged.more) session.answers session.last =
-    subst (λ results. P (acknowledged.before ++ acknowledged.input
-    ∷ acknowledged.after) results) acknowledged.results_are
+    let whole : Run start (acknowledged.earlier_inputs ++ acknowledged.input ∷ acknowledged.later_inputs)
+    (acknowledged.earlier_results ++ Applied ∷ acknowledged.later_results) session.answers session.last =
+    subst (λ results. P (acknowledged.earlier_inputs ++ acknowledged.input
+    ∷ acknowledged.later_inputs) results) acknowledged.results_are
     (subst (λ inputs. P inputs session.results) acknowledged.inputs_are is.run) in
     let rest =
-    run_on start acknowledged.at session.last acknowledged.before
-    (acknowledged.input ∷ acknowledged.after) acknowledged.results
-    (Applied ∷ acknowledged.more) acknowledged.answers session.answers acknowledged.run whole in
-    let early = crash_states nothing_committed_yet start acknowledged.before acknowledged.results in
+    run_on start acknowledged.state_before session.last acknowledged.earlier_inputs
+    (acknowledged.input ∷ acknowledged.later_inputs) acknowledged.earlier_results
+    (Applied ∷ acknowledged.later_results) acknowledged.earlier_answers session.answers acknowledged.run whole in
+    let early = crash_states nothing_committed_yet start acknowledged.earlier_inputs acknowledged.earlier_results in
     let one =
-    reported_kept Before early acknowledged.at.devices
-    (update_of acknowledged.at acknowledged.input) update acknowledged.asks_for_update
-    (input-promises acknowledged.at acknowledged.input update acknowledged.asks_for_update) in
-    let behind = reported_run acknowledged.at session.last acknowledged.input acknowledged.after acknowledged.more
+    reported_kept Before early acknowledged.state_before.devices
+    (update_of acknowledged.state_before acknowledged.input) update acknowledged.asks_for_update
+    (input-promises acknowledged.state_before acknowledged.input update acknowledged.asks_for_update) in
+    let behind = reported_run acknowledged.state_before session.last acknowledged.input acknowledged.later_inputs acknowledged.later_results
     rest.0 rest.1 in
     let all =
     after_all Before update _
-    (state_if_applied acknowledged.at acknowledged.input) session.last acknowledged.after acknowledged.more
+    (state_after_applied_input acknowledged.state_before acknowledged.input) session.last acknowledged.later_inputs acknowledged.later_results
     behind.0 behind.1 acknowledged.not_overridden_after one in
     let same : crash_states nothing_committed_yet start session.inputs session.results
-    ≡ crash_states (crash_states_after_result early acknowledged.at acknowledged.input Applied)
-    (state_if_applied acknowledged.at acknowledged.input) acknowledged.after
-    acknowledged.more =
+    ≡ crash_states (crash_states_after_result early acknowledged.state_before acknowledged.input Applied)
+    (state_after_applied_input acknowledged.state_before acknowledged.input) acknowledged.later_inputs
+    acknowledged.later_results =
     ap (λ inputs. crash_states nothing_committed_yet start inputs session.results) acknowledged.inputs_are
     ∙ ap (λ results. crash_states nothing_committed_yet start
-    (acknowledged.before ++ acknowledged.input ∷ acknowledged.after) results)
+    (acknowledged.earlier_inputs ++ acknowledged.input ∷ acknowledged.later_inputs) results)
     acknowledged.results_are
-    ∙ left_by-append nothing_committed_yet start acknowledged.at acknowledged.before
-    (acknowledged.input ∷ acknowledged.after) acknowledged.results
-    (Applied ∷ acknowledged.more) acknowledged.answers acknowledged.run in
+    ∙ left_by-append nothing_committed_yet start acknowledged.state_before acknowledged.earlier_inputs
+    (acknowledged.input ∷ acknowledged.later_inputs) acknowledged.earlier_results
+    (Applied ∷ acknowledged.later_results) acknowledged.earlier_answers acknowledged.run in
     let kept = after_stop Before update _ session.last session.interrupted_input acknowledged.crash all in
     lives_keep_found update session.left sessions last are spares
     (kept.safe session.left (subst (λ l. IsCrashConsistent Before (with_interrupted l session.last session.interrupted_input)
@@ -322,6 +322,6 @@ updates_survive_restarts session update sessions last is acknowledged spares are
     reported_run : (at last : State) (input : Input) (later : List Input) (more : List InputResult)
         (answers : List Answer)
         → Run at (input ∷ later) (Applied ∷ more) answers last
-        → (others : List Answer) × Run (state_if_applied at input) later more others last
+        → (others : List Answer) × Run (state_after_applied_input at input) later more others last
     reported_run at last input later more (a ∷ answers) run = (answers, run.2)
     reported_run at last input later more [] run = absurd run

@@ -7,7 +7,7 @@ use Rattle.learned_devices.specs.Devices.{Devices}
 use Rattle.learned_devices.specs.Ranges.{AreInRange, HasDeviceNumbersInRange}
 use Rattle.teach_in.specs.declared.outcome.Outcome.TheVariants.{Accepted, Deleted}
 use Rattle.json_lines.specs.Lines.{HasNumbersInRange, Teach, TeachLine, text}
-use Rattle.gateway_core.specs.Step.{State, Input, Answer, update_of, state_if_applied, device_teach_line}
+use Rattle.gateway_core.specs.Step.{State, Input, Answer, update_of, state_after_applied_input, device_teach_line}
 use Rattle.gateway_core.specs.Run.{InputResult, Run, Applied}
 use Rattle.gateway_core.specs.Sessions.{AreSessions, IsSession, Session, SessionDoesNotOverride, NoneOverrides}
 use Rattle.gateway_core.specs.Sessions.{InterruptedDoesNotOverride, initial_state}
@@ -17,20 +17,20 @@ use Rattle.gateway_core.specs.Reporting.{accepted_or_deleted_update}
 
 -- at one index, a session answered an input with this teach line
 pub record AnswersWithTeachLine (session : Session) (line : TeachLine) : Type 0 where
-  pub before : List Input
+  pub earlier_inputs : List Input
   pub input : Input
-  pub after : List Input
-  pub results : List InputResult
+  pub later_inputs : List Input
+  pub earlier_results : List InputResult
   pub result : InputResult
-  pub more : List InputResult
-  pub answers : List Answer
+  pub later_results : List InputResult
+  pub earlier_answers : List Answer
   pub answer : Answer
-  pub later : List Answer
-  pub inputs_are : session.inputs ≡ before ++ input ∷ after
-  pub results_are : session.results ≡ results ++ result ∷ more
-  pub answers_are : session.answers ≡ answers ++ answer ∷ later
-  pub as_many_results : length before ≡ length results
-  pub as_many_answers : length before ≡ length answers
+  pub later_answers : List Answer
+  pub inputs_are : session.inputs ≡ earlier_inputs ++ input ∷ later_inputs
+  pub results_are : session.results ≡ earlier_results ++ result ∷ later_results
+  pub answers_are : session.answers ≡ earlier_answers ++ answer ∷ later_answers
+  pub as_many_results : length earlier_inputs ≡ length earlier_results
+  pub as_many_answers : length earlier_inputs ≡ length earlier_answers
   pub reported : answer.desk ≡ text (Teach line)
 
 -- The input asks for the acknowledged update of this device, in the state that the run reached before it. The line has
@@ -39,15 +39,15 @@ pub record AnswersWithTeachLine (session : Session) (line : TeachLine) : Type 0 
 -- data of packets are bytes, the device is in range, and a line in range is the line of this device.
 pub record IsDurable (session : Session) (line : TeachLine)
     (answered : AnswersWithTeachLine session line) : Type 0 where
-  pub at : State
+  pub state_before : State
   pub known : Device
-  pub run : Run (initial_state session.base session.found) answered.before answered.results answered.answers at
+  pub run : Run (initial_state session.base session.found) answered.earlier_inputs answered.earlier_results answered.earlier_answers state_before
   pub is_applied : answered.result ≡ Applied
-  pub asks_for_update : update_of at answered.input ≡ Some (accepted_or_deleted_update line.outcome known)
+  pub asks_for_update : update_of state_before answered.input ≡ Some (accepted_or_deleted_update line.outcome known)
   pub same_text : text (Teach line) ≡ text (Teach (device_teach_line known line.outcome))
   pub later_sessions_keep : NoneOverrides (accepted_or_deleted_update line.outcome known)
-      (state_if_applied at answered.input)
-      answered.after answered.more
+      (state_after_applied_input state_before answered.input)
+      answered.later_inputs answered.later_results
       → InterruptedDoesNotOverride (accepted_or_deleted_update line.outcome known) session.last session.interrupted_input
       → (sessions : List Session) (last : Devices)
       → AllByRecursion (SessionDoesNotOverride (accepted_or_deleted_update line.outcome known)) sessions

@@ -34,7 +34,7 @@ use Rattle.json_lines.specs.declared.packet.ShownPacket.TheVariants as shown_as
 use Rattle.gateway_core.specs.declared.disposition.Disposition.{Disposition}
 use Rattle.gateway_core.specs.Dispositions.{eep_in_query, maker_in_query}
 use Rattle.gateway_core.specs.Profiles.{read_by}
-use Rattle.gateway_core.specs.Step.{State, Received, answer_if_applied, update_of, is_learned}
+use Rattle.gateway_core.specs.Step.{State, Received, answer_to_applied_input, update_of, is_learned}
 
 -- the packet carries this telegram, which is addressed to us
 pub record IsNotFilteredOut (state : State) (packet : Packet) (t : Telegram) : Type 0 where
@@ -168,7 +168,7 @@ Shows packet disposition (shown_as.WithoutTelegram kind size) =
 pub record IsTrulyExplained (state : State) (packet : Packet) : Type 0 where
   pub disposition : Disposition
   pub line : PacketLine
-  pub explanation : (answer_if_applied state (Received packet)).explanation ≡ packet_text line
+  pub explanation : (answer_to_applied_input state (Received packet)).explanation ≡ packet_text line
   pub same_why : line.why ≡ disposition.why
   pub shows : Shows packet disposition line.packet
   pub why_is_true : WhyIsTrue state packet disposition disposition.why

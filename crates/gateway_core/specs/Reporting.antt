@@ -22,7 +22,7 @@ use Rattle.actuator_commands.specs.Packets.{order_telegram, recipient_id}
 use Rattle.json_lines.specs.declared.error_lines.ErrorName.TheVariants.{Order as OrderError}
 use Rattle.json_lines.specs.Lines.{TeachLine, Teach, Done, Error, text}
 use Rattle.gateway_core.specs.Step.{State, Input, Received, Ordered, Effect, effect, device_teach_line}
-use Rattle.gateway_core.specs.Step.{answer_if_applied}
+use Rattle.gateway_core.specs.Step.{answer_to_applied_input}
 use Rattle.gateway_core.specs.Step.{update_of}
 use Rattle.gateway_core.specs.Step.{base_id_request, recipient_device}
 use Rattle.gateway_core.specs.Run.{InputResult, Applied, answer_for_result}
@@ -68,7 +68,7 @@ pub record AcknowledgesLabel (state : State) (input : Input) (update : DeviceUpd
   pub spelled : order_of line ≡ Ok (Label id label)
   pub is_known : IsSome (device_of state.devices id)
   pub gives : update ≡ relabel_update id label
-  pub reported : (answer_if_applied state input).desk ≡ text Done
+  pub reported : (answer_to_applied_input state input).desk ≡ text Done
 
 -- and an applied input that asks for an update is answered with the line that reports it, or with `ok` if it sets a
 -- label
@@ -89,8 +89,8 @@ pub record LabelAnswersAreTrue (state : State) (line : List ℕ) (id : ℕ) (lab
       ≡ text (Error (OrderError UnknownDevice))
       → (result ≡ Applied) × (device_of state.devices id ≡ None) × (update_of state (Ordered line) ≡ None)
   pub answers : length line ≤ max_line
-      → ((answer_if_applied state (Ordered line)).desk ≡ text Done)
-      ⊎ ((answer_if_applied state (Ordered line)).desk ≡ text (Error (OrderError UnknownDevice)))
+      → ((answer_to_applied_input state (Ordered line)).desk ≡ text Done)
+      ⊎ ((answer_to_applied_input state (Ordered line)).desk ≡ text (Error (OrderError UnknownDevice)))
 
 abbrev pub AnswersToLabelsAreTrue : Type 0
 AnswersToLabelsAreTrue = (state : State) (line : List ℕ) (id : ℕ) (label : List ℕ) → order_of line ≡ Ok (Label id label)
@@ -114,7 +114,7 @@ pub record RepliesTo (state : State) (input : Input) (bytes : List ℕ) : Type 0
   pub telegram : Telegram
   pub carried : telegram_of packet ≡ Ok telegram
   pub line : TeachLine
-  pub reported : (answer_if_applied state input).desk ≡ text (Teach line)
+  pub reported : (answer_to_applied_input state input).desk ≡ text (Teach line)
   pub reply : Telegram
   pub says : IsReplyTelegram state telegram line.outcome reply
   pub bytes_are : bytes ≡ spelling (radio_packet reply)
@@ -132,7 +132,7 @@ pub record SendsAsOrdered (state : State) (input : Input) (bytes : List ℕ) : T
   pub ordered : input ≡ Ordered line
   pub order : Order
   pub spelled : order_of line ≡ Ok order
-  pub reported : (answer_if_applied state input).desk ≡ text Done
+  pub reported : (answer_to_applied_input state input).desk ≡ text Done
   pub packet : Packet
   pub is_packet : IsSentByOrder state order packet
   pub bytes_are : bytes ≡ spelling packet

@@ -7,9 +7,9 @@ use Rattle.json_lines.specs.Counts.{increment, saturated_sum}
 use Rattle.json_lines.specs.Lines.{Error, text}
 use Rattle.gateway_core.specs.Dispositions.{without_device}
 use Rattle.gateway_core.specs.Step.{State, Input, Answer, with_packet_line, packet_line_for, text_answer}
-use Rattle.gateway_core.specs.Step.{answer_if_applied}
+use Rattle.gateway_core.specs.Step.{answer_to_applied_input}
 use Rattle.gateway_core.specs.Step.{update_of, need_of}
-use Rattle.gateway_core.specs.Step.{state_if_applied}
+use Rattle.gateway_core.specs.Step.{state_after_applied_input}
 use Rattle.gateway_core.specs.Step.{Cause, Memory, Store, MayFailFor}
 
 -- An input is applied, or it fails: `FailedAtCommit` if the call of the device store that commits its update failed,
@@ -36,7 +36,7 @@ failure_answer input cause =
 
 -- the answer to an input with this result
 abbrev pub answer_for_result : State → Input → InputResult → Answer
-answer_for_result state input Applied = answer_if_applied state input
+answer_for_result state input Applied = answer_to_applied_input state input
 answer_for_result state input (Failed cause) = failure_answer input cause
 answer_for_result state input (FailedAtCommit cause) = failure_answer input cause
 
@@ -46,7 +46,7 @@ state_after_failure state = record state { counts = increment state.counts count
 
 -- the state after an input with this result
 abbrev pub state_after_result : State → Input → InputResult → State
-state_after_result state input Applied = state_if_applied state input
+state_after_result state input Applied = state_after_applied_input state input
 state_after_result state input (Failed cause) = state_after_failure state
 state_after_result state input (FailedAtCommit cause) = state_after_failure state
 

@@ -5,7 +5,7 @@ use Rattle.std.specs.FinMap.{get}
 use Rattle.learned_devices.specs.Devices.{Devices, DeviceUpdate}
 use Rattle.teach_in.specs.declared.mode.Mode.TheVariants.{Closed}
 use Rattle.json_lines.specs.Counts.{zero_counts}
-use Rattle.gateway_core.specs.Step.{State, Input, Answer, update_of, state_if_applied}
+use Rattle.gateway_core.specs.Step.{State, Input, Answer, update_of, state_after_applied_input}
 use Rattle.gateway_core.specs.Run.{InputResult, Applied, Failed, FailedAtCommit, state_after_result, Run}
 use Rattle.gateway_core.specs.Promises.{Promises, IsPromiseKeptBy}
 use Rattle.gateway_core.specs.CrashStates.{CrashStates, nothing_committed_yet, with_pending_update, crash_states}
@@ -73,18 +73,18 @@ SessionDoesNotOverride it session = NoneOverrides it (initial_state session.base
 
 -- the session acknowledged the update, and then nothing in it overrode what that guarantees
 pub record AcknowledgesAndKeeps (session : Session) (update : DeviceUpdate) : Type 0 where
-  pub before : List Input
+  pub earlier_inputs : List Input
   pub input : Input
-  pub after : List Input
-  pub results : List InputResult
-  pub more : List InputResult
-  pub answers : List Answer
-  pub at : State
-  pub inputs_are : session.inputs ≡ before ++ input ∷ after
-  pub results_are : session.results ≡ results ++ Applied ∷ more
-  pub run : Run (initial_state session.base session.found) before results answers at
-  pub asks_for_update : update_of at input ≡ Some update
-  pub not_overridden_after : NoneOverrides update (state_if_applied at input) after more
+  pub later_inputs : List Input
+  pub earlier_results : List InputResult
+  pub later_results : List InputResult
+  pub earlier_answers : List Answer
+  pub state_before : State
+  pub inputs_are : session.inputs ≡ earlier_inputs ++ input ∷ later_inputs
+  pub results_are : session.results ≡ earlier_results ++ Applied ∷ later_results
+  pub run : Run (initial_state session.base session.found) earlier_inputs earlier_results earlier_answers state_before
+  pub asks_for_update : update_of state_before input ≡ Some update
+  pub not_overridden_after : NoneOverrides update (state_after_applied_input state_before input) later_inputs later_results
   pub crash : InterruptedDoesNotOverride update session.last session.interrupted_input
 
 -- theorem `updates_survive_restarts`: every later session finds what an acknowledged update guarantees, until an input

@@ -367,8 +367,8 @@ abbrev pub with_packet_line : Option PacketLine → Answer → Answer
 with_packet_line line = with_explanation (explanation line)
 
 -- the answer to an applied input
-abbrev pub answer_if_applied : State → Input → Answer
-answer_if_applied state input =
+abbrev pub answer_to_applied_input : State → Input → Answer
+answer_to_applied_input state input =
     with_packet_line (packet_line_for input (effect state input).disposition) (unexplained_answer (effect state input))
 
 -- the counter that a disposition increments
@@ -376,8 +376,8 @@ abbrev pub counter_in : Option Disposition → Option Counter
 counter_in = option_map (λ disposition. counter_for disposition.why)
 
 -- the counter that an applied input increments: each packet increments one, an order none. Own choice
-abbrev pub counter_if_applied : State → Input → Option Counter
-counter_if_applied state input = counter_in (effect state input).disposition
+abbrev pub counter_for_applied_input : State → Input → Option Counter
+counter_for_applied_input state input = counter_in (effect state input).disposition
 
 -- the update that an input asks for: of one sender
 abbrev pub update_of : State → Input → Option DeviceUpdate
@@ -400,11 +400,11 @@ abbrev pub with_mode : Mode → Option Mode → Mode
 with_mode mode set = unwrap_or set mode
 
 -- the state after an applied input
-abbrev pub state_if_applied : State → Input → State
-state_if_applied state input =
+abbrev pub state_after_applied_input : State → Input → State
+state_after_applied_input state input =
     record {
       base = state.base;
       mode = with_mode state.mode (new_mode_of state input);
-      counts = increment_if_any state.counts (counter_if_applied state input);
+      counts = increment_if_any state.counts (counter_for_applied_input state input);
       devices = with_update state.devices (update_of state input);
     }

@@ -70,7 +70,12 @@ fn serve<C: SqlConnection + Drop>(
 {
     let mut gateway = start(rt.alloc(), conn, plan.base, MAX_CACHED)?;
     let served = match plan.service {
-        Service::Replay { reads } => Ok(replay_standard(rt, &mut gateway, plan.explain, reads)),
+        Service::Replay { reads } => Ok(replay_standard(
+            rt,
+            &mut gateway,
+            plan.explain_packets,
+            reads,
+        )),
         Service::Live {
             serial,
             desk,
@@ -78,7 +83,7 @@ fn serve<C: SqlConnection + Drop>(
             turns,
         } => {
             let files = (serial, desk, out);
-            live_on_files(rt, files, &mut gateway, plan.explain, turns)
+            live_on_files(rt, files, &mut gateway, plan.explain_packets, turns)
         }
     };
     Ok((gateway.close(), served))

@@ -43,7 +43,7 @@ const TAKEN: [Taken; 14] = [
         wanted: Options {
             base: 0xFF80_0000,
             db: None,
-            explain: false,
+            explain_packets: false,
             task: Task::Replay,
         },
     },
@@ -52,7 +52,7 @@ const TAKEN: [Taken; 14] = [
         wanted: Options {
             base: 0xFFFF_FF80,
             db: None,
-            explain: false,
+            explain_packets: false,
             task: Task::Replay,
         },
     },
@@ -61,7 +61,7 @@ const TAKEN: [Taken; 14] = [
         wanted: Options {
             base: 0xFF80_0000,
             db: Some("x.db"),
-            explain: false,
+            explain_packets: false,
             task: Task::Replay,
         },
     },
@@ -70,7 +70,7 @@ const TAKEN: [Taken; 14] = [
         wanted: Options {
             base: 0xFF80_0000,
             db: Some("a/b"),
-            explain: false,
+            explain_packets: false,
             task: Task::Replay,
         },
     },
@@ -79,7 +79,7 @@ const TAKEN: [Taken; 14] = [
         wanted: Options {
             base: 0xFF80_0000,
             db: None,
-            explain: true,
+            explain_packets: true,
             task: Task::Replay,
         },
     },
@@ -88,7 +88,7 @@ const TAKEN: [Taken; 14] = [
         wanted: Options {
             base: 0xFF80_0000,
             db: Some("x.db"),
-            explain: true,
+            explain_packets: true,
             task: Task::Replay,
         },
     },
@@ -97,7 +97,7 @@ const TAKEN: [Taken; 14] = [
         wanted: Options {
             base: 0xFF80_0000,
             db: Some("--explain"),
-            explain: false,
+            explain_packets: false,
             task: Task::Replay,
         },
     },
@@ -106,7 +106,7 @@ const TAKEN: [Taken; 14] = [
         wanted: Options {
             base: 0xFF80_0000,
             db: None,
-            explain: false,
+            explain_packets: false,
             task: Task::Live(LiveOptions {
                 serial: "/dev/s",
                 desk: "in/d",
@@ -120,7 +120,7 @@ const TAKEN: [Taken; 14] = [
         wanted: Options {
             base: 0xFF80_0000,
             db: None,
-            explain: false,
+            explain_packets: false,
             task: Task::Live(LiveOptions {
                 serial: "/dev/s",
                 desk: "in/d",
@@ -134,7 +134,7 @@ const TAKEN: [Taken; 14] = [
         wanted: Options {
             base: 0xFF80_0000,
             db: Some("x.db"),
-            explain: false,
+            explain_packets: false,
             task: Task::Live(LiveOptions {
                 serial: "/dev/s",
                 desk: "in/d",
@@ -148,7 +148,7 @@ const TAKEN: [Taken; 14] = [
         wanted: Options {
             base: 0xFF80_0000,
             db: Some("a/b"),
-            explain: false,
+            explain_packets: false,
             task: Task::Live(LiveOptions {
                 serial: "/dev/s",
                 desk: "in/d",
@@ -162,7 +162,7 @@ const TAKEN: [Taken; 14] = [
         wanted: Options {
             base: 0xFF80_0000,
             db: None,
-            explain: false,
+            explain_packets: false,
             task: Task::Live(LiveOptions {
                 serial: "/dev/s",
                 desk: "in/d",
@@ -176,7 +176,7 @@ const TAKEN: [Taken; 14] = [
         wanted: Options {
             base: 0xFF80_0000,
             db: None,
-            explain: true,
+            explain_packets: true,
             task: Task::Live(LiveOptions {
                 serial: "/dev/s",
                 desk: "in/d",
@@ -190,7 +190,7 @@ const TAKEN: [Taken; 14] = [
         wanted: Options {
             base: 0xFF80_0000,
             db: Some("x.db"),
-            explain: true,
+            explain_packets: true,
             task: Task::Live(LiveOptions {
                 serial: "/dev/s",
                 desk: "in/d",
@@ -443,13 +443,13 @@ const PLANNED: [Planned; 2] = [
         options: Options {
             base: 0xFFA1_B280,
             db: Some("x.db"),
-            explain: true,
+            explain_packets: true,
             task: Task::Replay,
         },
         plan: Plan {
             db: Some("x.db"),
             base: 0xFFA1_B280,
-            explain: true,
+            explain_packets: true,
             service: Service::Replay {
                 reads: 4_000_000_000,
             },
@@ -459,7 +459,7 @@ const PLANNED: [Planned; 2] = [
         options: Options {
             base: 0xFF80_0000,
             db: None,
-            explain: false,
+            explain_packets: false,
             task: Task::Live(LiveOptions {
                 serial: "/dev/s",
                 desk: "in/d",
@@ -470,7 +470,7 @@ const PLANNED: [Planned; 2] = [
         plan: Plan {
             db: None,
             base: 0xFF80_0000,
-            explain: false,
+            explain_packets: false,
             service: Service::Live {
                 serial: FileToOpen {
                     path: "/dev/s",
