@@ -1,3 +1,3 @@
 pub mod Bases
 pub mod CommandLine
-pub mod Plan
+pub mod Service

@@ -1,10 +1,10 @@
-//! The command line of the program `enogate`, parsed by `clap`, and the plan of a run.
+//! The command line of the program `enogate`, parsed by `clap`, and the service that it asks for.
 #![tactic(auto)]
 
 mod commands;
 mod limits;
 mod option_values;
-mod plan;
+mod service;
 
 ghost use Rattle.std.specs.Prelude.{◌≡◌, ◌⊎◌, IfOk, IfErr, OnOk, Some, map, option_map, true};
 ghost use Rattle.std.specs.String.{string_bytes};
@@ -18,7 +18,7 @@ ghost use Rattle.gateway_cli.specs.CommandLine.{enogate_app, explain_of_command_
 use clap::Error;
 use commands::command;
 use option_values::{base_value, explain_flag, task_value, text_value};
-pub use plan::{Access, FileToOpen, Plan, Service};
+pub use service::{Access, FileToOpen, Service};
 use std::alloc::{AllocError, Global};
 
 /// The task that the command line names, and its options.

@@ -1,4 +1,4 @@
-//! The parser of the command line, and the plan of a run, re-exported.
+//! The parser of the command line, re-exported.
 pub use gateway_cli::{
-    Access, CommandLineFault, FileToOpen, LiveOptions, Options, Plan, Service, Task, read,
+    Access, CommandLineFault, FileToOpen, LiveOptions, Options, Service, Task, read,
 };

@@ -12,7 +12,7 @@ use crate::gateway_start::start;
 use crate::registry_gateway::{live, replay};
 use byte_io::{OverRead, OverWrite};
 use device_registry::{MAX_CACHED, RegistryOver, SqlConnection};
-use gateway_cli::{Access, FileToOpen, Plan, Service};
+use gateway_cli::{Access, FileToOpen, Options, Service};
 use gateway_core::GatewayOver;
 use gateway_loop::{RunFault, Summary};
 use sqlite::Connection;
@@ -36,44 +36,44 @@ pub fn program(rt: &HostRuntime) -> ExitCode {
 fn run_command_line(rt: &HostRuntime) -> Result<(), Ending> {
     let words = arguments_of(rt).map_err(|error| ending_without_arguments(&error))?;
     let options = command_line::read(rt.alloc(), words.as_slice())?;
-    Ok(run(rt, options.plan())?)
+    Ok(run(rt, &options)?)
 }
 
 fn arguments_of(rt: &HostRuntime) -> io::Result<Vec<String>> {
     Ok(env::args(rt)?.collect(rt.alloc())?)
 }
 
-/// Carries out the plan.
-fn run(rt: &HostRuntime, plan: Plan<'_>) -> Result<(), Fault>
-    requires base { Address.is_base_id plan.base ≡ true }
+/// Opens the database, serves, and closes the database.
+fn run(rt: &HostRuntime, options: &Options<'_>) -> Result<(), Fault>
+    requires base { Address.is_base_id options.now.base ≡ true }
 {
-    match plan.db {
+    match options.db {
         None => {
-            let (_, served) = serve(rt, Connection::open_in_memory(rt.alloc())?, plan)?;
+            let (_, served) = serve(rt, Connection::open_in_memory(rt.alloc())?, options)?;
             done_or_first_fault(served, Ok(()))
         }
         Some(path) => {
-            let (conn, served) = serve(rt, Connection::open(rt, path)?, plan)?;
+            let (conn, served) = serve(rt, Connection::open(rt, path)?, options)?;
             done_or_first_fault(served, conn.close())
         }
     }
 }
 
-/// Makes the plan's gateway over a database, lets it serve, and returns the connection.
+/// Makes the gateway over a database, lets it serve, and returns the connection.
 fn serve<C: SqlConnection + Drop>(
     rt: &HostRuntime,
     conn: C,
-    plan: Plan<'_>,
+    options: &Options<'_>,
 ) -> Result<(C, RunResultIfOpened), Fault>
-    requires base { Address.is_base_id plan.base ≡ true }
+    requires base { Address.is_base_id options.now.base ≡ true }
     requires idle { (C.state conn).in_transaction ≡ false }
 {
-    let mut gateway = start(rt.alloc(), conn, plan.base, MAX_CACHED)?;
-    let served = match plan.service {
+    let mut gateway = start(rt.alloc(), conn, options.base, MAX_CACHED)?;
+    let served = match options.service() {
         Service::Replay { reads } => Ok(replay_standard(
             rt,
             &mut gateway,
-            plan.explain_packets,
+            options.explain_packets,
             reads,
         )),
         Service::Live {
@@ -83,7 +83,7 @@ fn serve<C: SqlConnection + Drop>(
             turns,
         } => {
             let files = (serial, desk, out);
-            live_on_files(rt, files, &mut gateway, plan.explain_packets, turns)
+            live_on_files(rt, files, &mut gateway, options.explain_packets, turns)
         }
     };
     Ok((gateway.close(), served))

@@ -1,7 +1,7 @@
 //! Command lines that are accepted and that are rejected, and the texts of help and version.
 use clap::error::ErrorKind;
 use gateway_cli::{
-    Access, CommandLineFault, FileToOpen, LiveOptions, Options, Plan, Service, Task, read,
+    Access, CommandLineFault, FileToOpen, LiveOptions, Options, Service, Task, read,
 };
 use std::test::Fail;
 
@@ -432,30 +432,25 @@ fn texts_reported(rt: HostRuntime) -> Result<(), Fail> {
     Ok(())
 }
 
-/// Options, and their plan.
-struct Planned {
+/// Options, and the service that they ask for.
+struct ServiceCase {
     options: Options<'static>,
-    plan: Plan<'static>,
+    service: Service<'static>,
 }
 
-const PLANNED: [Planned; 2] = [
-    Planned {
+const SERVICE_CASES: [ServiceCase; 2] = [
+    ServiceCase {
         options: Options {
             base: 0xFFA1_B280,
             db: Some("x.db"),
             explain_packets: true,
             task: Task::Replay,
         },
-        plan: Plan {
-            db: Some("x.db"),
-            base: 0xFFA1_B280,
-            explain_packets: true,
-            service: Service::Replay {
-                reads: 4_000_000_000,
-            },
+        service: Service::Replay {
+            reads: 4_000_000_000,
         },
     },
-    Planned {
+    ServiceCase {
         options: Options {
             base: 0xFF80_0000,
             db: None,
@@ -467,32 +462,27 @@ const PLANNED: [Planned; 2] = [
                 turns: 4_294_967_295,
             }),
         },
-        plan: Plan {
-            db: None,
-            base: 0xFF80_0000,
-            explain_packets: false,
-            service: Service::Live {
-                serial: FileToOpen {
-                    path: "/dev/s",
-                    access: Access::ReadAndWrite,
-                },
-                desk: FileToOpen {
-                    path: "in/d",
-                    access: Access::Read,
-                },
-                out: FileToOpen {
-                    path: "o",
-                    access: Access::WriteAnew,
-                },
-                turns: 4_294_967_295,
+        service: Service::Live {
+            serial: FileToOpen {
+                path: "/dev/s",
+                access: Access::ReadAndWrite,
             },
+            desk: FileToOpen {
+                path: "in/d",
+                access: Access::Read,
+            },
+            out: FileToOpen {
+                path: "o",
+                access: Access::WriteAnew,
+            },
+            turns: 4_294_967_295,
         },
     },
 ];
 
 #[test]
-fn plans(rt: HostRuntime) {
-    for (row, case) in PLANNED.iter().enumerate() {
-        assert_eq!(rt; case.options.plan(), case.plan, "row {row}");
+fn services(rt: HostRuntime) {
+    for (row, case) in SERVICE_CASES.iter().enumerate() {
+        assert_eq!(rt; case.options.service(), case.service, "row {row}");
     }
 }
