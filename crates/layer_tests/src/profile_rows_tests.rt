@@ -1,12 +1,10 @@
 //! A number for each kind of row, with its meaning; the rows whose conditions hold; and which profiles an arm reads.
 use crate::readings::Wanted::{OutOfRange, Raw, Value, Word};
 use crate::readings::is_said;
-use erp1_telegrams::Eep;
-use profile_rows::profile::is_one_of;
 use profile_rows::rows::{
     number, over, over_power, percent_or_word_127, range, reserved, threshold, words,
 };
-use profile_rows::{Reading, Readings, What, read_rows};
+use profile_rows::{Reading, Readings, What, read_profiles, read_rows};
 
 #[test]
 fn numbers(rt: HostRuntime) {
@@ -73,11 +71,12 @@ fn two_types(rt: HostRuntime) {
         ((0xD2, 0x12, 0x03), false),
     ];
     for ((rorg, func, typ), wanted) in cases {
-        let eep = Eep::new(rorg, func, typ);
-        assert_eq!(rt;
-            is_one_of(eep, 0xA5, 0x12, &[0x02, 0x03]),
-            wanted,
-            "{func} {typ}"
-        );
+        let readings = &mut Readings::new();
+        let bytes = &[0; 4];
+        let is_read = read_profiles! { readings, (rorg, func, typ), bytes, 4;
+            (0xA5, 0x12, 0x02 | 0x03) => { "TI" (24, 4) [] number(); }
+        };
+        assert_eq!(rt; is_read, wanted, "{func} {typ}");
+        assert_eq!(rt; readings.is_empty(), !wanted, "{func} {typ}");
     }
 }

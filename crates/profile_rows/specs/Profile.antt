@@ -12,7 +12,7 @@ pub record ProfileGroup : Type 0 where
   pub rows : List Row
 
 -- the profile has this RORG and FUNC, and one of these types
-unfoldable pub is_one_of : (rorg func : ℕ) (types : List ℕ) → Eep → Bool
+abbrev pub is_one_of : (rorg func : ℕ) (types : List ℕ) → Eep → Bool
 is_one_of rorg func types eep = eep.rorg == rorg && eep.func == func && list_any (λ typ. eep.typ == typ) types
 
 -- the rows of a profile, if a table has it

@@ -2,7 +2,6 @@
 #![tactic(auto)]
 
 mod macros;
-pub mod profile;
 mod reading;
 pub mod rows;
 mod unreadable;

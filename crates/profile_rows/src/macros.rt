@@ -41,26 +41,28 @@ macro_rules! read_rows {
     };
 }
 
-/// Sets `readings: &mut Readings` to what the rows of the first arm that names the profile read, and returns whether
-/// there is such an arm. If not, `readings` does not change. An arm is written as
-/// `(RORG, FUNC, [TYPE, ..]) => { rows }`. Example, for `eep: Eep` and `bytes: &[u8; 1]`:
+/// Sets `readings: &mut Readings` to what the rows of the first arm that matches a value read, and returns whether there
+/// is such an arm. If not, `readings` does not change. The value is a profile, as `(RORG, FUNC, TYPE)`, or the type of a
+/// profile whose RORG and FUNC are known; an arm is written as `pattern => { rows }`. Example, for `eep: Eep` and
+/// `bytes: &[u8; 1]`:
 ///
 /// ```text
-/// read_profiles! { readings, eep, bytes, 1;
-///     (0xD5, 0x00, [0x01]) => { "CO" (7, 1) [] words(&[(0, "open"), (1, "closed")]); }
+/// read_profiles! { readings, (eep.rorg, eep.func, eep.typ), bytes, 1;
+///     (0xD5, 0x00, 0x01) => { "CO" (7, 1) [] words(&[(0, "open"), (1, "closed")]); }
 /// }
 /// ```
 #[macro_export]
 macro_rules! read_profiles {
     (
-        $readings:ident, $eep:ident, $bytes:ident, $n:literal;
-        $(($rorg:literal, $func:literal, $types:tt) => { $($row:tt)* })*
+        $readings:ident, $profile:expr, $bytes:ident, $n:literal;
+        $($pattern:pat => { $($row:tt)* })*
     ) => {
-        $(if $crate::profile::is_one_of($eep, $rorg, $func, &$types) {
-            $crate::read_rows! { $readings, $bytes, $n; $($row)* }
-            true
-        } else)* {
-            false
+        match $profile {
+            $($pattern => {
+                $crate::read_rows! { $readings, $bytes, $n; $($row)* }
+                true
+            })*
+            _ => false,
         }
     };
 }

@@ -9,7 +9,6 @@ use Rattle.erp1_telegrams.specs.declared.contents.Contents.{Contents}
 use Rattle.erp1_telegrams.specs.declared.contents.Contents.TheVariants.{Rps, OneBs, FourBs, Vld, Ute}
 use Rattle.erp1_telegrams.specs.declared.eep.Eep.{Eep}
 use Rattle.profile_rows.specs.Payload.{is_data, readings_by}
-use Rattle.profile_rows.specs.Profile.{is_one_of}
 use Rattle.profile_rows.specs.declared.unreadable.Unreadable.TheVariants as refusals
 use Rattle.profile_rows.proofs.ForCallers.{of-data, of-teach-in, of-other}
 use Rattle.profile_rows.specs.Rows.{entries_of}
@@ -17,7 +16,7 @@ use Rattle.profiles_4bs.specs.Profiles.{rows_of, readings_of}
 
 -- no profile of another RORG has rows
 no-rows : (eep : Eep) → (eep.rorg ≡ 0xA5 → ⊥) → rows_of eep ≡ None
-unfolding rows_of is_one_of
+unfolding rows_of
 no-rows eep other = rw (ne_eqb eep.rorg 0xA5 other) refl
 
 -- only 4BS has the RORG A5

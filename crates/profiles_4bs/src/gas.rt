@@ -7,17 +7,16 @@ ghost use Rattle.profile_rows.specs.Profile.{rows_in};
 ghost use Rattle.profile_rows.specs.Rows.{entries_of};
 ghost use Rattle.profiles_4bs.specs.Gas.{gas_profiles};
 
-use erp1_telegrams::Eep;
 use profile_rows::{Readings, read_profiles};
 
 /// Sets `readings` to what the rows of a profile A5-09 read in a payload, and returns whether the profile has rows.
-pub(crate) fn read_if_supported(eep: Eep, bytes: &[u8; 4], readings: &mut Readings) -> bool
+pub(crate) fn read_if_supported(typ: u8, bytes: &[u8; 4], readings: &mut Readings) -> bool
     ensures exact { entries_if result readings.new.items ≡ option_map (entries_of bytes.now)
-        (rows_in gas_profiles eep) }
+        (rows_in gas_profiles (record { rorg = 0xA5; func = 0x09; typ = typ })) }
     ensures none { OnFalse result (readings.new ≡ readings.old) }
 {
-    read_profiles! { readings, eep, bytes, 4;
-        (0xA5, 0x09, [0x04]) => {
+    read_profiles! { readings, typ, bytes, 4;
+        0x04 => {
             "HUM" (0, 8) [(29, 1) = 1] range(0, 200, 0, 1000, "%");
             "CONC" (8, 8) [] range(0, 255, 0, 25500, "ppm");
             "TMP" (16, 8) [(30, 1) = 1] range(0, 255, 0, 510, "C");

@@ -17,20 +17,20 @@ use profile_rows::{Readings, Unreadable};
 
 /// Sets `readings` to what the rows of a profile read in a payload, and returns whether the profile has rows. Each
 /// function has the profiles of one FUNC.
-#[tactic(auto, unfolding(crate::specs::Profiles::rows_of, profile_rows::specs::Profile::is_one_of))]
+#[tactic(auto, unfolding(crate::specs::Profiles::rows_of))]
 fn read_if_supported(eep: Eep, bytes: &[u8; 4], readings: &mut Readings) -> bool
     ensures exact { entries_if result readings.new.items ≡ option_map (entries_of bytes.now) (rows_of eep) }
     ensures none { OnFalse result (readings.new ≡ readings.old) }
 {
-    match eep.func {
-        0x02 => temperature::read_if_supported(eep, bytes, readings),
-        0x04 => humidity::read_if_supported(eep, bytes, readings),
-        0x06 => light::read_if_supported(eep, bytes, readings),
-        0x07 => occupancy::read_if_supported(eep, bytes, readings),
-        0x08 => light_temperature_occupancy::read_if_supported(eep, bytes, readings),
-        0x09 => gas::read_if_supported(eep, bytes, readings),
-        0x10 => room_operating_panel::read_if_supported(eep, bytes, readings),
-        0x12 => meter::read_if_supported(eep, bytes, readings),
+    match (eep.rorg, eep.func) {
+        (0xA5, 0x02) => temperature::read_if_supported(eep.typ, bytes, readings),
+        (0xA5, 0x04) => humidity::read_if_supported(eep.typ, bytes, readings),
+        (0xA5, 0x06) => light::read_if_supported(eep.typ, bytes, readings),
+        (0xA5, 0x07) => occupancy::read_if_supported(eep.typ, bytes, readings),
+        (0xA5, 0x08) => light_temperature_occupancy::read_if_supported(eep.typ, bytes, readings),
+        (0xA5, 0x09) => gas::read_if_supported(eep.typ, bytes, readings),
+        (0xA5, 0x10) => room_operating_panel::read_if_supported(eep.typ, bytes, readings),
+        (0xA5, 0x12) => meter::read_if_supported(eep.typ, bytes, readings),
         _ => false,
     }
 }

@@ -9,7 +9,6 @@ use Rattle.erp1_telegrams.specs.declared.contents.Contents.{Contents}
 use Rattle.erp1_telegrams.specs.declared.contents.Contents.TheVariants.{Rps, OneBs, FourBs, Vld, Ute}
 use Rattle.erp1_telegrams.specs.declared.eep.Eep.{Eep}
 use Rattle.profile_rows.specs.Payload.{is_data, readings_by}
-use Rattle.profile_rows.specs.Profile.{is_one_of}
 use Rattle.profile_rows.specs.declared.unreadable.Unreadable.TheVariants as refusals
 use Rattle.profile_rows.proofs.ForCallers.{of-data, of-teach-in, of-other}
 use Rattle.profile_rows.specs.Rows.{rows_entries}
@@ -17,7 +16,7 @@ use Rattle.profiles_rps.specs.Profiles.{rows_of, readings_of}
 
 -- no profile of another RORG has rows
 no-rows : (eep : Eep) → (eep.rorg ≡ 0xF6 → ⊥) → (eep.rorg ≡ 0xD5 → ⊥) → rows_of eep ≡ None
-unfolding rows_of is_one_of
+unfolding rows_of
 no-rows eep rps one = rw (ne_eqb eep.rorg 0xF6 rps, ne_eqb eep.rorg 0xD5 one) refl
 
 -- only RPS has the RORG F6

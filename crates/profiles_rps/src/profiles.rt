@@ -29,30 +29,30 @@ const ROCKERS_ABCD: [(u32, &str); 8] = [
 
 /// Sets `readings` to what the rows of a profile read in a payload, and returns whether the profile has rows. A payload
 /// for a 1BS profile is data: its LRN bit, the condition of the rows, is 1 and is not read here.
-#[tactic(auto, unfolding(crate::specs::Profiles::rows_of, profile_rows::specs::Profile::is_one_of))]
+#[tactic(auto, unfolding(crate::specs::Profiles::rows_of))]
 fn read_if_supported(eep: Eep, status: u8, bytes: &[u8; 1], readings: &mut Readings) -> bool
     requires { eep.rorg ≡ 0xD5 → field bytes.now 4 1 ≡ 1 }
     ensures exact { entries_if result readings.new.items ≡ option_map (rows_entries status bytes.now) (rows_of eep) }
     ensures none { OnFalse result (readings.new ≡ readings.old) }
 {
     let nu = get::<1, 3, 1>(&[status]);
-    read_profiles! { readings, eep, bytes, 1;
-        (0xF6, 0x01, [0x01]) => {
+    read_profiles! { readings, (eep.rorg, eep.func, eep.typ), bytes, 1;
+        (0xF6, 0x01, 0x01) => {
             "PB" (3, 1) [] words(&RELEASED_OR_PRESSED);
         }
-        (0xF6, 0x02, [0x01, 0x02]) => {
+        (0xF6, 0x02, 0x01 | 0x02) => {
             "R1" (0, 3) [nu = 1] words(&ROCKERS_AB);
             "buttons" (0, 3) [nu = 0] words(&[(0, "none"), (3, "three_or_four")]);
             "EB" (3, 1) [] words(&RELEASED_OR_PRESSED);
             "R2" (4, 3) [nu = 1 and (7, 1) = 1] words(&ROCKERS_AB);
         }
-        (0xF6, 0x03, [0x01, 0x02]) => {
+        (0xF6, 0x03, 0x01 | 0x02) => {
             "R1" (0, 3) [nu = 1] words(&ROCKERS_ABCD);
             "buttons" (0, 3) [nu = 0] number();
             "EB" (3, 1) [] words(&RELEASED_OR_PRESSED);
             "R2" (4, 3) [nu = 1 and (7, 1) = 1] words(&ROCKERS_ABCD);
         }
-        (0xD5, 0x00, [0x01]) => {
+        (0xD5, 0x00, 0x01) => {
             "CO" (7, 1) [] words(&[(0, "open"), (1, "closed")]);
         }
     }
