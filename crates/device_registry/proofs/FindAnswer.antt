@@ -1,13 +1,12 @@
 -- The rows of the query that looks up a sender.
-use Rattle.std.proofs.Common.{◌≡◌, inl, inr, ℕ, List, [], Some, None, Option, option_map, refl, sym, ap, subst, ◌∙◌}
-use Rattle.std.specs.FinMap.{get, remove}
+use Rattle.std.proofs.Common.{inl, inr, ℕ, List, Option, option_map, refl, sym, ap, subst}
+use Rattle.std.specs.FinMap.{get}
 use Rattle.sqlite.specs.Order.{Row}
 use Rattle.sqlite.specs.State.{State, Shown}
 use Rattle.sqlite.specs.Listing.{understood}
 use Rattle.sqlite.proofs.Callers.{IsPlain}
 use Rattle.keyed_table.specs.Queries.{lookup_params}
 use Rattle.keyed_table.proofs.Answers as answers
-use Rattle.keyed_table.proofs.MapWrites.{remove_absent}
 use Rattle.keyed_table.proofs.TextMeaning.{answer_of}
 use Rattle.learned_devices.specs.Devices.{Devices, DeviceData, device, device_of}
 use Rattle.device_registry.specs.Table.{find_sql}
@@ -42,16 +41,3 @@ looked_up old new id rows ready h = (
   query_ready find_sql (lookup_params id) old new rows (find_plain old ready) ready h,
   λ devices shows. finds old new id rows devices shows.holds h,
 )
-
--- ---- an unknown sender
-
-none_known : (id : ℕ) (known : Option DeviceData) (rows : List Row) → IsDeviceOrNone (option_map (device id) known) rows
-    → rows ≡ [] → known ≡ None
-none_known id None rows h none = refl
-none_known id (Some it) rows h none = absurd (let e = sym h.1 ∙ none in cc)
-
--- removing an unknown sender changes nothing
-pub unknown_is_removed : (devices : Devices) (id : ℕ) (rows : List Row) → IsDeviceOrNone (device_of devices id) rows
-    → rows ≡ [] → remove devices id ≡ devices
-unknown_is_removed devices id rows h none =
-    remove_absent devices id (none_known id (get devices id) rows h none)

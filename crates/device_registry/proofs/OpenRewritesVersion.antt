@@ -1,4 +1,5 @@
--- On a registry, an open has exactly the effect of the text that rewrites its version row unchanged.
+-- On a registry, an open has exactly the effect of the text that rewrites its version row unchanged. So has a `forget`
+-- of an unknown sender.
 use Rattle.std.proofs.Common.{◌≡◌, ℕ, [], Ok, Err, Result, OnOk, sym, ap, subst}
 use Rattle.std.proofs.Common.{arith}
 use Rattle.sqlite.specs.Effect.{Database, IsDatabase}
@@ -10,9 +11,8 @@ use Rattle.device_registry.specs.declared.fault.OpenFault.{OpenFault}
 use Rattle.device_registry.specs.declared.table.Version.TheVariants.{Second}
 use Rattle.device_registry.specs.Table.{rewrite_version_sql}
 use Rattle.device_registry.specs.Stored.{HasTables, AreVersion2Trees}
-use Rattle.learned_devices.specs.Devices.{Devices}
 use Rattle.device_registry.specs.Holding.{RewritesVersion}
-use Rattle.device_registry.specs.Ready.{IsReadyWith, IsReady}
+use Rattle.device_registry.specs.Ready.{IsReady}
 use Rattle.device_registry.specs.Opening.{IsSettledOpen}
 use Rattle.keyed_table.proofs.Between.{updates_from}
 use Rattle.device_registry.proofs.OpenCalls.{Took, last, taken_ready}
@@ -23,13 +23,19 @@ use Rattle.device_registry.proofs.VersionMeaning.{renew_means}
 use Rattle.device_registry.proofs.VersionWrites.{changes_one}
 
 -- the queries before the text changed nothing
-renewed_between : (old mid new : State) → HasTables Second old.now.schema → IsUnchanged old mid
+pub renewed_between : (old mid new : State) → HasTables Second old.now.schema → IsUnchanged old mid
     → Survives old mid (λ _. ⊥)
     → RewritesVersion mid new → RewritesVersion old new
 renewed_between old mid new tables same survives renewed =
     let it = renew_means old.now.schema tables.meta_at tables.meta tables.meta_is_table in
     updates_from old mid new same survives.limit rewrite_version_sql [] tables.meta_at
     (program_of (renew_query tables.meta)) 1 it.is renewed
+
+-- on a registry, the text counts one row
+pub counts_one : (old new : State) (count : ℕ) → IsReady old → Executes rewrite_version_sql [] old new (Ok count)
+    → RewritesVersion old new
+counts_one old new count ready runs =
+    subst (λ n. Executes rewrite_version_sql [] old new (Ok n)) (changes_one old new count ready runs) runs
 
 pub renewed_by : {old mid new : State} {P : Trees → Type 0} (count : ℕ) → Took Second old mid
     → Survives old mid (λ _. ⊥) → Survives mid new P
@@ -39,18 +45,7 @@ pub renewed_by : {old mid new : State} {P : Trees → Type 0} (count : ℕ) → 
 renewed_by {old} {mid} {new} count asked first second runs clean is_held =
     let early : HasCleanDisk mid = omega (arith, clean, second.clean) in
     let it = asked early in
-    let one = changes_one mid new count (taken_ready asked early) (runs clean) in
-    renewed_between old mid new it.2.tables it.1 first
-    (subst (λ n. Executes rewrite_version_sql [] mid new (Ok n)) one (runs clean))
-
--- the same for a registry
-pub written_by : (old mid new : State) (count : ℕ) (devices : Devices) → IsReadyWith old devices → IsUnchanged old mid
-    → Survives old mid (λ _. ⊥) → IsReady mid → Executes rewrite_version_sql [] mid new (Ok count)
-    → RewritesVersion old new
-written_by old mid new count devices shows same survives ready runs =
-    let one = changes_one mid new count ready runs in
-    renewed_between old mid new shows.holds.registry.tables same survives
-    (subst (λ n. Executes rewrite_version_sql [] mid new (Ok n)) one runs)
+    renewed_between old mid new it.2.tables it.1 first (counts_one mid new count (taken_ready asked early) (runs clean))
 
 -- a sound database with the trees of a registry has its tables
 has_tables : (db : Database) → IsDatabase db → AreVersion2Trees db.trees → HasTables Second db.schema

@@ -89,10 +89,13 @@ pub ready_both : (old new : State) → WritesNothing old new → IsWell old → 
 ready_both old new stays well clean ready =
     (record { held = ready.held; shows = shown_before old new stays well clean ready.held ready.shows }, ready)
 
+pub if_ok : {T E : Type 0} {P : Type 0} (r : Result T E) → P → OnOk r P
+if_ok (Ok v) p = p
+if_ok (Err e) p = tt
+
 pub ready_if : {T E : Type 0} (r : Result T E) (old new : State) → WritesNothing old new → IsWell old → HasCleanDisk new
     → IsReady new → OnOk r (IsReady old × IsReady new)
-ready_if (Ok v) old new stays well clean ready = ready_both old new stays well clean ready
-ready_if (Err e) old new stays well clean ready = tt
+ready_if r old new stays well clean ready = if_ok r (ready_both old new stays well clean ready)
 
 -- ---- an update was attempted
 
@@ -230,15 +233,6 @@ module _ (old new : State) (stays : WritesNothing old new) (well : IsWell old) w
     devices = λ clean devices has.
         let same = keeps old new stays well clean devices has in
         by_case (is_full devices it.id) same (kept_pends old new (learn_update it) devices same);
-  }
-
-  pub updates_not : {A E : Type 0} (update : DeviceUpdate) (r : Result A E) → IsErr r
-      → Updates (registry_state old) (registry_state new) update r
-  updates_not update (Ok done) is = absurd (cc)
-  updates_not update (Err error) is = record {
-    clean = stays.clean;
-    recoverable = (keeps_well old new stays well).0;
-    devices = λ clean devices has. kept_pends old new update devices (keeps old new stays well clean devices has);
   }
 
   pub is_full_then : {E : Type 0} (it : Device) → (HasCleanDisk new → (devices : Devices) → HasDevicesIfOpen old devices
@@ -389,9 +383,18 @@ module _ (old mid : State) (id : ℕ) where
         by_case (is_some (get devices id)) (kept_pends old mid (relabel_update id label) devices same) same;
   }
 
-  unknown : (known : Option DeviceData) → None ≡ option_map (device id) known → false ≡ is_some known
-  unknown None e = refl
-  unknown (Some it) e = absurd (let none = e in cc)
+  pub updates_unlooked : {A : Type 0} (update : DeviceUpdate) (fault : StoreFault)
+      → LooksUp (registry_state old) (registry_state mid) id (Err fault)
+      → Updates {A = A} (registry_state old) (registry_state mid) update (Err fault)
+  updates_unlooked update fault looks = record {
+    clean = looks.clean;
+    recoverable = looks.recoverable;
+    devices = λ clean devices has. kept_pends old mid update devices (looks.devices clean devices has);
+  }
+
+  known_if_stored : (known : Option DeviceData) → is_some (option_map (device id) known) ≡ is_some known
+  known_if_stored None = refl
+  known_if_stored (Some it) = refl
 
   -- the sender is unknown
   pub relabels_unknown : (label : List ℕ) → LooksUp {E = StoreFault} (registry_state old) (registry_state mid) id
@@ -401,7 +404,7 @@ module _ (old mid : State) (id : ℕ) where
     clean = looks.clean;
     recoverable = looks.recoverable;
     devices = λ clean devices has. let it = looks.devices clean devices has in
-        (unknown (get devices id) it.0, it.1);
+        (ap is_some it.0 ∙ known_if_stored (get devices id), it.1);
   }
 
   -- the label of a device is that of the stored data
@@ -413,7 +416,7 @@ module _ (old mid : State) (id : ℕ) where
   module _ (known : Option Device) (looks : LooksUp {E = StoreFault} (registry_state old) (registry_state mid) id
       (Ok known))
       (new : State) where
-    kept_here : HasCleanDisk mid → (devices : Devices) → HasDevicesIfOpen old devices
+    pub kept_here : HasCleanDisk mid → (devices : Devices) → HasDevicesIfOpen old devices
         → Keeps (registry_state old) (registry_state mid) devices
     kept_here clean devices has = (looks.devices clean devices has).1
 
@@ -444,6 +447,11 @@ module _ (old mid : State) (id : ℕ) where
           let it = looks.devices clean was.held (λ _ _. was.shows.holds) in
           it.0 ∙ ap (λ (d : Devices). device_of d id)
           (registers_once mid.now was.held devices (it.1.now clean is_open) (has clean is_open))
+
+      -- the answer is whether the registry holds the sender
+      pub known_now : HasCleanDisk mid → (devices : Devices) → HasDevicesIfOpen mid devices
+          → is_some known ≡ is_some (get devices id)
+      known_now clean devices has = ap is_some (reported_now clean devices has) ∙ known_if_stored (get devices id)
 
       -- an unknown sender gets the empty label
       pub starts_unlabelled : (it : Device) → known ≡ None → it.id ≡ id → it.label ≡ [] → HasCleanDisk mid
@@ -518,6 +526,28 @@ module _ (old mid : State) (id : ℕ) where
       devices = λ clean devices has.
           let keeps = kept_here (learns.clean clean) devices has in
           learned_after it r devices keeps (learns.devices clean devices keeps.now);
+    }
+
+    -- an update failed, or it is committed
+    pub updates_failed : {A E F : Type 0} (update : DeviceUpdate) (error : E) (fault : F)
+        → Updates {A = A} (registry_state mid) (registry_state new) update (Err error)
+        → Updates {A = A} (registry_state old) (registry_state new) update (Err fault)
+    updates_failed update error fault updates = record {
+      clean = λ clean. looks.clean (updates.clean clean);
+      recoverable = updates.recoverable;
+      devices = λ clean devices has.
+          let keeps = kept_here (updates.clean clean) devices has in
+          pends_then old mid new update devices keeps (updates.devices clean devices keeps.now);
+    }
+
+    pub updates_done : {A E F : Type 0} (update : DeviceUpdate) (done : A)
+        → Updates {E = E} (registry_state mid) (registry_state new) update (Ok done)
+        → Updates {E = F} (registry_state old) (registry_state new) update (Ok done)
+    updates_done update done updates = record {
+      clean = λ clean. looks.clean (updates.clean clean);
+      recoverable = updates.recoverable;
+      devices = λ clean devices has.
+          updates.devices clean devices (kept_here (updates.clean clean) devices has).now;
     }
 
     -- the write of a label failed, or it is committed

@@ -1,7 +1,7 @@
 -- From what the database reports about the two statements that write devices to their effect on the registry.
-use Rattle.std.proofs.Common.{true, ◌≡◌, ℕ, List, [], None, Ok, Result}
+use Rattle.std.proofs.Common.{true, ◌≡◌, ℕ, List, [], Option, Some, None, is_some, Ok, Result}
 use Rattle.std.proofs.Common.{refl, sym, ap, subst, false}
-use Rattle.std.specs.FinMap.{insert, remove}
+use Rattle.std.specs.FinMap.{get, insert, remove}
 use Rattle.sqlite.specs.Command.TheVariants.{InsertOr, Delete}
 use Rattle.sqlite.specs.Source.TheVariants.{Values}
 use Rattle.sqlite_schema.specs.declared.command.Conflict.TheVariants.{Replace}
@@ -24,6 +24,7 @@ use Rattle.sqlite_rules.specs.Edit.{with_rowid}
 use Rattle.sqlite_rules.specs.declared.error.Rowids.TheVariants.{Chosen}
 use Rattle.keyed_table.specs.Queries.{lookup_params, program_of}
 use Rattle.keyed_table.proofs.Casts.{casts}
+use Rattle.keyed_table.proofs.MapWrites.{remove_absent}
 use Rattle.keyed_table.proofs.TableWrites.{deletes}
 use Rattle.keyed_table.proofs.Upserts.{upserts}
 use Rattle.device_registry.proofs.TablesAlone.{devices_alone}
@@ -88,3 +89,13 @@ forget_turns id old new r ready =
     (λ db devices had. let t = had.registry.tables in forget_means db.schema t.devices_at t.devices t.devices_are_table)
     (forget_does id)
     old new r ready (λ clean devices shows. tt)
+
+-- ---- an unknown sender
+
+unknown : (known : Option DeviceData) → is_some known ≡ false → known ≡ None
+unknown None is = refl
+unknown (Some it) is = absurd (let e = is in cc)
+
+-- removing it changes nothing
+pub unknown_is_removed : (devices : Devices) (id : ℕ) → is_some (get devices id) ≡ false → remove devices id ≡ devices
+unknown_is_removed devices id is = remove_absent devices id (unknown (get devices id) is)

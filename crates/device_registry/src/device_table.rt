@@ -1,7 +1,7 @@
 //! The device table in the database, without a cache.
-ghost use Rattle.std.specs.Prelude.{◌≡◌, OnOk, IfOk, IsTrue, Some, None};
+ghost use Rattle.std.specs.Prelude.{◌≡◌, is_some, OnOk, IfOk, IsTrue, Some, None};
 ghost use Rattle.std.specs.FinMap.{get};
-ghost use Rattle.sqlite.specs.State.{HasCleanDisk};
+ghost use Rattle.sqlite.specs.State.{HasCleanDisk, IsUnchanged, Survives};
 ghost use Rattle.learned_devices.specs.Devices.{Devices, Operation, Learn, data_after, device_data, learn_update};
 ghost use Rattle.learned_devices.specs.StoreCalls.{LooksUp, Updates, Forgets, ListsAll};
 ghost use Rattle.device_registry.specs.Holding.{HasDevicesIfOpen, IsReturnedByClose, RewritesVersion, WritesRow};
@@ -45,6 +45,9 @@ impl<C: SqlConnection> DeviceTable<C> {
     /// The device of a sender, if it is learned.
     pub fn find(&mut self, id: u32) -> Result<Option<Device>, Error>
         ensures looks_up { LooksUp (registry_state (C.state self.old)) (registry_state (C.state self.new)) id result }
+        ensures same { HasCleanDisk (C.state self.new) → OnOk result (IsUnchanged (C.state self.old)
+            (C.state self.new)) }
+        ensures survives { Survives (C.state self.old) (C.state self.new) (λ _. ⊥) }
         ensures ready { HasCleanDisk (C.state self.new) → OnOk result (AreReady (C.state self.old)
             (C.state self.new)) }
     {
@@ -90,8 +93,11 @@ impl<C: SqlConnection> DeviceTable<C> {
         Ok(())
     }
 
-    /// Forgets a sender. Commits also if the sender is not known.
-    pub fn forget(&mut self, id: u32) -> Result<(), Error>
+    /// Forgets a sender that was looked up. Commits also if the sender is not known.
+    pub fn forget(&mut self, id: u32, is_known: bool) -> Result<(), Error>
+        requires ready { HasCleanDisk (C.state self.old) → IsReady (C.state self.old) }
+        requires known { HasCleanDisk (C.state self.old) → (devices : Devices) →
+            HasDevicesIfOpen (C.state self.old) devices → is_known ≡ is_some (get devices id) }
         ensures forgets { Forgets (registry_state (C.state self.old)) (registry_state (C.state self.new)) id result }
         ensures written { HasCleanDisk (C.state self.new) → (devices : Devices) →
             HasDevicesIfOpen (C.state self.old) devices → OnOk result (get devices id ≡ None →
@@ -99,8 +105,7 @@ impl<C: SqlConnection> DeviceTable<C> {
         ensures ready { HasCleanDisk (C.state self.new) → OnOk result (AreReady (C.state self.old)
             (C.state self.new)) }
     {
-        let rows = look_up(&mut self.conn, id)?;
-        delete_or_rewrite_if_absent(&mut self.conn, id, &rows)?;
+        delete_or_rewrite_if_absent(&mut self.conn, id, is_known)?;
         Ok(())
     }
 

@@ -1,7 +1,7 @@
 //! The registry's calls of the database, one statement each. Each call first compiles a statement, which fails on a
 //! closed connection: nothing is known about the writes of a closed connection.
-ghost use Rattle.std.specs.Prelude.{◌≡◌, [], ◌∷◌, map, pos, false, Ok, OnOk, OnErr, IfOk, IfErr};
-ghost use Rattle.std.specs.FinMap.{insert};
+ghost use Rattle.std.specs.Prelude.{◌≡◌, [], ◌∷◌, map, pos, false, is_some, Ok, OnOk, OnErr, IfOk, IfErr};
+ghost use Rattle.std.specs.FinMap.{insert, get};
 ghost use Rattle.sqlite.specs.declared.types.Value.TheVariants.{Int, Text};
 ghost use Rattle.sqlite.specs.State.{HasCleanDisk, IsUnchanged, Survives, Executes, CommitsBy};
 ghost use Rattle.sqlite.specs.State.{Shown, FailsToQuery, CommitsShowing};
@@ -161,22 +161,22 @@ pub(crate) fn rewrite_version<C: SqlConnection>(conn: &mut C) -> Result<usize, E
     conn.execute(REWRITE_VERSION, &[])
 }
 
-/// Deletes the device of a sender whose rows are `rows`. Commits also if there is none.
+/// Deletes the device of a sender if it is known. Commits also if it is not.
 pub(crate) fn delete_or_rewrite_if_absent<C: SqlConnection>(
     conn: &mut C,
     id: u32,
-    rows: &[Row],
+    is_known: bool,
 ) -> Result<usize, Error>
     requires ready { HasCleanDisk (C.state conn.old) → IsReady (C.state conn.old) }
-    requires found { HasCleanDisk (C.state conn.old) → (devices : Devices) → IsReadyWith
-        (C.state conn.old) devices → IsDeviceOrNone (device_of devices id) rows.now }
+    requires known { HasCleanDisk (C.state conn.old) → (devices : Devices) → IsReadyWith (C.state conn.old) devices →
+        is_known ≡ is_some (get devices id) }
     ensures turns { CommitsOrMayBeLeft (C.state conn.old) (C.state conn.new) (forget_update id) result }
-    ensures written { HasCleanDisk (C.state conn.new) → rows.now ≡ []
+    ensures written { HasCleanDisk (C.state conn.new) → is_known ≡ false
         → IfOk result (λ count. Executes rewrite_version_sql []
         (C.state conn.old) (C.state conn.new) (Ok count)) }
 {
-    if rows.is_empty() {
-        return rewrite_version(conn);
+    if is_known {
+        return forget(conn, id);
     }
-    forget(conn, id)
+    rewrite_version(conn)
 }

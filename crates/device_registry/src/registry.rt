@@ -1,7 +1,7 @@
 //! The registry: the device table with a cache.
 ghost use Rattle.std.specs.Prelude.{◌≡◌, [], true, false, Some, None, IfOk, IsTrue, OnOk};
 ghost use Rattle.std.specs.FinMap.{get};
-ghost use Rattle.sqlite.specs.State.{HasCleanDisk};
+ghost use Rattle.sqlite.specs.State.{HasCleanDisk, IsUnchanged, Survives};
 ghost use Rattle.learned_devices.specs.Labels.{is_label};
 ghost use Rattle.learned_devices.specs.Devices.{Devices, Operation, Learn, data_after, device_data};
 ghost use Rattle.learned_devices.specs.Devices.{learn_update, relabel_update};
@@ -51,6 +51,9 @@ impl<C: SqlConnection> RegistryOver<C> {
     // The device of a sender, if it is learned. `Ok` also means that the connection is open.
     fn known(&mut self, id: u32) -> Result<Option<Device>, StoreFault>
         ensures looks_up { LooksUp (registry_state (C.state self.old)) (registry_state (C.state self.new)) id result }
+        ensures same { HasCleanDisk (C.state self.new) → OnOk result (IsUnchanged (C.state self.old)
+            (C.state self.new)) }
+        ensures survives { Survives (C.state self.old) (C.state self.new) (λ _. ⊥) }
         ensures ready { HasCleanDisk (C.state self.new) → OnOk result (AreReady (C.state self.old)
             (C.state self.new)) }
     {
@@ -205,8 +208,9 @@ impl<C: SqlConnection> RegistryOver<C> {
             HasDevicesIfOpen (C.state self.old) devices → OnOk result (get devices id ≡ None →
             RewritesVersion (C.state self.old) (C.state self.new)) }
     {
+        let is_known = self.known(id)?.is_some();
         drop_entry(&mut self.cache, id);
-        match self.table.forget(id) {
+        match self.table.forget(id, is_known) {
             Ok(()) => {
                 insert_entry(&mut self.cache, id, None);
                 Ok(())

@@ -1,5 +1,5 @@
 use Rattle.learned_devices.specs.Devices.{device_of}
-use Rattle.device_registry.proofs.RegistryCalls.{had, keeps_well, looks_up, if_err, ready_if}
+use Rattle.device_registry.proofs.RegistryCalls.{had, keeps_well, looks_up, if_err, if_ok, ready_if}
 use Rattle.device_registry.proofs.device_table.DeviceTable.find.Goals as goal
 
 pub invariant_of-self : goal.invariant_of-self
@@ -29,5 +29,7 @@ returns g c =
           let rows = asked clean in
           rw c.deref.ensures.value at c.decode_found.ensures.found (device_of devices c.args.id)
           (rows.1 devices (had old new stays well clean rows.0 devices has))));
+      same = λ clean. rw (← c.self.view_is) (if_ok c.decode_found.result (c.in_ok-rows.ensures.same clean));
+      survives = rw (← c.self.view_is) c.look_up.ensures.survives;
       ready = λ clean. rw (← c.self.view_is) (ready_if c.decode_found.result old new stays well clean (asked clean).0);
     }

@@ -1,5 +1,6 @@
 use Rattle.device_registry.proofs.CacheAgreement.{fewer_recalled, recalled, reported_ready, unmoved, found_recalled}
 use Rattle.device_registry.proofs.CacheAgreement.{cleared_recalled}
+use Rattle.sqlite.proofs.StateLemmas.{unchanged}
 use Rattle.device_registry.proofs.registry.RegistryOver.known.Goals as goal
 
 -- ---- the sender is cached
@@ -30,6 +31,12 @@ returns-in-Some-clause-ready g c clean =
     let now = g.C.SqlConnection.state c.self.inside.table in
     rw (← c.self.view_is) (reported_ready now (c.args.id, c.in-Some.known)
     (c.self.invariant.1 (c.args.id, c.in-Some.known) c.in-Some.ensures.known clean))
+
+pub returns-in-Some-clause-same : goal.returns-in-Some-clause-same
+returns-in-Some-clause-same g c clean =
+    let now = g.C.SqlConnection.state c.self.inside.table in
+    let ready = (c.self.invariant.1 (c.args.id, c.in-Some.known) c.in-Some.ensures.known clean).shows in
+    rw (← c.self.view_is) (unchanged now ready.is_open)
 
 -- ---- it is looked up
 

@@ -85,3 +85,13 @@ returns-in-None-clause-learns g c =
     let new = g.C.SqlConnection.state c.store_learned.new.self in
     learns_after old mid c.args.device.id c.in_ok-known.field-0 c.in_ok-known.ensures.looks_up new c.args.device
     c.store_learned.result c.store_learned.ensures.learns
+
+pub returns-in-None-clause-written : goal.returns-in-None-clause-written
+returns-in-None-clause-written g c clean =
+    let old = g.C.SqlConnection.state c.args.self.now in
+    let mid = g.C.SqlConnection.state c.known.new.self in
+    let last = c.store_learned.new.self in
+    let new = g.C.SqlConnection.state last in
+    written_after old mid c.args.device.id c.in_ok-known.field-0 c.in_ok-known.ensures.looks_up new
+    g.C.SqlConnection.state last (learn_update c.args.device) c.store_learned.result
+    (λ _. c.store_learned.ensures.written clean) (c.store_learned.ensures.learns.clean clean)
