@@ -77,7 +77,7 @@ label-not_taken left digits more id text whole i t none =
 -- ---- its line
 
 -- a text that has bytes is a word
-one_word_order : (text : List ℕ) → is_nonempty_label text ≡ true → label_word_if_any text ≡ Text text ∷ []
+one_word_order : (text : List ℕ) → is_nonempty_label text ≡ true → label_word_if_any text ≡ LabelText text ∷ []
 one_word_order [] may = absurd cc
 one_word_order (first ∷ more) may = refl
 

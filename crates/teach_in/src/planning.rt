@@ -57,7 +57,7 @@ fn ute_plan(telegram: &Telegram, query: &UteQuery) -> Plan
 
 // The plan in the modes that learn by a telegram's own profile.
 fn plan_by_query(telegram: &Telegram, teach: &Teach) -> Plan
-    ensures { (known : Bool) → result ≡ (plan_row_of telegram.now known teach.now).reported }
+    ensures { (known : Bool) → result ≡ (plan_row_of telegram.now known teach.now).by_own_profile }
 {
     match teach {
         Teach::Contact => add(telegram, CONTACT_EEP, None),
@@ -81,7 +81,7 @@ fn can_be_learned_by(telegram: &Telegram, rorg: u8) -> bool
 
 // The plan in the mode that learns with this profile.
 fn plan_by_desk(telegram: &Telegram, teach: &Teach, eep: Eep, known: bool) -> Plan
-    ensures { result ≡ (plan_row_of telegram.now known teach.now).given eep }
+    ensures { result ≡ (plan_row_of telegram.now known teach.now).by_desk_profile eep }
 {
     match (teach, eep.rorg) {
         (Teach::Contact, rorg::ONE_BS) | (Teach::Bare, rorg::FOUR_BS) => add(telegram, eep, None),

@@ -59,7 +59,7 @@ impl<S: DeviceStore> Handler<S> {
         requires { HasReplyCodeIfQuery teach.now verdict.now.id verdict.now.outcome }
         ensures { answer_of result ≡ record {
           radio = radio_bytes_of (reply_telegram_of self.now.base self.now.mode teach.now verdict.now.outcome);
-          explained = [];
+          explanation = [];
           desk = line;
         } }
     {
