@@ -21,6 +21,7 @@ use Rattle.actuator_commands.specs.declared.orders.Order.TheVariants.{Label}
 use Rattle.actuator_commands.specs.declared.orders.OrderFault.{OrderFault}
 use Rattle.actuator_commands.specs.declared.orders.OrderFault.TheVariants.{UnknownDevice}
 use Rattle.actuator_commands.specs.Orders.{order_of}
+use Rattle.learned_devices.specs.Faults.{out_of_memory, store_failed}
 use Rattle.json_lines.specs.declared.error_lines.ErrorName.{ErrorName}
 use Rattle.json_lines.specs.declared.error_lines.ErrorName.TheVariants as error
 use Rattle.json_lines.specs.Lines.{DeskLine, Reading, Teach, ListEnd, StatusLine, ResponseLine, Done, Error}
@@ -63,8 +64,8 @@ listing-other (known ∷ others) line e =
     absurd (let is = found.1 in cc)
 
 cause-other : (cause : Cause) (line : TeachLine) → cause_text cause ≡ text (Teach line) → ⊥
-cause-other Memory line e = other-line (Error error.Memory) line (λ never. never) (append-nil _ ∙ e)
-cause-other Store line e = other-line (Error error.Store) line (λ never. never) (append-nil _ ∙ e)
+cause-other Memory line e = other-line (Error (error.Failed out_of_memory)) line (λ never. never) (append-nil _ ∙ e)
+cause-other Store line e = other-line (Error (error.Failed store_failed)) line (λ never. never) (append-nil _ ∙ e)
 
 -- two teach lines with the same text have the same outcome
 same-outcome : (one line : TeachLine) → texts (Teach one ∷ []) ≡ text (Teach line) → one.outcome ≡ line.outcome
@@ -275,8 +276,8 @@ label-answers id label None = inr (append-nil _)
 label-answers id label (Some it) = inl (append-nil _)
 
 cause-not-done : (cause : Cause) → cause_text cause ≡ text Done → ⊥
-cause-not-done Memory e = not-done error.Memory (append-nil _ ∙ e)
-cause-not-done Store e = not-done error.Store (append-nil _ ∙ e)
+cause-not-done Memory e = not-done (error.Failed out_of_memory) (append-nil _ ∙ e)
+cause-not-done Store e = not-done (error.Failed store_failed) (append-nil _ ∙ e)
 
 cause-not-unknown : (cause : Cause) → cause_text cause ≡ text (Error (error.Order UnknownDevice)) → ⊥
 cause-not-unknown Memory e = let at : 109 ≡ 117 = ap tenth e in absurd (omega (arith, at))

@@ -5,6 +5,7 @@ use Rattle.json_lines.specs.declared.error_lines.ErrorName.TheVariants as error
 use Rattle.teach_in.specs.declared.handling_reason.HandlingReason.TheVariants as why
 use Rattle.json_lines.specs.Counts.{increment, saturated_sum}
 use Rattle.json_lines.specs.Lines.{Error, text}
+use Rattle.learned_devices.specs.Faults.{out_of_memory, store_failed}
 use Rattle.gateway_core.specs.Dispositions.{without_device}
 use Rattle.gateway_core.specs.Step.{State, Input, Answer, with_packet_line, packet_line_for, text_answer}
 use Rattle.gateway_core.specs.Step.{answer_to_applied_input}
@@ -26,8 +27,8 @@ MayHaveResult state input (Failed cause) = MayFailFor (need_of state input) caus
 MayHaveResult state input (FailedAtCommit cause) = IsSome (update_of state input)
 
 abbrev pub cause_text : Cause → List ℕ
-cause_text Memory = text (Error error.Memory)
-cause_text Store = text (Error error.Store)
+cause_text Memory = text (Error (error.Failed out_of_memory))
+cause_text Store = text (Error (error.Failed store_failed))
 
 -- the answer to a failed input: about its sender it shows only what the telegram contains
 abbrev pub failure_answer : Input → Cause → Answer

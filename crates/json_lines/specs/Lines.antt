@@ -2,7 +2,7 @@
 -- choice: one JSON object (RFC 8259) with no space between its parts, its members in the byte order of their names, and
 -- a line feed at the end.
 use Rattle.std.specs.Prelude.{ℕ, pos, ◌-ℤ◌, List, [], ◌∷◌, ◌++◌, map, length, slice_get, codes, decimal}
-use Rattle.std.specs.Prelude.{Option, Some, None, IfSome, ◌<◌, ◌^◌}
+use Rattle.std.specs.Prelude.{Option, Some, None, IfSome, if◌then◌else◌, ◌<◌, ◌^◌}
 use Rattle.std.specs.Fmt.{signed_decimal}
 use Rattle.std.specs.Int.{w8, w32, to_be_bytes}
 use Rattle.std.specs.List.{join_by, flat_map}
@@ -19,8 +19,7 @@ use Rattle.teach_in.specs.declared.outcome.Outcome.TheVariants as outcome
 use Rattle.actuator_commands.specs.declared.orders.OrderFault.TheVariants.{Syntax, Range, UnknownDevice, WrongProfile}
 use Rattle.json_lines.specs.declared.counts.Counts.{Counts}
 use Rattle.json_lines.specs.declared.error_lines.ErrorName.{ErrorName}
-use Rattle.json_lines.specs.declared.error_lines.ErrorName.TheVariants.{Order, TooLong, UnsupportedProfile}
-use Rattle.json_lines.specs.declared.error_lines.ErrorName.TheVariants.{Memory, Store}
+use Rattle.json_lines.specs.declared.error_lines.ErrorName.TheVariants.{Order, TooLong, UnsupportedProfile, Failed}
 use Rattle.json_lines.specs.declared.error_lines.ErrorName.TheVariants as error
 
 -- ---- the content of a line
@@ -157,8 +156,7 @@ error_word (Order WrongProfile) = codes "wrong_profile"
 error_word TooLong = codes "too_long"
 error_word error.Full = codes "full"
 error_word UnsupportedProfile = codes "unsupported_profile"
-error_word Memory = codes "memory"
-error_word Store = codes "store"
+error_word (Failed fault) = if fault.is_memory then codes "memory" else codes "store"
 
 -- ---- the lines
 

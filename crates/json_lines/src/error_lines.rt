@@ -4,6 +4,7 @@ ghost use Rattle.std.specs.Prelude.{◌≡◌};
 ghost use Rattle.json_lines.specs.Lines.{Error, text};
 
 use actuator_commands::OrderFault;
+use learned_devices::StoreFault;
 
 /// Why the gateway did not do what it was asked.
 #[derive(Clone, Copy, Debug, PartialEq, Eq)]
@@ -17,10 +18,8 @@ pub enum ErrorName {
     Full,
     /// The gateway cannot read telegrams of this profile.
     UnsupportedProfile,
-    /// Out of memory. After a crash, the requested update may turn out to be done.
-    Memory,
-    /// The device store failed. After a crash, the requested update may turn out to be done.
-    Store,
+    /// Out of memory, or the device store failed. After a crash, the requested update may turn out to be done.
+    Failed(StoreFault),
 }
 
 impl ErrorName {
@@ -42,8 +41,10 @@ impl ErrorName {
             ErrorName::UnsupportedProfile => {
                 b"{\"error\":\"unsupported_profile\",\"type\":\"error\"}\n"
             }
-            ErrorName::Memory => b"{\"error\":\"memory\",\"type\":\"error\"}\n",
-            ErrorName::Store => b"{\"error\":\"store\",\"type\":\"error\"}\n",
+            ErrorName::Failed(fault) if fault.is_memory() => {
+                b"{\"error\":\"memory\",\"type\":\"error\"}\n"
+            }
+            ErrorName::Failed(_) => b"{\"error\":\"store\",\"type\":\"error\"}\n",
         }
     }
 }

@@ -130,10 +130,5 @@ pub(crate) fn error_reply(failure: Failure) -> Reply
     ensures { answer_of result ≡ text_answer (cause_text (cause_in failure)) }
 {
     let (Failure::BeforeCommit(fault) | Failure::AtCommit(fault)) = failure;
-    let name = if fault.is_memory() {
-        ErrorName::Memory
-    } else {
-        ErrorName::Store
-    };
-    reply_with(DeskText::Fixed(name.line()))
+    reply_with(DeskText::Fixed(ErrorName::Failed(fault).line()))
 }

@@ -5,8 +5,9 @@ use exact_values::{over, scale};
 use json_lines::{
     Counter, Counts, ErrorName, device_lines, done_line, reading_line, response_line, status_line,
 };
-use learned_devices::{Device, Label};
+use learned_devices::{Device, Label, StoreFault};
 use profile_rows::{Reading, Readings, What};
+use std::alloc::AllocError;
 use std::test::Fail;
 use teach_in::Mode;
 
@@ -369,7 +370,7 @@ fn response_lines(rt: HostRuntime) -> Result<(), Fail> {
     Ok(())
 }
 
-const OF_ERRORS: [(ErrorName, &str); 9] = [
+const OF_ERRORS: [(ErrorName, &str); 7] = [
     (
         ErrorName::Order(OrderFault::Syntax),
         "{\"error\":\"syntax\",\"type\":\"error\"}\n",
@@ -395,14 +396,6 @@ const OF_ERRORS: [(ErrorName, &str); 9] = [
         ErrorName::UnsupportedProfile,
         "{\"error\":\"unsupported_profile\",\"type\":\"error\"}\n",
     ),
-    (
-        ErrorName::Memory,
-        "{\"error\":\"memory\",\"type\":\"error\"}\n",
-    ),
-    (
-        ErrorName::Store,
-        "{\"error\":\"store\",\"type\":\"error\"}\n",
-    ),
 ];
 
 #[test]
@@ -411,4 +404,8 @@ fn fixed_lines(rt: HostRuntime) {
     for (name, text) in &OF_ERRORS {
         assert!(rt; name.line() == text.as_bytes(), "{text}");
     }
+    let out_of_memory = ErrorName::Failed(StoreFault::from(AllocError));
+    assert!(rt; out_of_memory.line() == b"{\"error\":\"memory\",\"type\":\"error\"}\n".as_slice());
+    let store_failed = ErrorName::Failed(StoreFault::store_failed());
+    assert!(rt; store_failed.line() == b"{\"error\":\"store\",\"type\":\"error\"}\n".as_slice());
 }
