@@ -41,9 +41,9 @@ macro_rules! read_rows {
     };
 }
 
-/// Sets `readings: &mut Readings` to what the rows of the first arm that matches a value read, and returns whether there
-/// is such an arm. If not, `readings` does not change. The value is a profile, as `(RORG, FUNC, TYPE)`, or the type of a
-/// profile whose RORG and FUNC are known; an arm is written as `pattern => { rows }`. Example, for `eep: Eep` and
+/// Sets `readings: &mut Readings` to what the rows of the profile's arm read, and returns whether there is such an arm.
+/// If not, `readings` does not change. An arm is written as `pattern => { rows }`. The pattern is that of
+/// `(RORG, FUNC, TYPE)` or, if RORG and FUNC are known, of the type alone. Example, for `eep: Eep` and
 /// `bytes: &[u8; 1]`:
 ///
 /// ```text

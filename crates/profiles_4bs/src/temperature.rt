@@ -5,27 +5,14 @@ ghost use Rattle.std.specs.Bool.{OnFalse};
 ghost use Rattle.profile_rows.specs.ReadResult.{entries_if};
 ghost use Rattle.profile_rows.specs.Profile.{rows_in};
 ghost use Rattle.profile_rows.specs.Rows.{entries_of};
-ghost use Rattle.profiles_4bs.specs.Temperature.{profiles_of_10_bits, profiles_over_40_degrees};
-ghost use Rattle.profiles_4bs.specs.Temperature.{profiles_over_80_degrees, temperature_profiles};
+ghost use Rattle.profiles_4bs.specs.Temperature.{temperature_profiles};
 
 use profile_rows::{Readings, read_profiles};
 
 /// Sets `readings` to what the rows of a profile A5-02 read in a payload, and returns whether the profile has rows.
-/// Each of the three functions has a part of the profiles: a single function would cost more to prove.
 pub(crate) fn read_if_supported(typ: u8, bytes: &[u8; 4], readings: &mut Readings) -> bool
     ensures exact { entries_if result readings.new.items ≡ option_map (entries_of bytes.now)
         (rows_in temperature_profiles (record { rorg = 0xA5; func = 0x02; typ = typ })) }
-    ensures none { OnFalse result (readings.new ≡ readings.old) }
-{
-    read_over_40_degrees(typ, bytes, readings)
-        || read_over_80_degrees(typ, bytes, readings)
-        || read_10_bits(typ, bytes, readings)
-}
-
-/// A5-02-01 to A5-02-0B.
-fn read_over_40_degrees(typ: u8, bytes: &[u8; 4], readings: &mut Readings) -> bool
-    ensures exact { entries_if result readings.new.items ≡ option_map (entries_of bytes.now)
-        (rows_in profiles_over_40_degrees (record { rorg = 0xA5; func = 0x02; typ = typ })) }
     ensures none { OnFalse result (readings.new ≡ readings.old) }
 {
     read_profiles! { readings, typ, bytes, 4;
@@ -40,16 +27,6 @@ fn read_over_40_degrees(typ: u8, bytes: &[u8; 4], readings: &mut Readings) -> bo
         0x09 => { "TMP" (16, 8) [] range(255, 0, 400, 800, "C"); }
         0x0A => { "TMP" (16, 8) [] range(255, 0, 500, 900, "C"); }
         0x0B => { "TMP" (16, 8) [] range(255, 0, 600, 1000, "C"); }
-    }
-}
-
-/// A5-02-10 to A5-02-1B.
-fn read_over_80_degrees(typ: u8, bytes: &[u8; 4], readings: &mut Readings) -> bool
-    ensures exact { entries_if result readings.new.items ≡ option_map (entries_of bytes.now)
-        (rows_in profiles_over_80_degrees (record { rorg = 0xA5; func = 0x02; typ = typ })) }
-    ensures none { OnFalse result (readings.new ≡ readings.old) }
-{
-    read_profiles! { readings, typ, bytes, 4;
         0x10 => { "TMP" (16, 8) [] range(255, 0, -600, 200, "C"); }
         0x11 => { "TMP" (16, 8) [] range(255, 0, -500, 300, "C"); }
         0x12 => { "TMP" (16, 8) [] range(255, 0, -400, 400, "C"); }
@@ -62,16 +39,6 @@ fn read_over_80_degrees(typ: u8, bytes: &[u8; 4], readings: &mut Readings) -> bo
         0x19 => { "TMP" (16, 8) [] range(255, 0, 300, 1100, "C"); }
         0x1A => { "TMP" (16, 8) [] range(255, 0, 400, 1200, "C"); }
         0x1B => { "TMP" (16, 8) [] range(255, 0, 500, 1300, "C"); }
-    }
-}
-
-/// A5-02-20 and A5-02-30.
-fn read_10_bits(typ: u8, bytes: &[u8; 4], readings: &mut Readings) -> bool
-    ensures exact { entries_if result readings.new.items ≡ option_map (entries_of bytes.now)
-        (rows_in profiles_of_10_bits (record { rorg = 0xA5; func = 0x02; typ = typ })) }
-    ensures none { OnFalse result (readings.new ≡ readings.old) }
-{
-    read_profiles! { readings, typ, bytes, 4;
         0x20 => { "TMP" (14, 10) [] range(1023, 0, -100, 412, "C"); }
         0x30 => { "TMP" (14, 10) [] range(1023, 0, -400, 623, "C"); }
     }

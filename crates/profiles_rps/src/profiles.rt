@@ -58,9 +58,9 @@ fn read_if_supported(eep: Eep, status: u8, bytes: &[u8; 1], readings: &mut Readi
     }
 }
 
-/// Whether a profile is supported: whether it is in `all_profiles` of `specs/Profiles.antt`. `read` returns `NotSupported`
-/// exactly if it is not. The function decodes a byte that is data, and drops the readings, so the code names each
-/// profile only once, in `read_if_supported`.
+/// Whether a profile is supported: whether it is in `all_profiles` of `specs/Profiles.antt`. `read` returns
+/// `NotSupported` exactly if it is not. The function decodes a byte that is data, and drops the readings, so the code
+/// names each profile only once, in `read_if_supported`.
 pub fn supports(eep: Eep) -> bool
     ensures { result ≡ supported eep }
 {
