@@ -71,7 +71,7 @@ kept : (session : Session) (line : TeachLine) → IsSession session → (answere
     → (outcome : Outcome)
     → line.outcome ≡ outcome → (known : Device) → text (Teach line) ≡ text (Teach (device_teach_line known outcome))
     → (at : State) → Run (initial_state session.base session.found) answered.earlier_inputs answered.earlier_results answered.earlier_answers at
-    → answered.result ≡ Applied → update_of at answered.input ≡ Some (accepted_or_deleted_update outcome known)
+    → answered.applied_or_failed ≡ Applied → update_of at answered.input ≡ Some (accepted_or_deleted_update outcome known)
     → (BeginsInRange session → HasDeviceNumbersInRange known) → IsDurable session line answered
 kept session line is answered outcome word known same at run taken asks in_range = record {
   state_before = at;
@@ -105,15 +105,15 @@ kept session line is answered outcome word known same at run taken asks in_range
 pub accepted_or_deleted_is_durable : AcceptedOrDeletedIsDurable
 accepted_or_deleted_is_durable session line is answered word =
     let whole : Run (initial_state session.base session.found) (answered.earlier_inputs ++ answered.input ∷ answered.later_inputs)
-    (answered.earlier_results ++ answered.result ∷ answered.later_results) (answered.earlier_answers ++ answered.answer ∷ answered.later_answers)
+    (answered.earlier_results ++ answered.applied_or_failed ∷ answered.later_results) (answered.earlier_answers ++ answered.answer ∷ answered.later_answers)
     session.last
     = rw (sym answered.inputs_are, sym answered.results_are, sym answered.answers_are) is.run in
     let part = parted (initial_state session.base session.found) session.last answered.earlier_inputs answered.later_inputs
     answered.input
-    answered.earlier_results answered.later_results answered.result answered.earlier_answers answered.later_answers answered.answer
+    answered.earlier_results answered.later_results answered.applied_or_failed answered.earlier_answers answered.later_answers answered.answer
     answered.as_many_results
     answered.as_many_answers whole in
-    let reports = teach_lines_are_true part.at answered.input answered.result line
+    let reports = teach_lines_are_true part.at answered.input answered.applied_or_failed line
     (ap (λ (a : Answer). a.desk) (sym part.is) ∙ answered.reported) in
     let Of = OutcomeMatchesUpdate (IsDeviceOfDeletedLine part.at answered.input) (effect part.at answered.input) line in
     elim word [

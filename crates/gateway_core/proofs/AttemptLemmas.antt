@@ -43,7 +43,7 @@ use Rattle.actuator_commands.specs.declared.orders.OrderFault.{OrderFault}
 use Rattle.actuator_commands.specs.declared.orders.OrderFault.TheVariants.{UnknownDevice}
 use Rattle.actuator_commands.specs.Orders.{order_of}
 use Rattle.gateway_core.specs.Step.{order_effect, line_effect}
-use Rattle.gateway_core.specs.Step.{reading_effect, case_effect, data_case, effect, update_of, need_of, with_update}
+use Rattle.gateway_core.specs.Step.{reading_effect, case_effect, data_case, effect, update_of, need_of_memory_or_store, with_update}
 use Rattle.gateway_core.specs.Step.{state_after_applied_input, with_mode, plan_effect, teach_report_effect, radio_bytes_of}
 use Rattle.gateway_core.specs.Step.{reply_telegram_of}
 use Rattle.gateway_core.specs.Step.{query_teach_line}
@@ -557,7 +557,7 @@ module _ {S : Type 0} (stored : S → DeviceStoreState) where
       (update : Option DeviceUpdate)
       → update_of start input ≡ update → new.base ≡ start.base → new.mode ≡ start.mode
       → new.counts ≡ (state_after_failure start).counts
-      → IsPending (stored old.registry) (stored new.registry) start.devices (need_of start input) cause update
+      → IsPending (stored old.registry) (stored new.registry) start.devices (need_of_memory_or_store start input) cause update
       → HandlesFrom stored old start (input ∷ []) (failure_answer input cause ∷ []) new
   at_write-went old new start input cause None asks base mode counts (need, keeps) = record {
     results = Failed cause ∷ [];

@@ -21,13 +21,13 @@ pub record AnswersWithTeachLine (session : Session) (line : TeachLine) : Type 0 
   pub input : Input
   pub later_inputs : List Input
   pub earlier_results : List InputResult
-  pub result : InputResult
+  pub applied_or_failed : InputResult
   pub later_results : List InputResult
   pub earlier_answers : List Answer
   pub answer : Answer
   pub later_answers : List Answer
   pub inputs_are : session.inputs ≡ earlier_inputs ++ input ∷ later_inputs
-  pub results_are : session.results ≡ earlier_results ++ result ∷ later_results
+  pub results_are : session.results ≡ earlier_results ++ applied_or_failed ∷ later_results
   pub answers_are : session.answers ≡ earlier_answers ++ answer ∷ later_answers
   pub as_many_results : length earlier_inputs ≡ length earlier_results
   pub as_many_answers : length earlier_inputs ≡ length earlier_answers
@@ -42,7 +42,7 @@ pub record IsDurable (session : Session) (line : TeachLine)
   pub state_before : State
   pub known : Device
   pub run : Run (initial_state session.base session.found) answered.earlier_inputs answered.earlier_results answered.earlier_answers state_before
-  pub is_applied : answered.result ≡ Applied
+  pub is_applied : answered.applied_or_failed ≡ Applied
   pub asks_for_update : update_of state_before answered.input ≡ Some (accepted_or_deleted_update line.outcome known)
   pub same_text : text (Teach line) ≡ text (Teach (device_teach_line known line.outcome))
   pub later_sessions_keep : NoneOverrides (accepted_or_deleted_update line.outcome known)

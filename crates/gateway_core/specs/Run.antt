@@ -9,7 +9,7 @@ use Rattle.learned_devices.specs.Faults.{out_of_memory, store_failed}
 use Rattle.gateway_core.specs.Dispositions.{without_device}
 use Rattle.gateway_core.specs.Step.{State, Input, Answer, with_packet_line, packet_line_for, text_answer}
 use Rattle.gateway_core.specs.Step.{answer_to_applied_input}
-use Rattle.gateway_core.specs.Step.{update_of, need_of}
+use Rattle.gateway_core.specs.Step.{update_of, need_of_memory_or_store}
 use Rattle.gateway_core.specs.Step.{state_after_applied_input}
 use Rattle.gateway_core.specs.Step.{Cause, Memory, Store, MayFailFor}
 
@@ -23,7 +23,7 @@ pub data InputResult : Type 0 where
 -- the results that an input may have
 abbrev pub MayHaveResult : State → Input → InputResult → Type 0
 MayHaveResult state input Applied = Unit {0}
-MayHaveResult state input (Failed cause) = MayFailFor (need_of state input) cause
+MayHaveResult state input (Failed cause) = MayFailFor (need_of_memory_or_store state input) cause
 MayHaveResult state input (FailedAtCommit cause) = IsSome (update_of state input)
 
 abbrev pub cause_text : Cause → List ℕ

@@ -388,8 +388,8 @@ abbrev pub new_mode_of : State → Input → Option Mode
 new_mode_of state input = (effect state input).mode
 
 -- what an input needs that can fail
-abbrev pub need_of : State → Input → Need
-need_of state input = (effect state input).need
+abbrev pub need_of_memory_or_store : State → Input → Need
+need_of_memory_or_store state input = (effect state input).need
 
 abbrev pub with_update : Devices → Option DeviceUpdate → Devices
 with_update devices None = devices

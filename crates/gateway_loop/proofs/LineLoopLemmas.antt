@@ -1,4 +1,4 @@
--- How a line dispatcher continues with bytes, from slice to slice and from line to line.
+-- How a line splitter continues with bytes, from slice to slice and from line to line.
 use Rattle.std.proofs.Common.{◌≡◌, ◌≢◌, ℕ, ◌<◌, ◌^◌, List, []}
 use Rattle.std.proofs.Common.{◌∷◌, ◌++◌, length, take, refl, ap, sym, ◌∙◌}
 use Rattle.std.proofs.Common.{append_assoc, append-nil, arith, false}
@@ -13,7 +13,7 @@ use Rattle.std.proofs.lemmas.List.{map-append, nil_from_length, length-take}
 use Rattle.learned_devices.specs.DeviceStoreState.{DeviceStoreState}
 use Rattle.gateway_loop.specs.declared.driver.Driver.{Driver}
 use Rattle.gateway_loop.specs.declared.line_loop.LineSource.{LineSource}
-use Rattle.gateway_loop.specs.declared.line_loop.LineDispatcher.{LineDispatcher}
+use Rattle.gateway_loop.specs.declared.line_loop.LineSplitter.{LineSplitter}
 use Rattle.gateway_loop.specs.OutputSpecs.{OutputSpec}
 use Rattle.gateway_loop.specs.Script.{HasNoLf, event_of_script_line, script, with_lf}
 use Rattle.gateway_loop.specs.Processing.{HasNoReadyPacket}
@@ -62,12 +62,12 @@ whole_behind a b first second rest last whole more =
     ∙ ap (λ s. s ++ last) (sym (flat_map-append with_lf first second))
 
 module _ {O S : Type 0} (stored : S → DeviceStoreState) (output : OutputSpec O) (lines : LineSource) where
-  abbrev pub first_player : {old new : LineDispatcher O S} {bytes : List ℕ}
+  abbrev pub first_player : {old new : LineSplitter O S} {bytes : List ℕ}
       → TakesBytes stored output lines old new bytes
-      → LineDispatcher O S
+      → LineSplitter O S
   first_player {old = old} taken = old
 
-  pub bytes_none : (old : LineDispatcher O S) (tail : List ℕ) → HasNoReadyPacket old.driver.gateway.now
+  pub bytes_none : (old : LineSplitter O S) (tail : List ℕ) → HasNoReadyPacket old.driver.gateway.now
       → old.driver.items < 2 ^ 64
       → KeepsTruncatedLine tail old.partial → TakesBytes stored output lines old old (tail ++ [])
   bytes_none old tail idle fits keeps = record {
@@ -79,7 +79,7 @@ module _ {O S : Type 0} (stored : S → DeviceStoreState) (output : OutputSpec O
     taken = takes_none stored output old.driver idle fits;
   }
 
-  pub bytes_behind : (old mid new : LineDispatcher O S) (a b : List ℕ) → (p : TakesBytes stored output lines old mid a)
+  pub bytes_behind : (old mid new : LineSplitter O S) (a b : List ℕ) → (p : TakesBytes stored output lines old mid a)
       → TakesBytes stored output lines mid new (p.rest ++ b) → TakesBytes stored output lines old new (a ++ b)
   bytes_behind old mid new a b p q = record {
     ended = p.ended ++ q.ended;
@@ -93,7 +93,7 @@ module _ {O S : Type 0} (stored : S → DeviceStoreState) (output : OutputSpec O
         p.taken q.taken);
   }
 
-  pub stops_behind : (old mid new : LineDispatcher O S) (a b : List ℕ) → (p : TakesBytes stored output lines old mid a)
+  pub stops_behind : (old mid new : LineSplitter O S) (a b : List ℕ) → (p : TakesBytes stored output lines old mid a)
       → StopsAtLine stored output lines mid new (p.rest ++ b) → StopsAtLine stored output lines old new (a ++ b)
   stops_behind old mid new a b p q = record {
     ended = p.ended ++ q.ended;
@@ -108,7 +108,7 @@ module _ {O S : Type 0} (stored : S → DeviceStoreState) (output : OutputSpec O
         (event_of_line_from lines (strip_carriage_return q.line)) p.taken.processed q.broken);
   }
 
-  pub bytes_without_end : (old mid new : LineDispatcher O S) (bytes more : List ℕ) → HasNoLf more
+  pub bytes_without_end : (old mid new : LineSplitter O S) (bytes more : List ℕ) → HasNoLf more
       → new.driver ≡ mid.driver → new.partial ≡ take max_partial_line (mid.partial ++ more)
       → TakesBytes stored output lines old mid bytes → TakesBytes stored output lines old new (bytes ++ more)
   bytes_without_end old mid new bytes more none same kept p = record {
@@ -121,7 +121,7 @@ module _ {O S : Type 0} (stored : S → DeviceStoreState) (output : OutputSpec O
   }
 
   -- one line that LF ends, some bytes of which arrived before
-  pub line_taken : (old new : LineDispatcher O S) (tail bytes : List ℕ) → HasNoLf tail → HasNoLf bytes
+  pub line_taken : (old new : LineSplitter O S) (tail bytes : List ℕ) → HasNoLf tail → HasNoLf bytes
       → new.partial ≡ []
       → Takes stored output old.driver new.driver
       (event_of_line_from lines (strip_carriage_return (tail ++ bytes)) ∷ [])
@@ -137,7 +137,7 @@ module _ {O S : Type 0} (stored : S → DeviceStoreState) (output : OutputSpec O
   }
 
   -- and an answer that is not written completely at it, whatever follows
-  pub line_stops : (old new : LineDispatcher O S) (tail bytes more : List ℕ) → HasNoLf tail → HasNoLf bytes
+  pub line_stops : (old new : LineSplitter O S) (tail bytes more : List ℕ) → HasNoLf tail → HasNoLf bytes
       → DriverBreaks stored output old.driver new.driver []
       (event_of_line_from lines (strip_carriage_return (tail ++ bytes)))
       → StopsAtLine stored output lines old new (tail ++ (bytes ++ 10 ∷ more))

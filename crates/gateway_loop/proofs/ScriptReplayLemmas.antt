@@ -8,7 +8,7 @@ use Rattle.gateway_core.specs.Events.{Event}
 use Rattle.byte_io.specs.declared.sink.Sink as sinks
 use Rattle.gateway_loop.specs.declared.driver.Driver.{Driver}
 use Rattle.gateway_loop.specs.declared.line_loop.LineSource.TheVariants.{ScriptLines}
-use Rattle.gateway_loop.specs.declared.line_loop.LineDispatcher.{LineDispatcher}
+use Rattle.gateway_loop.specs.declared.line_loop.LineSplitter.{LineSplitter}
 use Rattle.gateway_loop.specs.declared.replay_text.ReplayOutput.{ReplayOutput}
 use Rattle.gateway_loop.specs.private.LineLoop.{StopsAtLine, TakesBytes}
 use Rattle.gateway_loop.specs.private.Lines.{event_of_line_from, events_by}
@@ -72,7 +72,7 @@ module _ {W S : Type 0} (stored : S → DeviceStoreState) (sink : sinks.Ghosts W
           (plays-break stored output entry old now events q.events q.event p q.broken);
     }
 
-  module _ (entry now : LineDispatcher (ReplayOutput W) S) (input : List ℕ) where
+  module _ (entry now : LineSplitter (ReplayOutput W) S) (input : List ℕ) where
     -- the events of a script whose lines are known
     pub script_of_bytes : (p : TakesBytes stored output ScriptLines entry now input)
         → script input ≡ events_by ScriptLines p.ended ++ script p.rest

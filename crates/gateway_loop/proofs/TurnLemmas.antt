@@ -15,7 +15,7 @@ use Rattle.gateway_core.specs.Events.{Event, Chunk, Line}
 use Rattle.gateway_loop.specs.Script.{HasNoLf, with_lf}
 use Rattle.gateway_loop.specs.declared.line_loop.LineSource.TheVariants.{DeskLines}
 use Rattle.gateway_loop.specs.declared.driver.Driver.{Driver}
-use Rattle.gateway_loop.specs.declared.line_loop.LineDispatcher.{LineDispatcher}
+use Rattle.gateway_loop.specs.declared.line_loop.LineSplitter.{LineSplitter}
 use Rattle.gateway_loop.specs.OutputSpecs.{OutputSpec}
 use Rattle.gateway_loop.specs.Processing.{HasNoReadyPacket}
 use Rattle.gateway_loop.specs.LiveGateway.{BreaksAtOrder}
@@ -142,7 +142,7 @@ desk_reads-more read turn = map-append (λ (turn : Turn). turn.desk) read (turn 
 
 module _ {O S : Type 0} (stored : S → DeviceStoreState) (output : OutputSpec O) where
   -- the turns were taken, and the first bytes of the desk's partial line are kept
-  pub record TakesTurns (old new : LineDispatcher O S) (read : List Turn) : Type 0 where
+  pub record TakesTurns (old new : LineSplitter O S) (read : List Turn) : Type 0 where
     pub ended : List (List ℕ)
     pub rest : List ℕ
     pub whole : desk_bytes read ≡ flat_map with_lf ended ++ rest
@@ -150,11 +150,11 @@ module _ {O S : Type 0} (stored : S → DeviceStoreState) (output : OutputSpec O
     pub keeps : KeepsTruncatedLine rest new.partial
     pub taken : Takes stored output old.driver new.driver (events_of_turns read)
 
-  abbrev pub first_player : {old new : LineDispatcher O S} {read : List Turn} → TakesTurns old new read
-      → LineDispatcher O S
+  abbrev pub first_player : {old new : LineSplitter O S} {read : List Turn} → TakesTurns old new read
+      → LineSplitter O S
   first_player {old = old} taken = old
 
-  pub turns_none : (old : LineDispatcher O S) → HasNoReadyPacket old.driver.gateway.now → old.driver.items < 2 ^ 64
+  pub turns_none : (old : LineSplitter O S) → HasNoReadyPacket old.driver.gateway.now → old.driver.items < 2 ^ 64
       → old.partial ≡ []
       → TakesTurns old old []
   turns_none old idle fits none = record {
@@ -166,7 +166,7 @@ module _ {O S : Type 0} (stored : S → DeviceStoreState) (output : OutputSpec O
     taken = takes_none stored output old.driver idle fits;
   }
 
-module _ {O S : Type 0} (stored : S → DeviceStoreState) (output : OutputSpec O) (entry old : LineDispatcher O S)
+module _ {O S : Type 0} (stored : S → DeviceStoreState) (output : OutputSpec O) (entry old : LineSplitter O S)
     (read : List Turn)
     (chunk : List ℕ) (p : TakesTurns stored output entry old read) where
   abbrev begun : List Event
@@ -186,8 +186,8 @@ module _ {O S : Type 0} (stored : S → DeviceStoreState) (output : OutputSpec O
   piece_taken new taken =
       takes-append stored output entry.driver old.driver new (events_of_turns read) (Chunk chunk ∷ []) p.taken taken
 
-  -- `mid` is the line dispatcher after the chunk
-  pub turn_taken : (mid new : LineDispatcher O S) (desk : List ℕ)
+  -- `mid` is the line splitter after the chunk
+  pub turn_taken : (mid new : LineSplitter O S) (desk : List ℕ)
       → Takes stored output old.driver mid.driver (Chunk chunk ∷ [])
       → TakesBytes stored output DeskLines mid new (p.rest ++ desk)
       → TakesTurns stored output entry new (read ++ record { chunk = chunk; desk = desk } ∷ [])
@@ -216,7 +216,7 @@ module _ {O S : Type 0} (stored : S → DeviceStoreState) (output : OutputSpec O
       }
 
   -- an answer to an order was not written completely
-  pub order_stops : (mid new : LineDispatcher O S) (desk : List ℕ)
+  pub order_stops : (mid new : LineSplitter O S) (desk : List ℕ)
       → Takes stored output old.driver mid.driver (Chunk chunk ∷ [])
       → StopsAtLine stored output DeskLines mid new (p.rest ++ desk)
       → BreaksAtOrder stored entry.driver.gateway.now new.driver.gateway.now

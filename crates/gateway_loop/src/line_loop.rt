@@ -25,13 +25,13 @@ pub enum LineSource {
 
 /// A `Driver`, and the partial line so far.
 #[derive(Drop)]
-pub struct LineDispatcher<'g, O, S: DeviceStore> {
+pub struct LineSplitter<'g, O, S: DeviceStore> {
     pub driver: Driver<'g, O, S>,
     pub partial: PartialLine,
 }
 
 // In the postconditions below `tail` is everything read so far of the partial line.
-impl<O: ReplySink, S: DeviceStore> LineDispatcher<'_, O, S> {
+impl<O: ReplySink, S: DeviceStore> LineSplitter<'_, O, S> {
     /// Takes the next bytes, and so each line that ends in them.
     pub fn process_bytes(&mut self, lines: LineSource, bytes: &[u8]) -> Result<(), Failed>
         requires { HasNoReadyPacket self.old.driver.gateway.now }

@@ -5,7 +5,7 @@ ghost use Rattle.gateway_loop.specs.Headline.{ServesAsSpecified};
 ghost use Rattle.gateway_loop.specs.LiveGateway.{Serves, ServesUntil, SucceedsIffAllTurns, live_value};
 
 use crate::driver::Driver;
-use crate::line_loop::{LineDispatcher, LineSource};
+use crate::line_loop::{LineSource, LineSplitter};
 use crate::live_outputs::LiveOutputs;
 use crate::partial_line::PartialLine;
 use crate::runs::{RunFault, Summary};
@@ -56,7 +56,7 @@ pub fn live<P: Source, Q: Source, R: Sink, D: Sink, S: DeviceStore>(
 {
     let is_ready = gateway.is_ready();
     prove!(!is_ready);
-    let mut dispatcher = LineDispatcher {
+    let mut splitter = LineSplitter {
         driver: Driver {
             reply_sink: LiveOutputs {
                 serial: serial_out,
@@ -73,17 +73,17 @@ pub fn live<P: Source, Q: Source, R: Sink, D: Sink, S: DeviceStore>(
         let Ok(length) = serial_in.read(&mut buffer) else {
             return Err(RunFault::Read);
         };
-        let Ok(()) = dispatcher.driver.process_chunk(&buffer[..length]) else {
+        let Ok(()) = splitter.driver.process_chunk(&buffer[..length]) else {
             return Err(RunFault::Write);
         };
         let Ok(length) = desk_in.read(&mut buffer) else {
             return Err(RunFault::Read);
         };
-        let Ok(()) = dispatcher.process_bytes(LineSource::DeskLines, &buffer[..length]) else {
+        let Ok(()) = splitter.process_bytes(LineSource::DeskLines, &buffer[..length]) else {
             return Err(RunFault::Write);
         };
     }
     Ok(Summary {
-        items: dispatcher.driver.items,
+        items: splitter.driver.items,
     })
 }

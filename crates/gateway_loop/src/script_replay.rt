@@ -8,7 +8,7 @@ ghost use Rattle.gateway_loop.specs.ScriptReplay.{Replays, ReplaysUntil, FailsIf
 ghost use Rattle.gateway_loop.specs.Streams.{source_value};
 
 use crate::driver::Driver;
-use crate::line_loop::{LineDispatcher, LineSource};
+use crate::line_loop::{LineSource, LineSplitter};
 use crate::partial_line::PartialLine;
 use crate::replay_text::ReplayOutput;
 use crate::runs::{RunFault, Summary};
@@ -58,7 +58,7 @@ pub fn replay<R: Source, W: Sink, S: DeviceStore>(
 {
     let is_ready = gateway.is_ready();
     prove!(!is_ready);
-    let mut dispatcher = LineDispatcher {
+    let mut splitter = LineSplitter {
         driver: Driver {
             reply_sink: ReplayOutput {
                 sink: writer,
@@ -76,14 +76,14 @@ pub fn replay<R: Source, W: Sink, S: DeviceStore>(
             Err(_) => return Err(RunFault::Read),
         };
         if length == 0 {
-            let Ok(()) = dispatcher.process_last_script_line() else {
+            let Ok(()) = splitter.process_last_script_line() else {
                 return Err(RunFault::Write);
             };
             return Ok(Summary {
-                items: dispatcher.driver.items,
+                items: splitter.driver.items,
             });
         }
-        let Ok(()) = dispatcher.process_bytes(LineSource::ScriptLines, &buffer[..length]) else {
+        let Ok(()) = splitter.process_bytes(LineSource::ScriptLines, &buffer[..length]) else {
             return Err(RunFault::Write);
         };
     }

@@ -55,7 +55,7 @@ returns-in_default-clause-err g c =
         desk,
       );
       processed =
-          plays_at stored g.R.Sink g.D.Sink entry.driver c.loop-turn.dispatcher.driver _ _ _ (search rules)
+          plays_at stored g.R.Sink g.D.Sink entry.driver c.loop-turn.splitter.driver _ _ _ (search rules)
           (search rules) (search rules) _ taken.taken.processed;
     }
 
@@ -99,7 +99,7 @@ returns-in_default-process_chunk-clause-err g c =
       broken =
           breaks_at stored g.R.Sink g.D.Sink entry.driver c.process_chunk.new.self _ _ _ (search rules)
           (search rules) (search rules) _ _
-          (piece_stops stored output entry c.loop-turn.dispatcher read chunk taken c.process_chunk.new.self
+          (piece_stops stored output entry c.loop-turn.splitter read chunk taken c.process_chunk.new.self
           c.in_default-process_chunk.ensures.taken);
     }
 
@@ -121,7 +121,7 @@ returns-in_default-process_chunk-clause-whole g c =
     let output = live_output_of g.R.Sink g.D.Sink in
     let entry = first_player stored output taken in
     let part =
-    (piece_stops stored output entry c.loop-turn.dispatcher read chunk taken new
+    (piece_stops stored output entry c.loop-turn.splitter read chunk taken new
     c.in_default-process_chunk.ensures.taken).answered in
     λ room. (
       λ ok. absurd cc,
@@ -153,7 +153,7 @@ returns-in_default-read-clause-err g c =
       );
       processed =
           plays_at stored g.R.Sink g.D.Sink entry.driver new _ _ _ (search rules) (search rules) (search rules) _
-          (piece_taken stored output entry c.loop-turn.dispatcher read chunk taken new
+          (piece_taken stored output entry c.loop-turn.splitter read chunk taken new
           c.in-Ok-process_chunk.ensures.taken).processed;
     }
 
@@ -182,7 +182,7 @@ returns-in_default-read-clause-whole g c =
 
 pub returns-in_default-process_bytes-clause-err : goal.returns-in_default-process_bytes-clause-err
 returns-in_default-process_bytes-clause-err g c =
-    let mid = record c.loop-turn.dispatcher { driver = c.process_chunk.new.self } in
+    let mid = record c.loop-turn.splitter { driver = c.process_chunk.new.self } in
     let new = c.process_bytes.new.self in
     let chunk = take c.in-Ok.length c.read.new.buffer in
     let bytes = take c.in-Ok-read.length c.read-in-loop-turn.new.buffer in
@@ -204,7 +204,7 @@ returns-in_default-process_bytes-clause-err g c =
       broken =
           breaks_at_order stored g.R.Sink g.D.Sink entry.driver new.driver _ _ _ (search rules) (search rules)
           (search rules) _
-          (order_stops stored output entry c.loop-turn.dispatcher read chunk taken mid new bytes
+          (order_stops stored output entry c.loop-turn.splitter read chunk taken mid new bytes
           c.in-Ok-process_chunk.ensures.taken (c.in_default-process_bytes.ensures.stopped taken.rest taken.keeps));
     }
 
@@ -220,7 +220,7 @@ returns-in_default-process_bytes-clause-reads g c =
 
 pub returns-in_default-process_bytes-clause-whole : goal.returns-in_default-process_bytes-clause-whole
 returns-in_default-process_bytes-clause-whole g c =
-    let mid = record c.loop-turn.dispatcher { driver = c.process_chunk.new.self } in
+    let mid = record c.loop-turn.splitter { driver = c.process_chunk.new.self } in
     let new = c.process_bytes.new.self in
     let chunk = take c.in-Ok.length c.read.new.buffer in
     let bytes = take c.in-Ok-read.length c.read-in-loop-turn.new.buffer in
@@ -229,7 +229,7 @@ returns-in_default-process_bytes-clause-whole g c =
     let output = live_output_of g.R.Sink g.D.Sink in
     let entry = first_player stored output taken in
     let part =
-    (order_stops stored output entry c.loop-turn.dispatcher read chunk taken mid new bytes
+    (order_stops stored output entry c.loop-turn.splitter read chunk taken mid new bytes
     c.in-Ok-process_chunk.ensures.taken
     (c.in_default-process_bytes.ensures.stopped taken.rest taken.keeps)).broken.answered in
     λ room. (
@@ -245,7 +245,7 @@ pub loop-turn-preserved : goal.loop-turn-preserved
 loop-turn-preserved g c =
     let serial_counts = g.P.Source.counts in
     let desk_counts = g.Q.Source.counts in
-    let mid = record c.loop-turn.dispatcher { driver = c.process_chunk.new.self } in
+    let mid = record c.loop-turn.splitter { driver = c.process_chunk.new.self } in
     let new = c.process_bytes.new.self in
     let turn = c.loop-turn._turn in
     let chunk = take c.in-Ok.length c.read.new.buffer in
@@ -271,7 +271,7 @@ loop-turn-preserved g c =
         rw (desk_reads-more read both)
             (reads_more _ _ _ (desk_reads read) c.in-Ok-read.length c.read-in-loop-turn.new.buffer desk
             c.in-Ok-read.ensures.within (omega arith) c.in-Ok-read.ensures.bytes c.in-Ok-read.ensures.counted),
-        turn_taken stored output entry c.loop-turn.dispatcher read chunk taken mid new bytes
+        turn_taken stored output entry c.loop-turn.splitter read chunk taken mid new bytes
             c.in-Ok-process_chunk.ensures.taken
             (c.in-Ok-process_bytes.ensures.taken taken.rest taken.keeps),
       );
@@ -301,7 +301,7 @@ returns-clause-ok g c =
       serial = serial;
       desk = desk;
       processed =
-          plays_at stored g.R.Sink g.D.Sink entry.driver c.loop-turn.dispatcher.driver _ _ _ (search rules)
+          plays_at stored g.R.Sink g.D.Sink entry.driver c.loop-turn.splitter.driver _ _ _ (search rules)
           (search rules) (search rules) _ taken.taken.processed;
       counted = omega (arith, counted);
     }
@@ -321,7 +321,7 @@ returns-clause-reads g c =
 
 pub returns-clause-whole : goal.returns-clause-whole
 returns-clause-whole g c =
-    let now = c.loop-turn.dispatcher.driver.reply_sink in
+    let now = c.loop-turn.splitter.driver.reply_sink in
     let before = c.loop-turn.invariant in
     let (read, count, serial, desk, taken) = before.progress in
     let out = taken.taken.processed.answered.out.1 in

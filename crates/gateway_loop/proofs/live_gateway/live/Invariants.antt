@@ -10,15 +10,15 @@ use Rattle.gateway_loop.proofs.live_gateway.live.Given as goal
 
 abbrev pub invariant-loop-turn : goal.invariant-loop-turn
 invariant-loop-turn g l = record {
-  gateway : l.dispatcher.driver.gateway.ghost_name ≡ l.initial.dispatcher.driver.gateway.ghost_name;
-  serial : l.dispatcher.driver.reply_sink.serial.ghost_name ≡ l.initial.dispatcher.driver.reply_sink.serial.ghost_name;
-  desk : l.dispatcher.driver.reply_sink.desk.ghost_name ≡ l.initial.dispatcher.driver.reply_sink.desk.ghost_name;
-  idle : HasNoReadyPacket l.dispatcher.driver.gateway.now;
+  gateway : l.splitter.driver.gateway.ghost_name ≡ l.initial.splitter.driver.gateway.ghost_name;
+  serial : l.splitter.driver.reply_sink.serial.ghost_name ≡ l.initial.splitter.driver.reply_sink.serial.ghost_name;
+  desk : l.splitter.driver.reply_sink.desk.ghost_name ≡ l.initial.splitter.driver.reply_sink.desk.ghost_name;
+  idle : HasNoReadyPacket l.splitter.driver.gateway.now;
   progress : (read : List Turn) × (length read ≡ l._turn)
       × AllReadsSucceed (source_value g.P.Source l.fn.serial_in) (source_value g.P.Source l.serial_in)
       (serial_reads read)
       × AllReadsSucceed (source_value g.Q.Source l.fn.desk_in) (source_value g.Q.Source l.desk_in) (desk_reads read)
-      × TakesTurns g.S.DeviceStore.store_state (live_output_of g.R.Sink g.D.Sink) l.initial.dispatcher l.dispatcher
+      × TakesTurns g.S.DeviceStore.store_state (live_output_of g.R.Sink g.D.Sink) l.initial.splitter l.splitter
       read;
   serial_made : CallsMade (g.P.Source.counts l.fn.serial_in) (g.P.Source.counts l.serial_in) l._turn;
   desk_made : CallsMade (g.Q.Source.counts l.fn.desk_in) (g.Q.Source.counts l.desk_in) l._turn;

@@ -49,7 +49,7 @@ returns-in-Err-clause-err g c =
           Consumes-kept (left c.args.reader.now) (left c.loop-turn.reader) (left c.read.new.self) input read
           c.in-Err.ensures.bytes;
       processed =
-          plays_ended g.S.DeviceStore.store_state g.W.Sink entry c.loop-turn.dispatcher input _ _ (search rules)
+          plays_ended g.S.DeviceStore.store_state g.W.Sink entry c.loop-turn.splitter input _ _ (search rules)
           (search rules)
           taken;
     }
@@ -62,7 +62,7 @@ returns-clause-err g c =
       input = input;
       read = read;
       processed =
-          plays_ended g.S.DeviceStore.store_state g.W.Sink entry c.loop-turn.dispatcher input _ _ (search rules)
+          plays_ended g.S.DeviceStore.store_state g.W.Sink entry c.loop-turn.splitter input _ _ (search rules)
           (search rules)
           taken;
     }
@@ -77,7 +77,7 @@ returns-then-length-eq0-clause-ok g c =
     let none : Consumes (left c.loop-turn.reader) (left c.read.new.self) [] =
     rw c.if-length-eq0.true at c.in-Ok.ensures.bytes.0 in
     let done =
-    script_taken stored g.W.Sink _ c.loop-turn.dispatcher input new taken
+    script_taken stored g.W.Sink _ c.loop-turn.splitter input new taken
     (c.in-Ok-process_last_script_line.ensures.taken taken.rest taken.keeps) in
     record {
       input = input;
@@ -92,7 +92,7 @@ pub returns-then-length-eq0-clause-ended : goal.returns-then-length-eq0-clause-e
 returns-then-length-eq0-clause-ended g c =
     let (input, read, taken) = c.loop-turn.invariant.progress in
     let done =
-    script_taken g.S.DeviceStore.store_state g.W.Sink _ c.loop-turn.dispatcher input
+    script_taken g.S.DeviceStore.store_state g.W.Sink _ c.loop-turn.splitter input
     c.process_last_script_line.new.self.driver taken
     (c.in-Ok-process_last_script_line.ensures.taken taken.rest taken.keeps) in
     let went = done.processed.answered.out.1.went in
@@ -116,7 +116,7 @@ returns-in_default-clause-err g c =
         broken =
             part_at_end stored g.W.Sink entry.driver c.process_last_script_line.new.self.driver _ _ (search rules)
             (search rules)
-            c.loop-turn.dispatcher.driver input _ _ (script_of_bytes stored g.W.Sink _ c.loop-turn.dispatcher input
+            c.loop-turn.splitter.driver input _ _ (script_of_bytes stored g.W.Sink _ c.loop-turn.splitter input
             taken)
             taken.taken.processed (c.in_default.ensures.taken taken.rest taken.keeps);
       });
@@ -130,7 +130,7 @@ returns-in_default-clause-write g c =
     λ _. (
       search rules,
       wrong_at counts c.args.writer.now c.process_last_script_line.new.self.driver.reply_sink.sink.now _ (search rules)
-          (failed_in_second (counts c.args.writer.now) (counts c.loop-turn.dispatcher.driver.reply_sink.sink.now)
+          (failed_in_second (counts c.args.writer.now) (counts c.loop-turn.splitter.driver.reply_sink.sink.now)
           (counts c.process_last_script_line.new.self.driver.reply_sink.sink.now)
           taken.taken.processed.answered.out.1.went
           last.broken.answered.out.1.went),
@@ -145,7 +145,7 @@ returns-in_default-process_bytes-clause-err g c =
     let entry = first_player g.S.DeviceStore.store_state (replay_output_of g.W.Sink) ScriptLines taken in
     let chunk = take c.in-Ok.length c.read.new.buffer in
     let crash =
-    stops_behind stored (replay_output_of g.W.Sink) ScriptLines _ c.loop-turn.dispatcher c.process_bytes.new.self input
+    stops_behind stored (replay_output_of g.W.Sink) ScriptLines _ c.loop-turn.splitter c.process_bytes.new.self input
     chunk
     taken
     (c.in_default-process_bytes.ensures.stopped taken.rest taken.keeps) in
@@ -169,7 +169,7 @@ pub returns-in_default-process_bytes-clause-write : goal.returns-in_default-proc
 returns-in_default-process_bytes-clause-write g c =
     let (input, read, taken) = c.loop-turn.invariant.progress in
     let crash =
-    stops_behind g.S.DeviceStore.store_state (replay_output_of g.W.Sink) ScriptLines _ c.loop-turn.dispatcher
+    stops_behind g.S.DeviceStore.store_state (replay_output_of g.W.Sink) ScriptLines _ c.loop-turn.splitter
     c.process_bytes.new.self input
     _ taken (c.in_default-process_bytes.ensures.stopped taken.rest taken.keeps) in
     λ _. (
@@ -183,7 +183,7 @@ returns-in_default-process_bytes-clause-too_many g c =
     let counts = g.W.Sink.counts in
     let (input, read, taken) = c.loop-turn.invariant.progress in
     let crash =
-    stops_behind g.S.DeviceStore.store_state (replay_output_of g.W.Sink) ScriptLines _ c.loop-turn.dispatcher
+    stops_behind g.S.DeviceStore.store_state (replay_output_of g.W.Sink) ScriptLines _ c.loop-turn.splitter
     c.process_bytes.new.self input
     _ taken (c.in_default-process_bytes.ensures.stopped taken.rest taken.keeps) in
     let wrong : OneFailedOrEmpty (counts c.args.writer.now)
@@ -199,7 +199,7 @@ loop-turn-preserved g c =
     let chunk = take c.in-Ok.length c.read.new.buffer in
     let after = c.in-Ok-process_bytes.ensures in
     let now =
-    bytes_behind g.S.DeviceStore.store_state (replay_output_of g.W.Sink) ScriptLines _ c.loop-turn.dispatcher
+    bytes_behind g.S.DeviceStore.store_state (replay_output_of g.W.Sink) ScriptLines _ c.loop-turn.splitter
     c.process_bytes.new.self input
     chunk taken (after.taken taken.rest taken.keeps) in
     record {

@@ -11,13 +11,13 @@ use Rattle.gateway_loop.proofs.script_replay.replay.Given as goal
 
 abbrev pub invariant-loop-turn : goal.invariant-loop-turn
 invariant-loop-turn g l = record {
-  gateway : l.dispatcher.driver.gateway.ghost_name ≡ l.initial.dispatcher.driver.gateway.ghost_name;
-  writer : l.dispatcher.driver.reply_sink.sink.ghost_name ≡ l.initial.dispatcher.driver.reply_sink.sink.ghost_name;
-  idle : HasNoReadyPacket l.dispatcher.driver.gateway.now;
+  gateway : l.splitter.driver.gateway.ghost_name ≡ l.initial.splitter.driver.gateway.ghost_name;
+  writer : l.splitter.driver.reply_sink.sink.ghost_name ≡ l.initial.splitter.driver.reply_sink.sink.ghost_name;
+  idle : HasNoReadyPacket l.splitter.driver.gateway.now;
   progress : (input : List ℕ) × Consumes (g.R.Source.left l.fn.reader) (g.R.Source.left l.reader) input
-      × TakesBytes g.S.DeviceStore.store_state (replay_output_of g.W.Sink) ScriptLines l.initial.dispatcher l.dispatcher
+      × TakesBytes g.S.DeviceStore.store_state (replay_output_of g.W.Sink) ScriptLines l.initial.splitter l.splitter
       input;
-  writes : NoneFailedOrEmpty (g.W.Sink.counts l.fn.writer) (g.W.Sink.counts l.dispatcher.driver.reply_sink.sink.now);
+  writes : NoneFailedOrEmpty (g.W.Sink.counts l.fn.writer) (g.W.Sink.counts l.splitter.driver.reply_sink.sink.now);
   reads : NoneFailedOrEmpty (g.R.Source.counts l.fn.reader) (g.R.Source.counts l.reader);
   gave : (parts : List (List ℕ)) × (length parts ≡ l._turn)
       × AllReadsSucceed (source_value g.R.Source l.fn.reader) (source_value g.R.Source l.reader) parts;

@@ -4,7 +4,7 @@ use Rattle.gateway_loop.specs.Script.{script}
 use Rattle.gateway_loop.specs.private.DriverSteps.{Takes}
 use Rattle.gateway_loop.proofs.LineLoopLemmas.{last_line, none_came}
 use Rattle.gateway_loop.proofs.ProcessingLemmas.{takes_none}
-use Rattle.gateway_loop.proofs.line_loop.LineDispatcher.process_last_script_line.Goals as goal
+use Rattle.gateway_loop.proofs.line_loop.LineSplitter.process_last_script_line.Goals as goal
 
 pub returns-then-is_empty-clause-taken : goal.returns-then-is_empty-clause-taken
 returns-then-is_empty-clause-taken g c = λ tail keeps.

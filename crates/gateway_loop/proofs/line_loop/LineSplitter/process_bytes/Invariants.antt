@@ -2,7 +2,7 @@ use Rattle.std.proofs.Common.{◌≡◌, ◌++◌, List, ℕ, length}
 use Rattle.gateway_loop.specs.private.LineLoop.{TakesBytes}
 use Rattle.gateway_loop.specs.private.Lines.{KeepsTruncatedLine}
 use Rattle.gateway_loop.specs.Processing.{HasNoReadyPacket}
-use Rattle.gateway_loop.proofs.line_loop.LineDispatcher.process_bytes.Given as goal
+use Rattle.gateway_loop.proofs.line_loop.LineSplitter.process_bytes.Given as goal
 
 -- the lines that end in the bytes so far are taken
 abbrev pub invariant-loop-end : goal.invariant-loop-end

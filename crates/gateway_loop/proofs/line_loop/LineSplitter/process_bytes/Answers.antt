@@ -7,7 +7,7 @@ use Rattle.gateway_loop.proofs.LineLoopLemmas.{bytes_none, bytes_behind, bytes_w
 use Rattle.gateway_loop.proofs.LineLoopLemmas.{stops_behind}
 use Rattle.gateway_loop.proofs.ListLemmas.{split_round}
 use Rattle.gateway_loop.proofs.SearchLemmas.{one_line, one_line_before}
-use Rattle.gateway_loop.proofs.line_loop.LineDispatcher.process_bytes.Goals as goal
+use Rattle.gateway_loop.proofs.line_loop.LineSplitter.process_bytes.Goals as goal
 
 pub loop-end-init : goal.loop-end-init
 loop-end-init g c = record {

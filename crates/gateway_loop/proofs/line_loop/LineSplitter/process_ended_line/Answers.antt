@@ -6,7 +6,7 @@ use Rattle.gateway_loop.specs.private.Lines.{event_of_line_from, max_partial_lin
 use Rattle.gateway_loop.specs.private.DriverSteps.{TakesOrBreaks}
 use Rattle.gateway_loop.proofs.LineLoopLemmas.{kept_more, none_came}
 use Rattle.gateway_loop.proofs.LongLineLemmas.{kept_line_alike}
-use Rattle.gateway_loop.proofs.line_loop.LineDispatcher.process_ended_line.Goals as goal
+use Rattle.gateway_loop.proofs.line_loop.LineSplitter.process_ended_line.Goals as goal
 
 pub returns-then-is_empty-clause-taken : goal.returns-then-is_empty-clause-taken
 returns-then-is_empty-clause-taken g c = λ tail keeps.
