@@ -35,7 +35,7 @@ use Rattle.teach_in.specs.declared.outcome.Outcome.TheVariants.{Accepted, Delete
 use Rattle.actuator_commands.specs.declared.orders.Order.{Order}
 use Rattle.actuator_commands.specs.declared.orders.Order.TheVariants as order
 use Rattle.actuator_commands.specs.Orders.{order_of, words_of}
-use Rattle.actuator_commands.specs.Words.{Word, Literal, Id, Profile, Number, Text, SpellsId, SpellsEep, SpellsWord}
+use Rattle.actuator_commands.specs.Words.{Word, Literal, Id, Profile, Number, LabelText, SpellsId, SpellsEep, SpellsWord}
 use Rattle.actuator_commands.proofs.OrderLemmas.{orders_are_spelled}
 use Rattle.json_lines.specs.Lines.{Teach, TeachLine, text}
 use Rattle.json_lines.proofs.TeachLines.{one_teach_line}
@@ -147,7 +147,7 @@ word-in text (Literal name) is = tt
 word-in text (Id id) is = id-in text id is
 word-in text (Profile eep) is = profile-in text eep is
 word-in text (Number most n) is = tt
-word-in text (Text name) is = tt
+word-in text (LabelText name) is = tt
 
 words-in : (texts : List (List ℕ)) (words : List Word) → AllZip SpellsWord texts words
     → AllByRecursion IsWordInBytes words

@@ -74,9 +74,9 @@ RorgDoesNotFitTeachIn eep kind = ⊥
 
 -- data of a learned device that its profile cannot read, for one of these faults
 abbrev pub IsUnreadableData : State → Packet → Disposition → (Unreadable → Type 0) → Type 0
-IsUnreadableData state packet disposition HandlingReason =
+IsUnreadableData state packet disposition IsFault =
     (t : Telegram) × (known : Device) × (fault : Unreadable) × IsDataOf state packet t known
-    × (read_by known.eep t ≡ Err fault) × Why fault × HasProfileAndMakerOf disposition (Some known)
+    × (read_by known.eep t ≡ Err fault) × IsFault fault × HasProfileAndMakerOf disposition (Some known)
 
 -- the meaning of the word, and whose profile and maker the disposition has
 abbrev pub WhyIsTrue : State → Packet → Disposition → HandlingReason → Type 0

@@ -24,9 +24,9 @@ returns-in-Err-Full g c =
       changes_only_registry =
           alone g.S.DeviceStore.store_state _ _ _ _ _ _ c.learn.ensures.learns.clean c.learn.ensures.learns.recoverable
           (λ honest devices has.
-          let HandlingReason = λ (why : LearnFault). RefusesToLearn (g.S.DeviceStore.store_state c.self.inside.registry)
+          let Refuses = λ (why : LearnFault). RefusesToLearn (g.S.DeviceStore.store_state c.self.inside.registry)
           (g.S.DeviceStore.store_state c.learn.new.self) c.args.device devices why in
-          let full : Why fault.Full = subst HandlingReason c.in-Err-Full.field-0-is
+          let full : Refuses fault.Full = subst Refuses c.in-Err-Full.field-0-is
           (c.in-Err-Full.ensures.learns.devices honest devices has) in full);
     })
 
@@ -37,9 +37,9 @@ returns-in-Err-Failed g c =
       changes_only_registry =
           alone g.S.DeviceStore.store_state _ _ _ _ _ _ c.learn.ensures.learns.clean c.learn.ensures.learns.recoverable
           (λ honest devices has.
-          let HandlingReason = λ (why : LearnFault). RefusesToLearn (g.S.DeviceStore.store_state c.self.inside.registry)
+          let Refuses = λ (why : LearnFault). RefusesToLearn (g.S.DeviceStore.store_state c.self.inside.registry)
           (g.S.DeviceStore.store_state c.learn.new.self) c.args.device devices why in
-          let pends : HandlingReason (fault.Failed c.in-Err-Failed.fault) = subst HandlingReason c.in-Err-Failed.field-0-is
+          let pends : Refuses (fault.Failed c.in-Err-Failed.fault) = subst Refuses c.in-Err-Failed.field-0-is
           (c.in-Err-Failed.ensures.learns.devices honest devices has) in pends);
     })
 
