@@ -35,7 +35,7 @@ loop-turn-init g c =
       );
       writes = (refl, refl);
       reads = (refl, refl);
-      bytes_read = ([], refl, reads_none (source_value g.R.Source c.args.reader.now));
+      gave = ([], refl, reads_none (source_value g.R.Source c.args.reader.now));
     }
 
 pub returns-in-Err-clause-err : goal.returns-in-Err-clause-err
@@ -216,8 +216,8 @@ loop-turn-preserved g c =
       reads =
           went_well Failed (reads c.args.reader.now) (reads c.loop-turn.reader) (reads c.read.new.self) c.in-Ok.length
           before.reads c.in-Ok.ensures.counted c.if-length-eq0.false;
-      bytes_read =
-          let (parts, count, well) = before.bytes_read in (
+      gave =
+          let (parts, count, well) = before.gave in (
             parts ++ chunk ∷ [],
             length-append parts (chunk ∷ []) ∙ ap (λ n. n + 1) count,
             reads_more _ _ _ parts c.in-Ok.length c.read.new.buffer well c.in-Ok.ensures.within (omega arith)
