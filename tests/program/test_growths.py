@@ -282,7 +282,7 @@ class Orders(GrowthsTest):
         self.assert_growths(42, self.TWO + self.LABEL, "add 00000001 D5-00-01\n")
 
     def test_a_second_remove(self):
-        self.assert_growths(31, self.TWO + "remove 00000001\n", "remove 00000002\n")
+        self.assert_growths(15, self.TWO + "remove 00000001\n", "remove 00000002\n")
 
     def test_a_second_list_of_two_devices(self):
         self.assert_growths(22, self.TWO + "list\n", "list\n")
