@@ -10,7 +10,8 @@ use Rattle.std.specs.Result.{result_ok}
 use Rattle.std.specs.Str.{IsUtf8}
 use Rattle.learned_devices.specs.Labels.{max_label, is_label, is_label_of_any_length}
 use Rattle.learned_devices.proofs.LabelLemmas.{name-utf8}
-use Rattle.actuator_commands.specs.Words.{Literal, Id, LabelText, SpellsWord, id_in, is_nonempty_label, label_in, map_two}
+use Rattle.actuator_commands.specs.Words.{Literal, Id, LabelText, SpellsWord, id_in, is_nonempty_label, label_in}
+use Rattle.actuator_commands.specs.Words.{map_two}
 use Rattle.actuator_commands.specs.Words.{label_if_well_formed}
 use Rattle.actuator_commands.specs.declared.orders.Order.TheVariants.{Label}
 use Rattle.actuator_commands.specs.declared.orders.OrderFault.TheVariants.{Range}
@@ -77,9 +78,9 @@ label-not_taken left digits more id text whole i t none =
 -- ---- its line
 
 -- a text that has bytes is a word
-one_word_order : (text : List ℕ) → is_nonempty_label text ≡ true → label_word_if_any text ≡ LabelText text ∷ []
-one_word_order [] may = absurd cc
-one_word_order (first ∷ more) may = refl
+one_word : (text : List ℕ) → is_nonempty_label text ≡ true → label_word_if_any text ≡ LabelText text ∷ []
+one_word [] may = absurd cc
+one_word (first ∷ more) may = refl
 
 -- what is read after the name has the shape of the order
 pub label_shaped : (digits : List ℕ) (more : List (List ℕ)) (id : ℕ) (label : List ℕ) → id_in digits ≡ Some id
@@ -96,6 +97,6 @@ label_shaped digits (first ∷ more) id label i t =
       texts,
       refl,
       subst (λ ws. AllZip SpellsWord texts (Literal (codes "label") ∷ Id id ∷ ws))
-          (sym (one_word_order label spelled.1))
+          (sym (one_word label spelled.1))
           (refl, (id_spelled digits id i, (spelled, tt))),
     )

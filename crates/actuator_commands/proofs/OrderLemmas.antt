@@ -6,7 +6,8 @@ use Rattle.std.specs.List.{AllByRecursion, AllZip, join_with_byte, list_all}
 use Rattle.std.proofs.lemmas.Bool.{and_parts, le-leb, leb-true, ne_eqb}
 use Rattle.std.proofs.lemmas.List.Splits.{join_with_byte-slice_split}
 use Rattle.std.proofs.lemmas.Slice.Zip.{AllZip-long}
-use Rattle.actuator_commands.specs.Words.{words, Word, Literal, Id, Profile, Number, LabelText, SpellsWord, IsWordInRange}
+use Rattle.actuator_commands.specs.Words.{words, Word, Literal, Id, Profile, Number, LabelText, SpellsWord}
+use Rattle.actuator_commands.specs.Words.{IsWordInRange}
 use Rattle.actuator_commands.specs.Words.{is_word_in_range, id_in}
 use Rattle.actuator_commands.specs.Words.{map_two, map_three, label_in}
 use Rattle.learned_devices.specs.Labels.{max_label}
@@ -305,7 +306,8 @@ orders_are_spelled = record {
       in_shape line order spells.0
       ∙ ap (λ b. cond b (Ok order) (Err Range)) (all_tested (words_of order) spells.1);
   out_of_range = λ line e. subst (Speaks line) e (speaks line);
-  syntax_error_has_no_order = λ line e order shape. no_syntax order (is_in_range order) (sym (in_shape line order shape) ∙ e);
+  syntax_error_has_no_order = λ line e order shape. no_syntax order (is_in_range order)
+      (sym (in_shape line order shape) ∙ e);
 }
 
 -- ---- for callers

@@ -21,9 +21,9 @@ onto_one x xs true e none rest = absurd (none (rw e (omega arith)))
 onto_one x xs false e none rest =
     slice_split-cons_no is_space x xs e ∙ ap (onto_first x) (rest (λ k. none (rw e (omega arith))))
 
-one_word_order : (xs : List ℕ) → ¬ IsFound xs → words xs ≡ xs ∷ []
-one_word_order [] none = refl
-one_word_order (x ∷ xs) none = onto_one x xs (is_space x) refl none (one_word_order xs)
+one_word : (xs : List ℕ) → ¬ IsFound xs → words xs ≡ xs ∷ []
+one_word [] none = refl
+one_word (x ∷ xs) none = onto_one x xs (is_space x) refl none (one_word xs)
 
 -- the first word ends at the index that `position` finds
 place : (xs : List ℕ) (at : ℕ) (t : Bool) → ltb (position_or_len is_space xs) (length xs) ≡ t
@@ -42,7 +42,7 @@ words-found xs at e =
 -- if none is found, the line is one word
 pub words-none : (xs : List ℕ) → None ≡ position is_space xs → words xs ≡ xs ∷ []
 words-none xs e =
-    one_word_order xs (λ k. let t : ltb (position_or_len is_space xs) (length xs) ≡ true = grind
+    one_word xs (λ k. let t : ltb (position_or_len is_space xs) (length xs) ≡ true = grind
     (arith, nat_tests, k) in
     let s : None ≡ Some (position_or_len is_space xs) = rw t at e in cc)
 

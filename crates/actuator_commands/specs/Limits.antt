@@ -15,8 +15,8 @@ abbrev pub max_offset : ℕ
 max_offset = 127
 
 -- the maximum value, in percent (EnOcean Equipment Profiles 2.6, "D2-01", "D2-05-00" and "A5-38-08")
-abbrev pub max_value : ℕ
-max_value = 100
+abbrev pub max_percent : ℕ
+max_percent = 100
 
 -- the maximum time of a ramp, in seconds (EnOcean Equipment Profiles 2.6, "A5-38-08", command 2)
 abbrev pub max_ramp : ℕ

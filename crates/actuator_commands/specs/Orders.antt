@@ -2,8 +2,9 @@
 use Rattle.std.specs.Prelude.{◌≡◌, ℕ, Bool, ◌&&◌, List, [], ◌∷◌, codes, bytes_eq, Option, Some, None, Result, Ok, Err}
 use Rattle.std.specs.Prelude.{option_map, if◌then◌else◌}
 use Rattle.std.specs.List.{AllByRecursion, AllZip, join_with_byte, list_all}
-use Rattle.actuator_commands.specs.Limits.{max_channel, max_offset, max_value, max_ramp}
-use Rattle.actuator_commands.specs.Words.{words, Word, Literal, Id, Profile, Number, LabelText, SpellsWord, IsWordInRange}
+use Rattle.actuator_commands.specs.Limits.{max_channel, max_offset, max_percent, max_ramp}
+use Rattle.actuator_commands.specs.Words.{words, Word, Literal, Id, Profile, Number, LabelText, SpellsWord}
+use Rattle.actuator_commands.specs.Words.{IsWordInRange}
 use Rattle.actuator_commands.specs.Words.{state_name, quantity_name, is_word_in_range, id_in, eep_in, number_in}
 use Rattle.actuator_commands.specs.Words.{state_in, quantity_in, label_in, map_two, map_three}
 use Rattle.actuator_commands.specs.declared.orders.Order.{Order}
@@ -34,15 +35,15 @@ words_of Base = Literal (codes "base") ∷ []
 words_of (Switch id channel on) =
     Literal (codes "switch") ∷ Id id ∷ Number max_channel channel ∷ Literal (state_name on) ∷ []
 words_of (Dim id channel value) =
-    Literal (codes "dim") ∷ Id id ∷ Number max_channel channel ∷ Number max_value value ∷ []
+    Literal (codes "dim") ∷ Id id ∷ Number max_channel channel ∷ Number max_percent value ∷ []
 words_of (Query id channel) = Literal (codes "query") ∷ Id id ∷ Number max_channel channel ∷ []
 words_of (Meter id channel quantity) =
     Literal (codes "meter") ∷ Id id ∷ Number max_channel channel ∷ Literal (quantity_name quantity) ∷ []
-words_of (Blind id value) = Literal (codes "blind") ∷ Id id ∷ Number max_value value ∷ []
+words_of (Blind id value) = Literal (codes "blind") ∷ Id id ∷ Number max_percent value ∷ []
 words_of (Stop id) = Literal (codes "stop") ∷ Id id ∷ []
 words_of (Central offset on) = Literal (codes "central") ∷ Number max_offset offset ∷ Literal (state_name on) ∷ []
 words_of (Level offset value ramp) =
-    Literal (codes "level") ∷ Number max_offset offset ∷ Number max_value value ∷ Number max_ramp ramp ∷ []
+    Literal (codes "level") ∷ Number max_offset offset ∷ Number max_percent value ∷ Number max_ramp ramp ∷ []
 words_of (Teach offset) = Literal (codes "teach") ∷ Number max_offset offset ∷ []
 
 -- The line has the shape of the order, whatever its numbers: texts that spell the order's words, one by one, with one
@@ -65,7 +66,7 @@ Spells line order = SpellsButForRange line order × IsInRange order
 abbrev pub is_in_range : Order → Bool
 is_in_range order = list_all is_word_in_range (words_of order)
 
--- the order, except `label`, whose shape the words have
+-- the order of one word; those of more words, except `label`, follow
 abbrev pub one_word_order : (name : List ℕ) → Option Order
 one_word_order name =
     if bytes_eq name (codes "list") then Some ListAll
@@ -117,6 +118,7 @@ four_word_order name second third fourth =
     (number_in fourth)
     else None
 
+-- the order, except `label`, whose shape the words have
 abbrev pub order_except_label : (texts : List (List ℕ)) → Option Order
 order_except_label (name ∷ []) = one_word_order name
 order_except_label (name ∷ second ∷ []) = two_word_order name second
@@ -150,4 +152,5 @@ pub record OrdersAreSpelled : Type 0 where
   pub only : (line : List ℕ) (order : Order) → Spells line order → order_of line ≡ Ok order
   pub out_of_range : (line : List ℕ) → order_of line ≡ Err Range
       → (order : Order) × SpellsButForRange line order × (¬ IsInRange order)
-  pub syntax_error_has_no_order : (line : List ℕ) → order_of line ≡ Err Syntax → (order : Order) → ¬ SpellsButForRange line order
+  pub syntax_error_has_no_order : (line : List ℕ) → order_of line ≡ Err Syntax → (order : Order)
+      → ¬ SpellsButForRange line order

@@ -11,7 +11,7 @@ pub(crate) const MAX_CHANNEL: u32 = 30;
 pub(crate) const MAX_OFFSET: u32 = 127;
 
 /// The maximum value, in percent (EnOcean Equipment Profiles 2.6, "D2-01", "D2-05-00" and "A5-38-08").
-pub(crate) const MAX_VALUE: u32 = 100;
+pub(crate) const MAX_PERCENT: u32 = 100;
 
 /// The maximum time of a ramp, in seconds (EnOcean Equipment Profiles 2.6, "A5-38-08", command 2).
 pub(crate) const MAX_RAMP: u32 = 255;

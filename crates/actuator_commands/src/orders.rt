@@ -4,7 +4,7 @@ ghost use Rattle.actuator_commands.specs.Orders.{is_in_range};
 ghost use Rattle.actuator_commands.specs.Packets.{recipient_id, sends};
 ghost use Rattle.actuator_commands.specs.private.Targets.{target};
 
-use crate::limits::{MAX_CHANNEL, MAX_OFFSET, MAX_RAMP, MAX_VALUE};
+use crate::limits::{MAX_CHANNEL, MAX_OFFSET, MAX_PERCENT, MAX_RAMP};
 use erp1_telegrams::{BROADCAST, Eep};
 use learned_devices::{Label, MAX_LABEL};
 use thiserror::Error;
@@ -181,14 +181,14 @@ pub(crate) fn is_in_range(order: &Order) -> bool
         | Order::Query { id, channel }
         | Order::Meter { id, channel, .. } => *id != BROADCAST && *channel <= MAX_CHANNEL,
         Order::Dim { id, channel, value } => {
-            *id != BROADCAST && *channel <= MAX_CHANNEL && *value <= MAX_VALUE
+            *id != BROADCAST && *channel <= MAX_CHANNEL && *value <= MAX_PERCENT
         }
-        Order::Blind { id, value } => *id != BROADCAST && *value <= MAX_VALUE,
+        Order::Blind { id, value } => *id != BROADCAST && *value <= MAX_PERCENT,
         Order::Central { offset, .. } | Order::Teach { offset } => *offset <= MAX_OFFSET,
         Order::Level {
             offset,
             value,
             ramp,
-        } => *offset <= MAX_OFFSET && *value <= MAX_VALUE && *ramp <= MAX_RAMP,
+        } => *offset <= MAX_OFFSET && *value <= MAX_PERCENT && *ramp <= MAX_RAMP,
     }
 }

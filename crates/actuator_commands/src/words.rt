@@ -43,7 +43,7 @@ pub(crate) fn next_word<'a>(left: &mut Option<&'a [u8]>) -> Option<&'a [u8]>
     }
 }
 
-fn byte_of(digits: &[u8]) -> Option<u8>
+fn byte_of_hex(digits: &[u8]) -> Option<u8>
     ensures { result ≡ byte_in digits.now }
 {
     let [byte] = <[u8; 1] as FromHex>::from_hex(digits).ok()?;
@@ -66,9 +66,9 @@ pub(crate) fn eep_of(text: &[u8]) -> Option<Eep>
     let [a, b, b'-', c, d, b'-', e, f] = text else {
         return None;
     };
-    let rorg = byte_of(&[*a, *b])?;
-    let func = byte_of(&[*c, *d])?;
-    let typ = byte_of(&[*e, *f])?;
+    let rorg = byte_of_hex(&[*a, *b])?;
+    let func = byte_of_hex(&[*c, *d])?;
+    let typ = byte_of_hex(&[*e, *f])?;
     Some(Eep::new(rorg, func, typ))
 }
 

@@ -15,7 +15,7 @@ bits [] = []
 bits (byte ∷ bytes) = byte_bits byte ++ bits bytes
 
 -- the number of a list of bits in base 2, the most significant first
-unfoldable pub number : List ℕ → ℕ
+unfoldable pub number : (bits : List ℕ) → ℕ
 number [] = 0
 number (bit ∷ lower) = bit * 2 ^ length lower + number lower
 

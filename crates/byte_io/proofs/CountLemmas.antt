@@ -2,10 +2,10 @@
 use Rattle.std.proofs.Common.{◌≡◌, ℕ, ap, ◌∙◌, false}
 use Rattle.std.specs.Prelude.{Ok, ◌==◌, if◌then◌else◌}
 use Rattle.std.proofs.lemmas.Bool.{ne_eqb}
-use Rattle.byte_io.specs.Counts.{Counts, count_call, saturated_increment, NoneFailedOrEmpty}
+use Rattle.byte_io.specs.Counts.{CallCounts, count_call, saturated_increment, NoneFailedOrEmpty}
 
 -- a call that returns some bytes succeeded
-pub went_well : (E : Type 0) (old mid new : Counts) (n : ℕ) → NoneFailedOrEmpty old mid
+pub went_well : (E : Type 0) (old mid new : CallCounts) (n : ℕ) → NoneFailedOrEmpty old mid
     → new ≡ count_call {E = E} mid (Ok n)
     → (n ≡ 0 → ⊥) → NoneFailedOrEmpty old new
 went_well E old mid new n before e some =

@@ -11,16 +11,16 @@ abbrev pub saturated_increment : (count : ℕ) → ℕ
 saturated_increment count = saturated_sum count 1
 
 -- the number of calls, of those that failed, and of those that returned 0 bytes; each counter stays at its maximum
-pub record Counts : Type 0 where
+pub record CallCounts : Type 0 where
   pub calls : ℕ
   pub failed : ℕ
   pub empty : ℕ
 
-abbrev pub no_calls : Counts
+abbrev pub no_calls : CallCounts
 no_calls = record { calls = 0; failed = 0; empty = 0 }
 
 -- the counters after a call with this result
-abbrev pub count_call : {E : Type 0} → Counts → Result ℕ E → Counts
+abbrev pub count_call : {E : Type 0} → CallCounts → Result ℕ E → CallCounts
 count_call counts (Ok n) = record {
   calls = saturated_increment counts.calls;
   failed = counts.failed;
@@ -33,36 +33,36 @@ count_call counts (Err e) = record {
 }
 
 -- no call failed, and none returned 0 bytes
-abbrev pub NoneFailedOrEmpty : (old new : Counts) → Type 0
+abbrev pub NoneFailedOrEmpty : (old new : CallCounts) → Type 0
 NoneFailedOrEmpty old new = (new.failed ≡ old.failed) × (new.empty ≡ old.empty)
 
 -- no call failed
-abbrev pub NoneFailed : (old new : Counts) → Type 0
+abbrev pub NoneFailed : (old new : CallCounts) → Type 0
 NoneFailed old new = new.failed ≡ old.failed
 
 -- one call failed
-abbrev pub FailedOnceMore : (old new : Counts) → Type 0
-FailedOnceMore old new = new.failed ≡ saturated_increment old.failed
+abbrev pub OneMoreFailed : (old new : CallCounts) → Type 0
+OneMoreFailed old new = new.failed ≡ saturated_increment old.failed
 
 -- one call failed, and none returned 0 bytes
-abbrev pub OnlyFailedOnce : (old new : Counts) → Type 0
-OnlyFailedOnce old new = (new.failed ≡ saturated_increment old.failed) × (new.empty ≡ old.empty)
+abbrev pub OneFailedNoneEmpty : (old new : CallCounts) → Type 0
+OneFailedNoneEmpty old new = (new.failed ≡ saturated_increment old.failed) × (new.empty ≡ old.empty)
 
 -- one call returned 0 bytes, and none failed
-abbrev pub OnlyEmptyOnce : (old new : Counts) → Type 0
-OnlyEmptyOnce old new = (new.failed ≡ old.failed) × (new.empty ≡ saturated_increment old.empty)
+abbrev pub OneEmptyNoneFailed : (old new : CallCounts) → Type 0
+OneEmptyNoneFailed old new = (new.failed ≡ old.failed) × (new.empty ≡ saturated_increment old.empty)
 
 -- all calls succeeded for `Ok`, and all but one for `Err`
-abbrev pub CallsMatchResult : {A E : Type 0} → Result A E → (old new : Counts) → Type 0
+abbrev pub CallsMatchResult : {A E : Type 0} → Result A E → (old new : CallCounts) → Type 0
 CallsMatchResult result old new =
-    MatchResult result (λ _. NoneFailedOrEmpty old new) (λ _. OnlyFailedOnce old new ⊎ OnlyEmptyOnce old new)
+    MatchResult result (λ _. NoneFailedOrEmpty old new) (λ _. OneFailedNoneEmpty old new ⊎ OneEmptyNoneFailed old new)
 
 -- n calls were made
-abbrev pub CallsMade : (old new : Counts) → ℕ → Type 0
+abbrev pub CallsMade : (old new : CallCounts) (n : ℕ) → Type 0
 CallsMade old new n = old.calls < 2 ^ 64 → new.calls ≡ saturated_sum old.calls n
 
 -- n more calls can be counted, and one more of each other kind
-pub record HasCountRoom (counts : Counts) (n : ℕ) : Type 0 where
+pub record CanCountCalls (counts : CallCounts) (n : ℕ) : Type 0 where
   pub calls : counts.calls + n < 2 ^ 64
   pub failed : counts.failed + 1 < 2 ^ 64
   pub empty : counts.empty + 1 < 2 ^ 64

@@ -4,6 +4,6 @@ ghost use Rattle.byte_io.specs.declared.read_limit.TheConstants.{MAX_READ};
 ghost use Rattle.byte_io.specs.ReadLimit.{max_read};
 
 /// The limit of the code is that of the definitions.
-pub fn limits()
+pub fn limits_agree()
     ensures { MAX_READ ≡ max_read }
 {}

@@ -1,7 +1,7 @@
 //! Sinks: outputs for bytes.
 ghost use Rattle.std.specs.Prelude.{◌≡◌, ◌≤◌, ◌<◌, ℕ, List, Option, IfOk, length};
 ghost use Rattle.std.specs.Io.KnownBytes.{WriteAppends};
-ghost use Rattle.byte_io.specs.Counts.{Counts, count_call, no_calls};
+ghost use Rattle.byte_io.specs.Counts.{CallCounts, count_call, no_calls};
 
 use crate::tally::{Failed, Tally};
 use std::io::Write;
@@ -12,7 +12,7 @@ pub trait Sink {
     ghost held: { Self → Option (List ℕ) };
 
     /// The counters of the writes so far.
-    ghost counts: { Self → Counts };
+    ghost counts: { Self → CallCounts };
 
     /// Writes some prefix of the text, perhaps an empty one, and returns its length. The text is not empty. After
     /// `Failed` the sink holds what it held before.

@@ -1,7 +1,7 @@
 //! Sources of bytes.
 ghost use Rattle.std.specs.Prelude.{◌≡◌, ◌≤◌, ◌<◌, ℕ, List, Option, IfOk, length};
 ghost use Rattle.std.specs.Io.KnownBytes.{ReadConsumes};
-ghost use Rattle.byte_io.specs.Counts.{Counts, count_call, no_calls};
+ghost use Rattle.byte_io.specs.Counts.{CallCounts, count_call, no_calls};
 ghost use Rattle.byte_io.specs.ReadLimit.{max_read};
 
 use crate::tally::{Failed, Tally};
@@ -13,7 +13,7 @@ pub trait Source {
     ghost left: { Self → Option (List ℕ) };
 
     /// The counters of the reads so far.
-    ghost counts: { Self → Counts };
+    ghost counts: { Self → CallCounts };
 
     /// Reads some bytes into the front of the buffer, which is 1 to `MAX_READ` bytes long, and returns their number. 0
     /// means that none is left, or, for a terminal, which may receive more later, that none came in time. After

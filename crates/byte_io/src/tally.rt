@@ -19,9 +19,9 @@ pub(crate) struct Tally {
 }
 
 impl Model for Tally {
-    ghost use Rattle.byte_io.specs.Counts.{Counts};
+    ghost use Rattle.byte_io.specs.Counts.{CallCounts};
 
-    ghost Value = { Counts };
+    ghost Value = { CallCounts };
 
     ghost view = { λ tally. record { calls = tally.calls; failed = tally.failed; empty = tally.empty } };
 }

@@ -13,7 +13,7 @@ use Rattle.sqlite.proofs.Callers.{IsPlain}
 use Rattle.keyed_table.specs.Queries.{lookup_params}
 use Rattle.keyed_table.proofs.Answers as answers
 use Rattle.keyed_table.proofs.TextMeaning.{answer_of}
-use Rattle.learned_devices.specs.Devices.{Devices, is_full, max_devices}
+use Rattle.learned_devices.specs.Devices.{Devices, is_full_for, max_devices}
 use Rattle.device_registry.specs.Table.{count_others_sql}
 use Rattle.device_registry.specs.Ready.{IsReady, IsReadyWith, WritesNothing}
 use Rattle.device_registry.specs.Stored.{IsVersion2RegistryOf}
@@ -28,7 +28,8 @@ counts old new id rows devices had h =
     let r = had.registry in
     let d = r.tables.devices in
     answers.counts data_in d old.now.trees (keyed (old.now.trees d) r.valid_rows.rows r.valid_rows.ids_differ) id rows
-    (answer_of (lookup_params id) old new rows (count_means old.now.schema r.tables.devices_at d r.tables.devices_are_table) refl h)
+    (answer_of (lookup_params id) old new rows
+    (count_means old.now.schema r.tables.devices_at d r.tables.devices_are_table) refl h)
     ∙ ap (λ m. (count (len (remove m id)) ∷ []) ∷ []) had.is
 
 pub others_plain : (s : State) → IsReady s → IsPlain (understood s.now.schema count_others_sql)
@@ -65,7 +66,7 @@ full_reported others n is few =
 pub reported_full : (old new : State) (id : ℕ) (rows : List Row) (n : ℕ) (row : Row) (more : List Row)
     (devices : Devices)
     → IsReadyWith old devices → Shown count_others_sql (lookup_params id) old new rows → rows ≡ row ∷ more
-    → column row 0 ≡ Int (pos n) → nat_le max_devices n ≡ is_full devices id
+    → column row 0 ≡ Int (pos n) → nat_le max_devices n ≡ is_full_for devices id
 reported_full old new id rows n row more devices shows h are number =
     full_reported (len (remove devices id)) n (shown_number (count (len (remove devices id))) n row more
     (sym (counts old new id rows devices shows.holds h) ∙ are) number)

@@ -33,7 +33,7 @@ use Rattle.keyed_table.proofs.Creates.{creates_table, still_counted}
 use Rattle.keyed_table.proofs.LoneTables.{is_created}
 use Rattle.device_registry.proofs.TablesAlone.{StandIn, meta_alone, devices_lone}
 use Rattle.device_registry.proofs.RewriteVersionEffect.{version_row}
-use Rattle.device_registry.proofs.SchemaTests.{cleared}
+use Rattle.device_registry.proofs.SchemaCheckLemmas.{cleared}
 use Rattle.keyed_table.proofs.Transactions.{Commits}
 use Rattle.device_registry.proofs.TransactionEnd.{Ends, Shown, ends}
 use Rattle.keyed_table.proofs.Transactions.{since}
@@ -73,7 +73,8 @@ module _ (a b c : State) (i j : ℕ) (clear : AdmitsTables a.now.schema) (sound 
       × KeepsRows a.now.schema.tables a.now.trees b.now.trees
   half =
       let makes = meta_makes a.now.schema clear.meta_name_unused in
-      let one = runs_as create_meta_sql [] a b a.now.schema refl CreateTable makes.means.is makes.means.is_plain i first.0
+      let one = runs_as create_meta_sql [] a b a.now.schema refl CreateTable makes.means.is makes.means.is_plain i
+      first.0
       in
       let made = creates_table a.step_limit (mode_of a) a.now b.now create_meta_sql one.tally
       (meta_table 0) meta_is half_counted
@@ -206,7 +207,8 @@ module _ {S : Type 0} (g : Ghosts S) (old start last : Held S) (is : start ≡ r
   shows clean =
       let done = ran g old start is free it.mid it.made (it.clean clean) in
       let here = subst (IsMade (state g old).now) (sym (it.same clean)) done in (
-        λ devices are. subst (IsVersion2RegistryOf (state g last).now) (sym are) (here.0 (it.tables_listed clean here.1)),
+        λ devices are. subst (IsVersion2RegistryOf (state g last).now) (sym are)
+            (here.0 (it.tables_listed clean here.1)),
         here.1,
         λ table has _ _. here.2 table has,
       )

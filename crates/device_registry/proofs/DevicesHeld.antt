@@ -20,8 +20,9 @@ use Rattle.device_registry.specs.declared.table.Version.{Version}
 use Rattle.device_registry.specs.declared.table.Version.TheVariants.{Second}
 use Rattle.device_registry.specs.Table.{device_table_name, create_device_sql, device_table, meta_name, create_meta_sql}
 use Rattle.device_registry.specs.Table.{meta_table}
-use Rattle.learned_devices.specs.Devices.{Devices, DeviceData, is_full, max_devices}
-use Rattle.device_registry.specs.Stored.{IsRegistry, IsRegistryOfVersion, HoldsInVersion, IsVersion2RegistryOf, HoldsVersion2}
+use Rattle.learned_devices.specs.Devices.{Devices, DeviceData, is_full_for, max_devices}
+use Rattle.device_registry.specs.Stored.{IsRegistry, IsRegistryOfVersion, HoldsInVersion, IsVersion2RegistryOf}
+use Rattle.device_registry.specs.Stored.{HoldsVersion2}
 use Rattle.device_registry.specs.Stored.{IsTableAt}
 use Rattle.device_registry.specs.Stored.{AreTablesListed, HasCatalogText}
 use Rattle.device_registry.specs.Table.Rows.{RowidsDiffer, IsDeviceRow, IsVersionRow, devices_in, upgraded_rows}
@@ -74,7 +75,8 @@ pub registers_once : (db : Database) (a b : Devices) → IsVersion2RegistryOf db
 registers_once = registers_by Second
 
 -- the trees of a sound database determine its devices
-pub held_by : (version : Version) (trees : Trees) (a b : Devices) → HoldsInVersion version trees a → HoldsInVersion version trees b
+pub held_by : (version : Version) (trees : Trees) (a b : Devices) → HoldsInVersion version trees a
+    → HoldsInVersion version trees b
     → a ≡ b
 held_by version = listed.held_once (IsRegistryOfVersion version) (registers_by version)
 
@@ -112,7 +114,14 @@ module _ (before : Database) (registry : IsRegistry Second before) where
       subst (λ db. IsVersion2RegistryOf db devices) same (record {
         registry = record {
           tables = registry.tables;
-          valid_rows = record { row = row; one_version_row = one; version_row_valid = version; rows = rows; ids_differ = once; at_most_max_devices = few };
+          valid_rows = record {
+            row = row;
+            one_version_row = one;
+            version_row_valid = version;
+            rows = rows;
+            ids_differ = once;
+            at_most_max_devices = few;
+          };
           tables_listed = listed_still Second before.trees after.trees objects registry.tables_listed;
         };
         is = is;
@@ -131,7 +140,8 @@ pub few_devices : (db : Database) (devices : Devices) → IsVersion2RegistryOf d
 few_devices db devices had =
     let r = had.registry in subst (λ m. len m ≤ max_devices) had.is
     (subst (λ n. n ≤ max_devices)
-    (sym (len_is data_in (db.trees r.tables.devices) (keyed _ r.valid_rows.rows r.valid_rows.ids_differ))) r.valid_rows.at_most_max_devices)
+    (sym (len_is data_in (db.trees r.tables.devices)
+    (keyed _ r.valid_rows.rows r.valid_rows.ids_differ))) r.valid_rows.at_most_max_devices)
 
 pub devices_are_limited : DevicesAreLimited
 devices_are_limited trees devices holds = few_devices holds.db devices holds.holds
@@ -144,7 +154,7 @@ one_less n without less few = let low : without < max_devices = omega (arith, le
 
 -- the registry is not full for a known sender
 pub room_for_known : (db : Database) (devices : Devices) (id : ℕ) → IsVersion2RegistryOf db devices
-    → IsTrue (is_some (get devices id)) → is_full devices id ≡ false
+    → IsTrue (is_some (get devices id)) → is_full_for devices id ≡ false
 room_for_known db devices id had known =
     one_less (len devices) (len (remove devices id)) (len-remove nat_cmp_total devices id
     ∙ ap (λ b. cond b (len devices - 1) (len devices)) known)
@@ -173,7 +183,7 @@ module _ (before after : Database) (devices : Devices) (had : IsVersion2Registry
     there = keyed _ had.registry.valid_rows.rows had.registry.valid_rows.ids_differ
 
     pub put_registers : (id : ℕ) (it : DeviceData) → IsShort it.eep → is_label it.label ≡ true
-        → is_full devices id ≡ false → after.schema ≡ before.schema
+        → is_full_for devices id ≡ false → after.schema ≡ before.schema
         → IsUpserted before.schema (device_table Second had.registry.tables.devices) (device_row id it) before.trees
         after.trees
         → IsVersion2RegistryOf after (insert devices id it)
@@ -219,5 +229,7 @@ module _ (before after : Database) (devices : Devices) (had : IsVersion2Registry
         registers_after before r after devices schema
         (objects_spared before sound _ (meta_lone before.schema r.tables).listed after.trees others) version_row version
         (record { key = refl; number = refl })
-        (subst (AllByRecursion IsDeviceRow) (sym same) r.valid_rows.rows) (subst RowidsDiffer (sym same) r.valid_rows.ids_differ)
-        (subst (λ rows. length rows ≤ max_devices) (sym same) r.valid_rows.at_most_max_devices) (ap devices_in same ∙ had.is)
+        (subst (AllByRecursion IsDeviceRow) (sym same) r.valid_rows.rows)
+        (subst RowidsDiffer (sym same) r.valid_rows.ids_differ)
+        (subst (λ rows. length rows ≤ max_devices) (sym same) r.valid_rows.at_most_max_devices)
+        (ap devices_in same ∙ had.is)

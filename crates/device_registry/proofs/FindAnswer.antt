@@ -25,7 +25,8 @@ finds old new id rows devices had h =
     let means = find_means old.now.schema r.tables.devices_at d r.tables.devices_are_table in
     let Shows : Option DeviceData → Type 0 = λ o. IsDeviceOrNone (option_map (device id) o) rows in
     subst (λ m. Shows (get m id)) had.is (elim (answers.finds data_in d old.now.trees
-    (keyed (old.now.trees d) r.valid_rows.rows r.valid_rows.ids_differ) id rows (answer_of (lookup_params id) old new rows means refl h)) [
+    (keyed (old.now.trees d) r.valid_rows.rows r.valid_rows.ids_differ) id rows
+    (answer_of (lookup_params id) old new rows means refl h)) [
       | inl none ↦ subst Shows (sym none.0) none.1
       | inr some ↦ subst Shows (sym some.1) (_, some.2, ap (λ v. device (natural_in v) (data_in some.0)) some.3)
     ])
@@ -35,7 +36,8 @@ find_plain s ready =
     let r = ready.shows.holds.registry in
     (find_means s.now.schema r.tables.devices_at r.tables.devices r.tables.devices_are_table).is_plain
 
-pub looked_up : (old new : State) (id : ℕ) (rows : List Row) → IsReady old → Shown find_sql (lookup_params id) old new rows
+pub looked_up : (old new : State) (id : ℕ) (rows : List Row) → IsReady old
+    → Shown find_sql (lookup_params id) old new rows
     → IsReady new × ((devices : Devices) → IsReadyWith old devices → IsDeviceOrNone (device_of devices id) rows)
 looked_up old new id rows ready h = (
   query_ready find_sql (lookup_params id) old new rows (find_plain old ready) ready h,

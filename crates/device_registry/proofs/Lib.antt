@@ -13,11 +13,12 @@ pub mod MigrationMeaning
 pub mod ListDevicesAnswer
 pub mod CreateEffect
 pub mod OpenCalls
+pub mod TablesStatusLemmas
 pub mod OpenRewritesVersion
 pub mod RegistryCalls
 pub mod RewriteVersionEffect
 pub mod RowsRecognized
-pub mod SchemaTests
+pub mod SchemaCheckLemmas
 pub mod StatementTexts
 pub mod TableTexts
 pub mod TablesAdded
@@ -26,7 +27,7 @@ pub mod TablesRecognized
 pub mod TransactionEnd
 pub mod VersionMeaning
 pub mod VersionWrites
-pub mod WritesTurn
+pub mod DeviceWrites
 pub mod CopyEffect
 pub mod TablesMigrated
 pub mod MigrateEffect

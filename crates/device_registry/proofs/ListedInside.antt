@@ -60,6 +60,7 @@ module _ {S : Type 0} (g : Ghosts S) (texts : List (List ℕ)) (a b c : Held S) 
         inside = λ clean. (same clean).0.mode ∙ made.inside (early clean);
         clean = early;
         same = λ clean. (same clean).0.now_is;
-        tables_listed = λ clean _. subst (λ (db : Database). AreTablesListed version db.trees) (sym (same clean).0.now_is)
+        tables_listed = λ clean _. subst (λ (db : Database). AreTablesListed version db.trees)
+            (sym (same clean).0.now_is)
             (ours_reported version (state g b) (state g c) rows (sound (early clean)) (shown clean) ours);
       }

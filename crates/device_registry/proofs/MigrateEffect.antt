@@ -93,7 +93,8 @@ module _ (a b c d e : State) (i j k l : ℕ) (registry : IsRegistry First a.now)
     made =
         let makes = device_makes a.now.schema t.other_version_unused in
         let ran =
-        runs_as (create_device_sql Second) [] a b a.now.schema refl CreateTable makes.means.is makes.means.is_plain i one.0
+        runs_as
+        (create_device_sql Second) [] a b a.now.schema refl CreateTable makes.means.is makes.means.is_plain i one.0
         in
         let it = creates_table a.step_limit (mode_of a) a.now b.now (create_device_sql Second) ran.tally
         (device_table Second 0)
@@ -156,7 +157,8 @@ module _ (a b c d e : State) (i j k l : ℕ) (registry : IsRegistry First a.now)
         let means = drop_means c.now.schema at.0 t.devices at.1 no_view_in_c in
         let ran = runs_as drop_sql [] c d c.now.schema refl (DropTable at.0) means.is means.is_plain k three.0 in
         let it = drops c.now.schema at.0 (device_table First t.devices) c.step_limit (mode_of c) c.now.trees
-        (statement_of drop_sql (understood c.now.schema drop_sql)) ran.tally d.now at.1.there refl first_in_c.unreferenced
+        (statement_of drop_sql
+        (understood c.now.schema drop_sql)) ran.tally d.now at.1.there refl first_in_c.unreferenced
         ran.changed in (
           it.0 ∙ ap (λ s. without_table s t.devices) schema_c,
           subst (λ (s : Schema). KeepsRows s.tables c.now.trees d.now.trees) (sym it.0) it.1,

@@ -1,6 +1,6 @@
 -- From the postconditions of the calls of an open to the registry.
 use Rattle.std.proofs.Common.{◌≡◌, ◌≢◌, ◌⊎◌, inl, inr, ℕ, Bool, Some, None, Option, Ok, Err, Result, IfOk}
-use Rattle.std.proofs.Common.{MatchOption, IfErr, OnOk, refl, sym, ap, subst, ◌∙◌, arith, IsTrue}
+use Rattle.std.proofs.Common.{IfErr, OnOk, refl, sym, ap, subst, ◌∙◌, arith, IsTrue}
 use Rattle.sqlite.specs.declared.error.Error.{Error}
 use Rattle.sqlite.specs.Effect.{Database, IsDatabase}
 use Rattle.sqlite.specs.State.{State, IsUnchanged, HasCleanDisk, Survives}
@@ -15,6 +15,8 @@ use Rattle.std.specs.FinMap.{empty}
 use Rattle.device_registry.specs.declared.fault.OpenFault.{OpenFault}
 use Rattle.device_registry.specs.declared.fault.OpenFault.TheVariants.{NotARegistry, Failed}
 use Rattle.learned_devices.specs.declared.fault.StoreFault.{StoreFault}
+use Rattle.device_registry.specs.declared.schema_check.TablesStatus.{TablesStatus}
+use Rattle.device_registry.specs.declared.schema_check.TablesStatus.TheVariants.{Absent, Present, Unusable}
 use Rattle.device_registry.specs.declared.table.Version.{Version}
 use Rattle.device_registry.specs.declared.table.Version.TheVariants.{First, Second}
 use Rattle.learned_devices.specs.Devices.{Devices}
@@ -39,8 +41,10 @@ use Rattle.sqlite_schema.specs.Names.{table_named}
 use Rattle.keyed_table.proofs.Transactions.{survives_itself}
 use Rattle.keyed_table.proofs.ListedTables.{same_schema}
 use Rattle.device_registry.proofs.TablesRecognized.{free_found}
+use Rattle.device_registry.specs.private.TablesStatus.{tables_status}
+use Rattle.device_registry.proofs.TablesStatusLemmas.{free_absent, registry_present}
 use Rattle.keyed_table.proofs.Creates.{unused}
-use Rattle.device_registry.proofs.SchemaTests.{cleared}
+use Rattle.device_registry.proofs.SchemaCheckLemmas.{cleared}
 use Rattle.keyed_table.proofs.Statements.{unchanged}
 use Rattle.device_registry.proofs.DevicesHeld.{held_by, held_once}
 
@@ -139,19 +143,13 @@ begun_stop {old} {new} rest clear h =
 abbrev pub Took : Version → State → State → Type 0
 Took version old mid = HasCleanDisk mid → IsSettledOpen old × IsUnchanged old mid × IsRegistry version old.now
 
--- the version that was found
-pub took : (version : Version) {old mid : State} {o : Option Version} {found : Version} → o ≡ Some found
-    → found ≡ version → (HasCleanDisk old → IsSettledOpen old) → Survives old mid (λ _. ⊥)
-    → (HasCleanDisk mid → IsUnchanged old mid
-    × MatchOption o ((version : Version) → ¬ IsRegistryIn version old.now.trees)
-    (λ version. IsRegistry version old.now)) → Took version old mid
-took version {old} {mid} {o} some is rest survives asked clean =
-    let it = asked clean in (
-      rest (before survives clean),
-      it.0,
-      subst (λ o. MatchOption o ((version : Version) → ¬ IsRegistryIn version old.now.trees)
-          (λ version. IsRegistry version old.now)) (some ∙ ap (λ v. Some v) is) it.1,
-    )
+pub took : (version : Version) {old mid : State} {accepted : Bool} → (HasCleanDisk old → IsSettledOpen old)
+    → Survives old mid (λ _. ⊥)
+    → (HasCleanDisk mid → IsUnchanged old mid × (IsTrue accepted → IsRegistry version old.now)) → IsTrue accepted
+    → Took version old mid
+took version rest survives asked is_true clean =
+    let it = asked clean in
+    (rest (before survives clean), it.0, it.1 is_true)
 
 -- ---- a registry of version 2
 
@@ -294,16 +292,41 @@ migrated_stop {old} {mid} {new} asked first second =
     })
     first second
 
+-- ---- something else
+
 -- it is a registry of neither version as this program leaves it, and the tables cannot be created
-pub is_other : (s : State) → IsSettledOpen s → ((version : Version) → ¬ IsRegistryIn version s.now.trees)
-    → (IsTrue (admits_tables s.now.schema) → ⊥) → IsForeignDatabase s.now.trees
+is_other : (s : State) → IsSettledOpen s → ((version : Version) → ¬ IsRegistryIn version s.now.trees)
+    → (tables_status s.now.schema ≡ Absent → ⊥) → IsForeignDatabase s.now.trees
 is_other s rest none unclear devices (inl (version, holds)) = none version (record {
   db = holds.db;
   same = holds.same;
   sound = holds.sound;
   registry = holds.holds.registry;
 })
-is_other s rest none unclear devices (inr (free, is)) = unclear (free_found s rest free)
+is_other s rest none unclear devices (inr (free, is)) = unclear (free_absent s rest free)
+
+same_version : (v w : Version) → Present v ≡ Present w → v ≡ w
+same_version v w e = ap (λ (tables : TablesStatus). version_or v tables) e
+  where
+    version_or : Version → TablesStatus → Version
+    version_or v Absent = v
+    version_or v (Present w) = w
+    version_or v Unusable = v
+
+-- the tables of a version are there, but it is no registry of this version
+pub no_registry : (version : Version) (s : State) → IsSettledOpen s → tables_status s.now.schema ≡ Present version
+    → ¬ IsRegistryIn version s.now.trees → IsForeignDatabase s.now.trees
+no_registry version s rest is none =
+    is_other s rest (λ other own.
+    none (subst (λ v. IsRegistryIn v s.now.trees)
+    (same_version other version (sym (registry_present other s rest own) ∙ is)) own))
+    (λ absent. let e = sym absent ∙ is in cc)
+
+-- neither the tables of a version are there, nor can they be created
+pub unusable : (s : State) → IsSettledOpen s → tables_status s.now.schema ≡ Unusable → IsForeignDatabase s.now.trees
+unusable s rest is =
+    is_other s rest (λ version own. let e = sym (registry_present version s rest own) ∙ is in cc)
+    (λ absent. let e = sym absent ∙ is in cc)
 
 -- ---- what is opened
 
@@ -432,7 +455,8 @@ rows_on (Ok v) old mid new same rest kept =
     λ held. same_rows old mid new same (kept (subst AreVersion2Trees (sym (last old mid same rest)) held))
 rows_on (Err e) old mid new same rest kept = tt
 
-holds_same : (trees : Trees) (v w : Version) (left found : Devices) → HoldsInVersion v trees left → HoldsInVersion w trees found
+holds_same : (trees : Trees) (v w : Version) (left found : Devices) → HoldsInVersion v trees left
+    → HoldsInVersion w trees found
     → left ≡ found
 holds_same trees v w left found one two =
     let schema = one_schema trees one.db two.db one.same two.same one.sound two.sound in

@@ -1,5 +1,5 @@
--- On a registry, an open has exactly the effect of the text that rewrites its version row unchanged. So has a `forget`
--- of an unknown sender.
+-- On a registry, an open has exactly the effect of the text that rewrites its version row unchanged. A `forget` of an
+-- unknown sender has the same effect.
 use Rattle.std.proofs.Common.{◌≡◌, ℕ, [], Ok, Err, Result, OnOk, sym, ap, subst}
 use Rattle.std.proofs.Common.{arith}
 use Rattle.sqlite.specs.Effect.{Database, IsDatabase}

@@ -16,13 +16,14 @@ use Rattle.learned_devices.specs.declared.fault.StoreFault.{StoreFault}
 use Rattle.learned_devices.specs.declared.fault.LearnFault.{LearnFault}
 use Rattle.learned_devices.specs.Devices.{Devices, DeviceData, Operation, Learn, DeviceUpdate}
 use Rattle.learned_devices.specs.Devices.{with_entry, apply_update, data_after, learn_update}
-use Rattle.learned_devices.specs.Devices.{relabel_update, kept_label, device_data, device, device_of, devices_by_ascending_id, is_full}
+use Rattle.learned_devices.specs.Devices.{relabel_update, kept_label, device_data, device, device_of}
+use Rattle.learned_devices.specs.Devices.{devices_by_ascending_id, is_full_for}
 use Rattle.learned_devices.specs.DeviceStoreState.{Keeps, Commits, LeavesPending}
 use Rattle.learned_devices.specs.StoreCalls.{RefusesToLearn, LooksUp, Updates, Learns, Relabels, ListsAll}
 use Rattle.device_registry.specs.Holding.{HasDevicesIfOpen, HasSomeDevicesIfOpen, AreVersion2Registries}
 use Rattle.device_registry.specs.Holding.{IsReturnedByClose, WritesRow, registry_state}
-use Rattle.device_registry.specs.private.TableCalls.{LearnsUnlessFull, MakesKnown}
-use Rattle.device_registry.specs.Ready.{IsReadyWith, IsReady, IsReadyIfOpen, KeepsDevicesIfOpen, WritesNothing}
+use Rattle.device_registry.specs.private.TableCalls.{LearnsUnlessFull, OperationMakesDevice}
+use Rattle.device_registry.specs.Ready.{IsReadyWith, IsReady, IsReadyIfOpen, KeepsDevicesIfStillOpen, WritesNothing}
 use Rattle.device_registry.specs.Ready.{CommitsOrMayBeLeft}
 use Rattle.device_registry.specs.Table.Rows.{shown_device}
 use Rattle.device_registry.proofs.DevicesHeld.{held_once, registers_once, room_for_known}
@@ -111,7 +112,7 @@ module _ {T E : Type 0} (old mid new : State) (update : DeviceUpdate) (result : 
   ]
 
   -- and failed
-  pub refused_well : (HasCleanDisk new → KeepsDevicesIfOpen mid new) → IsWell new
+  pub refused_well : (HasCleanDisk new → KeepsDevicesIfStillOpen mid new) → IsWell new
   refused_well goes_on = (
     tried_registries,
     λ clean is_open.
@@ -119,7 +120,7 @@ module _ {T E : Type 0} (old mid new : State) (update : DeviceUpdate) (result : 
         ready_on mid new on is_open ((keeps_well old mid stays well).1 (turns.clean clean) (on is_open).0),
   )
 
-  pub pends : KeepsDevicesIfOpen mid new → HasCleanDisk new → (devices : Devices) → HasDevicesIfOpen old devices
+  pub pends : KeepsDevicesIfStillOpen mid new → HasCleanDisk new → (devices : Devices) → HasDevicesIfOpen old devices
       → LeavesPending (registry_state old) (registry_state new) update devices
   pends goes_on clean devices has =
       let middle = turns.clean clean in
@@ -188,7 +189,8 @@ if_err P (Ok x) is = absurd (cc)
 if_err P (Err e) is = tt
 
 pub reported_all : {E : Type 0} (r : Result (Vec Device Global) E) (rows shown : List Row) (devices : Devices)
-    → IfOk r (λ all. all.items ≡ map shown_device rows) → rows ≡ shown → map shown_device shown ≡ devices_by_ascending_id devices
+    → IfOk r (λ all. all.items ≡ map shown_device rows) → rows ≡ shown
+    → map shown_device shown ≡ devices_by_ascending_id devices
     → IfOk r (λ all. all.items ≡ devices_by_ascending_id devices)
 reported_all (Ok all) rows shown devices read same reported = read ∙ ap (map shown_device) same ∙ reported
 reported_all (Err e) rows shown devices read same reported = tt
@@ -205,7 +207,7 @@ module _ (old new : State) (stays : WritesNothing old new) (well : IsWell old) w
       → IfOk r (λ found. found ≡ device_of devices id)) → LooksUp (registry_state old) (registry_state new) id r
   looks_up id r reported = record {
     clean = stays.clean;
-    recoverable = (keeps_well old new stays well).0;
+    reopenable = (keeps_well old new stays well).0;
     devices = λ clean devices has. on_both (λ found. found ≡ device_of devices id)
         (Keeps (registry_state old) (registry_state new) devices) r (reported clean devices has)
         (keeps old new stays well clean devices has);
@@ -217,7 +219,7 @@ module _ (old new : State) (stays : WritesNothing old new) (well : IsWell old) w
       → ListsAll (registry_state old) (registry_state new) r
   lists_all r reported = record {
     clean = stays.clean;
-    recoverable = (keeps_well old new stays well).0;
+    reopenable = (keeps_well old new stays well).0;
     devices = λ clean devices has. on_both (λ all. all.items ≡ devices_by_ascending_id devices)
         (Keeps (registry_state old) (registry_state new) devices) r
         (reported clean devices has) (keeps old new stays well clean devices has);
@@ -229,18 +231,18 @@ module _ (old new : State) (stays : WritesNothing old new) (well : IsWell old) w
   adds_not it (Ok room) is = absurd (cc)
   adds_not it (Err error) is = record {
     clean = stays.clean;
-    recoverable = (keeps_well old new stays well).0;
+    reopenable = (keeps_well old new stays well).0;
     devices = λ clean devices has.
         let same = keeps old new stays well clean devices has in
-        by_case (is_full devices it.id) same (kept_pends old new (learn_update it) devices same);
+        by_case (is_full_for devices it.id) same (kept_pends old new (learn_update it) devices same);
   }
 
   pub is_full_then : {E : Type 0} (it : Device) → (HasCleanDisk new → (devices : Devices) → HasDevicesIfOpen old devices
-      → IsTrue (is_full devices it.id))
+      → IsTrue (is_full_for devices it.id))
       → LearnsUnlessFull {E = E} (registry_state old) (registry_state new) it (Ok false)
   is_full_then it full = record {
     clean = stays.clean;
-    recoverable = (keeps_well old new stays well).0;
+    reopenable = (keeps_well old new stays well).0;
     devices = λ clean devices has. (full clean devices has, keeps old new stays well clean devices has);
   }
 
@@ -249,13 +251,13 @@ module _ {T F : Type 0} (old mid new : State) (result : Result T F) (stays : Wri
     -- or at the write
     pub add_refused : {E : Type 0} (it : Device) (r : Result Bool E) → IsErr r
         → CommitsOrMayBeLeft mid new (learn_update it) result
-        → (HasCleanDisk new → KeepsDevicesIfOpen mid new)
-        → (HasCleanDisk mid → (devices : Devices) → HasDevicesIfOpen old devices → is_full devices it.id ≡ false)
+        → (HasCleanDisk new → KeepsDevicesIfStillOpen mid new)
+        → (HasCleanDisk mid → (devices : Devices) → HasDevicesIfOpen old devices → is_full_for devices it.id ≡ false)
         → LearnsUnlessFull (registry_state old) (registry_state new) it r
     add_refused it (Ok room) is turns goes_on unless = absurd (cc)
     add_refused it (Err error) is turns goes_on unless = record {
       clean = λ clean. stays.clean (turns.clean clean);
-      recoverable = (refused_well old mid new (learn_update it) result stays well turns goes_on).0;
+      reopenable = (refused_well old mid new (learn_update it) result stays well turns goes_on).0;
       devices = λ clean devices has.
           rw (unless (turns.clean clean) devices has) (pends old mid new (learn_update it) result stays well turns
           (goes_on clean) clean devices has);
@@ -263,11 +265,12 @@ module _ {T F : Type 0} (old mid new : State) (result : Result T F) (stays : Wri
 
     pub update_refused : {A E : Type 0} (update : DeviceUpdate) (r : Result A E) → IsErr r
         → CommitsOrMayBeLeft mid new update result
-        → (HasCleanDisk new → KeepsDevicesIfOpen mid new) → Updates (registry_state old) (registry_state new) update r
+        → (HasCleanDisk new → KeepsDevicesIfStillOpen mid new)
+        → Updates (registry_state old) (registry_state new) update r
     update_refused update (Ok done) is turns goes_on = absurd (cc)
     update_refused update (Err error) is turns goes_on = record {
       clean = λ clean. stays.clean (turns.clean clean);
-      recoverable = (refused_well old mid new update result stays well turns goes_on).0;
+      reopenable = (refused_well old mid new update result stays well turns goes_on).0;
       devices = λ clean. pends old mid new update result stays well turns (goes_on clean) clean;
     }
 
@@ -277,11 +280,11 @@ module _ {T F : Type 0} (old mid new : State) (result : Result T F) (stays : Wri
         → IsReadyWith new (apply_update devices (learn_update it)))
         → (HasCleanDisk mid → IsReady mid)
         → ((trees : Trees) → IsTrue new.is_open → new.may_leave trees → trees ≡ new.committed.trees)
-        → (HasCleanDisk mid → (devices : Devices) → HasDevicesIfOpen old devices → is_full devices it.id ≡ false)
+        → (HasCleanDisk mid → (devices : Devices) → HasDevicesIfOpen old devices → is_full_for devices it.id ≡ false)
         → LearnsUnlessFull {E = E} (registry_state old) (registry_state new) it (Ok true)
     add_made it turns made was last room = record {
       clean = λ clean. stays.clean (turns.clean clean);
-      recoverable = (made_well old mid new (learn_update it) result stays well turns made was).0;
+      reopenable = (made_well old mid new (learn_update it) result stays well turns made was).0;
       devices =
           λ clean devices has. (
             room (turns.clean clean) devices has,
@@ -298,7 +301,7 @@ module _ {T F : Type 0} (old mid new : State) (result : Result T F) (stays : Wri
         → Updates {A = A} {E = E} (registry_state old) (registry_state new) update (Ok done)
     update_made done update turns made was last = record {
       clean = λ clean. stays.clean (turns.clean clean);
-      recoverable = (made_well old mid new update result stays well turns made was).0;
+      reopenable = (made_well old mid new update result stays well turns made was).0;
       devices = λ clean devices has. commits old mid new update result stays well turns (made clean) clean
           (was (turns.clean clean)) last devices has;
     }
@@ -324,8 +327,8 @@ puts_it old mid stays well update it makes clean devices shows =
 -- ---- a known sender
 
 -- the registry is not full for it
-pub room_if_known : (s : State) (it : Device) (operation : Operation) → MakesKnown s it operation
-    → HasCleanDisk s → (devices : Devices) → IsReadyWith s devices → is_full devices it.id ≡ false
+pub room_if_known : (s : State) (it : Device) (operation : Operation) → OperationMakesDevice s it operation
+    → HasCleanDisk s → (devices : Devices) → IsReadyWith s devices → is_full_for devices it.id ≡ false
 room_if_known s it operation makes clean devices shows =
     room_for_known s.now devices it.id shows.holds (makes clean devices (λ _ _. shows.holds)).0
 
@@ -366,10 +369,10 @@ module _ (old mid : State) (id : ℕ) where
       → Learns {A = A} (registry_state old) (registry_state mid) it (Err (Failed fault))
   learns_unlooked it fault looks = record {
     clean = looks.clean;
-    recoverable = looks.recoverable;
+    reopenable = looks.reopenable;
     devices = λ clean devices has.
         let same = looks.devices clean devices has in
-        by_case (is_full devices it.id) same (kept_pends old mid (learn_update it) devices same);
+        by_case (is_full_for devices it.id) same (kept_pends old mid (learn_update it) devices same);
   }
 
   pub relabels_unlooked : (label : List ℕ) (fault : StoreFault)
@@ -377,7 +380,7 @@ module _ (old mid : State) (id : ℕ) where
       → Relabels (registry_state old) (registry_state mid) id label (Err fault)
   relabels_unlooked label fault looks = record {
     clean = looks.clean;
-    recoverable = looks.recoverable;
+    reopenable = looks.reopenable;
     devices = λ clean devices has.
         let same = looks.devices clean devices has in
         by_case (is_some (get devices id)) (kept_pends old mid (relabel_update id label) devices same) same;
@@ -388,7 +391,7 @@ module _ (old mid : State) (id : ℕ) where
       → Updates {A = A} (registry_state old) (registry_state mid) update (Err fault)
   updates_unlooked update fault looks = record {
     clean = looks.clean;
-    recoverable = looks.recoverable;
+    reopenable = looks.reopenable;
     devices = λ clean devices has. kept_pends old mid update devices (looks.devices clean devices has);
   }
 
@@ -402,7 +405,7 @@ module _ (old mid : State) (id : ℕ) where
       → Relabels {E = StoreFault} (registry_state old) (registry_state mid) id label (Ok false)
   relabels_unknown label looks = record {
     clean = looks.clean;
-    recoverable = looks.recoverable;
+    reopenable = looks.reopenable;
     devices = λ clean devices has. let it = looks.devices clean devices has in
         (ap is_some it.0 ∙ known_if_stored (get devices id), it.1);
   }
@@ -422,13 +425,15 @@ module _ (old mid : State) (id : ℕ) where
 
     learned_after : {A : Type 0} (it : Device) (r : Result A LearnFault) (devices : Devices)
         → Keeps (registry_state old) (registry_state mid) devices
-        → MatchResult r (λ _. (is_full devices it.id ≡ false) × Commits (registry_state new) (learn_update it) devices)
+        → MatchResult r (λ _. (is_full_for devices it.id ≡ false)
+        × Commits (registry_state new) (learn_update it) devices)
         (RefusesToLearn (registry_state mid) (registry_state new) it devices)
-        → MatchResult r (λ _. (is_full devices it.id ≡ false) × Commits (registry_state new) (learn_update it) devices)
+        → MatchResult r (λ _. (is_full_for devices it.id ≡ false)
+        × Commits (registry_state new) (learn_update it) devices)
         (RefusesToLearn (registry_state old) (registry_state new) it devices)
     learned_after it (Ok done) devices keeps then = then
     learned_after it (Err Full) devices keeps (full, then) = (full, keeps_then old mid new devices keeps then)
-    learned_after it (Err (Failed fault)) devices keeps then = by_full (is_full devices it.id) then
+    learned_after it (Err (Failed fault)) devices keeps then = by_full (is_full_for devices it.id) then
       where
         by_full : (full : Bool) → MatchBool full (Keeps (registry_state mid) (registry_state new) devices)
             (LeavesPending (registry_state mid) (registry_state new) (learn_update it) devices)
@@ -467,14 +472,16 @@ module _ (old mid : State) (id : ℕ) where
       -- an operation on a known sender
       module _ (was it : Device) (some : known ≡ Some was) (at : it.id ≡ id) where
         pub makes_known : (operation : Operation)
-            → data_after (Some (device_data was)) operation ≡ Some (device_data it) → MakesKnown mid it operation
+            → data_after (Some (device_data was)) operation ≡ Some (device_data it)
+            → OperationMakesDevice mid it operation
         makes_known operation makes clean devices has =
             let is = ap (get devices) at
             ∙ known_as id (get devices id) was (sym some ∙ reported_now clean devices has) in
             (ap is_some is, ap (λ o. data_after o operation) is ∙ makes)
 
         -- the registry is not full for it
-        has_room : HasCleanDisk mid → (devices : Devices) → HasDevicesIfOpen old devices → is_full devices it.id ≡ false
+        has_room : HasCleanDisk mid → (devices : Devices) → HasDevicesIfOpen old devices
+            → is_full_for devices it.id ≡ false
         has_room clean devices has =
             let is = ap (get devices) at
             ∙ known_as id (get devices id) was (sym some ∙ (looks.devices clean devices has).0) in
@@ -487,7 +494,7 @@ module _ (old mid : State) (id : ℕ) where
             → Learns {A = B} (registry_state old) (registry_state new) it (Err (Failed fault))
         learns_failed fault updates = record {
           clean = λ clean. looks.clean (updates.clean clean);
-          recoverable = updates.recoverable;
+          reopenable = updates.reopenable;
           devices = λ clean devices has.
               let keeps = kept_here (updates.clean clean) devices has in
               rw (has_room (updates.clean clean) devices has)
@@ -499,7 +506,7 @@ module _ (old mid : State) (id : ℕ) where
             → Learns {A = B} (registry_state old) (registry_state new) it (Ok also)
         learns_known done also updates = record {
           clean = λ clean. looks.clean (updates.clean clean);
-          recoverable = updates.recoverable;
+          reopenable = updates.reopenable;
           devices =
               λ clean devices has. (
                 has_room (updates.clean clean) devices has,
@@ -522,7 +529,7 @@ module _ (old mid : State) (id : ℕ) where
         → Learns (registry_state old) (registry_state new) it r
     learns_after it r learns = record {
       clean = λ clean. looks.clean (learns.clean clean);
-      recoverable = learns.recoverable;
+      reopenable = learns.reopenable;
       devices = λ clean devices has.
           let keeps = kept_here (learns.clean clean) devices has in
           learned_after it r devices keeps (learns.devices clean devices keeps.now);
@@ -534,7 +541,7 @@ module _ (old mid : State) (id : ℕ) where
         → Updates {A = A} (registry_state old) (registry_state new) update (Err fault)
     updates_failed update error fault updates = record {
       clean = λ clean. looks.clean (updates.clean clean);
-      recoverable = updates.recoverable;
+      reopenable = updates.reopenable;
       devices = λ clean devices has.
           let keeps = kept_here (updates.clean clean) devices has in
           pends_then old mid new update devices keeps (updates.devices clean devices keeps.now);
@@ -545,7 +552,7 @@ module _ (old mid : State) (id : ℕ) where
         → Updates {E = F} (registry_state old) (registry_state new) update (Ok done)
     updates_done update done updates = record {
       clean = λ clean. looks.clean (updates.clean clean);
-      recoverable = updates.recoverable;
+      reopenable = updates.reopenable;
       devices = λ clean devices has.
           updates.devices clean devices (kept_here (updates.clean clean) devices has).now;
     }
@@ -557,7 +564,7 @@ module _ (old mid : State) (id : ℕ) where
         → Relabels (registry_state old) (registry_state new) id label (Err fault)
     relabels_failed label error fault is_known updates = record {
       clean = λ clean. looks.clean (updates.clean clean);
-      recoverable = updates.recoverable;
+      reopenable = updates.reopenable;
       devices = λ clean devices has.
           let keeps = kept_here (updates.clean clean) devices has in
           rw (is_known (updates.clean clean) devices keeps.now)
@@ -570,7 +577,7 @@ module _ (old mid : State) (id : ℕ) where
         → Relabels {E = F} (registry_state old) (registry_state new) id label (Ok true)
     relabels_known label done is_known updates = record {
       clean = λ clean. looks.clean (updates.clean clean);
-      recoverable = updates.recoverable;
+      reopenable = updates.reopenable;
       devices = λ clean devices has.
           let now = (kept_here (updates.clean clean) devices has).now in
           (sym (is_known (updates.clean clean) devices now), updates.devices clean devices now);

@@ -22,7 +22,7 @@ use Rattle.device_registry.specs.private.CatalogRows.{is_catalog_row, are_our_ta
 use Rattle.device_registry.specs.SchemaChecks.{admits_tables, tree_of_table, tree_of_devices}
 use Rattle.device_registry.proofs.TableTexts.{meta_is, device_is}
 use Rattle.keyed_table.proofs.ListedTables.{same_schema, defined, stands_in}
-use Rattle.device_registry.proofs.SchemaTests.{IsPlaced, found, is_cleared}
+use Rattle.device_registry.proofs.SchemaCheckLemmas.{IsPlaced, found, is_cleared}
 use Rattle.std.proofs.lemmas.Bool.{and_parts}
 use Rattle.keyed_table.proofs.ObjectsListed.{reported, shows_line}
 

@@ -13,7 +13,7 @@ use Rattle.device_registry.specs.declared.table.Version.TheVariants.{Second}
 use Rattle.learned_devices.specs.Devices.{Devices}
 use Rattle.device_registry.specs.Stored.{IsVersion2RegistryOf, HoldsVersion2}
 use Rattle.device_registry.specs.Ready.{IsReadyWith, KeepsOtherTables}
-use Rattle.device_registry.specs.Opening.{KeepsDatabaseIfOpen}
+use Rattle.device_registry.specs.Opening.{KeepsDatabaseIfStillOpen}
 use Rattle.device_registry.specs.private.Transaction.{IsMidTransactionWithTables}
 use Rattle.keyed_table.proofs.Transactions.{Commits, shows_committed, on_ok, since, leaves, uncommitted_remains}
 
@@ -22,7 +22,7 @@ pub record Ends {V : Type 0} (Are : Devices → Type 0) (old new : State) (r : R
   pub made : HasCleanDisk new → OnOk r ((devices : Devices) → Are devices → IsReadyWith new devices)
   pub others : HasCleanDisk new → OnOk r (KeepsOtherTables old.now new.now)
   pub crash : Survives old new (λ trees. (devices : Devices) → Are devices → HoldsVersion2 trees devices)
-  pub remains : HasCleanDisk new → OnErr r (KeepsDatabaseIfOpen old new)
+  pub remains : HasCleanDisk new → OnErr r (KeepsDatabaseIfStillOpen old new)
 
 -- what the transaction shows before its commit
 abbrev pub Shown : (Devices → Type 0) → Database → Database → Type 0

@@ -71,7 +71,8 @@ module _ (then : Devices → Devices) where
   renew_does s after text tally devices had sound same h =
       let r = had.registry in
       let kept = renews s.now.schema r.tables.meta_at r.tables.meta s.step_limit (mode_of s) s.now.trees tally after
-      r.valid_rows.row r.tables.meta_is_table.there (meta_alone s.now.schema r.tables) r.valid_rows.one_version_row r.valid_rows.version_row_valid.key h in
+      r.valid_rows.row r.tables.meta_is_table.there
+      (meta_alone s.now.schema r.tables) r.valid_rows.one_version_row r.valid_rows.version_row_valid.key h in
       subst (IsVersion2RegistryOf after) (sym same)
       (renewed_registers s.now after devices had sound kept.0 kept.1 kept.2)
 
@@ -88,7 +89,8 @@ effect old new count devices shows h =
     (λ s after text tally devices had sound room. renew_does (λ devices. devices) s after text tally devices had sound
     refl) old new count devices shows.holds h in
     let kept = renews old.now.schema r.tables.meta_at r.tables.meta old.step_limit (mode_of old) old.now.trees
-    w.tally new.now r.valid_rows.row r.tables.meta_is_table.there (meta_alone old.now.schema r.tables) r.valid_rows.one_version_row
+    w.tally new.now r.valid_rows.row r.tables.meta_is_table.there
+    (meta_alone old.now.schema r.tables) r.valid_rows.one_version_row
     r.valid_rows.version_row_valid.key w.changed in
     (kept.0, kept.1, kept.2, w.counted ∙ ap (λ rows. unwrap_or rows 0) kept.3)
 
@@ -115,7 +117,8 @@ renewed_rows old new count devices shows h =
     r.valid_rows.one_version_row typed in
     let same : r.valid_rows.row ≡ version_row =
     version_is r.tables.meta r.valid_rows.row r.valid_rows.version_row_valid
-    (first_of_both (are_typed (meta_table r.tables.meta).key 0 (meta_table r.tables.meta).columns (drop 1 r.valid_rows.row))
+    (first_of_both (are_typed (meta_table r.tables.meta).key 0 (meta_table r.tables.meta).columns
+    (drop 1 r.valid_rows.row))
     (has_computed (meta_table r.tables.meta) r.valid_rows.row) row_typed.0) in
     record {
       schema = kept.0;
@@ -123,7 +126,8 @@ renewed_rows old new count devices shows h =
           elim (cases_Bool (t.tree == r.tables.meta)) [
             | inl tie ↦
                 let e = same_tree t.tree r.tables.meta tie in
-                ap new.now.trees e ∙ kept.1 ∙ ap (λ x. x ∷ []) (sym same) ∙ sym r.valid_rows.one_version_row ∙ sym (ap old.now.trees e)
+                ap new.now.trees e ∙ kept.1 ∙ ap (λ x. x ∷ []) (sym same) ∙ sym r.valid_rows.one_version_row
+                ∙ sym (ap old.now.trees e)
             | inr apart ↦ kept.2.tables t h (other_tree t.tree r.tables.meta apart)
           ];
     }

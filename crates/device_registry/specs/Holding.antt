@@ -9,7 +9,8 @@ use Rattle.learned_devices.specs.DeviceStoreState.{DeviceStoreState}
 use Rattle.device_registry.specs.declared.table.Version.{Version}
 use Rattle.device_registry.specs.Table.{upsert_sql, rewrite_version_sql}
 use Rattle.device_registry.specs.Table.Rows.{upsert_params}
-use Rattle.device_registry.specs.Stored.{IsVersion2RegistryOf, HoldsInVersion, HoldsVersion2, AreVersion2Trees, AdmitsRegistry}
+use Rattle.device_registry.specs.Stored.{IsVersion2RegistryOf, HoldsInVersion, HoldsVersion2, AreVersion2Trees}
+use Rattle.device_registry.specs.Stored.{AdmitsRegistry}
 
 -- while the disk is clean and the connection is open, the registry holds these devices
 abbrev pub HasDevicesIfOpen : State → Devices → Type 0
@@ -33,7 +34,7 @@ registry_state s = record {
   honest = HasCleanDisk s;
   holds = HasDevicesIfOpen s;
   may_recover = MayRecover s;
-  sound = AreVersion2Registries s.may_leave;
+  reopenable = AreVersion2Registries s.may_leave;
 }
 
 -- the same for a registry over a connection
@@ -77,14 +78,14 @@ pub record WritesRow {C : Type 0} (state : C → State) (new : C) (update : Devi
 
 module _ {C : Type 0} (state : C → State) (old new : C) (update : DeviceUpdate) (devices : Devices) where
   -- The last statement wrote the row of the sender. If an unknown sender was forgotten, the call wrote the version row.
-  abbrev pub WritesFor : Operation → Type 0
-  WritesFor (Learn eep maker) = WritesRow state new update devices
-  WritesFor (Relabel label) = WritesRow state new update devices
-  WritesFor Forget = get devices update.sender ≡ None → RewritesVersion (state old) (state new)
+  abbrev pub WritesRowForOperation : Operation → Type 0
+  WritesRowForOperation (Learn eep maker) = WritesRow state new update devices
+  WritesRowForOperation (Relabel label) = WritesRow state new update devices
+  WritesRowForOperation Forget = get devices update.sender ≡ None → RewritesVersion (state old) (state new)
 
   -- the row that the call wrote for the update, even if it changed nothing
-  abbrev pub Writes : Type 0
-  Writes = WritesFor update.operation
+  abbrev pub WritesRowForUpdate : Type 0
+  WritesRowForUpdate = WritesRowForOperation update.operation
 
 -- the connection is returned with no open transaction, and what the registry holds is committed
 pub record IsReturnedByClose (s : State) : Type 0 where

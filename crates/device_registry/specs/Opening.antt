@@ -12,7 +12,7 @@ use Rattle.sqlite_disk.specs.declared.Files.{Files}
 use Rattle.sqlite_store.specs.declared.store.FileStore.{FileStore}
 use Rattle.sqlite_store.specs.FileStore.{view, state as stored}
 use Rattle.sqlite_trees.specs.Tree.{Trees}
-pub use Rattle.keyed_table.specs.Stores.{IsSettledOpen, KeepsDatabaseIfOpen}
+pub use Rattle.keyed_table.specs.Stores.{IsSettledOpen, KeepsDatabaseIfStillOpen}
 use Rattle.device_registry.specs.declared.fault.OpenFault.{OpenFault}
 use Rattle.device_registry.specs.declared.fault.OpenFault.TheVariants.{NotARegistry}
 use Rattle.device_registry.specs.declared.table.Version.{Version}
@@ -66,7 +66,8 @@ IsForeignDatabase trees = (devices : Devices) → ¬ OpenFinds trees devices
 pub record FailsToOpen (old new : State) (fault : OpenFault) : Type 0 where
   pub survives : Survives old new (KeepsFoundDevices old.committed.trees)
   pub clean : HasCleanDisk new → HasCleanDisk old
-  pub not_a_registry : HasCleanDisk new → fault ≡ NotARegistry → IsForeignDatabase old.committed.trees × IsUnchanged old new
+  pub not_a_registry : HasCleanDisk new → fault ≡ NotARegistry → IsForeignDatabase old.committed.trees
+      × IsUnchanged old new
       × ((trees : Trees) → new.may_leave trees → old.may_leave trees)
   pub crash : HasCleanDisk new → (trees : Trees) → new.may_leave trees
       → old.may_leave trees ⊎ (IsTrue old.is_open × KeepsFoundDevices old.committed.trees trees)

@@ -27,8 +27,8 @@ abbrev pub IsReadyIfOpen : State → Type 0
 IsReadyIfOpen = stores.IsReadyIfOpen IsVersion2RegistryOf
 
 -- if the connection is still open, it was open before, and has the same devices
-abbrev pub KeepsDevicesIfOpen : State → State → Type 0
-KeepsDevicesIfOpen = stores.KeepsHeld IsVersion2RegistryOf
+abbrev pub KeepsDevicesIfStillOpen : State → State → Type 0
+KeepsDevicesIfStillOpen = stores.KeepsValueIfStillOpen IsVersion2RegistryOf
 
 -- nothing is written
 abbrev pub WritesNothing : State → State → Type 0

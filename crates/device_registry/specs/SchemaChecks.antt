@@ -28,13 +28,13 @@ has_foreign_key_to_ours schema =
     || is_referenced schema (device_table_name Second)
 
 -- a table counts its rowids, but SQLite's table of the counts does not exist
-abbrev pub lacks_sequence_table : Schema → Bool
-lacks_sequence_table schema =
+abbrev pub lacks_needed_sequence_table : Schema → Bool
+lacks_needed_sequence_table schema =
     list_any (λ table. table.is_counted) schema.tables && is_none (table_named schema (codes "sqlite_sequence"))
 
 -- in version 1, no table counts its rowids without SQLite's table of the counts
 abbrev pub migration_adds_no_sequence : Version → Schema → Bool
-migration_adds_no_sequence First schema = not (lacks_sequence_table schema)
+migration_adds_no_sequence First schema = not (lacks_needed_sequence_table schema)
 migration_adds_no_sequence Second schema = true
 
 -- the tables can be created
@@ -42,7 +42,7 @@ abbrev pub admits_tables : Schema → Bool
 admits_tables schema =
     not (is_used schema meta_name) && not (is_used schema (device_table_name First)) && not
     (is_used schema (device_table_name Second)) && not (has_foreign_key_to_ours schema)
-    && not (lacks_sequence_table schema)
+    && not (lacks_needed_sequence_table schema)
 
 -- no other table than that of this name is in the tree
 abbrev pub is_alone_in_tree : Schema → (name : List ℕ) (tree : ℕ) → Bool

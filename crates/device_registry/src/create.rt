@@ -6,7 +6,7 @@ ghost use Rattle.sqlite.specs.Effect.{IsDatabase};
 ghost use Rattle.sqlite.specs.Held.{state};
 ghost use Rattle.device_registry.specs.Stored.{HoldsVersion2};
 ghost use Rattle.device_registry.specs.Ready.{IsReadyWith, KeepsOtherTables};
-ghost use Rattle.device_registry.specs.Opening.{KeepsDatabaseIfOpen};
+ghost use Rattle.device_registry.specs.Opening.{KeepsDatabaseIfStillOpen};
 ghost use Rattle.device_registry.specs.SchemaChecks.{admits_tables};
 
 use crate::table::Version;
@@ -25,7 +25,8 @@ pub fn create_registry<S: Alter>(conn: &mut Connection<S>) -> Result<(), Error>
     ensures others { HasCleanDisk (state S.Store conn.new) → OnOk result (KeepsOtherTables (state S.Store conn.old).now
         (state S.Store conn.new).now) }
     ensures crash { Survives (state S.Store conn.old) (state S.Store conn.new) (λ trees. HoldsVersion2 trees empty) }
-    ensures remains { HasCleanDisk (state S.Store conn.new) → OnErr result (KeepsDatabaseIfOpen (state S.Store conn.old)
+    ensures remains { HasCleanDisk (state S.Store conn.new) → OnErr result
+        (KeepsDatabaseIfStillOpen (state S.Store conn.old)
         (state S.Store conn.new)) }
 {
     let mut making = conn.transaction();

@@ -1,5 +1,5 @@
 //! The registry as a device store.
-ghost use Rattle.device_registry.specs.Holding.{Writes, registry_state_of};
+ghost use Rattle.device_registry.specs.Holding.{WritesRowForUpdate, registry_state_of};
 
 use crate::registry::RegistryOver;
 use crate::sql_connection::SqlConnection;
@@ -8,7 +8,7 @@ use learned_devices::{Device, DeviceStore, Label, LearnFault, StoreFault};
 impl<C: SqlConnection> DeviceStore for RegistryOver<C> {
     ghost store_state = { registry_state_of C.state };
 
-    ghost wrote = { Writes C.state };
+    ghost wrote = { WritesRowForUpdate C.state };
 
     fn find(&mut self, id: u32) -> Result<Option<Device>, StoreFault> {
         RegistryOver::find(self, id)

@@ -6,7 +6,7 @@ ghost use Rattle.learned_devices.specs.Devices.{Devices, Operation, Learn, data_
 ghost use Rattle.learned_devices.specs.StoreCalls.{LooksUp, Updates, Forgets, ListsAll};
 ghost use Rattle.device_registry.specs.Holding.{HasDevicesIfOpen, IsReturnedByClose, RewritesVersion, WritesRow};
 ghost use Rattle.device_registry.specs.Holding.{registry_state};
-ghost use Rattle.device_registry.specs.private.TableCalls.{LearnsUnlessFull, MakesKnown};
+ghost use Rattle.device_registry.specs.private.TableCalls.{LearnsUnlessFull, OperationMakesDevice};
 ghost use Rattle.device_registry.specs.Ready.{IsReady, AreReady};
 
 use crate::queries::{delete_or_rewrite_if_absent, is_full_for, list_devices, look_up, upsert};
@@ -55,8 +55,8 @@ impl<C: SqlConnection> DeviceTable<C> {
         decode_found(&rows)
     }
 
-    /// Upserts a device, unless the registry is full, and returns whether it did. The device already has the label that
-    /// its sender keeps.
+    /// Upserts a device, unless the registry is full of others, and returns whether it did. The device has the label
+    /// that its sender gets: the stored one, or the empty one if the sender is unknown.
     pub fn learn_unless_full(&mut self, device: Device) -> Result<bool, Error>
         requires { HasCleanDisk (C.state self.old) → (devices : Devices) → HasDevicesIfOpen (C.state self.old) devices →
             data_after (get devices device.id) (Learn device.eep device.maker) ≡ Some (device_data device) }
@@ -75,15 +75,15 @@ impl<C: SqlConnection> DeviceTable<C> {
         Ok(true)
     }
 
-    /// Stores the device of a known sender, for whom the registry is never full. Implements any operation that makes
-    /// the device of what is stored.
+    /// Stores the device of a known sender, for whom the registry is never full. Implements any operation that gives
+    /// the sender this device. A look-up has shown that the connection is open.
     pub fn put_known(&mut self, device: Device) -> Result<(), Error>
         requires ready { HasCleanDisk (C.state self.old) → IsReady (C.state self.old) }
-        requires known { (operation : Operation) × MakesKnown (C.state self.old) device operation }
-        ensures updates { (operation : Operation) → MakesKnown (C.state self.old) device operation →
+        requires known { (operation : Operation) × OperationMakesDevice (C.state self.old) device operation }
+        ensures updates { (operation : Operation) → OperationMakesDevice (C.state self.old) device operation →
             Updates (registry_state (C.state self.old)) (registry_state (C.state self.new))
             (record { sender = device.id; operation = operation }) result }
-        ensures written { (operation : Operation) → MakesKnown (C.state self.old) device operation →
+        ensures written { (operation : Operation) → OperationMakesDevice (C.state self.old) device operation →
             HasCleanDisk (C.state self.new) → (devices : Devices) → HasDevicesIfOpen (C.state self.old) devices →
             OnOk result (WritesRow C.state self.new (record { sender = device.id; operation = operation }) devices) }
         ensures ready { HasCleanDisk (C.state self.new) → OnOk result (AreReady (C.state self.old)
@@ -93,7 +93,8 @@ impl<C: SqlConnection> DeviceTable<C> {
         Ok(())
     }
 
-    /// Forgets a sender that was looked up. Commits also if the sender is not known.
+    /// Forgets a sender. `is_known` is the result of its look-up, which has also shown that the connection is open.
+    /// Commits also if the sender is not known.
     pub fn forget(&mut self, id: u32, is_known: bool) -> Result<(), Error>
         requires ready { HasCleanDisk (C.state self.old) → IsReady (C.state self.old) }
         requires known { HasCleanDisk (C.state self.old) → (devices : Devices) →

@@ -14,7 +14,7 @@ use crate::sql_connection::SqlConnection;
 use sqlite_disk::Disk;
 
 /// The limit of the cache is that of the definitions.
-pub fn limits()
+pub fn limits_agree()
     ensures { MAX_CACHED ≡ max_cached }
 {}
 

@@ -7,7 +7,7 @@ ghost use Rattle.device_registry.specs.declared.table.Version.TheVariants.{First
 ghost use Rattle.learned_devices.specs.Devices.{Devices};
 ghost use Rattle.device_registry.specs.Stored.{IsRegistry, IsRegistryOfVersion, HoldsVersion2};
 ghost use Rattle.device_registry.specs.Ready.{IsReadyWith, KeepsOtherTables};
-ghost use Rattle.device_registry.specs.Opening.{KeepsDatabaseIfOpen};
+ghost use Rattle.device_registry.specs.Opening.{KeepsDatabaseIfStillOpen};
 
 use crate::table::Version;
 use crate::table::statements::{COPY, CREATE_DEVICE, DROP_DEVICE_V1, REWRITE_VERSION};
@@ -26,7 +26,8 @@ pub fn migrate<S: Alter>(conn: &mut Connection<S>) -> Result<(), Error>
         (state S.Store conn.new).now) }
     ensures crash { Survives (state S.Store conn.old) (state S.Store conn.new) (λ trees. (devices : Devices) →
         IsRegistryOfVersion First (state S.Store conn.old).now devices → HoldsVersion2 trees devices) }
-    ensures remains { HasCleanDisk (state S.Store conn.new) → OnErr result (KeepsDatabaseIfOpen (state S.Store conn.old)
+    ensures remains { HasCleanDisk (state S.Store conn.new) → OnErr result
+        (KeepsDatabaseIfStillOpen (state S.Store conn.old)
         (state S.Store conn.new)) }
 {
     let mut migrating = conn.transaction();

@@ -7,7 +7,7 @@ ghost use Rattle.device_registry.specs.Opening.{max_cached};
 ghost use Rattle.device_registry.specs.Holding.{RewritesVersion};
 ghost use Rattle.device_registry.specs.Stored.{AreVersion2Trees};
 ghost use Rattle.device_registry.specs.Ready.{KeepsOtherTables, KeepsRows};
-ghost use Rattle.device_registry.specs.Opening.{IsSettledOpen, KeepsDatabaseIfOpen, IsPrepared, KeepsFoundDevices};
+ghost use Rattle.device_registry.specs.Opening.{IsSettledOpen, KeepsDatabaseIfStillOpen, IsPrepared, KeepsFoundDevices};
 ghost use Rattle.device_registry.specs.Opening.{IsForeignDatabase};
 ghost use Rattle.device_registry.specs.Opening.{IsOpened, RefusesAndDrops, FailsToOpen};
 
@@ -16,9 +16,9 @@ use crate::cache_limits::DEFAULT_CACHED;
 use crate::device_table::DeviceTable;
 use crate::fault::OpenFault;
 use crate::queries::rewrite_version;
-use crate::recognize::version_of;
+use crate::recognize::is_registry;
 use crate::registry::RegistryOver;
-use crate::schema_check::admits_tables;
+use crate::schema_check::{TablesStatus, tables_status};
 use crate::sql_connection::SqlConnection;
 use crate::table::Version;
 use sqlite::Error;
@@ -60,23 +60,30 @@ fn create_or_recognize<C: SqlConnection>(conn: &mut C) -> Result<(), OpenFault>
         RewritesVersion (C.state conn.old) (C.state conn.new)) }
     ensures others { HasCleanDisk (C.state conn.new) → OnOk result (KeepsOtherTables (C.state conn.old).now
         (C.state conn.new).now) }
-    ensures remains { HasCleanDisk (C.state conn.new) → OnErr result (KeepsDatabaseIfOpen (C.state conn.old)
+    ensures remains { HasCleanDisk (C.state conn.new) → OnErr result (KeepsDatabaseIfStillOpen (C.state conn.old)
         (C.state conn.new)) }
 {
-    if admits_tables(conn.schema()) {
-        conn.create_tables()?;
-        return Ok(());
-    }
-    match version_of(conn)? {
-        None => Err(OpenFault::NotARegistry),
-        Some(Version::First) => {
-            conn.migrate_tables()?;
+    match tables_status(conn.schema()) {
+        TablesStatus::Absent => {
+            conn.create_tables()?;
             Ok(())
         }
-        Some(Version::Second) => {
-            rewrite_version(conn)?;
-            Ok(())
+        TablesStatus::Present(version) => {
+            if !is_registry(conn, version)? {
+                return Err(OpenFault::NotARegistry);
+            }
+            match version {
+                Version::First => {
+                    conn.migrate_tables()?;
+                    Ok(())
+                }
+                Version::Second => {
+                    rewrite_version(conn)?;
+                    Ok(())
+                }
+            }
         }
+        TablesStatus::Unusable => Err(OpenFault::NotARegistry),
     }
 }
 

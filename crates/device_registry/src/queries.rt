@@ -1,16 +1,17 @@
-//! The registry's calls of the database, one statement each. Each call first compiles a statement, which fails on a
-//! closed connection: nothing is known about the writes of a closed connection.
+//! The registry's calls of the database, one statement each. A query first compiles its statement, which fails on a
+//! closed connection. A write requires an open connection, which an earlier query has shown: nothing is known about the
+//! writes of a closed one.
 ghost use Rattle.std.specs.Prelude.{◌≡◌, [], ◌∷◌, map, pos, false, is_some, Ok, OnOk, OnErr, IfOk, IfErr};
 ghost use Rattle.std.specs.FinMap.{insert, get};
 ghost use Rattle.sqlite.specs.declared.types.Value.TheVariants.{Int, Text};
 ghost use Rattle.sqlite.specs.State.{HasCleanDisk, IsUnchanged, Survives, Executes, CommitsBy};
 ghost use Rattle.sqlite.specs.State.{Shown, FailsToQuery, CommitsShowing};
 ghost use Rattle.learned_devices.specs.Devices.{Devices, DeviceUpdate, apply_update, forget_update, device_data};
-ghost use Rattle.learned_devices.specs.Devices.{is_full, devices_by_ascending_id};
+ghost use Rattle.learned_devices.specs.Devices.{is_full_for, devices_by_ascending_id};
 ghost use Rattle.learned_devices.specs.Devices.{device_of};
 ghost use Rattle.device_registry.specs.Table.{upsert_sql, delete_sql, rewrite_version_sql};
 ghost use Rattle.device_registry.specs.Stored.{HoldsVersion2};
-ghost use Rattle.device_registry.specs.Opening.{KeepsDatabaseIfOpen};
+ghost use Rattle.device_registry.specs.Opening.{KeepsDatabaseIfStillOpen};
 ghost use Rattle.device_registry.specs.Ready.{IsReadyWith, IsReady, IsReadyIfOpen, WritesNothing, CommitsOrMayBeLeft};
 ghost use Rattle.device_registry.specs.Ready.{KeepsRows};
 ghost use Rattle.device_registry.specs.Table.Rows.{IsDeviceOrNone, shown_device, upsert_params};
@@ -34,7 +35,7 @@ fn compile<C: SqlConnection>(conn: &mut C, sql: &str) -> Result<Statement, Error
 }
 
 /// The rows that a query for one sender shows.
-fn query_by_sender<C: SqlConnection>(
+fn query_with_id<C: SqlConnection>(
     conn: &mut C,
     statement: &Statement,
     id: u32,
@@ -62,7 +63,7 @@ pub(crate) fn look_up<C: SqlConnection>(conn: &mut C, id: u32) -> Result<Vec<Row
         → IsDeviceOrNone (device_of devices id) rows.items)) }
 {
     let find = compile(conn, FIND)?;
-    query_by_sender(conn, &find, id)
+    query_with_id(conn, &find, id)
 }
 
 /// Whether the registry is full for a sender.
@@ -70,10 +71,10 @@ pub(crate) fn is_full_for<C: SqlConnection>(conn: &mut C, id: u32) -> Result<boo
     requires { IsReadyIfOpen (C.state conn.old) }
     ensures stays { WritesNothing (C.state conn.old) (C.state conn.new) }
     ensures full { HasCleanDisk (C.state conn.new) → IfOk result (λ full. IsReady (C.state conn.new) ×
-        ((devices : Devices) → IsReadyWith (C.state conn.old) devices → full ≡ is_full devices id)) }
+        ((devices : Devices) → IsReadyWith (C.state conn.old) devices → full ≡ is_full_for devices id)) }
 {
     let others = compile(conn, COUNT_OTHERS)?;
-    let rows = query_by_sender(conn, &others, id)?;
+    let rows = query_with_id(conn, &others, id)?;
     Ok(shown_count(&rows)? >= MAX_DEVICES as u64)
 }
 
@@ -108,7 +109,7 @@ fn run_upsert<C: SqlConnection>(
 pub(crate) fn upsert<C: SqlConnection>(conn: &mut C, device: Device) -> Result<usize, Error>
     requires ready { HasCleanDisk (C.state conn.old) → IsReady (C.state conn.old) }
     requires room { HasCleanDisk (C.state conn.old) → (devices : Devices) → IsReadyWith
-        (C.state conn.old) devices → is_full devices device.id ≡ false }
+        (C.state conn.old) devices → is_full_for devices device.id ≡ false }
     ensures turns { (update : DeviceUpdate) → (HasCleanDisk (C.state conn.old) → (devices : Devices) → IsReadyWith
         (C.state conn.old) devices → apply_update devices update ≡ insert devices device.id (device_data device))
         → CommitsOrMayBeLeft (C.state conn.old) (C.state conn.new) update result }
@@ -152,7 +153,7 @@ pub(crate) fn rewrite_version<C: SqlConnection>(conn: &mut C) -> Result<usize, E
         IsReadyWith (C.state conn.old) devices → HoldsVersion2 trees devices) }
     ensures rows { HasCleanDisk (C.state conn.new) → OnOk result (IsReady (C.state conn.old) →
         KeepsRows (C.state conn.old) (C.state conn.new)) }
-    ensures remains { HasCleanDisk (C.state conn.new) → OnErr result (KeepsDatabaseIfOpen (C.state conn.old)
+    ensures remains { HasCleanDisk (C.state conn.new) → OnErr result (KeepsDatabaseIfStillOpen (C.state conn.old)
         (C.state conn.new)) }
     ensures turns { (update : DeviceUpdate) → (HasCleanDisk (C.state conn.old) → (devices : Devices) → IsReadyWith
         (C.state conn.old) devices → apply_update devices update ≡ devices)

@@ -9,7 +9,7 @@ ghost use Rattle.learned_devices.specs.StoreCalls.{LooksUp, Updates, Learns, For
 ghost use Rattle.device_registry.specs.Holding.{HasDevicesIfOpen, IsReturnedByClose, RewritesVersion, WritesRow};
 ghost use Rattle.device_registry.specs.Holding.{registry_state};
 ghost use Rattle.device_registry.specs.Ready.{IsReady, AreReady};
-ghost use Rattle.device_registry.specs.private.TableCalls.{MakesKnown};
+ghost use Rattle.device_registry.specs.private.TableCalls.{OperationMakesDevice};
 
 use crate::cache::{Cache, copied, drop_entry, insert_entry, look_up_cached};
 use crate::device_table::DeviceTable;
@@ -80,8 +80,9 @@ impl<C: SqlConnection> RegistryOver<C> {
         self.known(id)
     }
 
-    // Learns a device of an unknown sender, with the empty label, unless 1,000 others are learned.
-    fn store_learned(&mut self, device: Device) -> Result<(), LearnFault>
+    // Learns a device, unless 1,000 others are learned. The caller has looked its sender up: it is unknown, and the
+    // device has the empty label.
+    fn store_new_unless_full(&mut self, device: Device) -> Result<(), LearnFault>
         requires { HasCleanDisk (C.state self.old) → (devices : Devices) → HasDevicesIfOpen (C.state self.old) devices →
             data_after (get devices device.id) (Learn device.eep device.maker) ≡ Some (device_data device) }
         ensures learns { Learns (registry_state (C.state self.old)) (registry_state (C.state self.new)) device result }
@@ -105,14 +106,14 @@ impl<C: SqlConnection> RegistryOver<C> {
         }
     }
 
-    // Stores a device of a known sender, by any operation that makes the device of what is stored.
+    // Stores the device of a known sender, by any operation that gives the sender this device.
     fn store_known(&mut self, device: Device) -> Result<(), StoreFault>
         requires ready { HasCleanDisk (C.state self.old) → IsReady (C.state self.old) }
-        requires known { (operation : Operation) × MakesKnown (C.state self.old) device operation }
-        ensures updates { (operation : Operation) → MakesKnown (C.state self.old) device operation →
+        requires known { (operation : Operation) × OperationMakesDevice (C.state self.old) device operation }
+        ensures updates { (operation : Operation) → OperationMakesDevice (C.state self.old) device operation →
             Updates (registry_state (C.state self.old)) (registry_state (C.state self.new))
             (record { sender = device.id; operation = operation }) result }
-        ensures written { (operation : Operation) → MakesKnown (C.state self.old) device operation →
+        ensures written { (operation : Operation) → OperationMakesDevice (C.state self.old) device operation →
             HasCleanDisk (C.state self.new) → (devices : Devices) → HasDevicesIfOpen (C.state self.old) devices →
             OnOk result (WritesRow C.state self.new (record { sender = device.id; operation = operation }) devices) }
     {
@@ -148,7 +149,7 @@ impl<C: SqlConnection> RegistryOver<C> {
                 })?;
                 Ok(())
             }
-            None => self.store_learned(device),
+            None => self.store_new_unless_full(device),
         }
     }
 

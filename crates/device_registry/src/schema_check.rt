@@ -1,23 +1,23 @@
-//! The two tables in a schema, and the objects beside them.
+//! Our tables in a schema, and the objects beside them.
 ghost use Rattle.std.specs.Prelude.{◌≡◌};
 ghost use Rattle.std.specs.List.{list_any};
 ghost use Rattle.sqlite.specs.Table.{Table};
-ghost use Rattle.sqlite_catalog.specs.Change.{is_used};
 ghost use Rattle.device_registry.specs.SchemaChecks.{refers_to, is_referenced, has_foreign_key_to_ours, is_indexed};
-ghost use Rattle.device_registry.specs.SchemaChecks.{lacks_sequence_table, admits_tables};
+ghost use Rattle.device_registry.specs.SchemaChecks.{lacks_needed_sequence_table};
 ghost use Rattle.device_registry.specs.SchemaChecks.{migration_adds_no_sequence};
-ghost use Rattle.device_registry.specs.SchemaChecks.{is_alone_in_tree, is_unaffected, tree_of_table, tree_of_devices};
+ghost use Rattle.device_registry.specs.SchemaChecks.{is_alone_in_tree, tree_of_table};
+ghost use Rattle.device_registry.specs.private.TablesStatus.{is_index_or_view, are_creatable, are_unaffected};
+ghost use Rattle.device_registry.specs.private.TablesStatus.{tables_in_trees, tables_status};
 
 use crate::table::{META, Version};
 use sqlite_schema::names::same_name;
 use sqlite_schema::schema::{Schema, Table};
 
-fn is_used(schema: &Schema, name: &[u8]) -> bool
-    ensures { result ≡ is_used schema.now name.now }
+/// Whether an index or a view has this name.
+fn is_index_or_view(schema: &Schema, name: &[u8]) -> bool
+    ensures { result ≡ is_index_or_view schema.now name.now }
 {
-    schema.table_named(name).is_some()
-        || schema.index_named(name).is_some()
-        || schema.view_named(name).is_some()
+    schema.index_named(name).is_some() || schema.view_named(name).is_some()
 }
 
 fn refers_to(table: &Table, name: &[u8]) -> bool
@@ -71,8 +71,8 @@ fn counts_rowids(schema: &Schema) -> bool
 }
 
 /// Whether a table counts its rowids without SQLite's table of the counts.
-fn lacks_sequence_table(schema: &Schema) -> bool
-    ensures { result ≡ lacks_sequence_table schema.now }
+fn lacks_needed_sequence_table(schema: &Schema) -> bool
+    ensures { result ≡ lacks_needed_sequence_table schema.now }
 {
     counts_rowids(schema) && schema.table_named(b"sqlite_sequence").is_none()
 }
@@ -83,20 +83,20 @@ fn migration_adds_no_sequence(schema: &Schema, version: Version) -> bool
     ensures { result ≡ migration_adds_no_sequence version schema.now }
 {
     match version {
-        Version::First => !lacks_sequence_table(schema),
+        Version::First => !lacks_needed_sequence_table(schema),
         Version::Second => true,
     }
 }
 
-/// Whether the tables can be created.
-pub fn admits_tables(schema: &Schema) -> bool
-    ensures { result ≡ admits_tables schema.now }
+/// Whether the tables can be created in a schema without tables of our names.
+fn are_creatable(schema: &Schema) -> bool
+    ensures { result ≡ are_creatable schema.now }
 {
-    !is_used(schema, META)
-        && !is_used(schema, Version::First.device_table_name())
-        && !is_used(schema, Version::Second.device_table_name())
+    !is_index_or_view(schema, META)
+        && !is_index_or_view(schema, Version::First.device_table_name())
+        && !is_index_or_view(schema, Version::Second.device_table_name())
         && !has_foreign_key_to_ours(schema)
-        && !lacks_sequence_table(schema)
+        && !lacks_needed_sequence_table(schema)
 }
 
 /// Whether no other table than that of this name is in the tree.
@@ -107,20 +107,22 @@ fn is_alone_in_tree(schema: &Schema, name: &[u8], tree: u32) -> bool
         || same_name(table.name.as_slice(), name))
 }
 
-fn is_unaffected(schema: &Schema, version: Version, meta: u32, devices: u32) -> bool
-    ensures { result ≡ is_unaffected version schema.now meta devices }
+/// Whether other objects do not affect the tables of this version, which are in these trees. There is no table of the
+/// other version.
+fn are_unaffected(schema: &Schema, version: Version, meta: u32, devices: u32) -> bool
+    ensures { result ≡ are_unaffected version schema.now meta devices }
 {
     !has_foreign_key_to_ours(schema)
         && !is_indexed(schema, meta)
         && !is_indexed(schema, devices)
         && is_alone_in_tree(schema, META, meta)
         && is_alone_in_tree(schema, version.device_table_name(), devices)
-        && !is_used(schema, version.other().device_table_name())
+        && !is_index_or_view(schema, version.other().device_table_name())
         && migration_adds_no_sequence(schema, version)
 }
 
 /// The tree of the table with this name.
-pub fn tree_of_table(schema: &Schema, name: &[u8]) -> Option<u32>
+fn tree_of_table(schema: &Schema, name: &[u8]) -> Option<u32>
     ensures { result ≡ tree_of_table schema.now name.now }
 {
     let at = schema.table_named(name)?;
@@ -128,14 +130,48 @@ pub fn tree_of_table(schema: &Schema, name: &[u8]) -> Option<u32>
     Some(table.tree)
 }
 
-/// The tree of the device table of this version, if other objects do not affect it, nor the version table in this tree.
-pub fn tree_of_devices(schema: &Schema, version: Version, meta: u32) -> Option<u32>
-    ensures { result ≡ tree_of_devices version schema.now meta }
+/// What a schema has under the names of our tables.
+#[derive(Clone, Copy)]
+pub enum TablesStatus {
+    /// Nothing, and the tables can be created.
+    Absent,
+    /// The tables of this version, which other objects do not affect.
+    Present(Version),
+    /// Something else.
+    Unusable,
+}
+
+/// What the schema has, if the tables of our names are in these trees.
+fn tables_in_trees(
+    schema: &Schema,
+    meta: Option<u32>,
+    first: Option<u32>,
+    second: Option<u32>,
+) -> TablesStatus
+    ensures { result ≡ tables_in_trees schema.now meta first second }
 {
-    let devices = tree_of_table(schema, version.device_table_name())?;
-    if is_unaffected(schema, version, meta, devices) {
-        Some(devices)
-    } else {
-        None
+    match (meta, first, second) {
+        (None, None, None) if are_creatable(schema) => TablesStatus::Absent,
+        (Some(meta), Some(devices), None)
+            if are_unaffected(schema, Version::First, meta, devices) => {
+            TablesStatus::Present(Version::First)
+        }
+        (Some(meta), None, Some(devices))
+            if are_unaffected(schema, Version::Second, meta, devices) => {
+            TablesStatus::Present(Version::Second)
+        }
+        _ => TablesStatus::Unusable,
     }
+}
+
+/// What the schema has under the names of our tables. Each name is looked up once.
+pub fn tables_status(schema: &Schema) -> TablesStatus
+    ensures { result ≡ tables_status schema.now }
+{
+    tables_in_trees(
+        schema,
+        tree_of_table(schema, META),
+        tree_of_table(schema, Version::First.device_table_name()),
+        tree_of_table(schema, Version::Second.device_table_name()),
+    )
 }

@@ -10,7 +10,7 @@ ghost use Rattle.device_registry.specs.declared.table.Version.TheVariants.{First
 ghost use Rattle.learned_devices.specs.Devices.{Devices};
 ghost use Rattle.device_registry.specs.Stored.{IsRegistry, IsRegistryOfVersion, HoldsVersion2};
 ghost use Rattle.device_registry.specs.Ready.{IsReadyWith, KeepsOtherTables};
-ghost use Rattle.device_registry.specs.Opening.{KeepsDatabaseIfOpen};
+ghost use Rattle.device_registry.specs.Opening.{KeepsDatabaseIfStillOpen};
 ghost use Rattle.device_registry.specs.SchemaChecks.{admits_tables};
 
 use crate::{create, migrate};
@@ -84,7 +84,7 @@ pub trait SqlConnection {
             (state self.new).now) }
         ensures crash { Survives (state self.old) (state self.new) (λ trees. HoldsVersion2 trees empty) }
         ensures remains { HasCleanDisk (state self.new)
-            → OnErr result (KeepsDatabaseIfOpen (state self.old) (state self.new)) };
+            → OnErr result (KeepsDatabaseIfStillOpen (state self.old) (state self.new)) };
 
     /// Migrates the tables of a registry of version 1 to version 2, in one transaction.
     fn migrate_tables(&mut self) -> Result<(), Error>
@@ -98,7 +98,7 @@ pub trait SqlConnection {
         ensures crash { Survives (state self.old) (state self.new) (λ trees. (devices : Devices) →
             IsRegistryOfVersion First (state self.old).now devices → HoldsVersion2 trees devices) }
         ensures remains { HasCleanDisk (state self.new)
-            → OnErr result (KeepsDatabaseIfOpen (state self.old) (state self.new)) };
+            → OnErr result (KeepsDatabaseIfStillOpen (state self.old) (state self.new)) };
 
     // While the connection is open, a crash leaves what is committed.
     ghost settled: { (s : Self) (trees : Trees) → IsTrue (state s).is_open → (state s).may_leave trees

@@ -20,6 +20,6 @@ payload_in (FourBs bytes) = bytes
 payload_in (Vld bytes) = bytes.items
 payload_in (Ute bytes) = bytes
 
--- the payload has a length of the RORG; only a payload of VLD can be of another
+-- the payload has a length of its RORG; only a payload of VLD can have another length
 abbrev pub FitsRorg : Contents → Type 0
 FitsRorg contents = IsTrue (payload_length_fits (rorg_in contents) (length (payload_in contents)))

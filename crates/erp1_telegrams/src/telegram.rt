@@ -111,7 +111,7 @@ impl Telegram {
         }
     }
 
-    /// The RORG and the payload together, by which a caller decides at once on both (ISO/IEC 14543-3-10, "RORG").
+    /// The RORG and the payload in one value, so that one `match` decides on both (ISO/IEC 14543-3-10, "RORG").
     pub fn contents(&self) -> &Contents
         ensures rorg { rorg_in result.now ≡ self.now.rorg }
         ensures payload { payload_in result.now ≡ self.now.payload }

@@ -6,7 +6,7 @@ use Rattle.std.specs.Int.Bits.{xor_assoc, xor_self, xor_zero_l, xor_zero_r}
 use Rattle.std.proofs.lemmas.Nat.{xor_comm, xor_block, xor_of_8, xor_lt}
 use Rattle.std.proofs.lemmas.Bool.{agree_below, agree_below_at, eqb-true, lt-ltb, le-ltb, cases_lt}
 use Rattle.std.proofs.lemmas.List.{append-nil}
-use Rattle.esp3_frames.specs.Check.{times_x, power, byte_bits, bits, remainder, check}
+use Rattle.esp3_frames.specs.Check.{times_x, power_of_x, byte_bits, bits, remainder, check}
 use Rattle.esp3_frames.specs.declared.check.TheConstants.{CRC_TABLE}
 
 pub low_half : (n : ℕ) → n < 128 → times_x n ≡ 2 * n
@@ -111,10 +111,10 @@ times_x-xor a b ha hb = elim (cases_lt a 128) [
       ]
 ]
 
-power_byte : (k : ℕ) → power k < 256
-unfolding power
+power_byte : (k : ℕ) → power_of_x k < 256
+unfolding power_of_x
 power_byte zero = omega arith
-power_byte (suc k) = times_x_byte (power k) (power_byte k)
+power_byte (suc k) = times_x_byte (power_of_x k) (power_byte k)
 
 pub bit_part : (b : Bool) (n : ℕ) → n < 256 → cond b n 0 < 256
 bit_part true n h = h
@@ -124,7 +124,7 @@ pub remainder_byte : (bs : List Bool) → remainder bs < 256
 unfolding remainder
 remainder_byte [] = omega arith
 remainder_byte (b ∷ bs) =
-    xor_of_8 _ _ (bit_part b (power (length bs + 8)) (power_byte (length bs + 8))) (remainder_byte bs)
+    xor_of_8 _ _ (bit_part b (power_of_x (length bs + 8)) (power_byte (length bs + 8))) (remainder_byte bs)
 
 pub check_nil : check [] ≡ 0
 unfolding check bits remainder
@@ -139,12 +139,12 @@ more_bit : (c : Bool) (n : ℕ) → cond c (times_x n) 0 ≡ times_x (cond c n 0
 more_bit true n = refl
 more_bit false n = refl
 
-power_more : (n : ℕ) → power (suc n) ≡ times_x (power n)
-unfolding power
+power_more : (n : ℕ) → power_of_x (suc n) ≡ times_x (power_of_x n)
+unfolding power_of_x
 power_more n = refl
 
-last_bit : (b : Bool) → bit_xor (cond b (power 8) 0) 0 ≡ cond b 7 0
-unfolding power
+last_bit : (b : Bool) → bit_xor (cond b (power_of_x 8) 0) 0 ≡ cond b 7 0
+unfolding power_of_x
 last_bit true = refl
 last_bit false = refl
 
@@ -153,15 +153,15 @@ unfolding remainder
 remainder_last [] b = last_bit b ∙ sym (xor_zero_l (cond b 7 0))
 remainder_last (c ∷ bs) b =
     let n : length (bs ++ b ∷ []) + 8 ≡ suc (length bs + 8) = omega (arith, length-append bs (b ∷ [])) in
-    let p : power (length (bs ++ b ∷ []) + 8) ≡ times_x (power (length bs + 8)) =
-    ap power n ∙ power_more (length bs + 8) in
-    let q : cond c (power (length (bs ++ b ∷ []) + 8)) 0 ≡ times_x (cond c (power (length bs + 8)) 0) =
-    ap (λ n. cond c n 0) p ∙ more_bit c (power (length bs + 8)) in
-    let t = times_x-xor (cond c (power (length bs + 8)) 0) (remainder bs)
-    (bit_part c (power (length bs + 8)) (power_byte (length bs + 8))) (remainder_byte bs) in
+    let p : power_of_x (length (bs ++ b ∷ []) + 8) ≡ times_x (power_of_x (length bs + 8)) =
+    ap power_of_x n ∙ power_more (length bs + 8) in
+    let q : cond c (power_of_x (length (bs ++ b ∷ []) + 8)) 0 ≡ times_x (cond c (power_of_x (length bs + 8)) 0) =
+    ap (λ n. cond c n 0) p ∙ more_bit c (power_of_x (length bs + 8)) in
+    let t = times_x-xor (cond c (power_of_x (length bs + 8)) 0) (remainder bs)
+    (bit_part c (power_of_x (length bs + 8)) (power_byte (length bs + 8))) (remainder_byte bs) in
     ap (λ n. bit_xor n (remainder (bs ++ b ∷ []))) q
-    ∙ ap (λ n. bit_xor (times_x (cond c (power (length bs + 8)) 0)) n) (remainder_last bs b)
-    ∙ sym (xor_assoc (times_x (cond c (power (length bs + 8)) 0)) (times_x (remainder bs)) (cond b 7 0))
+    ∙ ap (λ n. bit_xor (times_x (cond c (power_of_x (length bs + 8)) 0)) n) (remainder_last bs b)
+    ∙ sym (xor_assoc (times_x (cond c (power_of_x (length bs + 8)) 0)) (times_x (remainder bs)) (cond b 7 0))
     ∙ ap (λ n. bit_xor n (cond b 7 0)) (sym t)
 
 -- the remainder after more bits
@@ -224,7 +224,7 @@ same_eighth : ℕ → Bool
 same_eighth b = eqb (check (b ∷ [])) (eighth b)
 
 all_eighths : agree_below same_eighth (λ _. true) 256 ≡ true
-unfolding same_eighth check bits remainder power byte_bits eighth shifted
+unfolding same_eighth check bits remainder power_of_x byte_bits eighth shifted
 all_eighths = refl
 
 pub check_one : (b : ℕ) → b < 256 → check (b ∷ []) ≡ eighth b

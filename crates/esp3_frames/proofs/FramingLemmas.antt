@@ -8,7 +8,8 @@ use Rattle.esp3_frames.specs.Check.{check}
 use Rattle.esp3_frames.specs.Packet.{Packet, spelling, IsPacket}
 use Rattle.esp3_frames.specs.Framing.{BeginsWithPacket, MayBecomePacket, NeverPacket, Framing}
 use Rattle.esp3_frames.specs.Framing.Framing.{ends, skips, finds}
-use Rattle.esp3_frames.specs.PacketsAndRest.{Front, front_of, PacketsAndRest, packets_and_rest_after_skipping, packets_in, rest_of}
+use Rattle.esp3_frames.specs.PacketsAndRest.{Front, front_of, PacketsAndRest, packets_and_rest_after_skipping}
+use Rattle.esp3_frames.specs.PacketsAndRest.{packets_in, rest_of}
 use Rattle.esp3_frames.specs.PacketsAndRest.Front.{Never, Partial, Whole}
 use Rattle.esp3_frames.proofs.PacketLemmas.{split_fronts, one_reading, never-longer, packet_length, begins_not_may}
 use Rattle.esp3_frames.proofs.HeaderLemmas.{packet_parts, tail_check}
@@ -83,27 +84,31 @@ may_become_not_never (s ∷ []) p more hp hm d =
 may_become_not_never (s ∷ h ∷ []) p more hp hm d =
     let e = hp.bytes in let es : s ≡ 0x55 = cc in let eh : h ≡ length p.body / 256 = cc in let body = hp.body in
     kept _ Partial (and_from _ _ (eq-eqb s 0x55 es)
-    (test_fitting h 0 1 (record { high = omega arith; low = omega arith; opts = omega arith; not_empty = omega arith })))
+    (test_fitting h 0 1
+    (record { high = omega arith; low = omega arith; opts = omega arith; not_empty = omega arith })))
     partial_apart d
 may_become_not_never (s ∷ h ∷ l ∷ []) p more hp hm d =
     let e = hp.bytes in let es : s ≡ 0x55 = cc in let eh : h ≡ length p.body / 256 =
     cc in let el : l ≡ length p.body % 256 = cc in let body = hp.body in
     kept _ Partial (and_from _ _ (eq-eqb s 0x55 es)
-    (test_fitting h l 1 (record { high = omega arith; low = omega arith; opts = omega arith; not_empty = omega arith })))
+    (test_fitting h l 1
+    (record { high = omega arith; low = omega arith; opts = omega arith; not_empty = omega arith })))
     partial_apart d
 may_become_not_never (s ∷ h ∷ l ∷ o ∷ []) p more hp hm d =
     let e = hp.bytes in let es : s ≡ 0x55 = cc in let eh : h ≡ length p.body / 256 = cc in
     let el : l ≡ length p.body % 256 = cc in let eo : o ≡ length p.opt = cc in let body = hp.body in
     let opt = hp.opt in let some = hp.not_empty in
     kept _ Partial (and_from _ _ (eq-eqb s 0x55 es)
-    (test_fitting h l o (record { high = omega arith; low = omega arith; opts = omega arith; not_empty = omega arith })))
+    (test_fitting h l o
+    (record { high = omega arith; low = omega arith; opts = omega arith; not_empty = omega arith })))
     partial_apart d
 may_become_not_never (s ∷ h ∷ l ∷ o ∷ k ∷ []) p more hp hm d =
     let e = hp.bytes in let es : s ≡ 0x55 = cc in let eh : h ≡ length p.body / 256 = cc in
     let el : l ≡ length p.body % 256 = cc in let eo : o ≡ length p.opt = cc in let body = hp.body in
     let opt = hp.opt in let some = hp.not_empty in
     kept _ Partial (and_from _ _ (eq-eqb s 0x55 es)
-    (test_fitting h l o (record { high = omega arith; low = omega arith; opts = omega arith; not_empty = omega arith })))
+    (test_fitting h l o
+    (record { high = omega arith; low = omega arith; opts = omega arith; not_empty = omega arith })))
     partial_apart d
 may_become_not_never (s ∷ h ∷ l ∷ o ∷ k ∷ c ∷ t) p more hp hm d = may_become_cells p s h l o k c t more hp hm d
 
@@ -121,14 +126,15 @@ empty_front : front_of [] ≡ Partial
 unfolding front_of
 empty_front = refl
 
--- the frames of b ∷ s, by its front
+-- the packets and the rest of b ∷ s, by its front
 abbrev pub stepped : ℕ → List ℕ → Front → PacketsAndRest
 stepped b s f =
     elim f [
       | Never ↦ packets_and_rest_after_skipping zero s
       | Partial ↦ record { ready = []; rest = b ∷ s }
-      | Whole p ↦ let c =
-          packets_and_rest_after_skipping (length p.body + length p.opt + 6) s in record { ready = p ∷ c.ready; rest = c.rest }
+      | Whole p ↦
+          let c = packets_and_rest_after_skipping (length p.body + length p.opt + 6) s in
+          record { ready = p ∷ c.ready; rest = c.rest }
     ]
 
 dropped : (b : ℕ) (s v r : List ℕ) (n : ℕ) → (b ∷ s) ≡ v ++ r → length v ≡ suc n → (n ≤ length s) × (r ≡ drop n s)
@@ -141,7 +147,8 @@ dropped b s (x ∷ v) r n e h =
     )
 
 at_front : (b : ℕ) (s : List ℕ) (f : Front) → front_of (b ∷ s) ≡ f
-    → ((n : ℕ) → n ≤ length s → Framing (drop n s) (packets_and_rest_after_skipping n s).ready (packets_and_rest_after_skipping n s).rest)
+    → ((n : ℕ) → n ≤ length s → Framing (drop n s) (packets_and_rest_after_skipping n s).ready
+    (packets_and_rest_after_skipping n s).rest)
     → Framing (b ∷ s) (stepped b s f).ready (stepped b s f).rest
 at_front b s Never e ih = skips (front_never (b ∷ s) e) (ih zero (omega arith))
 at_front b s Partial e ih = ends (front_partial (b ∷ s) e)
@@ -226,8 +233,8 @@ three w Partial e = inr (inl (front_partial w e))
 three w (Whole p) e =
     let h = front_whole w p e in inl (record { packet = p; front = h.front; rest = h.rest; whole = h.whole; is = h.is })
 
-pub one_of_three : (w : List ℕ) → BeginsWithPacket w ⊎ (MayBecomePacket w ⊎ NeverPacket w)
-one_of_three w = three w (front_of w) refl
+pub one_front_case_holds : (w : List ℕ) → BeginsWithPacket w ⊎ (MayBecomePacket w ⊎ NeverPacket w)
+one_front_case_holds w = three w (front_of w) refl
 
 pub empty_may_become : MayBecomePacket []
 empty_may_become = front_partial [] empty_front

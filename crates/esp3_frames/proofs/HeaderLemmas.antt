@@ -74,7 +74,12 @@ fitting h l o e =
     let a = and_parts _ _ e in
     let b = and_parts _ _ a.0 in
     let c = and_parts _ _ a.1 in
-    record { high = ltb-true h 256 b.0; low = ltb-true l 256 b.1; opts = ltb-true o 256 c.0; not_empty = ltb-true 0 _ c.1 }
+    record {
+      high = ltb-true h 256 b.0;
+      low = ltb-true l 256 b.1;
+      opts = ltb-true o 256 c.0;
+      not_empty = ltb-true 0 _ c.1;
+    }
 
 -- a packet from its parts
 unfoldable pub made : (k d o : ℕ) (w : List ℕ) → Packet

@@ -6,6 +6,6 @@ pub mod HeaderLemmas
 pub mod FrontLemmas
 pub mod FramingLemmas
 pub mod FrontByHeader
-pub mod FramesByFront
+pub mod PacketsAndRestByFront
 pub mod ForCallers
 pub mod WorkedStreams

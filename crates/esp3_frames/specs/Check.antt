@@ -9,9 +9,9 @@ abbrev pub times_x : ℕ → ℕ
 times_x n = if nat_lt (2 * n) 256 then 2 * n else bit_xor (2 * n) 0x107
 
 -- the remainder of x^k
-unfoldable pub power : ℕ → ℕ
-power zero = 1
-power (suc k) = times_x (power k)
+unfoldable pub power_of_x : (k : ℕ) → ℕ
+power_of_x zero = 1
+power_of_x (suc k) = times_x (power_of_x k)
 
 -- the bits of a byte, the most significant bit first
 unfoldable pub byte_bits : ℕ → List Bool
@@ -27,13 +27,13 @@ bits (b ∷ m) = byte_bits b ++ bits m
 -- a set bit followed by k bits is x^(k + 8)
 unfoldable pub remainder : List Bool → ℕ
 remainder [] = 0
-remainder (b ∷ bs) = bit_xor (if b then power (length bs + 8) else 0) (remainder bs)
+remainder (b ∷ bs) = bit_xor (if b then power_of_x (length bs + 8) else 0) (remainder bs)
 
 -- the CRC of a message
 unfoldable pub check : List ℕ → ℕ
 check m = remainder (bits m)
 
 -- the CRC of a message whose CRC is c, after n more zero bytes
-unfoldable pub crc_after_zeros : (c : ℕ) → ℕ → ℕ
+unfoldable pub crc_after_zeros : (c n : ℕ) → ℕ
 crc_after_zeros c zero = c
 crc_after_zeros c (suc n) = crc_after_zeros (check (c ∷ [])) n

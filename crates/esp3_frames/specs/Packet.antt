@@ -17,7 +17,7 @@ max_packet = 6 + max_data + max_optional_data + 1
 
 -- the lengths that a header may announce: that of the data in two bytes, the high byte first, and that of the optional
 -- data in one. Own choice: a packet is not empty
-abbrev pub announces_data : (h l o : ℕ) → Bool
+abbrev pub announces_data : (high low opt_len : ℕ) → Bool
 announces_data h l o = (nat_lt h 256 && nat_lt l 256) && (nat_lt o 256 && nat_lt 0 (h + l + o))
 
 -- a packet: its type, data and optional data

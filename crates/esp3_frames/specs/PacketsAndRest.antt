@@ -17,7 +17,7 @@ pub data Front : Type 0 where
   Whole : Packet → Front
 
 -- the front of a text whose first six bytes are a valid header with these lengths and this type, followed by w
-abbrev pub front_after_header : (d o kind : ℕ) → List ℕ → Front
+abbrev pub front_after_header : (data_len opt_len kind : ℕ) → (w : List ℕ) → Front
 front_after_header d o kind w =
     if nat_le (length w) (d + o) then Partial
     else if slice_index w (d + o) == check (take (d + o) w) then Whole
@@ -35,7 +35,7 @@ pub record PacketsAndRest : Type 0 where
   pub ready : List Packet
   pub rest : List ℕ
 
--- the frames after the next n bytes, which belong to a packet
+-- the packets and the rest of a stream after its first `skip` bytes, which belong to an earlier packet
 unfoldable pub packets_and_rest_after_skipping : (skip : ℕ) → List ℕ → PacketsAndRest
 packets_and_rest_after_skipping n [] = record { ready = []; rest = [] }
 packets_and_rest_after_skipping (suc n) (b ∷ s) = packets_and_rest_after_skipping n s
@@ -43,8 +43,9 @@ packets_and_rest_after_skipping zero (b ∷ s) =
     elim (front_of (b ∷ s)) [
       | Never ↦ packets_and_rest_after_skipping zero s
       | Partial ↦ record { ready = []; rest = b ∷ s }
-      | Whole p ↦ let c =
-          packets_and_rest_after_skipping (length p.body + length p.opt + 6) s in record { ready = p ∷ c.ready; rest = c.rest }
+      | Whole p ↦
+          let c = packets_and_rest_after_skipping (length p.body + length p.opt + 6) s in
+          record { ready = p ∷ c.ready; rest = c.rest }
     ]
 
 abbrev pub packets_and_rest : List ℕ → PacketsAndRest

@@ -5,7 +5,8 @@ ghost use Rattle.esp3_frames.specs.Check.{check, crc_after_zeros};
 ghost use Rattle.esp3_frames.specs.Packet.{max_data, max_optional_data, max_packet, Packet, IsPacket};
 ghost use Rattle.esp3_frames.specs.Packet.{OneReading};
 ghost use Rattle.esp3_frames.specs.Framing.{Framing, BeginsWithPacket, MayBecomePacket, NeverPacket};
-ghost use Rattle.esp3_frames.specs.PacketsAndRest.{front_of, front_after_header, may_begin, packets_and_rest, packets_in, rest_of};
+ghost use Rattle.esp3_frames.specs.PacketsAndRest.{front_of, front_after_header, may_begin, packets_and_rest};
+ghost use Rattle.esp3_frames.specs.PacketsAndRest.{packets_in, rest_of};
 ghost use Rattle.esp3_frames.specs.PacketsAndRest.Front.{Never, Partial, Whole};
 ghost use Rattle.esp3_frames.specs.Outcome.{header_of};
 ghost use Rattle.esp3_frames.specs.declared.limits.TheConstants.{MAX_DATA, MAX_OPTIONAL_DATA, MAX_PACKET};
@@ -13,7 +14,7 @@ ghost use Rattle.esp3_frames.specs.declared.packet.Header.{Header};
 ghost use Rattle.esp3_frames.specs.declared.packet.HeaderFault.{HeaderFault};
 
 /// The limits of the code are those of the definitions.
-pub fn limits()
+pub fn limits_agree()
     ensures data { MAX_DATA ≡ max_data }
     ensures optional_data { MAX_OPTIONAL_DATA ≡ max_optional_data }
     ensures packet { MAX_PACKET ≡ max_packet }
@@ -39,7 +40,7 @@ pub fn one_reading()
 
 /// A text begins with a packet, may become one, or never does, and exactly one of the three holds. The first and the
 /// third are stable when the text grows; the empty text may become a packet.
-pub fn one_of_three()
+pub fn one_front_case_holds()
     ensures decided { (w : List ℕ) → BeginsWithPacket w ⊎ (MayBecomePacket w ⊎ NeverPacket w) }
     ensures apart { (w : List ℕ) → BeginsWithPacket w → MayBecomePacket w → ⊥ }
     ensures empty { MayBecomePacket [] }
@@ -65,7 +66,7 @@ pub fn framing_in_parts()
 
 /// The computed front of a text agrees with the definition. No packet is longer than `max_packet` bytes, and a text
 /// that may become one is shorter.
-pub fn front_cases()
+pub fn computed_front_agrees()
     ensures never { (w : List ℕ) → front_of w ≡ Never → NeverPacket w }
     ensures partial { (w : List ℕ) → front_of w ≡ Partial → MayBecomePacket w × (length w < max_packet) }
     ensures whole { (w : List ℕ) (p : Packet) → front_of w ≡ Whole p → let n = length p.body + length p.opt + 7 in
@@ -73,10 +74,11 @@ pub fn front_cases()
     ensures empty { front_of [] ≡ Partial }
 {}
 
-/// The frames of a text, by its front: a byte is skipped, nothing is decided yet, or there is a packet. Bytes up to the
-/// next sync byte are skipped.
+/// The packets and the rest of a text, by its front: a byte is skipped, nothing is decided yet, or there is a packet.
+/// Bytes up to the next sync byte are skipped.
 pub fn packets_and_rest_by_front()
-    ensures never { (w : List ℕ) → front_of w ≡ Never → (0 < length w) × (packets_and_rest (drop 1 w) ≡ packets_and_rest w) }
+    ensures never { (w : List ℕ) → front_of w ≡ Never → (0 < length w)
+        × (packets_and_rest (drop 1 w) ≡ packets_and_rest w) }
     ensures skipped { (w : List ℕ) (n : ℕ) → n ≤ length w → ((i : ℕ) → i < n → slice_index w i ≢ 0x55) →
         packets_and_rest (drop n w) ≡ packets_and_rest w }
     ensures partial { (w : List ℕ) → front_of w ≡ Partial → packets_and_rest w ≡ record { ready = []; rest = w } }

@@ -11,7 +11,7 @@ use Rattle.esp3_frames.specs.Outcome.{header_of}
 use Rattle.esp3_frames.specs.declared.packet.Header.{Header}
 use Rattle.esp3_frames.proofs.ForCallers.{front-empty, front-good, front_after_header-partial, front_after_header-whole}
 use Rattle.esp3_frames.proofs.ForCallers.{front_after_header-never, whole_length}
-use Rattle.esp3_resync.proofs.FramesLemmas.{held}
+use Rattle.esp3_resync.proofs.PacketsAndRestLemmas.{held}
 use Rattle.esp3_resync.specs.private.WindowFronts.{HasHeader, IsWindowFront, packet_at}
 use Rattle.esp3_resync.specs.declared.front.WindowFront.{WindowFront}
 use Rattle.esp3_resync.specs.declared.front.WindowFront.TheVariants as found

@@ -1,3 +1,3 @@
-pub mod RunningLemmas
-pub mod FramesLemmas
+pub mod RunningCrcLemmas
+pub mod PacketsAndRestLemmas
 pub mod HeaderLemmas

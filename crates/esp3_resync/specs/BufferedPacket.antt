@@ -5,7 +5,7 @@ use Rattle.esp3_frames.specs.Packet.{Packet, max_packet}
 use Rattle.esp3_frames.specs.declared.packet.Header.{Header}
 
 -- the packet with the header h whose data, followed by the optional data, is v
-abbrev pub packet_with : Header → List ℕ → Packet
+abbrev pub packet_with : Header → (data_and_opt : List ℕ) → Packet
 packet_with h v = record { kind = h.kind; body = take h.data_len v; opt = drop h.data_len v }
 
 -- the contents of a buffer: nothing yet, or a packet

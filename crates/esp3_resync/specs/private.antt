@@ -1,3 +1,3 @@
 -- For private postconditions: no public contract depends on these.
-pub mod RunningChecks
+pub mod RunningCrcs
 pub mod WindowFronts

@@ -131,7 +131,8 @@ impl Framer {
         ensures some { 0 < length bytes.now → 0 < result }
         ensures taken { self.new ≡ packets_and_rest (self.old.rest ++ take result bytes.now) }
         ensures up_to { length self.new.ready ≡ 0 → result ≡ length bytes.now }
-        ensures before { (k : ℕ) → k < result → length (packets_and_rest (self.old.rest ++ take k bytes.now)).ready ≡ 0 }
+        ensures before { (k : ℕ) → k < result → length (packets_and_rest (self.old.rest ++ take k bytes.now)).ready
+            ≡ 0 }
     {
         // The proof uses what the framer holds at the start.
         let _held = &self.window;
@@ -153,7 +154,8 @@ impl Framer {
         ensures within { result ≤ length bytes.now }
         ensures some { 0 < result }
         ensures taken { self.new ≡ packets_and_rest (self.old.rest ++ take result bytes.now) }
-        ensures before { (k : ℕ) → k < result → length (packets_and_rest (self.old.rest ++ take k bytes.now)).ready ≡ 0 }
+        ensures before { (k : ℕ) → k < result → length (packets_and_rest (self.old.rest ++ take k bytes.now)).ready
+            ≡ 0 }
     {
         if let WindowFront::PartialPacket(header) = self.front {
             let count = push_announced(&mut self.window, header, bytes);

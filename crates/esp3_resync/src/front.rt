@@ -76,7 +76,7 @@ fn front(window: &Window) -> Option<WindowFront>
 
 /// Skips bytes until a packet may begin at the front, and returns the front.
 pub fn resync(window: &mut Window) -> WindowFront
-    ensures frames { packets_and_rest window.new ≡ packets_and_rest window.old }
+    ensures packets { packets_and_rest window.new ≡ packets_and_rest window.old }
     ensures front { IsWindowFront result window.new }
 {
     loop {
@@ -90,7 +90,7 @@ pub fn resync(window: &mut Window) -> WindowFront
 // Skips the first byte, at which no packet begins, and then proceeds as `resync`, so it does not check that byte again.
 fn resync_after_first(window: &mut Window) -> WindowFront
     requires { front_of window.old ≡ Never }
-    ensures frames { packets_and_rest window.new ≡ packets_and_rest window.old }
+    ensures packets { packets_and_rest window.new ≡ packets_and_rest window.old }
     ensures front { IsWindowFront result window.new }
 {
     window.skip_to_next_sync();
@@ -100,7 +100,7 @@ fn resync_after_first(window: &mut Window) -> WindowFront
 /// The same for a window that begins with this header, which is not read again.
 pub fn resync_with_header(window: &mut Window, header: Header) -> WindowFront
     requires { HasHeader window.old header }
-    ensures frames { packets_and_rest window.new ≡ packets_and_rest window.old }
+    ensures packets { packets_and_rest window.new ≡ packets_and_rest window.old }
     ensures front { IsWindowFront result window.new }
 {
     match front_with_header(window, header) {

@@ -3,7 +3,7 @@ ghost use Rattle.std.specs.Prelude.{◌≡◌, ℕ, ◌+◌, ◌<◌, ◌≤◌,
 ghost use Rattle.std.specs.Prelude.{slice_index, slice_index_or, vec_capacity, ◌==◌, IfOk};
 ghost use Rattle.esp3_frames.specs.Check.{check};
 ghost use Rattle.esp3_frames.specs.Packet.{max_packet};
-ghost use Rattle.esp3_resync.specs.private.RunningChecks.{HasRunningCrcs, HasRunningChecks, room};
+ghost use Rattle.esp3_resync.specs.private.RunningCrcs.{HasRunningCrcs, HasHeldBytesAndCrcs, window_capacity};
 ghost use Rattle.esp3_resync.specs.private.WindowFronts.{ReachesSync};
 
 use esp3_frames::{MAX_PACKET, SYNC_BYTE, check8_between, check8_next};
@@ -17,51 +17,51 @@ const SLACK: usize = 8192;
 // The capacity, in bytes.
 const WINDOW_CAPACITY: usize = MAX_PACKET + SLACK;
 
-// Continues a running CRC over some bytes: `checks` has at `at` the CRC of all bytes before them, and gets the CRC of
+// Continues a running CRC over some bytes: `crcs` has at `at` the CRC of all bytes before them, and gets the CRC of
 // all bytes up to each of them.
-fn record_checks(checks: &mut [u8], at: usize, bytes: &[u8])
-    requires { at + length bytes.now < length checks.old }
-    ensures len { length checks.new ≡ length checks.old }
-    ensures noted { (gone w : List ℕ) → at ≡ length w → HasRunningCrcs gone w checks.old →
-        HasRunningCrcs gone (w ++ bytes.now) checks.new }
+fn record_crcs(crcs: &mut [u8], at: usize, bytes: &[u8])
+    requires { at + length bytes.now < length crcs.old }
+    ensures len { length crcs.new ≡ length crcs.old }
+    ensures noted { (gone w : List ℕ) → at ≡ length w → HasRunningCrcs gone w crcs.old →
+        HasRunningCrcs gone (w ++ bytes.now) crcs.new }
 {
-    let mut all = checks[at];
+    let mut all = crcs[at];
     for i in 0..bytes.len() {
         all = check8_next(all, bytes[i]);
-        checks[at + i + 1] = all;
+        crcs[at + i + 1] = all;
     }
 }
 
 // Moves the bytes from `start` on to the front, with their CRCs, if `count` more bytes do not fit. Returns their new
 // start.
-fn make_room(bytes: &mut Vec<u8>, start: usize, checks: &mut Vec<u8>, count: usize) -> usize
-    requires running { HasRunningChecks bytes.old start checks.old }
+fn make_room(bytes: &mut Vec<u8>, start: usize, crcs: &mut Vec<u8>, count: usize) -> usize
+    requires running { HasHeldBytesAndCrcs bytes.old start crcs.old }
     requires few { length bytes.old.items + count ≤ start + max_packet }
-    ensures running { HasRunningChecks bytes.new result checks.new }
+    ensures running { HasHeldBytesAndCrcs bytes.new result crcs.new }
     ensures same { drop result bytes.new.items ≡ drop start bytes.old.items }
-    ensures room { length bytes.new.items + count ≤ room }
+    ensures room { length bytes.new.items + count ≤ window_capacity }
 {
     if bytes.len() + count <= WINDOW_CAPACITY {
         return start;
     }
     bytes.copy_within(start.., 0);
     bytes.truncate(bytes.len() - start);
-    checks.copy_within(start.., 0);
+    crcs.copy_within(start.., 0);
     0
 }
 
-// Extends `checks` to at least `count` entries, within its capacity. Memory is therefore not written to before as many
+// Extends `crcs` to at least `count` entries, within its capacity. Memory is therefore not written to before as many
 // bytes have come.
-fn make_check_slots(checks: &mut Vec<u8>, count: usize)
-    requires { count ≤ vec_capacity checks.old }
-    ensures enough { count ≤ length checks.new.items }
-    ensures same { (i : ℕ) → i < length checks.old.items →
-        slice_index checks.new.items i ≡ slice_index checks.old.items i }
-    ensures more { length checks.old.items ≤ length checks.new.items }
-    ensures capacity { vec_capacity checks.old ≤ vec_capacity checks.new }
+fn make_crc_slots(crcs: &mut Vec<u8>, count: usize)
+    requires { count ≤ vec_capacity crcs.old }
+    ensures enough { count ≤ length crcs.new.items }
+    ensures same { (i : ℕ) → i < length crcs.old.items →
+        slice_index crcs.new.items i ≡ slice_index crcs.old.items i }
+    ensures more { length crcs.old.items ≤ length crcs.new.items }
+    ensures capacity { vec_capacity crcs.old ≤ vec_capacity crcs.new }
 {
-    if checks.len() < count {
-        let _has_room = checks.resize(count, 0);
+    if crcs.len() < count {
+        let _has_room = crcs.resize(count, 0);
     }
 }
 
@@ -76,18 +76,18 @@ pub struct Window {
     // The number of dropped bytes.
     start: usize,
     // For each of these bytes the CRC of all bytes before it, and then the CRC of all.
-    checks: Vec<u8>,
+    crcs: Vec<u8>,
 }
 
 impl Model for Window {
     ghost use Rattle.std.specs.Prelude.{ℕ, List, drop};
-    ghost use Rattle.esp3_resync.specs.private.RunningChecks.{HasRunningChecks};
+    ghost use Rattle.esp3_resync.specs.private.RunningCrcs.{HasHeldBytesAndCrcs};
 
     ghost Value = { List ℕ };
 
     ghost view = { λ w. drop w.start w.bytes.items };
 
-    ghost invariant = { λ w. HasRunningChecks w.bytes w.start w.checks };
+    ghost invariant = { λ w. HasHeldBytesAndCrcs w.bytes w.start w.crcs };
 }
 
 impl Window {
@@ -96,12 +96,12 @@ impl Window {
         ensures { IfOk result (λ w. w ≡ []) }
     {
         let bytes = Vec::with_capacity(alloc, WINDOW_CAPACITY)?;
-        let mut checks = Vec::with_capacity(alloc, WINDOW_CAPACITY + 1)?;
-        checks.push(0)?;
+        let mut crcs = Vec::with_capacity(alloc, WINDOW_CAPACITY + 1)?;
+        crcs.push(0)?;
         Ok(Window {
             bytes,
             start: 0,
-            checks,
+            crcs,
         })
     }
 
@@ -140,7 +140,7 @@ impl Window {
         ensures { result ≡ check (take len (drop from self.now)) }
     {
         let place = self.start + from;
-        check8_between(self.checks[place], self.checks[place + len], len)
+        check8_between(self.crcs[place], self.crcs[place + len], len)
     }
 
     /// Appends some bytes.
@@ -148,9 +148,9 @@ impl Window {
         requires { length self.old + length bytes.now ≤ max_packet }
         ensures { self.new ≡ self.old ++ bytes.now }
     {
-        self.start = make_room(&mut self.bytes, self.start, &mut self.checks, bytes.len());
-        make_check_slots(&mut self.checks, self.bytes.len() + bytes.len() + 1);
-        record_checks(&mut self.checks, self.bytes.len(), bytes);
+        self.start = make_room(&mut self.bytes, self.start, &mut self.crcs, bytes.len());
+        make_crc_slots(&mut self.crcs, self.bytes.len() + bytes.len() + 1);
+        record_crcs(&mut self.crcs, self.bytes.len(), bytes);
         let _has_room = self.bytes.extend_from_slice(bytes);
     }
 

@@ -239,12 +239,12 @@ entered_complete (Some p) found e is named =
         subst (λ (x : Text × List Row). HasRequiredOptions (Some x)) same
         (complete (subst (λ (x : Text × List Row). Serves x.0) (sym same) named) p.1 e)
 
--- if a base was found, the subcommand is one that serves, with everything that it requires
-complete : (words : List Text) (found : Option (Text × List Row)) (base : ℕ) → IsAcceptedByClap words
-    → found ≡ subcommand_of enogate_app words → option_and_then base_in (option_text (codes "base") found) ≡ Some base
+-- if the subcommand is one that serves, it has everything that it requires
+complete : (words : List Text) (found : Option (Text × List Row)) (rows : List Row) → IsAcceptedByClap words
+    → found ≡ subcommand_of enogate_app words → option_and_then rows_if_replay_or_live found ≡ Some rows
     → HasRequiredOptions found
-complete words None base taken is read = cc
-complete words (Some found) base taken is read =
+complete words None rows taken is read = cc
+complete words (Some found) rows taken is read =
     go (bytes_eq found.0 (codes "replay")) (bytes_eq found.0 (codes "live")) refl refl read
   where
     serves : Serves found.0 → HasRequiredOptions (Some found)
@@ -257,20 +257,20 @@ complete words (Some found) base taken is read =
         entered_complete stop found below (sym is) named
 
     go : (r l : Bool) → bytes_eq found.0 (codes "replay") ≡ r → bytes_eq found.0 (codes "live") ≡ l
-        → option_and_then base_in (option_and_then (first_of (codes "base")) (cond (r || l) (Some found.1) None))
-        ≡ Some base → HasRequiredOptions (Some found)
+        → cond (r || l) (Some found.1) None ≡ Some rows → HasRequiredOptions (Some found)
     go true l replay live read = serves (inl ((bytes_eq-Decides found.0 (codes "replay")).0 replay))
     go false true replay live read = serves (inr ((bytes_eq-Decides found.0 (codes "live")).0 live))
     go false false replay live read = cc
 
 -- and the same for the parse of the command `enogate`
-pub complete_so : (words : List Text) (command : Command) (m : ArgMatches) (base : ℕ) → app_of command ≡ enogate_app
+pub complete_so : (words : List Text) (command : Command) (m : ArgMatches) → app_of command ≡ enogate_app
     → (is_simple_and_free (app_of command) ≡ true → fault_of (app_of command) words ≡ [])
-    → HasMatchesOf (app_of command) words m
-    → option_and_then base_in (option_text (codes "base") (subcommand_rows_of m)) ≡ Some base
+    → HasMatchesOf (app_of command) words m → (rows : List Row)
+    → option_and_then rows_if_replay_or_live (subcommand_rows_of m) ≡ Some rows
     → HasRequiredOptions (subcommand_rows_of m)
-complete_so words command m base is none found read =
-    complete words (subcommand_rows_of m) base (taken_so words command is none) (found_so words command m is found) read
+complete_so words command m is none found rows served =
+    complete words (subcommand_rows_of m) rows (taken_so words command is none) (found_so words command m is found)
+    served
 
 -- ---- the flag
 

@@ -4,10 +4,10 @@ use Rattle.std.specs.Prelude.{ℕ, List, if◌then◌else◌, Option, Some, None
 use Rattle.erp1_telegrams.specs.Address.{is_base_id}
 use Rattle.actuator_commands.specs.Words.{id_in}
 
-abbrev pub base_from : Option ℕ → Option ℕ
-base_from (Some id) = if is_base_id id then Some id else None
-base_from None = None
+abbrev pub if_base_id : Option ℕ → Option ℕ
+if_base_id (Some id) = if is_base_id id then Some id else None
+if_base_id None = None
 
 -- the ID that eight hexadecimal digits spell, in upper or lower case, if it is a base ID
 abbrev pub base_in : (text : List ℕ) → Option ℕ
-base_in text = base_from (id_in text)
+base_in text = if_base_id (id_in text)

@@ -41,16 +41,16 @@ abbrev pub replay_app : App
 replay_app = with_rule (with_rule (with_rule (new_app (codes "replay")) base_rule) db_rule) explain_rule
 
 -- `live` with its base, and with the paths too
-abbrev pub live_app_of_base : App
-live_app_of_base = with_rule (new_app (codes "live")) base_rule
+abbrev pub live_app_with_base : App
+live_app_with_base = with_rule (new_app (codes "live")) base_rule
 
-abbrev pub live_app_of_paths : App
-live_app_of_paths =
-    with_rule (with_rule (with_rule live_app_of_base (required_rule (codes "serial"))) (required_rule (codes "desk")))
+abbrev pub live_app_with_paths : App
+live_app_with_paths =
+    with_rule (with_rule (with_rule live_app_with_base (required_rule (codes "serial"))) (required_rule (codes "desk")))
     (required_rule (codes "out"))
 
 abbrev pub live_app : App
-live_app = with_rule (with_rule (with_rule live_app_of_paths turns_rule) db_rule) explain_rule
+live_app = with_rule (with_rule (with_rule live_app_with_paths turns_rule) db_rule) explain_rule
 
 -- a command that prints its version
 abbrev pub with_version : App → App

@@ -17,7 +17,7 @@ ghost use Rattle.gateway_cli.specs.CommandLine.{enogate_app, explain_of_command_
 
 use clap::Error;
 use commands::command;
-use option_values::{base_value, explain_flag, task_value, text_value};
+use option_values::options_of;
 pub use service::{Access, FileToOpen, Service};
 use std::alloc::{AllocError, Global};
 
@@ -100,7 +100,8 @@ pub fn read<'a>(alloc: Global, words: &'a [String]) -> Result<Options<'a>, Comma
     ensures base { IfOk result (λ options. base_of_command_line (map string_bytes words.now) ≡ Some options.base) }
     ensures db { IfOk result (λ options.
         option_map (λ path. path.now) options.db ≡ db_of_command_line (map string_bytes words.now)) }
-    ensures explain { IfOk result (λ options. options.explain_packets ≡ explain_of_command_line (map string_bytes words.now)) }
+    ensures explain { IfOk result (λ options. options.explain_packets
+        ≡ explain_of_command_line (map string_bytes words.now)) }
     ensures task { IfOk result (λ options. AsksFor (map string_bytes words.now) options.task) }
     ensures is_base_id { IfOk result (λ options. Address.is_base_id options.base ≡ true) }
     ensures refused { IfErr result (RefusesCommandLine (map string_bytes words.now)) }
@@ -108,13 +109,8 @@ pub fn read<'a>(alloc: Global, words: &'a [String]) -> Result<Options<'a>, Comma
         IfErr result (λ why. (why ≡ CommandLineFault.BadBase) ⊎ IsOutOfMemory why) }
 {
     let matches = command(alloc)?.try_get_matches_from(words)?;
-    match base_value(&matches) {
-        Some(base) => Ok(Options {
-            base,
-            db: text_value(&matches, "db"),
-            explain_packets: explain_flag(&matches),
-            task: task_value(&matches),
-        }),
+    match options_of(&matches) {
+        Some(options) => Ok(options),
         None => Err(CommandLineFault::BadBase),
     }
 }

@@ -1,71 +1,59 @@
 //! The options of a command line that `clap` has accepted.
-ghost use Rattle.std.specs.Prelude.{◌≡◌, Some, codes, is_some, option_and_then, option_map, true};
-ghost use Rattle.clap.specs.Words.{first_of, found_of, rows_of, subcommand_rows_of};
+ghost use Rattle.std.specs.Prelude.{◌≡◌, IfSome, List, Some, codes, is_some, option_and_then, option_map, true};
+ghost use Rattle.clap.specs.Words.{Row, first_of, found_of, rows_of, subcommand_rows_of};
 ghost use Rattle.gateway_cli.specs.Bases.{base_in};
-ghost use Rattle.gateway_cli.specs.CommandLine.{AreLiveOptions, AreTurns, SubcommandAsksFor, HasValidTurns, HasRequiredOptions};
-ghost use Rattle.gateway_cli.specs.CommandLine.{HasLiveOptions};
-ghost use Rattle.gateway_cli.specs.CommandLine.{rows_if_replay_or_live};
+ghost use Rattle.gateway_cli.specs.CommandLine.{AreLiveOptions, AreTurns, SubcommandAsksFor, HasValidTurns};
+ghost use Rattle.gateway_cli.specs.CommandLine.{HasLiveOptions, HasRequiredOptions, rows_if_replay_or_live};
 ghost use Rattle.gateway_cli.specs.CommandLine.{option_flag, option_text};
 
-use super::{LiveOptions, Task};
+use super::{LiveOptions, Options, Task};
 use actuator_commands::id_of;
 use clap::ArgMatches;
 use erp1_telegrams::is_base_id;
 
-/// The text of the option of this name.
-pub(super) fn text_value<'a>(matches: &ArgMatches<'a>, name: &str) -> Option<&'a str>
-    ensures { option_map (λ text. text.now) result ≡ option_text name.now (subcommand_rows_of matches.now) }
-{
-    matches_if_replay_or_live(matches)?.get_str(name)
-}
-
-/// The options of the subcommand, which is `replay` or `live`.
-fn matches_if_replay_or_live<'m, 'a>(matches: &'m ArgMatches<'a>) -> Option<&'m ArgMatches<'a>>
-    ensures { option_map (λ given. rows_of (found_of given.now)) result
-        ≡ option_and_then rows_if_replay_or_live (subcommand_rows_of matches.now) }
+/// The options of the subcommand, if it is `replay` or `live` and its base ID is valid.
+pub(super) fn options_of<'a>(matches: &ArgMatches<'a>) -> Option<Options<'a>>
+    requires { (rows : List Row) → option_and_then rows_if_replay_or_live (subcommand_rows_of matches.now) ≡ Some rows
+        → HasRequiredOptions (subcommand_rows_of matches.now) }
+    ensures base { option_map (λ options. options.base) result
+        ≡ option_and_then base_in (option_text (codes "base") (subcommand_rows_of matches.now)) }
+    ensures db { IfSome result (λ options. option_map (λ path. path.now) options.db
+        ≡ option_text (codes "db") (subcommand_rows_of matches.now)) }
+    ensures explain { IfSome result (λ options. options.explain_packets
+        ≡ option_flag (codes "explain") (subcommand_rows_of matches.now)) }
+    ensures task { IfSome result (λ options. SubcommandAsksFor (subcommand_rows_of matches.now) options.task) }
 {
     let (name, given) = matches.subcommand()?;
-    if name == "replay" || name == "live" {
-        Some(given)
-    } else {
-        None
+    let task = task_of(name, given)?;
+    Some(Options {
+        base: base_of(given.get_str("base")?)?,
+        db: given.get_str("db"),
+        explain_packets: given.get_flag("explain"),
+        task,
+    })
+}
+
+/// The task of the subcommand of this name, if it is `replay` or `live`.
+fn task_of<'a>(name: &str, given: &ArgMatches<'a>) -> Option<Task<'a>>
+    requires { rows_if_replay_or_live (name.now, rows_of (found_of given.now)) ≡ Some (rows_of (found_of given.now))
+        → HasRequiredOptions (Some (name.now, rows_of (found_of given.now))) }
+    ensures named { option_map (λ _. rows_of (found_of given.now)) result
+        ≡ rows_if_replay_or_live (name.now, rows_of (found_of given.now)) }
+    ensures task { IfSome result (SubcommandAsksFor (Some (name.now, rows_of (found_of given.now)))) }
+{
+    match name {
+        "replay" => Some(Task::Replay),
+        "live" => Some(Task::Live(live_options_of(given))),
+        _ => None,
     }
 }
 
-/// The base ID, if its text spells one.
-pub(super) fn base_value(matches: &ArgMatches<'_>) -> Option<u32>
-    ensures { result ≡ option_and_then base_in (option_text (codes "base") (subcommand_rows_of matches.now)) }
-{
-    base_of(text_value(matches, "base")?)
-}
-
+/// The base ID, if the text spells one.
 fn base_of(text: &str) -> Option<u32>
     ensures { result ≡ base_in text.now }
 {
     let base = id_of(text.as_bytes())?;
     if is_base_id(base) { Some(base) } else { None }
-}
-
-/// Whether the flag `--explain` was given.
-pub(super) fn explain_flag(matches: &ArgMatches<'_>) -> bool
-    requires { HasRequiredOptions (subcommand_rows_of matches.now) }
-    ensures { result ≡ option_flag (codes "explain") (subcommand_rows_of matches.now) }
-{
-    match matches_if_replay_or_live(matches) {
-        Some(given) => given.get_flag("explain"),
-        None => false,
-    }
-}
-
-/// The task of the subcommand.
-pub(super) fn task_value<'a>(matches: &ArgMatches<'a>) -> Task<'a>
-    requires { HasRequiredOptions (subcommand_rows_of matches.now) }
-    ensures { SubcommandAsksFor (subcommand_rows_of matches.now) result }
-{
-    match matches.subcommand_matches("live") {
-        Some(given) => Task::Live(live_options_of(given)),
-        None => Task::Replay,
-    }
 }
 
 fn live_options_of<'a>(given: &ArgMatches<'a>) -> LiveOptions<'a>

@@ -5,7 +5,7 @@ use Rattle.learned_devices.specs.declared.Device.{Device}
 use Rattle.teach_in.specs.declared.outcome.Outcome.{Outcome}
 use Rattle.teach_in.specs.declared.outcome.Outcome.TheVariants.{Accepted, Deleted}
 use Rattle.json_lines.specs.Lines.{Teach, TeachLine, text}
-use Rattle.json_lines.proofs.TeachLines.{one_teach_line}
+use Rattle.json_lines.proofs.TeachTextsInjective.{one_teach_line}
 use Rattle.gateway_core.specs.Step.{State, Input, Answer, update_of, effect, device_teach_line}
 use Rattle.gateway_core.specs.Run.{InputResult, Run, Applied, answer_for_result, state_after_result}
 use Rattle.gateway_core.specs.Sessions.{IsSession, Session, initial_state}
@@ -54,14 +54,18 @@ BeginsInRange session = AreInRange session.found × AllByRecursion PacketBodyIsB
 
 -- so the state is in range when an input is answered, and the input is of bytes
 at-input : (session : Session) (line : TeachLine) (answered : AnswersWithTeachLine session line) (at : State)
-    → Run (initial_state session.base session.found) answered.earlier_inputs answered.earlier_results answered.earlier_answers at
+    → Run
+    (initial_state session.base session.found) answered.earlier_inputs answered.earlier_results
+    answered.earlier_answers at
     → BeginsInRange session
     → IsStateInRange at × PacketBodyIsBytes answered.input
 at-input session line answered at run (found, bytes) =
     let parts =
     parted-bytes answered.earlier_inputs answered.later_inputs answered.input
     (subst (AllByRecursion PacketBodyIsBytes) answered.inputs_are bytes) in (
-      stays_in_range (initial_state session.base session.found) at answered.earlier_inputs answered.earlier_results answered.earlier_answers run
+      stays_in_range
+          (initial_state session.base session.found) at answered.earlier_inputs answered.earlier_results
+          answered.earlier_answers run
           parts.0
           (found, tt),
       parts.1,
@@ -70,12 +74,16 @@ at-input session line answered at run (found, bytes) =
 kept : (session : Session) (line : TeachLine) → IsSession session → (answered : AnswersWithTeachLine session line)
     → (outcome : Outcome)
     → line.outcome ≡ outcome → (known : Device) → text (Teach line) ≡ text (Teach (device_teach_line known outcome))
-    → (at : State) → Run (initial_state session.base session.found) answered.earlier_inputs answered.earlier_results answered.earlier_answers at
-    → answered.applied_or_failed ≡ Applied → update_of at answered.input ≡ Some (accepted_or_deleted_update outcome known)
+    → (at : State)
+    → Run
+    (initial_state session.base session.found) answered.earlier_inputs answered.earlier_results
+    answered.earlier_answers at
+    → answered.applied_or_failed ≡ Applied → update_of at answered.input
+    ≡ Some (accepted_or_deleted_update outcome known)
     → (BeginsInRange session → HasDeviceNumbersInRange known) → IsDurable session line answered
 kept session line is answered outcome word known same at run taken asks in_range = record {
   state_before = at;
-  known = known;
+  device = known;
   run = run;
   is_applied = taken;
   asks_for_update = asks ∙ ap (λ o. Some (accepted_or_deleted_update o known)) (sym word);
@@ -84,7 +92,7 @@ kept session line is answered outcome word known same at run taken asks in_range
   is_line_of_device = λ found bytes numbers.
       one_teach_line line (device_teach_line known line.outcome) numbers (in_range (found, bytes))
       (subst (λ o. text (Teach line) ≡ text (Teach (device_teach_line known o))) (sym word) same);
-  later_sessions_keep = λ spared crash sessions last all are.
+  kept_unless_overridden = λ spared crash sessions last all are.
       updates_survive_restarts session (accepted_or_deleted_update line.outcome known) sessions last is (record {
         earlier_inputs = answered.earlier_inputs;
         input = answered.input;
@@ -104,13 +112,17 @@ kept session line is answered outcome word known same at run taken asks in_range
 
 pub accepted_or_deleted_is_durable : AcceptedOrDeletedIsDurable
 accepted_or_deleted_is_durable session line is answered word =
-    let whole : Run (initial_state session.base session.found) (answered.earlier_inputs ++ answered.input ∷ answered.later_inputs)
-    (answered.earlier_results ++ answered.applied_or_failed ∷ answered.later_results) (answered.earlier_answers ++ answered.answer ∷ answered.later_answers)
+    let whole : Run (initial_state session.base session.found)
+    (answered.earlier_inputs ++ answered.input ∷ answered.later_inputs)
+    (answered.earlier_results ++ answered.applied_or_failed ∷ answered.later_results)
+    (answered.earlier_answers ++ answered.answer ∷ answered.later_answers)
     session.last
     = rw (sym answered.inputs_are, sym answered.results_are, sym answered.answers_are) is.run in
-    let part = parted (initial_state session.base session.found) session.last answered.earlier_inputs answered.later_inputs
+    let part = parted
+    (initial_state session.base session.found) session.last answered.earlier_inputs answered.later_inputs
     answered.input
-    answered.earlier_results answered.later_results answered.applied_or_failed answered.earlier_answers answered.later_answers answered.answer
+    answered.earlier_results answered.later_results answered.applied_or_failed answered.earlier_answers
+    answered.later_answers answered.answer
     answered.as_many_results
     answered.as_many_answers whole in
     let reports = teach_lines_are_true part.at answered.input answered.applied_or_failed line

@@ -13,7 +13,8 @@ use Rattle.erp1_telegrams.specs.Telegram.{Telegram}
 use Rattle.profile_rows.specs.Reading.{Entry}
 use Rattle.profile_rows.specs.declared.unreadable.Unreadable.{Unreadable}
 use Rattle.learned_devices.specs.declared.Device.{Device}
-use Rattle.learned_devices.specs.Devices.{DeviceData, Devices, device, device_of, is_full, DeviceUpdate, learn_update}
+use Rattle.learned_devices.specs.Devices.{DeviceData, Devices, device, device_of, is_full_for, DeviceUpdate}
+use Rattle.learned_devices.specs.Devices.{learn_update}
 use Rattle.learned_devices.specs.Devices.{forget_update}
 use Rattle.learned_devices.specs.Devices.{relabel_update}
 use Rattle.teach_in.specs.declared.mode.Mode.{Mode}
@@ -43,8 +44,10 @@ use Rattle.actuator_commands.specs.declared.orders.OrderFault.{OrderFault}
 use Rattle.actuator_commands.specs.declared.orders.OrderFault.TheVariants.{UnknownDevice}
 use Rattle.actuator_commands.specs.Orders.{order_of}
 use Rattle.gateway_core.specs.Step.{order_effect, line_effect}
-use Rattle.gateway_core.specs.Step.{reading_effect, case_effect, data_case, effect, update_of, need_of_memory_or_store, with_update}
-use Rattle.gateway_core.specs.Step.{state_after_applied_input, with_mode, plan_effect, teach_report_effect, radio_bytes_of}
+use Rattle.gateway_core.specs.Step.{reading_effect, case_effect, data_case, effect, update_of, need_of_memory_or_store}
+use Rattle.gateway_core.specs.Step.{with_update}
+use Rattle.gateway_core.specs.Step.{state_after_applied_input, with_mode, plan_effect, teach_report_effect}
+use Rattle.gateway_core.specs.Step.{radio_bytes_of}
 use Rattle.gateway_core.specs.Step.{reply_telegram_of}
 use Rattle.gateway_core.specs.Step.{query_teach_line}
 use Rattle.gateway_core.specs.Step.{if_supported_else_error, mode_effect, error_effect, accept_effect}
@@ -101,7 +104,7 @@ permits-memory false = tt
 pub if_full_of_others_else-need : (devices : Devices) (known : Device) (full done : Effect) → full.need ≡ NeedsStore
     → done.need ≡ NeedsStore → (if_full_of_others_else devices known full done).need ≡ NeedsStore
 if_full_of_others_else-need devices known full done first second =
-    either (λ (e : Effect). e.need ≡ NeedsStore) (is_full devices known.id) full done first second
+    either (λ (e : Effect). e.need ≡ NeedsStore) (is_full_for devices known.id) full done first second
 
 pub plan-need : (state : State) (t : Telegram)
     → (plan_effect state t true (plan_of t state.mode false)).need ≡ NeedsStore
@@ -149,7 +152,12 @@ pub teach_line-answer : (state : State) (kind : Teach) (line : TeachLine) (answe
 teach_line-answer state kind line answer outcome desk is says e =
     e
     ∙ ap (λ o. let a : Answer =
-    record { radio = radio_bytes_of (reply_telegram_of state.base state.mode kind o); explanation = []; desk = desk } in a) is
+    record {
+      radio = radio_bytes_of
+          (reply_telegram_of state.base state.mode kind o);
+      explanation = [];
+      desk = desk;
+    } in a) is
     ∙ ap (λ d. let a : Answer =
     record {
       radio =
@@ -232,19 +240,19 @@ module _ {S : Type 0} (stored : S → DeviceStoreState) where
   pub tries : (base : ℕ) (mode : Mode) (counts : Counts) (old new : S) (effect : State → Effect)
       (r : Result HandlerEffect Failure)
       → ((stored new).honest → (stored old).honest)
-      → ((stored new).honest → (stored new).sound)
+      → ((stored new).honest → (stored new).reopenable)
       → ((stored new).honest → (devices : Devices) → (stored old).holds devices
       → AppliesOrFails (stored old) (stored new) devices
       (effect (record { base = base; mode = mode; counts = counts; devices = devices })) r)
       → Attempts stored (record { base = base; mode = mode; counts = counts; registry = old }) effect r
       (record { base = base; mode = mode; counts = counts; registry = new })
-  tries base mode counts old new effect r clean recoverable applies_or_fails =
+  tries base mode counts old new effect r clean reopenable applies_or_fails =
       record {
         base = refl;
         mode = refl;
         counts = refl;
         clean = clean;
-        recoverable = λ honest before. recoverable honest;
+        reopenable = λ honest before. reopenable honest;
         applies_or_fails = applies_or_fails;
       }
 
@@ -258,7 +266,7 @@ module _ {S : Type 0} (stored : S → DeviceStoreState) where
     mode = refl;
     counts = refl;
     clean = λ honest. honest;
-    recoverable = λ honest before. before;
+    reopenable = λ honest before. before;
     applies_or_fails = λ honest devices has. applies_or_fails devices (keeps-same (stored v.registry) devices has);
   }
 
@@ -271,7 +279,7 @@ module _ {S : Type 0} (stored : S → DeviceStoreState) where
     mode = tries.mode;
     counts = tries.counts;
     clean = tries.clean;
-    recoverable = tries.recoverable;
+    reopenable = tries.reopenable;
     applies_or_fails = λ honest devices has.
         subst (λ e. AppliesOrFails (stored old.registry) (stored new.registry) devices e r) (sym (same devices))
         (tries.applies_or_fails honest devices has);
@@ -282,12 +290,12 @@ module _ {S : Type 0} (stored : S → DeviceStoreState) where
       (r : Result HandlerEffect Failure)
       → mid ≡ record v { registry = registry }
       → ((stored registry).honest → (stored v.registry).honest)
-      → ((stored registry).honest → (stored registry).sound)
+      → ((stored registry).honest → (stored registry).reopenable)
       → ((stored registry).honest → (devices : Devices) → (stored v.registry).holds devices
       → (effect (state_of v devices) ≡ other (state_of v devices))
       × Keeps (stored v.registry) (stored registry) devices)
       → Attempts stored mid other r new → Attempts stored v effect r new
-  tries-behind v mid new registry effect other r is clean recoverable found tried =
+  tries-behind v mid new registry effect other r is clean reopenable found tried =
       let over : Attempts stored (record v { registry = registry }) other r new =
       subst (λ (m : HandlerValue S). Attempts stored m other r new) is tried in
       record {
@@ -295,7 +303,7 @@ module _ {S : Type 0} (stored : S → DeviceStoreState) where
         mode = over.mode;
         counts = over.counts;
         clean = λ honest. clean (over.clean honest);
-        recoverable = λ honest before. over.recoverable honest (recoverable (over.clean honest));
+        reopenable = λ honest before. over.reopenable honest (reopenable (over.clean honest));
         applies_or_fails = λ honest devices has.
             let f = found (over.clean honest) devices has in
             subst (λ e. AppliesOrFails (stored v.registry) (stored new.registry) devices e r) (sym f.0)
@@ -317,12 +325,12 @@ module _ {S : Type 0} (stored : S → DeviceStoreState) where
   -- over another registry
   pub alone : (base : ℕ) (mode : Mode) (counts : Counts) (old new : S) (IsSo : Devices → Type 0)
       → ((stored new).honest → (stored old).honest)
-      → ((stored new).honest → (stored new).sound)
+      → ((stored new).honest → (stored new).reopenable)
       → ((stored new).honest → (devices : Devices) → (stored old).holds devices → IsSo devices)
       → ChangesOnlyRegistry stored (record { base = base; mode = mode; counts = counts; registry = old }) IsSo
       (record { base = base; mode = mode; counts = counts; registry = new })
-  alone base mode counts old new IsSo clean recoverable is_so =
-      record { same = refl; clean = clean; recoverable = λ honest before. recoverable honest; result_for_devices = is_so }
+  alone base mode counts old new IsSo clean reopenable is_so =
+      record { same = refl; clean = clean; reopenable = λ honest before. reopenable honest; result_for_devices = is_so }
 
   -- with no call of the registry
   pub alone-unasked : (v : HandlerValue S) (IsSo : Devices → Type 0)
@@ -331,7 +339,7 @@ module _ {S : Type 0} (stored : S → DeviceStoreState) where
   alone-unasked v IsSo is_so = record {
     same = refl;
     clean = λ honest. honest;
-    recoverable = λ honest before. before;
+    reopenable = λ honest before. before;
     result_for_devices = λ honest devices has. is_so devices (keeps-same (stored v.registry) devices has);
   }
 
@@ -347,7 +355,7 @@ module _ {S : Type 0} (stored : S → DeviceStoreState) where
         mode = ap (λ (v : HandlerValue S). v.mode) alone.same;
         counts = ap (λ (v : HandlerValue S). v.counts) alone.same;
         clean = alone.clean;
-        recoverable = alone.recoverable;
+        reopenable = alone.reopenable;
         applies_or_fails = λ honest devices has. applies_or_fails devices (alone.result_for_devices honest devices has);
       }
 
@@ -414,12 +422,12 @@ module _ {S : Type 0} (stored : S → DeviceStoreState) where
   -- a device is not learned: if the registry is full, nothing is written
   if_full_of_others_else-pending : (old new : S) (devices : Devices) (known : Device) (full done : Effect)
       → Adds known full done
-      → (cause : Cause) → MatchBool (is_full devices known.id) (Keeps (stored old) (stored new) devices)
+      → (cause : Cause) → MatchBool (is_full_for devices known.id) (Keeps (stored old) (stored new) devices)
       (LeavesPending (stored old) (stored new) (learn_update known) devices)
       → IsPending (stored old) (stored new) devices (if_full_of_others_else devices known full done).need cause
       (if_full_of_others_else devices known full done).update
   if_full_of_others_else-pending old new devices known full done adds cause state_after_failure =
-      one (is_full devices known.id) state_after_failure
+      one (is_full_for devices known.id) state_after_failure
     where
       one : (b : Bool)
           → MatchBool b (Keeps (stored old) (stored new) devices)
@@ -557,7 +565,8 @@ module _ {S : Type 0} (stored : S → DeviceStoreState) where
       (update : Option DeviceUpdate)
       → update_of start input ≡ update → new.base ≡ start.base → new.mode ≡ start.mode
       → new.counts ≡ (state_after_failure start).counts
-      → IsPending (stored old.registry) (stored new.registry) start.devices (need_of_memory_or_store start input) cause update
+      → IsPending (stored old.registry) (stored new.registry) start.devices
+      (need_of_memory_or_store start input) cause update
       → HandlesFrom stored old start (input ∷ []) (failure_answer input cause ∷ []) new
   at_write-went old new start input cause None asks base mode counts (need, keeps) = record {
     results = Failed cause ∷ [];
@@ -633,7 +642,7 @@ module _ {S : Type 0} (stored : S → DeviceStoreState) where
       record {
         base = settles.base ∙ over.base;
         clean = over.clean;
-        recoverable = over.recoverable;
+        reopenable = over.reopenable;
         ran_from_any = λ honest start at.
             let come = over.applies_or_fails honest start.devices at.2 in
             let Here = λ (s : State).

@@ -8,7 +8,7 @@ use Rattle.esp3_frames.specs.PacketsAndRest.{packets_in, rest_of}
 use Rattle.esp3_frames.proofs.ForCallers.{framing_in_parts}
 use Rattle.gateway_core.specs.Step.{Input, Received, Ordered}
 use Rattle.gateway_core.specs.Run.{Run}
-use Rattle.gateway_core.specs.Events.{Event, Chunk, Line, new_packets, inputs_of, bytes_in, desk_lines_in}
+use Rattle.gateway_core.specs.Events.{InputEvent, Chunk, Line, new_packets, inputs_of, bytes_in, desk_lines_in}
 use Rattle.gateway_core.specs.Events.{prepend_to_first}
 use Rattle.gateway_core.specs.Events.{bytes_between, InputsDoNotDependOnChunks, AnswersDoNotDependOnChunks}
 use Rattle.gateway_core.proofs.RunLemmas.{same_failures_give_same_answers}
@@ -34,7 +34,7 @@ new_packets-append s v w =
     ∙ ap (λ (ps : List Packet). new_packets s v ++ ps) (sym (new_packets-rest (s ++ v) w))
 
 -- the events of two lists, one after the other
-pub inputs_of-append : (s : List ℕ) (events more : List Event)
+pub inputs_of-append : (s : List ℕ) (events more : List InputEvent)
     → inputs_of s (events ++ more) ≡ inputs_of s events ++ inputs_of (s ++ bytes_in events) more
 inputs_of-append s [] more = ap (λ (y : List ℕ). inputs_of y more) (sym (append-nil s))
 inputs_of-append s (Chunk w ∷ events) more =
@@ -72,12 +72,12 @@ front_cons : (w : List ℕ) (xs : List (List ℕ)) → (y : List ℕ) × (ys : L
 front_cons w [] = (w, [], refl)
 front_cons w (x ∷ xs) = (w ++ x, xs, refl)
 
-between_cons : (events : List Event) → (y : List ℕ) × (ys : List (List ℕ)) × (bytes_between events ≡ y ∷ ys)
+between_cons : (events : List InputEvent) → (y : List ℕ) × (ys : List (List ℕ)) × (bytes_between events ≡ y ∷ ys)
 between_cons [] = ([], [], refl)
 between_cons (Chunk w ∷ events) = front_cons w (bytes_between events)
 between_cons (Line l ∷ events) = ([], bytes_between events, refl)
 
-inputs_of-spread : (s : List ℕ) (events : List Event)
+inputs_of-spread : (s : List ℕ) (events : List InputEvent)
     → inputs_of s events ≡ spread s (bytes_between events) (desk_lines_in events)
 unfolding spread
 inputs_of-spread s [] = sym (ap (λ (ps : List Packet). map Received ps) (new_packets-nil s))

@@ -12,10 +12,11 @@ use Rattle.teach_in.specs.declared.handling_reason.HandlingReason.{HandlingReaso
 use Rattle.teach_in.specs.declared.handling_reason.HandlingReason.TheVariants as why
 use Rattle.json_lines.specs.Lines.{Reading, Teach, ResponseLine, TeachLine, text, texts}
 use Rattle.gateway_core.specs.declared.disposition.Disposition.{Disposition}
-use Rattle.gateway_core.specs.Dispositions.{without_device, counter_for, explanation, packet_line_of}
+use Rattle.gateway_core.specs.Dispositions.{without_device, counter_for, packet_text_if_any, packet_line_of}
 use Rattle.gateway_core.specs.Counting.{AppliedPacketsAreCounted, IsExplained, ExplanationsAreCounted, MatchesDeskLines}
 use Rattle.gateway_core.specs.Counting.{disposition_for_result}
-use Rattle.gateway_core.specs.Step.{State, Input, Received, Ordered, counter_in, counter_for_applied_input, packet_effect}
+use Rattle.gateway_core.specs.Step.{State, Input, Received, Ordered, counter_in, counter_for_applied_input}
+use Rattle.gateway_core.specs.Step.{packet_effect}
 use Rattle.gateway_core.specs.Step.{device_teach_line}
 use Rattle.gateway_core.specs.Step.{Answer, Cause, Effect, query_teach_line}
 use Rattle.gateway_core.specs.Run.{InputResult, Applied, Failed, FailedAtCommit, answer_for_result, state_after_result}
@@ -91,9 +92,9 @@ lines-uncounted state line =
 -- the counter of teach-in is incremented exactly when the answer is a teach line
 teach-counted : (state : State) (line : TeachLine) (packet : Packet)
     → texts (packet_effect state packet).desk ≡ text (Teach line)
-    → counter_for_applied_input state (Received packet) ≡ Some count.Teach
+    → counter_for_applied_input state (Received packet) ≡ Some count.TeachLine
 teach-counted state line packet =
-    of_packet (λ e. texts e.desk ≡ text (Teach line) → counter_in e.disposition ≡ Some count.Teach) state packet
+    of_packet (λ e. texts e.desk ≡ text (Teach line) → counter_in e.disposition ≡ Some count.TeachLine) state packet
     (record {
       telegrams = λ t is. record {
         unsays = λ asked disposition is e. absurd (no_line line e);
@@ -106,10 +107,11 @@ teach-counted state line packet =
       hears = λ response e. absurd (other-line (ResponseLine response) line (λ never. never) e);
     })
 
-counted-answered : (state : State) (packet : Packet) → counter_for_applied_input state (Received packet) ≡ Some count.Teach
+counted-answered : (state : State) (packet : Packet)
+    → counter_for_applied_input state (Received packet) ≡ Some count.TeachLine
     → (line : TeachLine) × (texts (packet_effect state packet).desk ≡ text (Teach line))
 counted-answered state packet =
-    of_packet (λ e. counter_in e.disposition ≡ Some count.Teach → (line : TeachLine)
+    of_packet (λ e. counter_in e.disposition ≡ Some count.TeachLine → (line : TeachLine)
     × (texts e.desk ≡ text (Teach line)))
     state packet
     (record {
@@ -194,9 +196,13 @@ explained state packet Applied =
     record {
       disposition = disposition;
       is = is;
-      explanation = ap (λ o. explanation (option_map (packet_line_of packet) o)) is;
+      explanation = ap (λ o. packet_text_if_any (option_map (packet_line_of packet) o)) is;
       says = λ taken. says;
-      is_applied = (λ taken word. subst (λ w. MatchesDeskLines w (packet_effect state packet).desk) word says, λ word. refl);
+      is_applied = (
+        λ taken word. subst (λ w. MatchesDeskLines w
+            (packet_effect state packet).desk) word says,
+        λ word. refl,
+      );
       counts = ap (λ o. increment_if_any state.counts (counter_in o)) is;
     }
 explained state packet (Failed cause) =

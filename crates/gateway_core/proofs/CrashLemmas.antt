@@ -15,7 +15,8 @@ abbrev over : CrashStates → CrashStates → CrashStates
 over first second =
     record {
       has_commit = cond second.has_commit true first.has_commit;
-      possible_devices = cond second.has_commit second.possible_devices (second.possible_devices ++ first.possible_devices);
+      possible_devices = cond second.has_commit second.possible_devices
+          (second.possible_devices ++ first.possible_devices);
     }
 
 over-reported : (first second : CrashStates) (devices : Devices) (o : Option DeviceUpdate)

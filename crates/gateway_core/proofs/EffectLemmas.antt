@@ -11,7 +11,7 @@ use Rattle.profile_rows.specs.Reading.{Entry}
 use Rattle.profile_rows.specs.declared.unreadable.Unreadable.{Unreadable}
 use Rattle.profile_rows.specs.declared.unreadable.Unreadable.TheVariants as unreadable
 use Rattle.learned_devices.specs.declared.Device.{Device}
-use Rattle.learned_devices.specs.Devices.{device_of, devices_by_ascending_id, is_full}
+use Rattle.learned_devices.specs.Devices.{device_of, devices_by_ascending_id, is_full_for}
 use Rattle.teach_in.specs.declared.four_byte.FourByteQuery.{FourByteQuery}
 use Rattle.teach_in.specs.declared.ute.UteQuery.{UteQuery}
 use Rattle.teach_in.specs.declared.mode.Mode.{Mode}
@@ -145,7 +145,7 @@ module _ (P : Effect → Type 0) (state : State) (t : Telegram) (each : OfTelegr
       (record {
         silent = λ planned. each.unsays asked _ (silent-ignores asked state.mode);
         adds = λ hears eep maker planned.
-            either P (is_full state.devices t.sender) _ _ (each.refuses hears NeedsStore _ tt)
+            either P (is_full_for state.devices t.sender) _ _ (each.refuses hears NeedsStore _ tt)
             (each.admits hears eep maker known planned);
         forgets = λ reported asks planned. each.removes reported asks;
         refuses = λ hears outcome is planned.
@@ -251,7 +251,7 @@ module _ (P : Effect → Type 0) (state : State) where
   of-order (Ok (Add id eep)) each =
       let known : Device = record { id = id; eep = eep; maker = None; label = [] } in
       of-supported each eep _
-      (either P (is_full state.devices id) _ _ (each.finds error.Full) (each.adds known (refl, refl)))
+      (either P (is_full_for state.devices id) _ _ (each.finds error.Full) (each.adds known (refl, refl)))
   of-order (Ok (Remove id)) each =
       of-known each (device_of state.devices id) ordered_forget_effect
       (λ known has. each.drops known (device_of-known state.devices id known has))

@@ -14,7 +14,7 @@ use Rattle.profile_rows.specs.Reading.{Entry}
 use Rattle.profile_rows.specs.declared.unreadable.Unreadable.{Unreadable}
 use Rattle.profile_rows.specs.declared.unreadable.Unreadable.TheVariants as unreadable
 use Rattle.learned_devices.specs.declared.Device.{Device}
-use Rattle.learned_devices.specs.Devices.{device_of, is_full}
+use Rattle.learned_devices.specs.Devices.{device_of, is_full_for}
 use Rattle.teach_in.specs.declared.ute.UteQuery.{UteQuery}
 use Rattle.teach_in.specs.declared.mode.Mode.{Mode}
 use Rattle.teach_in.specs.declared.mode.Mode.TheVariants as mode
@@ -28,15 +28,16 @@ use Rattle.teach_in.specs.declared.telegrams.Teach.TheVariants as teach
 use Rattle.teach_in.specs.FourByte as four_byte
 use Rattle.teach_in.specs.Profiles.{supported}
 use Rattle.teach_in.specs.Telegrams.{teach_in_of}
-use Rattle.teach_in.specs.Plans.{add, add_supported, plan_in_mode, can_be_learned_by, ute_plan, plan_of, plan_row_of}
+use Rattle.teach_in.specs.Plans.{add, add_if_supported, plan_in_mode, can_be_learned_by, ute_plan, plan_of, plan_row_of}
 use Rattle.teach_in.specs.Ute as ute
-use Rattle.teach_in.specs.Ute.{request_in, deletion, unused_request}
+use Rattle.teach_in.specs.Ute.{request_in, deletion_request, unused_request}
 use Rattle.teach_in.proofs.ForCallers.{IsOpen, LearnsByTold, either, hears-open, of_plan}
 use Rattle.teach_in.specs.declared.handling_reason.HandlingReason.{HandlingReason}
 use Rattle.teach_in.specs.declared.handling_reason.HandlingReason.TheVariants as why
 use Rattle.json_lines.specs.ShownTelegram.{shown_destination}
 use Rattle.gateway_core.specs.declared.disposition.Disposition.{Disposition}
-use Rattle.gateway_core.specs.Dispositions.{without_device, eep_in_query, explanation, packet_line_of, for_device}
+use Rattle.gateway_core.specs.Dispositions.{without_device, eep_in_query, packet_text_if_any, packet_line_of}
+use Rattle.gateway_core.specs.Dispositions.{for_device}
 use Rattle.gateway_core.specs.Dispositions.{shown_packet}
 use Rattle.gateway_core.specs.Dispositions.{why_no_telegram_or_response, why_nothing_done}
 use Rattle.gateway_core.specs.Profiles.{read_by}
@@ -130,7 +131,7 @@ RefusalMeans kind outcome = ⊥
 
 module _ (t : Telegram) where
   query-refuses : (kind : Teach) (eep : Eep) (maker : ℕ) (outcome : Outcome) → eep_in_query kind ≡ Some eep
-      → add_supported t eep maker ≡ Refuse outcome → RefusalMeans kind outcome
+      → add_if_supported t eep maker ≡ Refuse outcome → RefusalMeans kind outcome
   query-refuses kind eep maker outcome is = by (supported eep) refl
     where
       by : (b : Bool) → supported eep ≡ b
@@ -140,11 +141,11 @@ module _ (t : Telegram) where
 
   asked-refuses : (query : UteQuery) (outcome : Outcome) → ute_plan t query ≡ Refuse outcome
       → RefusalMeans (teach.Ute query) outcome
-  asked-refuses query outcome = by (request_in query == deletion) (request_in query == unused_request) refl
+  asked-refuses query outcome = by (request_in query == deletion_request) (request_in query == unused_request) refl
     where
       by : (b c : Bool) → (request_in query == unused_request) ≡ c
           → (if b then Forget t.sender else if c then Refuse General
-          else add_supported t query.eep query.maker) ≡ Refuse outcome
+          else add_if_supported t query.eep query.maker) ≡ Refuse outcome
           → RefusalMeans (teach.Ute query) outcome
       by true c is e = absurd cc
       by false true is e =
@@ -190,7 +191,7 @@ module _ (t : Telegram) where
   refuse-means known teach.Answer (mode.LearnAs eep) outcome e = absurd cc
 
   -- in a window for all senders there is a plan for each teach-in telegram
-  query-speaks : (eep : Eep) (maker : ℕ) → add_supported t eep maker ≢ Silent
+  query-speaks : (eep : Eep) (maker : ℕ) → add_if_supported t eep maker ≢ Silent
   query-speaks eep maker = either (λ p. p ≢ Silent) (supported eep) _ _ (λ e. absurd cc) (λ e. absurd cc)
 
   speaks : (known : Bool) (kind : Teach) → IsTeachInRequest kind → (plan_row_of t known kind).by_own_profile ≢ Silent
@@ -198,7 +199,7 @@ module _ (t : Telegram) where
   speaks known teach.Bare is e = absurd cc
   speaks known (teach.FourByte query) is e = query-speaks _ _ e
   speaks known (teach.Ute query) is e =
-      either (λ p. p ≢ Silent) (request_in query == deletion) _ _ (λ f. absurd cc)
+      either (λ p. p ≢ Silent) (request_in query == deletion_request) _ _ (λ f. absurd cc)
       (either (λ p. p ≢ Silent) (request_in query == unused_request) _ _ (λ f. absurd cc) (query-speaks _ _)) e
   speaks known teach.Plain is e = absurd is
   speaks known teach.Answer is e = absurd is
@@ -278,7 +279,7 @@ module _ (state : State) (packet : Packet) (t : Telegram) (carried : telegram_of
           adds = λ hears eep maker is.
               let device : Device = record { id = t.sender; eep = eep; maker = maker; label = [] } in
               let is_open = hears-open state.mode (teach_in_of t) hears in
-              by-room device (is_full state.devices t.sender) refl refl is_open (planned ∙ is);
+              by-room device (is_full_for state.devices t.sender) refl refl is_open (planned ∙ is);
           forgets = λ learning (query, asks, wants) is update. (
             without_device (why.TeachIn Deleted),
             refl,
@@ -295,7 +296,7 @@ module _ (state : State) (packet : Packet) (t : Telegram) (carried : telegram_of
         planned : IsPlanned state t (plan_of t state.mode known)
         planned = ap (plan_of t state.mode) same
 
-        by-room : (device : Device) (full : Bool) → is_full state.devices t.sender ≡ full → device.id ≡ t.sender
+        by-room : (device : Device) (full : Bool) → is_full_for state.devices t.sender ≡ full → device.id ≡ t.sender
             → IsOpen state.mode → IsPlanned state t (Add device)
             → Truth state packet (if full then teach_report_effect state (teach_in_of t) (device_teach_line device Full)
             else accept_effect state (teach_in_of t) device)
@@ -358,7 +359,8 @@ module _ (state : State) (packet : Packet) (t : Telegram) (carried : telegram_of
         of-planned true false (ap is_some is) (λ silent update.
         (without_device why.UnknownSender, refl, (t, heard, plain, is, update, (refl, refl))))
     of-data (Some known) plain is =
-        of-reading known (record { not_filtered_out = heard; is_data = plain; is_known = is }) (read_by known.eep t) refl
+        of-reading known (record { not_filtered_out = heard; is_plain = plain; is_known = is })
+        (read_by known.eep t) refl
 
     of-kind : (kind : Teach) (known : Option Device) → teach_in_of t ≡ kind
         → device_of state.devices t.sender ≡ known → Truth state packet (case_effect state t (case_by_role kind known))
@@ -425,7 +427,7 @@ explanations_are_true state packet =
     record {
       disposition = disposition;
       line = packet_line_of packet disposition;
-      explanation = ap (λ o. explanation (option_map (packet_line_of packet) o)) is;
+      explanation = ap (λ o. packet_text_if_any (option_map (packet_line_of packet) o)) is;
       same_why = refl;
       shows = shows packet disposition (telegram_of packet) refl;
       why_is_true = means;

@@ -1,6 +1,6 @@
 -- The facts about the definitions that proofs cite, in the crates above too: the theorems, and steps of their proofs.
-pub use Rattle.gateway_core.proofs.BeginningLemmas.{crash_after_calls_ends_session, closed_session_leaves_last}
-pub use Rattle.gateway_core.proofs.BeginningLemmas.{crash_in_input_ends_session}
+pub use Rattle.gateway_core.proofs.SessionCallLemmas.{crash_after_calls_ends_session, closed_session_leaves_last}
+pub use Rattle.gateway_core.proofs.SessionCallLemmas.{crash_in_input_ends_session}
 pub use Rattle.gateway_core.proofs.ByteLemmas.{items_are_of_bytes}
 pub use Rattle.gateway_core.proofs.CallLemmas.{calls_are_a_run}
 pub use Rattle.gateway_core.proofs.CountLemmas.{count_on, failures_are_counted, applied_packets_are_counted}

@@ -1,4 +1,4 @@
-pub mod BeginningLemmas
+pub mod SessionCallLemmas
 pub mod ByteLemmas
 pub mod CallLemmas
 pub mod CountLemmas

@@ -78,7 +78,7 @@ module _ {S : Type 0} (stored : S → DeviceStoreState) where
   handles_alike old new short long answers a b handled = record {
     base = handled.base;
     clean = handled.clean;
-    recoverable = handled.recoverable;
+    reopenable = handled.reopenable;
     ran_from_any = λ clean start at.
         went_alike old new start short long answers
         (effect-long start short a ∙ sym (effect-long start long b)) (handled.ran_from_any clean start at);

@@ -68,48 +68,48 @@ module _ (Before : Devices → Type 0) where
       (state_after_result state input result) inputs results devices
       (omega (arith, same)) safe) [
         | inr p ↦ inr (record {
-          before = input ∷ p.before;
-          after = p.after;
-          done = result ∷ p.done;
-          more = p.more;
+          earlier_inputs = input ∷ p.earlier_inputs;
+          later_inputs = p.later_inputs;
+          earlier_results = result ∷ p.earlier_results;
+          later_results = p.later_results;
           inputs_are = ap (λ xs. input ∷ xs) p.inputs_are;
           results_are = ap (λ xs. result ∷ xs) p.results_are;
-          as_many = omega (arith, p.as_many);
-          at = p.at;
-          at_is = p.at_is;
-          unacknowledged = p.unacknowledged;
-          is = p.is;
+          as_many_results = omega (arith, p.as_many_results);
+          mid = p.mid;
+          mid_is = p.mid_is;
+          later_unacknowledged = p.later_unacknowledged;
+          devices_are = p.devices_are;
         })
         | inl both ↦ elim (steps left state input result devices both.0) [
           | inl old ↦ inl (old.0, (old.1, both.1))
           | inr (inl is) ↦ inr (record {
-            before = input ∷ [];
-            after = inputs;
-            done = result ∷ [];
-            more = results;
+            earlier_inputs = input ∷ [];
+            later_inputs = inputs;
+            earlier_results = result ∷ [];
+            later_results = results;
             inputs_are = refl;
             results_are = refl;
-            as_many = refl;
-            at = state_after_result state input result;
-            at_is = refl;
-            unacknowledged = both.1;
-            is = inl is;
+            as_many_results = refl;
+            mid = state_after_result state input result;
+            mid_is = refl;
+            later_unacknowledged = both.1;
+            devices_are = inl is;
           })
           | inr (inr yet) ↦
               let P = λ (f : InputResult). NoUpdateAcknowledged (state_after_result state input f) inputs results
               → AfterPrefix state (input ∷ inputs) (f ∷ results) devices in
               let at_write : P (FailedAtCommit yet.0) = λ unacknowledged. record {
-                before = [];
-                after = input ∷ inputs;
-                done = [];
-                more = FailedAtCommit yet.0 ∷ results;
+                earlier_inputs = [];
+                later_inputs = input ∷ inputs;
+                earlier_results = [];
+                later_results = FailedAtCommit yet.0 ∷ results;
                 inputs_are = refl;
                 results_are = refl;
-                as_many = refl;
-                at = state;
-                at_is = refl;
-                unacknowledged = (λ never. never, unacknowledged);
-                is = inr yet.2;
+                as_many_results = refl;
+                mid = state;
+                mid_is = refl;
+                later_unacknowledged = (λ never. never, unacknowledged);
+                devices_are = inr yet.2;
               } in
               inr (subst P (sym yet.1) at_write both.1)
         ]
@@ -122,17 +122,17 @@ crash_states_are_prefixes start inputs results devices same safe =
       | inl both ↦ elim both.0 [
         | inl never ↦ absurd never
         | inr found ↦ record {
-          before = [];
-          after = inputs;
-          done = [];
-          more = results;
+          earlier_inputs = [];
+          later_inputs = inputs;
+          earlier_results = [];
+          later_results = results;
           inputs_are = refl;
           results_are = refl;
-          as_many = refl;
-          at = start;
-          at_is = refl;
-          unacknowledged = both.1;
-          is = inl found.1;
+          as_many_results = refl;
+          mid = start;
+          mid_is = refl;
+          later_unacknowledged = both.1;
+          devices_are = inl found.1;
         }
       ]
     ]
@@ -202,9 +202,10 @@ reported-before state (b ∷ before) after (a ∷ ahead) behind input (d ∷ don
 
 pub reported_stand_before : AcknowledgedAreInPrefix
 reported_stand_before start inputs ahead behind input results earlier later result devices p is are same reported =
-    reported-before start p.before p.after ahead behind input p.done p.more earlier later result (sym p.inputs_are ∙ is)
-    (sym p.results_are ∙ are) p.as_many same
-    (subst (λ s. NoUpdateAcknowledged s p.after p.more) p.at_is p.unacknowledged) reported
+    reported-before start p.earlier_inputs p.later_inputs ahead behind input p.earlier_results p.later_results earlier
+    later result (sym p.inputs_are ∙ is)
+    (sym p.results_are ∙ are) p.as_many_results same
+    (subst (λ s. NoUpdateAcknowledged s p.later_inputs p.later_results) p.mid_is p.later_unacknowledged) reported
 
 stop_steps : (Before : Devices → Type 0) (left : CrashStates) (state : State) (interrupted : Option Input)
     (devices : Devices)

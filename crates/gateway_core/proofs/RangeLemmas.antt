@@ -27,7 +27,7 @@ use Rattle.teach_in.specs.declared.telegrams.Teach.{Teach as Kind}
 use Rattle.teach_in.specs.declared.telegrams.Teach.TheVariants.{Plain, Contact, Bare, FourByte, Ute, Answer}
 use Rattle.teach_in.specs.Profiles.{supported}
 use Rattle.teach_in.specs.Telegrams.{teach_in_of}
-use Rattle.teach_in.specs.Ute.{request_in, deletion, unused_request}
+use Rattle.teach_in.specs.Ute.{request_in, deletion_request, unused_request}
 use Rattle.teach_in.specs.Plans.{plan_row_of, can_be_learned_by, plan_of}
 use Rattle.teach_in.proofs.ForCallers.{either, of-role}
 use Rattle.teach_in.specs.declared.outcome.Outcome.{Outcome}
@@ -35,10 +35,11 @@ use Rattle.teach_in.specs.declared.outcome.Outcome.TheVariants.{Accepted, Delete
 use Rattle.actuator_commands.specs.declared.orders.Order.{Order}
 use Rattle.actuator_commands.specs.declared.orders.Order.TheVariants as order
 use Rattle.actuator_commands.specs.Orders.{order_of, words_of}
-use Rattle.actuator_commands.specs.Words.{Word, Literal, Id, Profile, Number, LabelText, SpellsId, SpellsEep, SpellsWord}
+use Rattle.actuator_commands.specs.Words.{Word, Literal, Id, Profile, Number, LabelText, SpellsId, SpellsEep}
+use Rattle.actuator_commands.specs.Words.{SpellsWord}
 use Rattle.actuator_commands.proofs.OrderLemmas.{orders_are_spelled}
 use Rattle.json_lines.specs.Lines.{Teach, TeachLine, text}
-use Rattle.json_lines.proofs.TeachLines.{one_teach_line}
+use Rattle.json_lines.proofs.TeachTextsInjective.{one_teach_line}
 use Rattle.gateway_core.specs.Step.{State, Input, Received, Ordered, Effect, update_of, effect, new_mode_of}
 use Rattle.gateway_core.specs.Step.{device_teach_line}
 use Rattle.gateway_core.specs.Step.{mode_set_by_learning, with_update, with_mode}
@@ -91,13 +92,14 @@ role-in t =
     )
 
 module _ (t : Telegram) where
-  by-query-in : (known : Bool) (kind : Kind) → IsRoleInRange kind → IsPlanInRange (plan_row_of t known kind).by_own_profile
+  by-query-in : (known : Bool) (kind : Kind) → IsRoleInRange kind
+      → IsPlanInRange (plan_row_of t known kind).by_own_profile
   by-query-in known Contact role = ((omega arith, omega arith, omega arith), tt)
   by-query-in known Bare role = tt
   by-query-in known (FourByte query) role = either IsPlanInRange (supported query.eep) _ _ role tt
   by-query-in known Plain role = tt
   by-query-in known (Ute query) role =
-      either IsPlanInRange (request_in query == deletion) _ _ tt
+      either IsPlanInRange (request_in query == deletion_request) _ _ tt
       (either IsPlanInRange (request_in query == unused_request) _ _ tt
       (either IsPlanInRange (supported query.eep) _ _ role tt))
   by-query-in known Answer role = tt
@@ -314,13 +316,14 @@ leaves_in_range session is found bytes interrupted =
     let start = initial_state session.base session.found in
     elim (sessions_leave_prefixes session is) [
       | inl prefix ↦
-          let parts = parts-in prefix.before prefix.after
+          let parts = parts-in prefix.earlier_inputs prefix.later_inputs
           (subst (AllByRecursion PacketBodyIsBytes) prefix.inputs_are bytes) in
-          let at = subst IsStateInRange (sym prefix.at_is) (state_after_run-in start prefix.before prefix.done parts.0
+          let at = subst IsStateInRange (sym prefix.mid_is)
+          (state_after_run-in start prefix.earlier_inputs prefix.earlier_results parts.0
           (found, tt)) in
-          elim prefix.is [
+          elim prefix.devices_are [
             | inl same ↦ subst AreInRange (sym same) at.0
-            | inr yet ↦ yet-in prefix.at prefix.after prefix.more session.left yet parts.1 at
+            | inr yet ↦ yet-in prefix.mid prefix.later_inputs prefix.later_results session.left yet parts.1 at
           ]
       | inr done ↦
           interrupted-in session.last session.interrupted_input session.left done interrupted
@@ -351,7 +354,7 @@ device-in : (state : State) (input : Input) (line : TeachLine) (outcome : Outcom
     → text (Teach line) ≡ text (Teach (device_teach_line known outcome)) → IsOfDevice state input line
 device-in state input line outcome known word in_range update same =
     let one = subst (λ o. text (Teach line) ≡ text (Teach (device_teach_line known o))) (sym word) same in record {
-      known = known;
+      device = known;
       in_range = in_range;
       update = update ∙ ap (λ o. Some (accepted_or_deleted_update o known)) (sym word);
       same_text = one;

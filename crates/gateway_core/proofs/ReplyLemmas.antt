@@ -6,7 +6,7 @@ use Rattle.esp3_frames.specs.Packet.{Packet, spelling}
 use Rattle.erp1_telegrams.specs.Telegram.{Telegram, telegram_of, radio_packet}
 use Rattle.erp1_telegrams.specs.declared.eep.Eep.{Eep}
 use Rattle.learned_devices.specs.declared.Device.{Device}
-use Rattle.learned_devices.specs.Devices.{device_of, is_full}
+use Rattle.learned_devices.specs.Devices.{device_of, is_full_for}
 use Rattle.teach_in.specs.Profiles.{supported}
 use Rattle.teach_in.proofs.ForCallers.{either, LearnsByTold, Hears}
 use Rattle.teach_in.specs.declared.mode.Mode.{Mode}
@@ -28,7 +28,8 @@ use Rattle.actuator_commands.specs.Orders.{order_of}
 use Rattle.actuator_commands.specs.Packets.{order_telegram, recipient_id}
 use Rattle.json_lines.specs.Lines.{TeachLine, Teach, Done, text, texts}
 use Rattle.gateway_core.specs.Run.{Applied, Failed, FailedAtCommit}
-use Rattle.gateway_core.specs.Step.{State, Received, Ordered, Effect, device_teach_line, radio_bytes_of, reply_telegram_of}
+use Rattle.gateway_core.specs.Step.{State, Received, Ordered, Effect, device_teach_line, radio_bytes_of}
+use Rattle.gateway_core.specs.Step.{reply_telegram_of}
 use Rattle.gateway_core.specs.Step.{query_teach_line}
 use Rattle.gateway_core.specs.Step.{packet_effect, line_effect}
 use Rattle.gateway_core.specs.Step.{order_effect, sending_order_effect, send_result_effect, ordered_forget_effect}
@@ -161,7 +162,7 @@ order-sends state (Ok (orders.LearnAs eep)) bytes e =
 order-sends state (Ok LearnOff) bytes e = absurd cc
 order-sends state (Ok (Add id eep)) bytes e =
     no-bytes state (Ok (Add id eep)) bytes
-    (supported-silent eep _ (either (λ (x : Effect). x.radio ≡ None) (is_full state.devices id) _ _ refl refl)) e
+    (supported-silent eep _ (either (λ (x : Effect). x.radio ≡ None) (is_full_for state.devices id) _ _ refl refl)) e
 order-sends state (Ok (Remove id)) bytes e =
     no-bytes state (Ok (Remove id)) bytes
     (known-silent (device_of state.devices id) ordered_forget_effect (λ known. refl)) e

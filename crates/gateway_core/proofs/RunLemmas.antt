@@ -33,7 +33,7 @@ module _ {S : Type 0} (stored : S → DeviceStoreState) where
   handles-nothing handler = record {
     base = refl;
     clean = λ honest. honest;
-    recoverable = λ honest before. before;
+    reopenable = λ honest before. before;
     ran_from_any = λ honest start at. record {
       results = [];
       last = start;
@@ -49,7 +49,7 @@ module _ {S : Type 0} (stored : S → DeviceStoreState) where
   handles-append old mid new inputs more answers after first second = record {
     base = second.base ∙ first.base;
     clean = λ honest. first.clean (second.clean honest);
-    recoverable = λ honest before. second.recoverable honest (first.recoverable (second.clean honest) before);
+    reopenable = λ honest before. second.reopenable honest (first.reopenable (second.clean honest) before);
     ran_from_any = λ honest start at.
         let a = first.ran_from_any (second.clean honest) start at in
         let b = second.ran_from_any honest a.last a.at in

@@ -297,11 +297,13 @@ updates_survive_restarts session update sessions last is acknowledged spares are
     reported_kept Before early acknowledged.state_before.devices
     (update_of acknowledged.state_before acknowledged.input) update acknowledged.asks_for_update
     (input-promises acknowledged.state_before acknowledged.input update acknowledged.asks_for_update) in
-    let behind = reported_run acknowledged.state_before session.last acknowledged.input acknowledged.later_inputs acknowledged.later_results
+    let behind = reported_run acknowledged.state_before session.last acknowledged.input acknowledged.later_inputs
+    acknowledged.later_results
     rest.0 rest.1 in
     let all =
     after_all Before update _
-    (state_after_applied_input acknowledged.state_before acknowledged.input) session.last acknowledged.later_inputs acknowledged.later_results
+    (state_after_applied_input acknowledged.state_before acknowledged.input) session.last acknowledged.later_inputs
+    acknowledged.later_results
     behind.0 behind.1 acknowledged.not_overridden_after one in
     let same : crash_states nothing_committed_yet start session.inputs session.results
     ≡ crash_states (crash_states_after_result early acknowledged.state_before acknowledged.input Applied)
@@ -316,7 +318,8 @@ updates_survive_restarts session update sessions last is acknowledged spares are
     (Applied ∷ acknowledged.later_results) acknowledged.earlier_answers acknowledged.run in
     let kept = after_stop Before update _ session.last session.interrupted_input acknowledged.crash all in
     lives_keep_found update session.left sessions last are spares
-    (kept.safe session.left (subst (λ l. IsCrashConsistent Before (with_interrupted l session.last session.interrupted_input)
+    (kept.safe session.left (subst (λ l. IsCrashConsistent Before
+    (with_interrupted l session.last session.interrupted_input)
     session.left) same is.safe))
   where
     reported_run : (at last : State) (input : Input) (later : List Input) (more : List InputResult)

@@ -68,7 +68,7 @@ packets_learn_only_in_windows state packet =
       | inl (t, is, known, sender, update, learning, hears, closes) ↦ inl (record {
         telegram = t;
         carried = is;
-        known = known;
+        device = known;
         is_sender = sender;
         update = update;
         window_open = learning;

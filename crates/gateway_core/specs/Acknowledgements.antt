@@ -40,25 +40,28 @@ pub record AnswersWithTeachLine (session : Session) (line : TeachLine) : Type 0 
 pub record IsDurable (session : Session) (line : TeachLine)
     (answered : AnswersWithTeachLine session line) : Type 0 where
   pub state_before : State
-  pub known : Device
-  pub run : Run (initial_state session.base session.found) answered.earlier_inputs answered.earlier_results answered.earlier_answers state_before
+  pub device : Device
+  pub run : Run
+      (initial_state session.base session.found) answered.earlier_inputs answered.earlier_results
+      answered.earlier_answers state_before
   pub is_applied : answered.applied_or_failed ≡ Applied
-  pub asks_for_update : update_of state_before answered.input ≡ Some (accepted_or_deleted_update line.outcome known)
-  pub same_text : text (Teach line) ≡ text (Teach (device_teach_line known line.outcome))
-  pub later_sessions_keep : NoneOverrides (accepted_or_deleted_update line.outcome known)
+  pub asks_for_update : update_of state_before answered.input ≡ Some (accepted_or_deleted_update line.outcome device)
+  pub same_text : text (Teach line) ≡ text (Teach (device_teach_line device line.outcome))
+  pub kept_unless_overridden : NoneOverrides (accepted_or_deleted_update line.outcome device)
       (state_after_applied_input state_before answered.input)
       answered.later_inputs answered.later_results
-      → InterruptedDoesNotOverride (accepted_or_deleted_update line.outcome known) session.last session.interrupted_input
+      → InterruptedDoesNotOverride
+      (accepted_or_deleted_update line.outcome device) session.last session.interrupted_input
       → (sessions : List Session) (last : Devices)
-      → AllByRecursion (SessionDoesNotOverride (accepted_or_deleted_update line.outcome known)) sessions
+      → AllByRecursion (SessionDoesNotOverride (accepted_or_deleted_update line.outcome device)) sessions
       → AreSessions session.left sessions last
-      → Promises (accepted_or_deleted_update line.outcome known).operation
-      (get last (accepted_or_deleted_update line.outcome known).sender)
+      → Promises (accepted_or_deleted_update line.outcome device).operation
+      (get last (accepted_or_deleted_update line.outcome device).sender)
   pub in_range : AreInRange session.found → AllByRecursion PacketBodyIsBytes session.inputs
-      → HasDeviceNumbersInRange known
+      → HasDeviceNumbersInRange device
   pub is_line_of_device : AreInRange session.found → AllByRecursion PacketBodyIsBytes session.inputs
       → HasNumbersInRange line
-      → line ≡ device_teach_line known line.outcome
+      → line ≡ device_teach_line device line.outcome
 
 abbrev pub AcceptedOrDeletedIsDurable : Type 0
 AcceptedOrDeletedIsDurable =

@@ -15,7 +15,7 @@ pub record GatewayValue (S : Type 0) : Type 0 where
   pub ready : List Packet
   pub rest : List ℕ
 
--- a handler with this base ID over this registry, with the mode closed and all counters 0
+-- a handler with this base ID over this device store, with the mode closed and all counters 0
 abbrev pub new_handler : {S : Type 0} → (base : ℕ) → S → HandlerValue S
 new_handler base registry = record { base = base; mode = Closed; counts = zero_counts; registry = registry }
 

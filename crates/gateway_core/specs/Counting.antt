@@ -10,17 +10,18 @@ use Rattle.json_lines.specs.PacketLines.{packet_text}
 use Rattle.gateway_core.specs.declared.disposition.Disposition.{Disposition}
 use Rattle.gateway_core.specs.Dispositions.{without_device, counter_for, packet_line_of}
 use Rattle.gateway_core.specs.Run.{InputResult, Applied, Failed, FailedAtCommit, answer_for_result, state_after_result}
-use Rattle.gateway_core.specs.Step.{State, Received, Ordered, answer_to_applied_input, counter_for_applied_input, effect}
+use Rattle.gateway_core.specs.Step.{State, Received, Ordered, answer_to_applied_input, counter_for_applied_input}
+use Rattle.gateway_core.specs.Step.{effect}
 
--- An applied packet increments one counter: that of teach-in exactly when it is answered with a teach line. A line
--- increments none.
+-- An applied packet increments one counter: that of teach-in exactly when it is answered with a teach line. An applied
+-- order line increments none.
 pub record AppliedPacketsAreCounted : Type 0 where
   pub packets : (state : State) (packet : Packet) → IsSome (counter_for_applied_input state (Received packet))
   pub teach_line_is_counted : (state : State) (packet : Packet) (line : TeachLine)
       → (answer_to_applied_input state (Received packet)).desk ≡ text (Teach line)
-      → counter_for_applied_input state (Received packet) ≡ Some count.Teach
+      → counter_for_applied_input state (Received packet) ≡ Some count.TeachLine
   pub counted_has_teach_line : (state : State) (packet : Packet)
-      → counter_for_applied_input state (Received packet) ≡ Some count.Teach
+      → counter_for_applied_input state (Received packet) ≡ Some count.TeachLine
       → (line : TeachLine) × ((answer_to_applied_input state (Received packet)).desk ≡ text (Teach line))
   pub lines : (state : State) (line : List ℕ) → counter_for_applied_input state (Ordered line) ≡ None
 

@@ -1,4 +1,4 @@
--- The crash states of a run: the devices that a crash may leave in the registry.
+-- The crash states of a run: the devices that a crash may leave in the device store.
 use Rattle.std.specs.Prelude.{◌≡◌, ◌⊎◌, Bool, true, false, List, [], ◌∷◌, ◌++◌, Option, Some, None}
 use Rattle.learned_devices.specs.Devices.{Devices, DeviceUpdate, apply_update}
 use Rattle.gateway_core.specs.Step.{State, Input, Answer, update_of}
@@ -43,7 +43,8 @@ IsOneOf (first ∷ others) devices = (devices ≡ first) ⊎ IsOneOf others devi
 
 -- the devices are one of those left, or nothing was committed and a crash could leave them before
 abbrev pub IsCrashConsistent : (Before : Devices → Type 0) → CrashStates → (left : Devices) → Type 0
-IsCrashConsistent Before left devices = IsOneOf left.possible_devices devices ⊎ ((left.has_commit ≡ false) × Before devices)
+IsCrashConsistent Before left devices = IsOneOf left.possible_devices devices
+    ⊎ ((left.has_commit ≡ false) × Before devices)
 
 -- crash consistency composes: if each of two consecutive lists of inputs is crash-consistent, so is their concatenation
 abbrev pub CrashConsistencyComposes : (Devices → Type 0) → Type 0

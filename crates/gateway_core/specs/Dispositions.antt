@@ -23,7 +23,8 @@ use Rattle.json_lines.specs.declared.packet.PacketLine.{PacketLine}
 use Rattle.json_lines.specs.declared.packet.ShownPacket.{ShownPacket}
 use Rattle.json_lines.specs.declared.packet.ShownPacket.TheVariants as shown
 use Rattle.teach_in.specs.declared.handling_reason.HandlingReason.{HandlingReason}
-use Rattle.teach_in.specs.declared.handling_reason.HandlingReason.TheVariants.{Refused, Response, EmptyResponse, OtherType, NoTelegram}
+use Rattle.teach_in.specs.declared.handling_reason.HandlingReason.TheVariants.{Refused, Response, EmptyResponse}
+use Rattle.teach_in.specs.declared.handling_reason.HandlingReason.TheVariants.{OtherType, NoTelegram}
 use Rattle.teach_in.specs.declared.handling_reason.HandlingReason.TheVariants.{FilteredOut, TeachInReply, TeachIn, Read}
 use Rattle.teach_in.specs.declared.handling_reason.HandlingReason.TheVariants.{WindowClosed, OtherMode, UnknownSender}
 use Rattle.teach_in.specs.declared.handling_reason.HandlingReason.TheVariants.{WrongKind, WrongLength, OtherMessage}
@@ -56,7 +57,7 @@ why_unread unreadable.OtherMessage = OtherMessage
 abbrev pub counter_for : HandlingReason → Counter
 counter_for Refused = count.Refused
 counter_for Response = count.Response
-counter_for (TeachIn outcome) = count.Teach
+counter_for (TeachIn outcome) = count.TeachLine
 counter_for Read = count.Reading
 counter_for EmptyResponse = count.Ignored
 counter_for OtherType = count.Ignored
@@ -70,13 +71,13 @@ counter_for WrongKind = count.Ignored
 counter_for WrongLength = count.Ignored
 counter_for OtherMessage = count.Ignored
 
--- ---- the disposition of a packet: the reason, and what is known about its sender
+-- ---- the disposition of a packet: the reason, and the profile and maker of a device, if there is one
 
--- nothing is known about its sender, or it has none
+-- without a profile and a maker
 abbrev pub without_device : HandlingReason → Disposition
 without_device why = record { why = why; eep = None; maker = None }
 
--- its sender is this device
+-- with the profile and maker of this device
 abbrev pub for_device : Device → HandlingReason → Disposition
 for_device known why = record { why = why; eep = Some known.eep; maker = known.maker }
 
@@ -93,8 +94,8 @@ maker_in_query (FourByte query) = Some query.maker
 maker_in_query (Ute query) = Some query.maker
 maker_in_query kind = None
 
--- what is shown of a telegram with this role in teach-in: about its sender the data of its query, otherwise what is
--- known
+-- what is shown of a telegram with this role in teach-in: the profile and maker of its query, otherwise those of the
+-- disposition
 abbrev pub shown_telegram : Telegram → Teach → Disposition → ShownTelegram
 shown_telegram t kind disposition =
     shown_of t (option_or (eep_in_query kind) disposition.eep) (option_or (maker_in_query kind) disposition.maker)
@@ -109,6 +110,6 @@ packet_line_of packet disposition =
     record { packet = shown_packet packet (telegram_of packet) disposition; why = disposition.why }
 
 -- the text of such a line, if there is one
-abbrev pub explanation : Option PacketLine → List ℕ
-explanation None = []
-explanation (Some line) = packet_text line
+abbrev pub packet_text_if_any : Option PacketLine → List ℕ
+packet_text_if_any None = []
+packet_text_if_any (Some line) = packet_text line

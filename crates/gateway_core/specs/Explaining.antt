@@ -10,7 +10,7 @@ use Rattle.profile_rows.specs.Reading.{Entry}
 use Rattle.profile_rows.specs.declared.unreadable.Unreadable.{Unreadable}
 use Rattle.profile_rows.specs.declared.unreadable.Unreadable.TheVariants as unreadable
 use Rattle.learned_devices.specs.declared.Device.{Device}
-use Rattle.learned_devices.specs.Devices.{device_of, forget_update, is_full, learn_update}
+use Rattle.learned_devices.specs.Devices.{device_of, forget_update, is_full_for, learn_update}
 use Rattle.teach_in.specs.declared.mode.Mode.TheVariants.{Closed, LearnAs}
 use Rattle.teach_in.specs.declared.outcome.Outcome.TheVariants.{Accepted, Deleted, Unsupported, Full, General}
 use Rattle.teach_in.specs.declared.outcome.Outcome.TheVariants.{NoProfile}
@@ -22,7 +22,7 @@ use Rattle.teach_in.specs.declared.plans.Plan.TheVariants.{Add, Forget, Refuse}
 use Rattle.teach_in.specs.Plans.{plan_of}
 use Rattle.teach_in.specs.Profiles.{supported}
 use Rattle.teach_in.specs.Telegrams.{teach_in_of}
-use Rattle.teach_in.specs.Ute.{request_in, deletion, unused_request}
+use Rattle.teach_in.specs.Ute.{request_in, deletion_request, unused_request}
 use Rattle.teach_in.specs.declared.handling_reason.HandlingReason.{HandlingReason}
 use Rattle.erp1_telegrams.specs.declared.address.FilterReason.TheVariants as reason
 use Rattle.teach_in.specs.declared.handling_reason.HandlingReason.TheVariants as why
@@ -52,7 +52,7 @@ IsTeachInRequest kind = ⊥
 -- data of a learned device
 pub record IsDataOf (state : State) (packet : Packet) (t : Telegram) (known : Device) : Type 0 where
   pub not_filtered_out : IsNotFilteredOut state packet t
-  pub is_data : teach_in_of t ≡ Plain
+  pub is_plain : teach_in_of t ≡ Plain
   pub is_known : device_of state.devices t.sender ≡ Some known
 
 -- the disposition has the profile and maker of this device, or of none
@@ -124,12 +124,12 @@ WhyIsTrue state packet disposition (why.TeachIn Accepted) =
 WhyIsTrue state packet disposition (why.TeachIn Deleted) =
     (t : Telegram) × (query : UteQuery) × IsNotFilteredOut state packet t × (state.mode ≢ Closed)
     × (teach_in_of t ≡ Ute query)
-    × (request_in query ≡ deletion) × IsPlanned state t (Forget t.sender)
+    × (request_in query ≡ deletion_request) × IsPlanned state t (Forget t.sender)
     × (update_of state (Received packet) ≡ Some (forget_update t.sender))
     × HasProfileAndMakerOf disposition None
 WhyIsTrue state packet disposition (why.TeachIn Full) =
     (t : Telegram) × (known : Device) × IsNotFilteredOut state packet t × (known.id ≡ t.sender) × (state.mode ≢ Closed)
-    × IsPlanned state t (Add known) × (is_full state.devices t.sender ≡ true)
+    × IsPlanned state t (Add known) × (is_full_for state.devices t.sender ≡ true)
     × (update_of state (Received packet) ≡ None) × HasProfileAndMakerOf disposition None
 WhyIsTrue state packet disposition (why.TeachIn Unsupported) =
     (t : Telegram) × (eep : Eep) × IsNotFilteredOut state packet t × (state.mode ≢ Closed)

@@ -44,7 +44,7 @@ module _ {S : Type 0} (stored : S → DeviceStoreState) where
     pub base : new.base ≡ old.base
     pub clean : (stored new.registry).honest → (stored old.registry).honest
     -- the device store stays sound
-    pub recoverable : (stored new.registry).honest → (stored old.registry).sound
-        → (stored new.registry).sound
+    pub reopenable : (stored new.registry).honest → (stored old.registry).reopenable
+        → (stored new.registry).reopenable
     pub ran_from_any : (stored new.registry).honest → (start : State) → HasState stored old start
         → HandlesFrom old start inputs answers new

@@ -36,17 +36,17 @@ HasFailedNextUpdate state inputs results devices = ⊥
 -- input after the prefix was acknowledged.
 pub record AfterPrefix (start : State) (inputs : List Input) (results : List InputResult) (devices : Devices) : Type 0
   where
-    pub before : List Input
-    pub after : List Input
-    pub done : List InputResult
-    pub more : List InputResult
-    pub inputs_are : inputs ≡ before ++ after
-    pub results_are : results ≡ done ++ more
-    pub as_many : length before ≡ length done
-    pub at : State
-    pub at_is : at ≡ state_after_run start before done
-    pub unacknowledged : NoUpdateAcknowledged at after more
-    pub is : (devices ≡ at.devices) ⊎ HasFailedNextUpdate at after more devices
+    pub earlier_inputs : List Input
+    pub later_inputs : List Input
+    pub earlier_results : List InputResult
+    pub later_results : List InputResult
+    pub inputs_are : inputs ≡ earlier_inputs ++ later_inputs
+    pub results_are : results ≡ earlier_results ++ later_results
+    pub as_many_results : length earlier_inputs ≡ length earlier_results
+    pub mid : State
+    pub mid_is : mid ≡ state_after_run start earlier_inputs earlier_results
+    pub later_unacknowledged : NoUpdateAcknowledged mid later_inputs later_results
+    pub devices_are : (devices ≡ mid.devices) ⊎ HasFailedNextUpdate mid later_inputs later_results devices
 
 -- crash-consistent devices are those known after a prefix of the inputs that contains every acknowledged one, perhaps
 -- with the update of the next one, which failed at its commit
@@ -65,7 +65,8 @@ AcknowledgedAreInPrefix =
     (devices : Devices)
     → (prefix : AfterPrefix start inputs results devices)
     → inputs ≡ ahead ++ input ∷ behind → results ≡ earlier ++ result ∷ later → length ahead ≡ length earlier
-    → HasAcknowledgedUpdate (state_after_run start ahead earlier) input result → length ahead < length prefix.before
+    → HasAcknowledgedUpdate (state_after_run start ahead earlier) input result
+    → length ahead < length prefix.earlier_inputs
 
 -- the update of the input in progress at the crash is done
 abbrev pub HasInterruptedUpdate : State → Option Input → Devices → Type 0

@@ -12,7 +12,7 @@ use Rattle.teach_in.specs.declared.telegrams.Teach.TheVariants.{FourByte, Ute}
 use Rattle.teach_in.specs.declared.ute.UteQuery.{UteQuery}
 use Rattle.teach_in.specs.FourByte.{four_byte_reply}
 use Rattle.teach_in.specs.Telegrams.{teach_in_of}
-use Rattle.teach_in.specs.Ute.{wants_reply, request_in, deletion, ute_reply}
+use Rattle.teach_in.specs.Ute.{wants_reply, request_in, deletion_request, ute_reply}
 use Rattle.actuator_commands.specs.Limits.{max_line}
 use Rattle.actuator_commands.specs.declared.orders.Order.{Order}
 use Rattle.actuator_commands.specs.declared.orders.Order.TheVariants.{Base, Label}
@@ -33,7 +33,7 @@ abbrev pub IsDeviceOfDeletedLine : State → Input → Device → Type 0
 IsDeviceOfDeletedLine state (Ordered line) known = device_of state.devices known.id ≡ Some known
 IsDeviceOfDeletedLine state (Received packet) known =
     (t : Telegram) × (telegram_of packet ≡ Ok t) × (known.id ≡ t.sender)
-    × (query : UteQuery) × (teach_in_of t ≡ Ute query) × (request_in query ≡ deletion)
+    × (query : UteQuery) × (teach_in_of t ≡ Ute query) × (request_in query ≡ deletion_request)
     × (known.eep ≡ query.eep) × (known.maker ≡ Some query.maker)
 
 -- What a line with this outcome reports of an effect: it learns a device, forgets one for which this holds, or changes

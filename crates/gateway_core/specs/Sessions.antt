@@ -84,7 +84,8 @@ pub record AcknowledgesAndKeeps (session : Session) (update : DeviceUpdate) : Ty
   pub results_are : session.results ≡ earlier_results ++ Applied ∷ later_results
   pub run : Run (initial_state session.base session.found) earlier_inputs earlier_results earlier_answers state_before
   pub asks_for_update : update_of state_before input ≡ Some update
-  pub not_overridden_after : NoneOverrides update (state_after_applied_input state_before input) later_inputs later_results
+  pub not_overridden_after : NoneOverrides update
+      (state_after_applied_input state_before input) later_inputs later_results
   pub crash : InterruptedDoesNotOverride update session.last session.interrupted_input
 
 -- theorem `updates_survive_restarts`: every later session finds what an acknowledged update guarantees, until an input

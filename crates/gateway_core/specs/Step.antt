@@ -10,7 +10,8 @@ use Rattle.erp1_telegrams.specs.Telegram.{Telegram, telegram_of, radio_packet}
 use Rattle.profile_rows.specs.Reading.{Entry}
 use Rattle.profile_rows.specs.declared.unreadable.Unreadable.{Unreadable}
 use Rattle.learned_devices.specs.declared.Device.{Device}
-use Rattle.learned_devices.specs.Devices.{Devices, device_of, devices_by_ascending_id, is_full, DeviceUpdate, apply_update}
+use Rattle.learned_devices.specs.Devices.{Devices, device_of, devices_by_ascending_id, is_full_for, DeviceUpdate}
+use Rattle.learned_devices.specs.Devices.{apply_update}
 use Rattle.learned_devices.specs.Devices.{learn_update, forget_update, relabel_update}
 use Rattle.teach_in.specs.declared.mode.Mode.{Mode}
 use Rattle.teach_in.specs.declared.mode.Mode.TheVariants.{Closed, Learn, LearnAnswer, LearnAs}
@@ -46,7 +47,8 @@ use Rattle.teach_in.specs.declared.handling_reason.HandlingReason.TheVariants as
 use Rattle.json_lines.specs.Lines.{DeskLine, Reading, Teach as TeachOf, StatusLine, ResponseLine, Done, Error}
 use Rattle.json_lines.specs.Lines.{TeachLine, ModuleResponse, list_lines, texts}
 use Rattle.gateway_core.specs.declared.disposition.Disposition.{Disposition}
-use Rattle.gateway_core.specs.Dispositions.{without_device, counter_for, eep_in_query, explanation, packet_line_of}
+use Rattle.gateway_core.specs.Dispositions.{without_device, counter_for, eep_in_query, packet_text_if_any}
+use Rattle.gateway_core.specs.Dispositions.{packet_line_of}
 use Rattle.gateway_core.specs.Dispositions.{maker_in_query, for_device}
 use Rattle.gateway_core.specs.Dispositions.{why_nothing_done, why_no_telegram_or_response, why_unread}
 use Rattle.gateway_core.specs.Profiles.{read_by}
@@ -99,7 +101,7 @@ no_effect = record { radio = None; desk = []; disposition = None; update = None;
 -- the effect of a device that is to be learned: the first if the maximum number of others is learned, otherwise the
 -- second
 abbrev pub if_full_of_others_else : Devices → Device → (full done : Effect) → Effect
-if_full_of_others_else devices known full done = if is_full devices known.id then full else done
+if_full_of_others_else devices known full done = if is_full_for devices known.id then full else done
 
 -- the line that reports the outcome for a device
 abbrev pub device_teach_line : Device → Outcome → TeachLine
@@ -181,7 +183,7 @@ teach_report_effect state kind line =
       radio = radio_bytes_of (reply_telegram_of state.base state.mode kind line.outcome);
     }
 
--- the mode that learns with the desk's profile is for one sender. Own choice
+-- the mode that is set when a sender is learned: a window for one sender closes. Own choice
 abbrev pub mode_set_by_learning : Mode → Option Mode
 mode_set_by_learning (LearnAs eep) = Some Closed
 mode_set_by_learning mode = None
@@ -364,7 +366,7 @@ abbrev pub with_explanation : (text : List ℕ) → Answer → Answer
 with_explanation text answer = record answer { explanation = text }
 
 abbrev pub with_packet_line : Option PacketLine → Answer → Answer
-with_packet_line line = with_explanation (explanation line)
+with_packet_line line = with_explanation (packet_text_if_any line)
 
 -- the answer to an applied input
 abbrev pub answer_to_applied_input : State → Input → Answer

@@ -12,7 +12,8 @@ use learned_devices::Device;
 use profile_rows::Unreadable;
 use teach_in::{HandlingReason, Mode, Teach};
 
-/// Why a packet was handled the way it was, and the profile and maker of its sender, if the device is known.
+/// Why a packet was handled the way it was. If the packet is data of a learned device, or a device was learned from it,
+/// also the profile and maker of this device.
 #[derive(Clone, Copy, Debug, PartialEq, Eq)]
 pub(crate) struct Disposition {
     pub(crate) why: HandlingReason,
@@ -21,7 +22,7 @@ pub(crate) struct Disposition {
 }
 
 impl Disposition {
-    // Nothing is known about the sender, or there is none.
+    // Without a profile and a maker.
     pub(crate) fn without_device(why: HandlingReason) -> Disposition
         ensures { result ≡ without_device why }
     {
@@ -32,7 +33,7 @@ impl Disposition {
         }
     }
 
-    // The sender is this device.
+    // With the profile and maker of this device.
     pub(crate) fn for_device(device: &Device, why: HandlingReason) -> Disposition
         ensures { result ≡ Dispositions.for_device device.now why }
     {
@@ -50,7 +51,7 @@ impl Disposition {
         match self.why {
             HandlingReason::Refused => Counter::Refused,
             HandlingReason::Response => Counter::Response,
-            HandlingReason::TeachIn(_) => Counter::Teach,
+            HandlingReason::TeachIn(_) => Counter::TeachLine,
             HandlingReason::Read => Counter::Reading,
             HandlingReason::EmptyResponse
             | HandlingReason::OtherType
@@ -78,7 +79,8 @@ pub(crate) fn why_no_telegram_or_response(packet: &PacketRef<'_>) -> HandlingRea
     }
 }
 
-// Why nothing is done about the sender of a data telegram, if `is_data`, or of a teach-in telegram.
+// Why nothing is done about the sender of a telegram: of data, if `is_data`, and then the sender is not learned;
+// otherwise of a teach-in telegram.
 pub(crate) fn why_nothing_done(is_data: bool, mode: Mode) -> HandlingReason
     ensures { result ≡ Dispositions.why_nothing_done is_data mode }
 {

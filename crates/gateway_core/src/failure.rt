@@ -4,12 +4,12 @@ ghost use Rattle.std.specs.Prelude.{◌≡◌};
 use learned_devices::StoreFault;
 use std::alloc::AllocError;
 
-/// Whether an input failed before its write to the registry or at it, and for which cause.
+/// Whether an input failed at the call that commits its update or in any other way, and for which cause.
 #[derive(Clone, Copy)]
 pub enum Failure {
     /// Nothing was written.
     BeforeCommit(StoreFault),
-    /// The write was tried. After a crash its update may be there.
+    /// The call that commits the update failed. After a crash the update may be there.
     AtCommit(StoreFault),
 }
 

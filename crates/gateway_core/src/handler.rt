@@ -30,7 +30,7 @@ use std::alloc::Global;
 use std::marker::Model;
 use teach_in::{HandlingReason, Mode, classify};
 
-/// The state of a gateway: base ID of its radio module, learn mode, counters, and the registry of learned devices.
+/// The state of a gateway: the base ID of its radio module, the learn mode, the counters, and the device store.
 #[derive(Drop)]
 pub struct Handler<S> {
     alloc: Global,
@@ -61,7 +61,7 @@ impl<S> Model for Handler<S> {
 }
 
 impl<S: DeviceStore> Handler<S> {
-    /// Returns a handler over this registry, with the mode closed and all counters 0.
+    /// Returns a handler over this device store, with the mode closed and all counters 0.
     pub fn new(alloc: Global, registry: S, base: u32) -> Handler<S>
         requires { is_base_id base ≡ true }
         ensures { result ≡ new_handler base registry }
@@ -75,7 +75,7 @@ impl<S: DeviceStore> Handler<S> {
         }
     }
 
-    /// Returns the registry.
+    /// Returns the device store.
     pub fn into_registry(self) -> S
         ensures { result ≡ self.registry }
     {

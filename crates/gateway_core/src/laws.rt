@@ -5,7 +5,8 @@ ghost use Rattle.learned_devices.specs.Devices.{Devices};
 ghost use Rattle.gateway_core.specs.SessionCalls.{CallsAreSessions, ClosesEndSessions, CrashesEndSessions};
 ghost use Rattle.gateway_core.specs.Calls.{CallsAreARun, BytesOneByOne};
 ghost use Rattle.gateway_core.specs.Counting.{ExplanationsAreCounted, AppliedPacketsAreCounted};
-ghost use Rattle.gateway_core.specs.Events.{AnswersDoNotDependOnChunks, InputsDoNotDependOnChunks, Event, new_packets};
+ghost use Rattle.gateway_core.specs.Events.{AnswersDoNotDependOnChunks, InputsDoNotDependOnChunks, InputEvent};
+ghost use Rattle.gateway_core.specs.Events.{new_packets};
 ghost use Rattle.gateway_core.specs.Events.{bytes_in, inputs_of};
 ghost use Rattle.gateway_core.specs.Explaining.{ExplanationsAreTrue};
 ghost use Rattle.gateway_core.specs.Handling.{Handles, HandlerValue};
@@ -23,7 +24,7 @@ ghost use Rattle.gateway_core.specs.Windows.{PacketsLearnOnlyInWindows};
 
 use learned_devices::DeviceStore;
 
-/// The inputs do not depend on how the bytes between two lines are split into chunks.
+/// The inputs do not depend on how the bytes between two order lines are split into chunks.
 pub fn inputs_do_not_depend_on_chunks()
     ensures { InputsDoNotDependOnChunks }
 {}
@@ -31,7 +32,7 @@ pub fn inputs_do_not_depend_on_chunks()
 /// The inputs of two consecutive lists of events are those of the first, and then those of the second after the bytes
 /// of the first. The packets that a chunk completes depend only on the rest of the stream.
 pub fn inputs_of_appended_events()
-    ensures items { (stream : List ℕ) (events more : List Event) →
+    ensures items { (stream : List ℕ) (events more : List InputEvent) →
         inputs_of stream (events ++ more) ≡ inputs_of stream events ++ inputs_of (stream ++ bytes_in events) more }
     ensures rest { (stream bytes : List ℕ) → new_packets stream bytes ≡ packets_in (rest_of stream ++ bytes) }
 {}
@@ -49,8 +50,8 @@ pub fn same_failures_give_same_answers()
     ensures { SameFailuresGiveSameAnswers }
 {}
 
-/// If the same inputs fail for the same causes, the answers do not depend on how the bytes between two lines are split
-/// into chunks.
+/// If the same inputs fail for the same causes, the answers do not depend on how the bytes between two order lines are
+/// split into chunks.
 pub fn answers_do_not_depend_on_chunks()
     ensures { AnswersDoNotDependOnChunks }
 {}
@@ -60,8 +61,8 @@ pub fn failures_are_counted()
     ensures { FailuresAreCounted }
 {}
 
-/// An applied packet increments one counter, that of teach-in exactly when it is answered with a teach line. A line
-/// increments none, even if it is answered with a teach line.
+/// An applied packet increments one counter, that of teach-in exactly when it is answered with a teach line. An applied
+/// order line increments none, even if it is answered with a teach line.
 pub fn applied_packets_are_counted()
     ensures { AppliedPacketsAreCounted }
 {}
@@ -81,8 +82,8 @@ pub fn explanations_are_true()
     ensures { ExplanationsAreTrue }
 {}
 
-/// Any calls of a new gateway, in any order, are a run on packets and lines in the order of the calls. The handled
-/// packets, followed by the ready ones, are the packets of the bytes given.
+/// Any calls of a new gateway, in any order, are a run on packets and order lines in the order of the calls. The
+/// handled packets, followed by the ready ones, are the packets of the bytes given.
 pub fn calls_are_a_run<S: DeviceStore>()
     ensures { CallsAreARun S.store_state }
 {}
@@ -153,27 +154,29 @@ pub fn sessions_leave_prefixes()
 {}
 
 /// Only an applied input is answered with a teach line. With `accepted` it learns the device in the line. With
-/// `deleted` it forgets that device: a line forgets a learned one; a packet forgets the sender of its telegram, learned
-/// or not, with the profile and maker of its query. With any other outcome it changes neither the devices nor the mode.
+/// `deleted` it forgets that device: an order line forgets a learned one; a packet forgets the sender of its telegram,
+/// learned or not, with the profile and maker of its query. With any other outcome it changes neither the devices nor
+/// the mode.
 pub fn teach_lines_are_true()
     ensures { TeachLinesAreTrue }
 {}
 
 /// An applied input that changes the devices reports it: with the teach line `accepted` or `deleted` of the device that
-/// it learns or forgets, or, if it is a line that labels a learned device, with `ok`.
+/// it learns or forgets, or, if it is an order line that labels a learned device, with `ok`.
 pub fn updates_are_reported()
     ensures { UpdatesAreReported }
 {}
 
-/// A line that spells a label labels a learned device if it is answered `ok`; if it is answered `unknown_device`, no
-/// such device is learned, and nothing changes. If it is applied and not too long, it gets one of these answers.
+/// A line that spells a `label` order labels a learned device if it is answered `ok`; if it is answered
+/// `unknown_device`, no such device is learned, and nothing changes. If it is applied and not too long, it gets one of
+/// these answers.
 pub fn answers_to_labels_are_true()
     ensures { AnswersToLabelsAreTrue }
 {}
 
 /// Only an applied input sends bytes by radio. Those of a packet are the reply to its query, with the outcome of the
 /// teach line, in a window for all senders: to a 4BS query in the mode `LearnAnswer`, or to a UTE query that waits for
-/// a reply. Those of a line are the packet of its order, which is answered `ok`.
+/// a reply. Those of an order line are the packet of its order, which is answered `ok`.
 pub fn radio_is_reply_or_ordered()
     ensures { RadioIsReplyOrOrdered }
 {}

@@ -1,6 +1,6 @@
 //! One gateway, between the serial line of a radio module and the control desk of a building: it answers the bytes of
-//! the line and the orders of the desk. Its registry keeps the learned devices. Every update is committed before it is
-//! reported.
+//! the line and the orders of the desk. Its device store keeps the learned devices. Every update is committed before it
+//! is reported.
 #![tactic(auto)]
 
 mod disposition;

@@ -14,8 +14,10 @@ pub fn read_data(eep: Eep, telegram: &Telegram, readings: &mut Readings) -> Resu
     ensures { read_result result readings.new.items ≡ Profiles.read_by eep telegram.now }
 {
     match eep.rorg {
-        rorg::FOUR_BS => profiles_4bs::read_data(eep, telegram, readings),
-        rorg::VLD => profiles_vld::read(eep, telegram, readings),
-        _ => profiles_rps::read_data(eep, telegram, readings),
+        rorg::RPS => profiles_rps::read_rps(eep.func, eep.typ, telegram, readings),
+        rorg::ONE_BS => profiles_rps::read_1bs_data(eep.func, eep.typ, telegram, readings),
+        rorg::FOUR_BS => profiles_4bs::read_4bs_data(eep.func, eep.typ, telegram, readings),
+        rorg::VLD => profiles_vld::read_vld(eep.func, eep.typ, telegram, readings),
+        _ => Err(Unreadable::NotSupported),
     }
 }

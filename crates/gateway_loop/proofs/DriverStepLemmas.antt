@@ -10,13 +10,13 @@ use Rattle.esp3_frames.proofs.ForCallers.{packets_and_rest-may_become}
 use Rattle.gateway_core.specs.Step.{Input, Received, Ordered, Answer}
 use Rattle.gateway_core.specs.Handling.{HandlerValue}
 use Rattle.gateway_core.specs.Calls.{GatewayValue, Transition, Next, Bytes, Order}
-use Rattle.gateway_core.specs.Events.{Event, Chunk, Line, bytes_in, inputs_of}
+use Rattle.gateway_core.specs.Events.{InputEvent, Chunk, Line, bytes_in, inputs_of}
 use Rattle.gateway_core.proofs.ForCallers.{new_packets-rest, cuts_do_not_matter, rest_goes_on, items_behind}
 use Rattle.gateway_core.proofs.ForCallers.{rest_behind}
 use Rattle.json_lines.specs.Counts.{saturated_sum}
 use Rattle.gateway_loop.specs.OutputSpecs.{OutputSpec}
 use Rattle.gateway_loop.specs.declared.driver.Driver.{Driver}
-use Rattle.gateway_loop.specs.Processing.{HasNoReadyPacket, IsWholeOrChunkPrefix, Answers, LastAnswerCutShort}
+use Rattle.gateway_loop.specs.Processing.{HasNoReadyPacket, IsWholeOrChunkPrefix, AnswersInputs, LastAnswerCutShort}
 use Rattle.gateway_loop.specs.private.DriverSteps.{Drains, DrainsPart, DriverBreaks, Takes}
 use Rattle.gateway_core.proofs.ForCallers.{count_on}
 use Rattle.gateway_loop.proofs.AnswerLemmas.{answers_nothing, answers_one, answers-append, part_one, answers-part}
@@ -123,7 +123,7 @@ module _ {O S : Type 0} (stored : S → DeviceStoreState) (output : OutputSpec O
         processed = record {
           answered =
               rw is (let P : HandlerValue S → Type 0 =
-              λ s. Answers stored s ended.handler (map Received drained.packets)
+              λ s. AnswersInputs stored s ended.handler (map Received drained.packets)
               (output.puts old.reply_sink new.reply_sink)
               in subst P moved.1 drained.answered);
           rest = rests ∙ ap (λ w. rest_of (rest ++ w)) (sym (append-nil run));
@@ -168,7 +168,7 @@ module _ {O S : Type 0} (stored : S → DeviceStoreState) (output : OutputSpec O
         begun_event = Chunk run;
         begun_is_prefix = (later, whole);
         inputs = new_packets;
-        begun_inputs = new_packets;
+        handled_of_begun_event = new_packets;
         inputs_are = refl;
         not_empty = let more = drained.not_empty in omega (arith, more, length-map drained.packets Received);
         ready_packets_are = inputs_of-bytes old.gateway.now mid run idle moved
@@ -184,7 +184,7 @@ module _ {O S : Type 0} (stored : S → DeviceStoreState) (output : OutputSpec O
       }
 
   -- a prefix of a chunk is a chunk
-  begun-chunk : (chunk : List ℕ) (begun : Event) → IsWholeOrChunkPrefix (Chunk chunk) begun
+  begun-chunk : (chunk : List ℕ) (begun : InputEvent) → IsWholeOrChunkPrefix (Chunk chunk) begun
       → (run : List ℕ) × (begun ≡ Chunk run) × (later : List ℕ) × (chunk ≡ run ++ later)
   begun-chunk chunk (Chunk run) (later, is) = (run, refl, later, is)
   begun-chunk chunk (Line line) begins = absurd begins
@@ -206,17 +206,17 @@ module _ {O S : Type 0} (stored : S → DeviceStoreState) (output : OutputSpec O
         begun_event = Chunk (bytes ++ run);
         begun_is_prefix = (part.2, ap (λ w. bytes ++ w) part.3 ∙ sym (append_assoc bytes run part.2));
         inputs = first ++ broken.inputs;
-        begun_inputs = first ++ broken.inputs;
+        handled_of_begun_event = first ++ broken.inputs;
         inputs_are = refl;
         not_empty =
             let some = broken.not_empty in
             omega (arith, some, ap (λ (is : List Input). length is) behind, length-append first broken.inputs);
         ready_packets_are = items-joined rest bytes run
             ∙ items_behind rest after (Chunk bytes ∷ []) (Chunk run ∷ []) before.processed.rest
-            ∙ ap (λ (e : Event). first ++ inputs_of after (e ∷ [])) (sym part.1)
+            ∙ ap (λ (e : InputEvent). first ++ inputs_of after (e ∷ [])) (sym part.1)
             ∙ ap (λ (is : List Input). first ++ is) broken.ready_packets_are
             ∙ sym (append_assoc first broken.inputs (map Received ended.ready));
-        rest = broken.rest ∙ ap (λ (e : Event). rest_of (after ++ bytes_in (e ∷ []))) part.1
+        rest = broken.rest ∙ ap (λ (e : InputEvent). rest_of (after ++ bytes_in (e ∷ []))) part.1
             ∙ rest_behind rest after (Chunk bytes ∷ []) (Chunk run ∷ []) before.processed.rest
             ∙ ap (λ w. rest_of (rest ++ w)) (sym (append_assoc bytes run []));
         answered =
@@ -228,7 +228,8 @@ module _ {O S : Type 0} (stored : S → DeviceStoreState) (output : OutputSpec O
 
   rest_stays : (old new : GatewayValue S) → HasNoReadyPacket old → new.rest ≡ old.rest
       → new.rest ≡ rest_of (old.rest ++ [])
-  rest_stays old new idle e = e ∙ (packets_and_rest-may_become old.rest idle.rest).1 ∙ ap rest_of (sym (append-nil old.rest))
+  rest_stays old new idle e = e ∙ (packets_and_rest-may_become old.rest idle.rest).1
+      ∙ ap rest_of (sym (append-nil old.rest))
 
   pub takes_order : (old new : Driver O S) (line : List ℕ) (answer : Answer) → HasNoReadyPacket old.gateway.now
       → Transition stored old.gateway.now (Order line answer) new.gateway.now
@@ -253,7 +254,7 @@ module _ {O S : Type 0} (stored : S → DeviceStoreState) (output : OutputSpec O
     begun_event = Line line;
     begun_is_prefix = refl;
     inputs = Ordered line ∷ [];
-    begun_inputs = Ordered line ∷ [];
+    handled_of_begun_event = Ordered line ∷ [];
     inputs_are = refl;
     not_empty = omega arith;
     ready_packets_are = ap (λ (ps : List Packet). Ordered line ∷ map Received ps) (sym (ready ∙ idle.ready));

@@ -34,11 +34,11 @@ module _ (before : Answer → List ℕ) where
       → explained ≡ held ++ flat_map explained_of answers
       → DifferByExplanationsAfter before answers held plain explained
   behind answers held plain explained first second = record {
-    added = flat_map plain_of answers;
-    more = flat_map explained_of answers;
+    plain_added = flat_map plain_of answers;
+    explained_added = flat_map explained_of answers;
     plain_is = first;
     explained_is = second;
-    lines = explained-text answers;
+    differ = explained-text answers;
   }
 
 -- what a sink holds, if it is known
@@ -52,9 +52,9 @@ explanations_stand_apart = record {
       behind (λ answer. radio_chunk_line answer.radio) answers held plain explained first second;
   desk = λ answers old new other held plain explained one two before is so.
       behind (λ answer. []) answers held plain explained
-      (appended old.1.held new.1.held held plain _ before is one.1.text)
-      (appended old.1.held other.1.held held explained _ before so two.1.text);
+      (appended old.1.contents new.1.contents held plain _ before is one.1.text)
+      (appended old.1.contents other.1.contents held explained _ before so two.1.text);
   serial = λ answers old new other held plain explained one two before is so.
-      appended old.0.held new.0.held held plain _ before is one.0.text
-      ∙ sym (appended old.0.held other.0.held held explained _ before so two.0.text);
+      appended old.0.contents new.0.contents held plain _ before is one.0.text
+      ∙ sym (appended old.0.contents other.0.contents held explained _ before so two.0.text);
 }

@@ -14,22 +14,24 @@ use Rattle.gateway_core.specs.CrashStates.{IsCrashConsistent, nothing_committed_
 use Rattle.gateway_core.specs.Sessions.{Session, initial_state}
 use Rattle.gateway_core.specs.Handling.{HandlerValue, Handles, HasState}
 use Rattle.gateway_core.specs.Calls.{GatewayValue}
-use Rattle.gateway_core.specs.Events.{Event, Chunk, Line, new_packets, bytes_in, inputs_of}
+use Rattle.gateway_core.specs.Events.{InputEvent, Chunk, Line, new_packets, bytes_in, inputs_of}
 use Rattle.gateway_core.proofs.ForCallers.{new_packets-append, inputs_of-append, sessions_leave_prefixes, safe-weaker}
 use Rattle.byte_io.specs.Writes.{AppendsPart}
 use Rattle.byte_io.specs.declared.sink.Sink as sinks
 use Rattle.byte_io.specs.declared.source.Source as sources
-use Rattle.gateway_loop.specs.declared.runs.RunFault.{RunFault}
-use Rattle.gateway_loop.specs.declared.runs.RunFault.TheVariants.{Read, Write, TooManyTurns}
-use Rattle.gateway_loop.specs.declared.runs.Summary.{Summary}
+use Rattle.gateway_loop.specs.declared.run_result.RunFault.{RunFault}
+use Rattle.gateway_loop.specs.declared.run_result.RunFault.TheVariants.{Read, Write, TooManyTurns}
+use Rattle.gateway_loop.specs.declared.run_result.Summary.{Summary}
 use Rattle.gateway_loop.specs.Headline.{AsSpecified, BrokenOff, IsNew, IsPrefix, ReplaySpecified}
 use Rattle.gateway_loop.specs.Headline.{ReplaysAsSpecified, ServesAsSpecified, all_desk_text, all_radio_bytes}
-use Rattle.gateway_loop.specs.LiveGateway.{BreaksTurn, Serves, ServesUntil, ServesUntilRead, ServesUntilWrite}
+use Rattle.gateway_loop.specs.LiveGateway.{BreaksTurn, Serves, ServesUntilFault, ServesUntilReadFails}
+use Rattle.gateway_loop.specs.LiveGateway.{ServesUntilWriteFails}
 use Rattle.gateway_loop.specs.LiveGateway.{LiveValue, NextReadFails, events_and_chunk, live_value}
 use Rattle.gateway_loop.specs.LiveGateway.{serial_reads_and_chunk}
 use Rattle.gateway_loop.specs.Processing.{Breaks, IsWholeOrChunkPrefix}
 use Rattle.gateway_loop.specs.Script.{script, with_lf}
-use Rattle.gateway_loop.specs.ScriptReplay.{Replays, ReplaysEnded, ReplaysUntil, ReplaysUntilWrite, replay_value}
+use Rattle.gateway_loop.specs.ScriptReplay.{Replays, ReplaysEndedLines, ReplaysUntilFault, ReplaysUntilWriteFails}
+use Rattle.gateway_loop.specs.ScriptReplay.{replay_value}
 use Rattle.gateway_loop.specs.Turns.{Turn, desk_reads, events_of_turns, serial_reads}
 use Rattle.gateway_loop.specs.LiveOutputs.{radio_bytes, live_output}
 use Rattle.gateway_loop.specs.Written.{AppendsCutReplayText, desk_text, text_of, written}
@@ -113,7 +115,7 @@ record BringsMore (items started : List Input) : Type 0 where
   more : List Input
   whole : items ≡ started ++ more
 
-begun_brings : (s : List ℕ) (event started : Event) (later : List Event) → IsWholeOrChunkPrefix event started
+begun_brings : (s : List ℕ) (event started : InputEvent) (later : List InputEvent) → IsWholeOrChunkPrefix event started
     → BringsMore (inputs_of s (event ∷ later)) (inputs_of s (started ∷ []))
 begun_brings s (Chunk bytes) (Chunk some) later (m, is) =
     let first = map Received (new_packets s some) in
@@ -133,9 +135,9 @@ begun_brings s (Line line) (Chunk some) later never = absurd never
 
 module _ {S : Type 0} (state : S → DeviceStoreState) where
   -- a prefix of the inputs of some events was handled, if an answer to one of them was not written completely
-  broken_brings : {breaks : List Answer → Answer → Type 0} (old new : GatewayValue S) (events : List Event)
-      (event : Event)
-      (later : List Event) → (b : Breaks state old new events event breaks)
+  broken_brings : {breaks : List Answer → Answer → Type 0} (old new : GatewayValue S) (events : List InputEvent)
+      (event : InputEvent)
+      (later : List InputEvent) → (b : Breaks state old new events event breaks)
       → BringsMore (inputs_of old.rest (events ++ event ∷ later)) b.inputs
   broken_brings old new events event later b =
       let s = old.rest ++ bytes_in events in
@@ -177,7 +179,7 @@ module _ {S : Type 0} (state : S → DeviceStoreState) where
           run = went.run;
           are_out = is_out;
           has_last_state = went.at;
-          recoverable = handled.recoverable clean began.recoverable;
+          reopenable = handled.reopenable clean began.reopenable;
           crash_leaves_prefix = λ left may.
               let session : Session = record {
                 base = base;
@@ -203,7 +205,7 @@ module _ {S : Type 0} (state : S → DeviceStoreState) where
     no_rest = ap (λ (v : GatewayValue S). v.rest) began.value
 
     -- the inputs of these events
-    processed : (events : List Event) (answers : List Answer) (out : List Answer → Type 0)
+    processed : (events : List InputEvent) (answers : List Answer) (out : List Answer → Type 0)
         → Handles state old.handler (inputs_of old.rest events) answers new → out answers
         → AsSpecified state base found (inputs_of [] events) out new
     processed events answers out handled is_out =
@@ -211,7 +213,7 @@ module _ {S : Type 0} (state : S → DeviceStoreState) where
         (specified (inputs_of old.rest events) answers out handled is_out)
 
     -- and none of more events
-    played_first : (events later all : List Event) → all ≡ events ++ later → (answers : List Answer)
+    played_first : (events later all : List InputEvent) → all ≡ events ++ later → (answers : List Answer)
         (out : List Answer → Type 0)
         → Handles state old.handler (inputs_of old.rest events) answers new → out answers
         → BrokenOff state base found (inputs_of [] all) out new
@@ -224,7 +226,7 @@ module _ {S : Type 0} (state : S → DeviceStoreState) where
 
   -- an answer to one of the inputs of these events was not written completely
   broken_off : {breaks : List Answer → Answer → Type 0} (base : ℕ) (found : Devices) (old new : GatewayValue S)
-      (events : List Event) (event : Event) (later all : List Event) → IsNew state base found old
+      (events : List InputEvent) (event : InputEvent) (later all : List InputEvent) → IsNew state base found old
       → (state new.handler.registry).honest → all ≡ events ++ event ∷ later
       → (b : Breaks state old new events event breaks) (out : List Answer → Type 0)
       → out (b.answered.answers ++ b.answered.last ∷ [])
@@ -265,7 +267,7 @@ module _ {S : Type 0} (state : S → DeviceStoreState) where
         }
 
     -- some lines that LF ended, of a script with more after them
-    ended_lines_replayed : (fault : RunFault) → ReplaysEnded state (replay_value source sink) explains old new
+    ended_lines_replayed : (fault : RunFault) → ReplaysEndedLines state (replay_value source sink) explains old new
         → ReplaysAsSpecified state source sink explains (Err fault) old new
     ended_lines_replayed fault done base found input held began left_is held_is clean =
         let gone = lost input done.input (source.left old.1) (source.left new.1) left_is done.read in
@@ -285,9 +287,9 @@ module _ {S : Type 0} (state : S → DeviceStoreState) where
         }
 
     -- an answer to an input of one event
-    event_broken : (events : List Event) (event : Event)
+    event_broken : (events : List InputEvent) (event : InputEvent)
         → Breaks state old.0 new.0 events event (AppendsCutReplayText explains (sink.held old.2) (sink.held new.2))
-        → (base : ℕ) (found : Devices) (input held : List ℕ) (later : List Event) → IsNew state base found old.0
+        → (base : ℕ) (found : Devices) (input held : List ℕ) (later : List InputEvent) → IsNew state base found old.0
         → sink.held old.2 ≡ Some held → (state new.0.handler.registry).honest
         → script input ≡ events ++ event ∷ later
         → ReplaySpecified state source sink explains (Err Write) base found input held new
@@ -304,7 +306,7 @@ module _ {S : Type 0} (state : S → DeviceStoreState) where
               (part_prefix (text_of explains) its.answers its.last part.part part.missing part.whole);
         }
 
-    write_failed : ReplaysUntilWrite state (replay_value source sink) explains old new
+    write_failed : ReplaysUntilWriteFails state (replay_value source sink) explains old new
         → ReplaysAsSpecified state source sink explains (Err Write) old new
     write_failed done base found input held began left_is held_is clean =
         let gone = lost input done.input (source.left old.1) (source.left new.1) left_is done.read in
@@ -316,7 +318,7 @@ module _ {S : Type 0} (state : S → DeviceStoreState) where
               ap script (gone.whole ∙ ap (λ s. s ++ gone.rest) it.whole
               ∙ append_assoc (with_lf it.part) it.more gone.rest)
               ∙ script-behind (with_lf it.part) more (inr (it.part, refl))
-              ∙ ap (λ (es : List Event). es ++ script more) it.is
+              ∙ ap (λ (es : List InputEvent). es ++ script more) it.is
               ∙ append_assoc it.events (it.event ∷ []) (script more) in
               event_broken it.events it.event it.broken base found input held (script more) began held_is clean whole
           | inr at_end ↦
@@ -328,7 +330,7 @@ module _ {S : Type 0} (state : S → DeviceStoreState) where
               (ap script whole ∙ it.whole)
         ]
 
-    pub replayed_until : (fault : RunFault) → ReplaysUntil state (replay_value source sink) explains old new fault
+    pub replayed_until : (fault : RunFault) → ReplaysUntilFault state (replay_value source sink) explains old new fault
         → ReplaysAsSpecified state source sink explains (Err fault) old new
     replayed_until Read done = ended_lines_replayed Read done
     replayed_until Write done = write_failed done
@@ -344,7 +346,8 @@ module _ {S : Type 0} (state : S → DeviceStoreState) where
     pub served : (count : ℕ) (summary : Summary) → Serves state at explains old new count summary
         → ServesAsSpecified state serial_in desk_in serial_out desk_out explains (Ok summary) old new count
     served count summary done base found serial desk sent printed began serial_is desk_is sent_is printed_is clean =
-        let of_serial = lost serial _ (serial_in.left old.1) (serial_in.left new.1) serial_is done.serial.bytes_read.all in
+        let of_serial = lost serial _ (serial_in.left old.1)
+        (serial_in.left new.1) serial_is done.serial.bytes_read.all in
         let of_desk = lost desk _ (desk_in.left old.2) (desk_in.left new.2) desk_is done.desk.bytes_read.all in
         let its = done.processed.answered in
         let radio = all_radio_bytes its.answers in
@@ -356,10 +359,10 @@ module _ {S : Type 0} (state : S → DeviceStoreState) where
           read = record { serial_is = of_serial.whole; desk_is = of_desk.whole };
           serial_left = of_serial.is;
           desk_left = of_desk.is;
-          radio = radio;
-          lines = lines;
-          radio_held = grown sent radio (serial_out.held old.3) (serial_out.held new.3) sent_is its.out.0.text;
-          lines_held = grown printed lines (desk_out.held old.4) (desk_out.held new.4) printed_is its.out.1.text;
+          radio_written = radio;
+          desk_written = lines;
+          radio_is_appended = grown sent radio (serial_out.held old.3) (serial_out.held new.3) sent_is its.out.0.text;
+          desk_is_appended = grown printed lines (desk_out.held old.4) (desk_out.held new.4) printed_is its.out.1.text;
           specified = (
             done.count,
             done.serial,
@@ -379,7 +382,8 @@ module _ {S : Type 0} (state : S → DeviceStoreState) where
       radio_is : IsPrefix radio (all_radio_bytes (answers ++ last ∷ []))
       lines_are : IsPrefix lines (all_desk_text explains (answers ++ last ∷ []))
 
-    part_is_out : (answers : List Answer) (last : Answer) → (live_output explains).breaks (at old).serial_and_desk_sinks (at new).serial_and_desk_sinks
+    part_is_out : (answers : List Answer) (last : Answer) → (live_output explains).breaks
+        (at old).serial_and_desk_sinks (at new).serial_and_desk_sinks
         answers last
         → PartIsOut answers last
     part_is_out answers last breaks =
@@ -438,16 +442,16 @@ module _ {S : Type 0} (state : S → DeviceStoreState) where
           };
           serial_left = of_serial.is;
           desk_left = of_desk.is;
-          radio = radio;
-          lines = lines;
-          radio_held = grown sent radio (serial_out.held old.3) (serial_out.held new.3) sent_is radio_out;
-          lines_held = grown printed lines (desk_out.held old.4) (desk_out.held new.4) printed_is lines_out;
+          radio_written = radio;
+          desk_written = lines;
+          radio_is_appended = grown sent radio (serial_out.held old.3) (serial_out.held new.3) sent_is radio_out;
+          desk_is_appended = grown printed lines (desk_out.held old.4) (desk_out.held new.4) printed_is lines_out;
           specified =
               subst (λ events. BrokenOff state base found (inputs_of [] events) (Out radio lines) new.0.handler)
               (sym (events-with_piece read chunk)) (broken base found began clean);
         }
 
-    read_failed : (count : ℕ) → ServesUntilRead state at explains old new
+    read_failed : (count : ℕ) → ServesUntilReadFails state at explains old new
         → ServesAsSpecified state serial_in desk_in serial_out desk_out explains (Err Read) old new count
     read_failed count done =
         let its = done.processed.answered in
@@ -463,15 +467,15 @@ module _ {S : Type 0} (state : S → DeviceStoreState) where
         took read None fails = (fails.0.bytes_read.all, fails.1.bytes_read.all)
         took read (Some chunk) fails = (fails.0.bytes_read.all, fails.1.bytes_read.all)
 
-    write_to_failed : (count : ℕ) → ServesUntilWrite state at explains old new
+    write_to_failed : (count : ℕ) → ServesUntilWriteFails state at explains old new
         → ServesAsSpecified state serial_in desk_in serial_out desk_out explains (Err Write) old new count
     write_to_failed count done = by done.chunk done.serial.bytes_read.all done.broken
       where
         breaks : List Answer → Answer → Type 0
         breaks = (live_output explains).breaks (at old).serial_and_desk_sinks (at new).serial_and_desk_sinks
 
-        at_event : (read : List Turn) (chunk : Option (List ℕ)) → Took read chunk → (events later : List Event)
-            (event : Event)
+        at_event : (read : List Turn) (chunk : Option (List ℕ)) → Took read chunk → (events later : List InputEvent)
+            (event : InputEvent)
             → events_and_chunk read chunk ≡ events ++ event ∷ later → Breaks state old.0 new.0 events event breaks
             → ServesAsSpecified state serial_in desk_in serial_out desk_out explains (Err Write) old new count
         at_event read chunk took events later event whole b =
@@ -487,15 +491,17 @@ module _ {S : Type 0} (state : S → DeviceStoreState) where
             → BreaksTurn state old.0 new.0 done.read chunk breaks
             → ServesAsSpecified state serial_in desk_in serial_out desk_out explains (Err Write) old new count
         by None serial broken =
-            let events = events_and_chunk broken.before (Some broken.last.chunk) ++ broken.done in
-            at_event done.read None (serial, done.desk.bytes_read.all) events broken.later broken.order broken.whole
+            let events = events_and_chunk broken.earlier_turns (Some broken.last.chunk) ++ broken.earlier_events in
+            at_event done.read None
+            (serial, done.desk.bytes_read.all) events broken.later_events broken.order broken.whole
             broken.broken
         by (Some chunk) serial broken =
-            at_event done.read (Some chunk) (serial, done.desk.bytes_read.all) (events_of_turns done.read) [] (Chunk chunk)
+            at_event done.read (Some chunk) (serial, done.desk.bytes_read.all) (events_of_turns done.read) []
+            (Chunk chunk)
             refl
             broken
 
-    pub served_until : (count : ℕ) (fault : RunFault) → ServesUntil state at explains old new fault
+    pub served_until : (count : ℕ) (fault : RunFault) → ServesUntilFault state at explains old new fault
         → ServesAsSpecified state serial_in desk_in serial_out desk_out explains (Err fault) old new count
     served_until count Read done = read_failed count done
     served_until count Write done = write_to_failed count done

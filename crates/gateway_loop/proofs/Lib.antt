@@ -10,7 +10,7 @@ pub mod ExplainedLemmas
 pub mod LineLemmas
 pub mod LongLineLemmas
 pub mod SearchLemmas
-pub mod LineLoopLemmas
+pub mod LineSplitterLemmas
 pub mod ReadLemmas
 pub mod TurnLemmas
 pub mod LiveOutputsLemmas

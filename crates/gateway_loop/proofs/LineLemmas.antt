@@ -7,10 +7,10 @@ use Rattle.std.specs.Str.Lines.{lines, lines_of_parts, strip_carriage_return}
 use Rattle.std.proofs.lemmas.List.Splits.{slice_split_none, slice_split_at, length-slice_split}
 use Rattle.std.proofs.lemmas.Bool.{ne_eqb}
 use Rattle.std.proofs.lemmas.Bool.Decides.{eqb_tells}
-use Rattle.gateway_core.specs.Events.{Event}
+use Rattle.gateway_core.specs.Events.{InputEvent}
 use Rattle.gateway_loop.specs.Script.{HasNoLf, event_of_script_line, script, with_lf}
 use Rattle.gateway_loop.specs.private.Lines.{events_by}
-use Rattle.gateway_loop.specs.declared.line_loop.LineSource.TheVariants.{ScriptLines}
+use Rattle.gateway_loop.specs.declared.line_splitter.LineSource.TheVariants.{ScriptLines}
 
 lines_of_parts-cons : (x : List ℕ) (parts : List (List ℕ)) → 0 < length parts
     → lines_of_parts (x ∷ parts) ≡ strip_carriage_return x ∷ lines_of_parts parts
@@ -55,7 +55,7 @@ script-ended (l ∷ ls) more each =
     let first : HasNoLf l = each 0 [] (omega arith) in
     let others : All HasNoLf ls = λ k d h. each (suc k) d (omega arith) in
     ap script shape ∙ script-first l rest first
-    ∙ ap (λ (es : List Event). event_of_script_line (strip_carriage_return l) ∷ es) (script-ended ls more others)
+    ∙ ap (λ (es : List InputEvent). event_of_script_line (strip_carriage_return l) ∷ es) (script-ended ls more others)
 
 pub ended_of_lines : (ls : List (List ℕ))
     → (flat_map with_lf ls ≡ []) ⊎ ((front : List ℕ) × (flat_map with_lf ls ≡ with_lf front))
@@ -121,7 +121,7 @@ script-behind ended more ends = elim ends [
       let it = ended_lines_of front in
       let whole : ended ≡ flat_map with_lf it.ls = is ∙ it.whole in
       ap (λ s. script (s ++ more)) whole ∙ script-ended it.ls more it.each
-      ∙ ap (λ (es : List Event). es ++ script more)
+      ∙ ap (λ (es : List InputEvent). es ++ script more)
       (sym (append-nil (events_by ScriptLines it.ls)) ∙ sym (script-ended it.ls [] it.each)
       ∙ ap script (append-nil (flat_map with_lf it.ls) ∙ sym whole))
 ]

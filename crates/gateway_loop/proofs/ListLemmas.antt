@@ -10,8 +10,8 @@ pub split_at : (xs : List ℕ) (i : ℕ) → i < length xs → xs ≡ (take i xs
 split_at xs i below = sym (take-append-drop (i + 1) xs) ∙ ap (λ s. s ++ drop (i + 1) xs) (take_more xs i 0 below)
 
 -- some first elements, and some of those after them
-pub process_front : (xs : List ℕ) (i n : ℕ) → take (i + n) xs ≡ take i xs ++ take n (take (length xs - i) (drop i xs))
-process_front xs i n =
+pub take_front : (xs : List ℕ) (i n : ℕ) → take (i + n) xs ≡ take i xs ++ take n (take (length xs - i) (drop i xs))
+take_front xs i n =
     take-add i n xs
     ∙ ap (λ ys. take i xs ++ take n ys) (sym (take_all (length xs - i) (drop i xs) (omega (arith, length-drop i xs))))
 

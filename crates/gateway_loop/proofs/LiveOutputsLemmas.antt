@@ -3,8 +3,8 @@ use Rattle.std.proofs.Common.{◌≡◌, List, inl, inr}
 use Rattle.learned_devices.specs.DeviceStoreState.{DeviceStoreState}
 use Rattle.gateway_core.specs.Step.{Answer}
 use Rattle.gateway_core.specs.Calls.{GatewayValue}
-use Rattle.gateway_core.specs.Events.{Event}
-use Rattle.byte_io.specs.Counts.{HasCountRoom, NoneFailedOrEmpty}
+use Rattle.gateway_core.specs.Events.{InputEvent}
+use Rattle.byte_io.specs.Counts.{CanCountCalls, NoneFailedOrEmpty}
 use Rattle.byte_io.specs.declared.sink.Sink as sinks
 use Rattle.gateway_loop.specs.declared.driver.Driver.{Driver}
 use Rattle.gateway_loop.specs.declared.live_outputs.LiveOutputs.{LiveOutputs}
@@ -33,7 +33,7 @@ module _ {R D S : Type 0} (stored : S → DeviceStoreState) (serial_sinks : sink
   abbrev ways : OutputSpec (SinkValue × SinkValue)
   ways = live_output entry.reply_sink.explains
 
-  pub plays_at : (events : List Event) → DriverProcesses stored output entry now events
+  pub plays_at : (events : List InputEvent) → DriverProcesses stored output entry now events
       → Processes stored entry.gateway.now gateway events (ways.puts old_sinks new_sinks)
   plays_at events p = rw (e, f, h) (record {
     answered = record { answers = p.answered.answers; handled = p.answered.handled; out = p.answered.out.1 };
@@ -41,13 +41,13 @@ module _ {R D S : Type 0} (stored : S → DeviceStoreState) (serial_sinks : sink
     idle = p.idle;
   })
 
-  pub breaks_at : (events : List Event) (event : Event) → DriverBreaks stored output entry now events event
+  pub breaks_at : (events : List InputEvent) (event : InputEvent) → DriverBreaks stored output entry now events event
       → Breaks stored entry.gateway.now gateway events event (ways.breaks old_sinks new_sinks)
   breaks_at events event p = rw (e, f, h) (record {
     begun_event = p.begun_event;
     begun_is_prefix = p.begun_is_prefix;
     inputs = p.inputs;
-    begun_inputs = p.begun_inputs;
+    handled_of_begun_event = p.handled_of_begun_event;
     inputs_are = p.inputs_are;
     not_empty = p.not_empty;
     ready_packets_are = p.ready_packets_are;
@@ -64,12 +64,12 @@ module _ {R D S : Type 0} (stored : S → DeviceStoreState) (serial_sinks : sink
       → BreaksAtOrder stored entry.gateway.now now.gateway.now turns (output.breaks entry.reply_sink now.reply_sink)
       → BreaksAtOrder stored entry.gateway.now gateway turns (ways.breaks old_sinks new_sinks)
   breaks_at_order turns p = record {
-    before = p.before;
+    earlier_turns = p.earlier_turns;
     last = p.last;
     is_last = p.is_last;
-    done = p.done;
+    earlier_events = p.earlier_events;
     order = p.order;
-    later = p.later;
+    later_events = p.later_events;
     whole = p.whole;
     broken = breaks_at _ _ p.broken;
   }
@@ -77,10 +77,10 @@ module _ {R D S : Type 0} (stored : S → DeviceStoreState) (serial_sinks : sink
   -- if an answer broke off, not all writes succeeded
   pub not_all_well : (answers : List Answer) (last : Answer)
       → output.breaks entry.reply_sink now.reply_sink answers last
-      → HasCountRoom old_sinks.0.counts 0 → HasCountRoom old_sinks.1.counts 0
+      → CanCountCalls old_sinks.0.counts 0 → CanCountCalls old_sinks.1.counts 0
       → NoneFailedOrEmpty old_sinks.0.counts new_sinks.0.counts
       → NoneFailedOrEmpty old_sinks.1.counts new_sinks.1.counts → ⊥
   not_all_well answers last (same, inl broken) room others well wells =
-      not_well old_sinks.0.counts (serial_sinks.counts now.reply_sink.serial.now) room broken.0.went (rw f at well)
+      not_well old_sinks.0.counts (serial_sinks.counts now.reply_sink.serial.now) room broken.0.calls (rw f at well)
   not_all_well answers last (same, inr broken) room others well wells =
-      not_well old_sinks.1.counts (desk_sinks.counts now.reply_sink.desk.now) others broken.1.went (rw h at wells)
+      not_well old_sinks.1.counts (desk_sinks.counts now.reply_sink.desk.now) others broken.1.calls (rw h at wells)

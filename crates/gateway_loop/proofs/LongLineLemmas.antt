@@ -14,7 +14,7 @@ use Rattle.gateway_core.specs.Step.{Input, Received, Ordered, Answer}
 use Rattle.gateway_core.proofs.ForCallers.{handles_alike}
 use Rattle.esp3_frames.specs.Packet.{Packet}
 use Rattle.gateway_core.specs.Calls.{GatewayValue}
-use Rattle.gateway_core.specs.Events.{Event, Chunk, Line, inputs_of, bytes_in}
+use Rattle.gateway_core.specs.Events.{InputEvent, Chunk, Line, inputs_of, bytes_in}
 use Rattle.esp3_frames.specs.PacketsAndRest.{rest_of}
 use Rattle.gateway_loop.specs.Script.{event_of_script_line, chunk_if_decoded}
 use Rattle.gateway_loop.specs.declared.driver.Driver.{Driver}
@@ -22,8 +22,8 @@ use Rattle.gateway_loop.specs.OutputSpecs.{OutputSpec}
 use Rattle.gateway_loop.specs.Processing.{LastAnswerCutShort, Breaks, IsWholeOrChunkPrefix}
 use Rattle.gateway_loop.specs.private.DriverSteps.{Takes, TakesOrBreaks}
 use Rattle.gateway_loop.specs.private.Lines.{max_partial_line, event_of_line_from}
-use Rattle.gateway_loop.specs.declared.line_loop.LineSource.{LineSource}
-use Rattle.gateway_loop.specs.declared.line_loop.LineSource.TheVariants.{ScriptLines, DeskLines}
+use Rattle.gateway_loop.specs.declared.line_splitter.LineSource.{LineSource}
+use Rattle.gateway_loop.specs.declared.line_splitter.LineSource.TheVariants.{ScriptLines, DeskLines}
 
 -- no packet stands for an order
 no_packets : (line : List ℕ) (packets : List Packet) → (Ordered line ∷ []) ≡ map Received packets → ⊥
@@ -81,7 +81,7 @@ module _ {S : Type 0} (stored : S → DeviceStoreState) where
       absurd (two_items line item other (items ++ map Received new.ready) e)
 
   breaks_long : (old new : GatewayValue S) (short long : List ℕ) (breaks : List Answer → Answer → Type 0)
-      (begun : Event)
+      (begun : InputEvent)
       (items : List Input) → max_line < length short → max_line < length long
       → IsWholeOrChunkPrefix (Line short) begun → inputs_of old.rest (begun ∷ []) ≡ items ++ map Received new.ready
       → new.rest ≡ rest_of (old.rest ++ bytes_in (begun ∷ []))
@@ -95,7 +95,7 @@ module _ {S : Type 0} (stored : S → DeviceStoreState) where
         begun_event = Line long;
         begun_is_prefix = refl;
         inputs = Ordered long ∷ [];
-        begun_inputs = Ordered long ∷ [];
+        handled_of_begun_event = Ordered long ∷ [];
         inputs_are = refl;
         not_empty = omega arith;
         ready_packets_are = ap (λ (is : List Input). Ordered long ∷ is) (sym at.none);
@@ -135,7 +135,7 @@ module _ {O S : Type 0} (stored : S → DeviceStoreState) (output : OutputSpec O
       → TakesOrBreaks stored output r old new (event_of_line_from lines short)
       → TakesOrBreaks stored output r old new (event_of_line_from lines long)
   long_lines_alike lines short long a b given =
-      let P : Event → Type 0 = λ e. TakesOrBreaks stored output r old new e in
+      let P : InputEvent → Type 0 = λ e. TakesOrBreaks stored output r old new e in
       subst P (sym (event_of_line_from-long lines long b))
       (MatchResult-weaker r (subst P (event_of_line_from-long lines short a) given)
       (λ _ takes. takes_long short long a b takes)

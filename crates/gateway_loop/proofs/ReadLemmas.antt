@@ -46,28 +46,28 @@ empty_take n buffer within none = let e = ap length none in omega (arith, within
 
 pub reads_none : (source : SourceValue) → AllReadsSucceed source source []
 reads_none source = record {
-  bytes_read = record { all = Consumes-nil source.left; each = tt };
+  bytes_read = record { all = Consumes-nil source.unread; each = tt };
   calls_made = made_none source.counts;
   none_failed = refl;
 }
 
 pub reads_more : (old mid new : SourceValue) (reads : List (List ℕ)) (n : ℕ) (buffer : List ℕ)
     → AllReadsSucceed old mid reads
-    → n ≤ length buffer → length buffer ≡ max_read → ReadConsumes {E = Failed} mid.left new.left (Ok n) buffer
+    → n ≤ length buffer → length buffer ≡ max_read → ReadConsumes {E = Failed} mid.unread new.unread (Ok n) buffer
     → new.counts ≡ count_call {E = Failed} mid.counts (Ok n) → AllReadsSucceed old new (reads ++ take n buffer ∷ [])
 reads_more old mid new reads n buffer p within room (some, end) reported =
     let bytes = take n buffer in
-    let read : IsNextRead old.left (concat reads) bytes = record {
+    let read : IsNextRead old.unread (concat reads) bytes = record {
       short = omega (arith, room, length-take n buffer);
-      empty = λ none. all_read old.left mid.left new.left (concat reads) bytes p.bytes_read.all some none
+      empty = λ none. all_read old.unread mid.unread new.unread (concat reads) bytes p.bytes_read.all some none
           (end (empty_take n buffer within none) (omega (arith, room)));
     } in
     record {
       bytes_read = record {
         all =
-            subst (Consumes old.left new.left) (sym (concat-more reads bytes))
-            (Consumes-trans old.left mid.left new.left (concat reads) bytes p.bytes_read.all some);
-        each = reads_and old.left [] reads bytes p.bytes_read.each read;
+            subst (Consumes old.unread new.unread) (sym (concat-more reads bytes))
+            (Consumes-trans old.unread mid.unread new.unread (concat reads) bytes p.bytes_read.all some);
+        each = reads_and old.unread [] reads bytes p.bytes_read.each read;
       };
       calls_made =
           made_at old.counts new.counts (length reads + 1) _ (sym (length-append reads (bytes ∷ [])))
@@ -78,7 +78,8 @@ reads_more old mid new reads n buffer p within room (some, end) reported =
 -- one more read, of those that are allowed
 pub one_read_more : (old mid new : SourceValue) (reads : List (List ℕ)) (n turn turns : ℕ) (buffer : List ℕ)
     → AllReadsSucceed old mid reads → length reads ≡ turn → turn < turns → n ≤ length buffer → length buffer ≡ max_read
-    → ReadConsumes {E = Failed} mid.left new.left (Ok n) buffer → new.counts ≡ count_call {E = Failed} mid.counts (Ok n)
+    → ReadConsumes {E = Failed} mid.unread new.unread (Ok n) buffer
+    → new.counts ≡ count_call {E = Failed} mid.counts (Ok n)
     → MakesAtMostReads old new turns
 one_read_more old mid new reads n turn turns buffer p count below within room bytes reported = (
   reads ++ take n buffer ∷ [],
@@ -89,11 +90,11 @@ one_read_more old mid new reads n turn turns buffer p count below within room by
 )
 
 pub reads_fail : (old mid new : SourceValue) (reads : List (List ℕ)) (error : Failed) → AllReadsSucceed old mid reads
-    → Keeps mid.left new.left → new.counts ≡ count_call {E = Failed} mid.counts (Err error)
+    → Keeps mid.unread new.unread → new.counts ≡ count_call {E = Failed} mid.counts (Err error)
     → OneMoreReadFails old new reads
 reads_fail old mid new reads error p kept reported = record {
   bytes_read = record {
-    all = Consumes-kept old.left mid.left new.left (concat reads) p.bytes_read.all kept;
+    all = Consumes-kept old.unread mid.unread new.unread (concat reads) p.bytes_read.all kept;
     each = p.bytes_read.each;
   };
   calls_made = made_more old.counts mid.counts new.counts (length reads) p.calls_made (ap (λ t. t.calls) reported);

@@ -10,13 +10,13 @@ use Rattle.gateway_loop.specs.Streams.{SinkValue}
 use Rattle.gateway_loop.specs.TextOutput.{PutsText, BreaksText}
 
 pub puts_one : {A E : Type 0} (r : Result A E) (says : Answer → List ℕ) (old new : SinkValue) (answer : Answer)
-    → Writes old.held new.held r (says answer) → CallsMatchResult r old.counts new.counts
+    → Writes old.contents new.contents r (says answer) → CallsMatchResult r old.counts new.counts
     → MatchResult r (λ _. PutsText says old new (answer ∷ [])) (λ _. BreaksText says old new [] answer)
 puts_one (Ok done) says old new answer text went = record {
-  text = subst (Appends old.held new.held) (sym (append-nil (says answer))) text;
-  went = went;
+  text = subst (Appends old.contents new.contents) (sym (append-nil (says answer))) text;
+  calls = went;
 }
-puts_one (Err failed) says old new answer text went = record { text = text; went = went }
+puts_one (Err failed) says old new answer text went = record { text = text; calls = went }
 
 -- the flag stays
 pub puts_by : {V A E : Type 0} (output : Bool → OutputSpec V) (r : Result A E) (old new : Bool × V) (answer : Answer)

@@ -11,20 +11,20 @@ use Rattle.std.proofs.lemmas.List.Concat.{flat_map-append}
 use Rattle.std.proofs.lemmas.List.Elements.{All-append, All-nil}
 use Rattle.std.proofs.lemmas.List.Splits.{slice_split_none, slice_split_at, length-slice_split}
 use Rattle.learned_devices.specs.DeviceStoreState.{DeviceStoreState}
-use Rattle.gateway_core.specs.Events.{Event, Chunk, Line}
+use Rattle.gateway_core.specs.Events.{InputEvent, Chunk, Line}
 use Rattle.gateway_loop.specs.Script.{HasNoLf, with_lf}
-use Rattle.gateway_loop.specs.declared.line_loop.LineSource.TheVariants.{DeskLines}
+use Rattle.gateway_loop.specs.declared.line_splitter.LineSource.TheVariants.{DeskLines}
 use Rattle.gateway_loop.specs.declared.driver.Driver.{Driver}
-use Rattle.gateway_loop.specs.declared.line_loop.LineSplitter.{LineSplitter}
+use Rattle.gateway_loop.specs.declared.line_splitter.LineSplitter.{LineSplitter}
 use Rattle.gateway_loop.specs.OutputSpecs.{OutputSpec}
 use Rattle.gateway_loop.specs.Processing.{HasNoReadyPacket}
 use Rattle.gateway_loop.specs.LiveGateway.{BreaksAtOrder}
 use Rattle.gateway_loop.specs.private.DriverSteps.{DriverBreaks, Takes}
-use Rattle.gateway_loop.specs.private.LineLoop.{TakesBytes, StopsAtLine}
+use Rattle.gateway_loop.specs.private.LineSplitting.{TakesEndedLines, BreaksInBytes}
 use Rattle.gateway_loop.specs.private.Lines.{KeepsTruncatedLine, event_of_line_from, events_by}
 use Rattle.gateway_loop.specs.Turns.{Turn, desk_reads, lines_ended_by_lf, events_of_turns_after, events_of_turns}
 use Rattle.gateway_loop.specs.Turns.{desk_line_events, serial_reads}
-use Rattle.gateway_loop.proofs.LineLoopLemmas.{keeps_none, whole_behind}
+use Rattle.gateway_loop.proofs.LineSplitterLemmas.{keeps_none, whole_behind}
 use Rattle.gateway_loop.proofs.LineLemmas.{test_of_one_line}
 use Rattle.gateway_loop.proofs.ProcessingLemmas.{takes_none, takes-append, plays-break}
 
@@ -66,7 +66,7 @@ orders-ended (l ∷ ls) more each =
     let first : HasNoLf l = each 0 [] (omega arith) in
     let others : All HasNoLf ls = λ k d h. each (suc k) d (omega arith) in
     ap desk_line_events shape ∙ orders-first l rest first
-    ∙ ap (λ (es : List Event). event_of_line_from DeskLines (strip_carriage_return l) ∷ es)
+    ∙ ap (λ (es : List InputEvent). event_of_line_from DeskLines (strip_carriage_return l) ∷ es)
     (orders-ended ls more others)
 
 -- the orders that bytes of the desk complete after whole lines and a partial one
@@ -77,7 +77,7 @@ orders-behind : (before desk : List ℕ) (ls more : List (List ℕ)) (rest other
     ++ desk_line_events other
 orders-behind before desk ls more rest other whole each one behind others =
     let old : desk_line_events before ≡ events_by DeskLines ls =
-    ap desk_line_events whole ∙ orders-ended ls rest each ∙ ap (λ (es : List Event). events_by DeskLines ls ++ es)
+    ap desk_line_events whole ∙ orders-ended ls rest each ∙ ap (λ (es : List InputEvent). events_by DeskLines ls ++ es)
     (orders-none rest one) ∙ append-nil (events_by DeskLines ls) in
     let joined : before ++ desk ≡ flat_map with_lf ls ++ (flat_map with_lf more ++ other) =
     ap (λ s. s ++ desk) whole ∙ append_assoc (flat_map with_lf ls) rest desk
@@ -85,9 +85,9 @@ orders-behind before desk ls more rest other whole each one behind others =
     let now : desk_line_events (before ++ desk) ≡ events_by DeskLines ls ++
     (events_by DeskLines more ++ desk_line_events other) =
     ap desk_line_events joined ∙ orders-ended ls (flat_map with_lf more ++ other) each
-    ∙ ap (λ (es : List Event). events_by DeskLines ls ++ es) (orders-ended more other others) in
-    ap (λ (es : List Event). drop (length es) (desk_line_events (before ++ desk))) old
-    ∙ ap (λ (es : List Event). drop (length (events_by DeskLines ls)) es) now
+    ∙ ap (λ (es : List InputEvent). events_by DeskLines ls ++ es) (orders-ended more other others) in
+    ap (λ (es : List InputEvent). drop (length es) (desk_line_events (before ++ desk))) old
+    ∙ ap (λ (es : List InputEvent). drop (length (events_by DeskLines ls)) es) now
     ∙ drop-append_seam (events_by DeskLines ls) (events_by DeskLines more ++ desk_line_events other)
 
 -- ---- the events of one more turn
@@ -96,7 +96,7 @@ orders-behind before desk ls more rest other whole each one behind others =
 abbrev pub desk_bytes : List Turn → List ℕ
 desk_bytes turns = flat_map (λ turn. turn.desk) turns
 
-abbrev last_turn : List ℕ → Turn → List Event
+abbrev last_turn : List ℕ → Turn → List InputEvent
 last_turn before turn =
     Chunk turn.chunk ∷ drop (length (desk_line_events before)) (desk_line_events (before ++ turn.desk))
 
@@ -108,7 +108,7 @@ events_of_turns_after-more before [] turn =
 events_of_turns_after-more before (first ∷ read) turn =
     let now = before ++ first.desk in
     let own = last_turn before first in
-    ap (λ (es : List Event). own ++ es) (events_of_turns_after-more now read turn)
+    ap (λ (es : List InputEvent). own ++ es) (events_of_turns_after-more now read turn)
     ∙ sym (append_assoc own (events_of_turns_after now read) (last_turn (now ++ desk_bytes read) turn))
     ∙ ap (λ b. (own ++ events_of_turns_after now read) ++ last_turn b turn)
     (append_assoc before first.desk (desk_bytes read))
@@ -120,10 +120,11 @@ events_of_piece read chunk =
     let before = desk_bytes read in
     let none : drop (length (desk_line_events before)) (desk_line_events (before ++ [])) ≡ [] =
     ap (λ s. drop (length (desk_line_events before)) (desk_line_events s)) (append-nil before)
-    ∙ ap (λ (es : List Event). drop (length (desk_line_events before)) es) (sym (append-nil (desk_line_events before)))
+    ∙ ap (λ (es : List InputEvent). drop (length (desk_line_events before)) es)
+    (sym (append-nil (desk_line_events before)))
     ∙ drop-append_seam (desk_line_events before) [] in
     events_of_turns_after-more [] read (record { chunk = chunk; desk = [] })
-    ∙ ap (λ (es : List Event). events_of_turns read ++ Chunk chunk ∷ es) none
+    ∙ ap (λ (es : List InputEvent). events_of_turns read ++ Chunk chunk ∷ es) none
 
 desk_bytes-more : (read : List Turn) (turn : Turn) → desk_bytes (read ++ turn ∷ []) ≡ desk_bytes read ++ turn.desk
 desk_bytes-more read turn =
@@ -169,7 +170,7 @@ module _ {O S : Type 0} (stored : S → DeviceStoreState) (output : OutputSpec O
 module _ {O S : Type 0} (stored : S → DeviceStoreState) (output : OutputSpec O) (entry old : LineSplitter O S)
     (read : List Turn)
     (chunk : List ℕ) (p : TakesTurns stored output entry old read) where
-  abbrev begun : List Event
+  abbrev begun : List InputEvent
   begun = events_of_turns read ++ Chunk chunk ∷ []
 
   -- an answer to a packet of the chunk was not written completely
@@ -189,18 +190,18 @@ module _ {O S : Type 0} (stored : S → DeviceStoreState) (output : OutputSpec O
   -- `mid` is the line splitter after the chunk
   pub turn_taken : (mid new : LineSplitter O S) (desk : List ℕ)
       → Takes stored output old.driver mid.driver (Chunk chunk ∷ [])
-      → TakesBytes stored output DeskLines mid new (p.rest ++ desk)
+      → TakesEndedLines stored output DeskLines mid new (p.rest ++ desk)
       → TakesTurns stored output entry new (read ++ record { chunk = chunk; desk = desk } ∷ [])
   turn_taken mid new desk q r =
       let turn : Turn = record { chunk = chunk; desk = desk } in
       let new_packets : drop (length (desk_line_events (desk_bytes read))) (desk_line_events (desk_bytes read ++ desk))
       ≡ events_by DeskLines r.ended =
-      orders-behind (desk_bytes read) desk p.ended r.ended p.rest r.rest p.whole p.each p.keeps.one r.whole r.each
-      ∙ ap (λ (es : List Event). events_by DeskLines r.ended ++ es) (orders-none r.rest r.keeps.one)
+      orders-behind (desk_bytes read) desk p.ended r.ended p.rest r.rest p.whole p.each p.keeps.no_lf r.whole r.each
+      ∙ ap (λ (es : List InputEvent). events_by DeskLines r.ended ++ es) (orders-none r.rest r.keeps.no_lf)
       ∙ append-nil (events_by DeskLines r.ended) in
       let is : events_of_turns (read ++ turn ∷ []) ≡ begun ++ events_by DeskLines r.ended =
       events_of_turns_after-more [] read turn
-      ∙ ap (λ (es : List Event). events_of_turns read ++ Chunk chunk ∷ es) new_packets
+      ∙ ap (λ (es : List InputEvent). events_of_turns read ++ Chunk chunk ∷ es) new_packets
       ∙ sym (append_assoc (events_of_turns read) (Chunk chunk ∷ []) (events_by DeskLines r.ended)) in
       record {
         ended = p.ended ++ r.ended;
@@ -218,7 +219,7 @@ module _ {O S : Type 0} (stored : S → DeviceStoreState) (output : OutputSpec O
   -- an answer to an order was not written completely
   pub order_stops : (mid new : LineSplitter O S) (desk : List ℕ)
       → Takes stored output old.driver mid.driver (Chunk chunk ∷ [])
-      → StopsAtLine stored output DeskLines mid new (p.rest ++ desk)
+      → BreaksInBytes stored output DeskLines mid new (p.rest ++ desk)
       → BreaksAtOrder stored entry.driver.gateway.now new.driver.gateway.now
       (read ++ record { chunk = chunk; desk = desk } ∷ []) (output.breaks entry.driver.reply_sink new.driver.reply_sink)
   order_stops mid new desk q s =
@@ -227,17 +228,17 @@ module _ {O S : Type 0} (stored : S → DeviceStoreState) (output : OutputSpec O
       let done = events_by DeskLines s.ended in
       let new_packets : drop (length (desk_line_events (desk_bytes read))) (desk_line_events (desk_bytes read ++ desk))
       ≡ done ++ event ∷ later =
-      orders-behind (desk_bytes read) desk p.ended s.ended p.rest (s.line ++ 10 ∷ s.more) p.whole p.each p.keeps.one
-      s.whole s.each ∙ ap (λ (es : List Event). done ++ es) (orders-first s.line s.more s.one) in
+      orders-behind (desk_bytes read) desk p.ended s.ended p.rest (s.line ++ 10 ∷ s.more) p.whole p.each p.keeps.no_lf
+      s.whole s.each ∙ ap (λ (es : List InputEvent). done ++ es) (orders-first s.line s.more s.no_lf) in
       record {
-        before = read;
+        earlier_turns = read;
         last = record { chunk = chunk; desk = desk };
         is_last = refl;
-        done = done;
+        earlier_events = done;
         order = event;
-        later = later;
+        later_events = later;
         whole = events_of_turns_after-more [] read (record { chunk = chunk; desk = desk })
-            ∙ ap (λ (es : List Event). events_of_turns read ++ Chunk chunk ∷ es) new_packets
+            ∙ ap (λ (es : List InputEvent). events_of_turns read ++ Chunk chunk ∷ es) new_packets
             ∙ sym (append_assoc (events_of_turns read) (Chunk chunk ∷ []) (done ++ event ∷ later))
             ∙ sym (append_assoc begun done (event ∷ later));
         broken =

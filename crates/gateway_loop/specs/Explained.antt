@@ -17,11 +17,11 @@ DifferByExplanations before (answer ∷ answers) plain explained =
 -- The same for what was written after what a sink held.
 pub record DifferByExplanationsAfter (before : Answer → List ℕ) (answers : List Answer) (held plain explained : List ℕ)
     : Type 0 where
-  pub added : List ℕ
-  pub more : List ℕ
-  pub plain_is : plain ≡ held ++ added
-  pub explained_is : explained ≡ held ++ more
-  pub lines : DifferByExplanations before answers added more
+  pub plain_added : List ℕ
+  pub explained_added : List ℕ
+  pub plain_is : plain ≡ held ++ plain_added
+  pub explained_is : explained ≡ held ++ explained_added
+  pub differ : DifferByExplanations before answers plain_added explained_added
 
 -- theorem `explanations_stand_apart`: explaining adds the lines that explain packets, each directly before the text for
 -- the desk, and changes nothing else in what a replay writes, or a live gateway to the desk and to the serial line
@@ -32,8 +32,8 @@ pub record ExplanationsStandApart : Type 0 where
       → DifferByExplanationsAfter (λ answer. radio_chunk_line answer.radio) answers held plain explained
   pub desk : (answers : List Answer) (old new other : SinkValue × SinkValue) (held plain explained : List ℕ)
       → (live_output false).puts old new answers → (live_output true).puts old other answers
-      → old.1.held ≡ Some held → new.1.held ≡ Some plain → other.1.held ≡ Some explained
+      → old.1.contents ≡ Some held → new.1.contents ≡ Some plain → other.1.contents ≡ Some explained
       → DifferByExplanationsAfter (λ answer. []) answers held plain explained
   pub serial : (answers : List Answer) (old new other : SinkValue × SinkValue) (held plain explained : List ℕ)
       → (live_output false).puts old new answers → (live_output true).puts old other answers
-      → old.0.held ≡ Some held → new.0.held ≡ Some plain → other.0.held ≡ Some explained → plain ≡ explained
+      → old.0.contents ≡ Some held → new.0.contents ≡ Some plain → other.0.contents ≡ Some explained → plain ≡ explained

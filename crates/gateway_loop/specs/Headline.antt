@@ -13,8 +13,8 @@ use Rattle.gateway_core.specs.Calls.{GatewayValue, new_gateway_value}
 use Rattle.gateway_core.specs.Events.{inputs_of}
 use Rattle.byte_io.specs.declared.sink.Sink as sinks
 use Rattle.byte_io.specs.declared.source.Source as sources
-use Rattle.gateway_loop.specs.declared.runs.RunFault.{RunFault}
-use Rattle.gateway_loop.specs.declared.runs.Summary.{Summary}
+use Rattle.gateway_loop.specs.declared.run_result.RunFault.{RunFault}
+use Rattle.gateway_loop.specs.declared.run_result.Summary.{Summary}
 use Rattle.gateway_loop.specs.Reads.{AllReadsSucceed}
 use Rattle.gateway_loop.specs.Script.{script}
 use Rattle.gateway_loop.specs.Streams.{source_value}
@@ -46,7 +46,7 @@ module _ {S : Type 0} (stored : S → DeviceStoreState) where
   pub record IsNew (base : ℕ) (found : Devices) (gateway : GatewayValue S) : Type 0 where
     pub value : gateway ≡ new_gateway_value base gateway.handler.registry
     pub holds_found : (stored gateway.handler.registry).holds found
-    pub recoverable : (stored gateway.handler.registry).sound
+    pub reopenable : (stored gateway.handler.registry).reopenable
     pub crash_leaves_found : (left : Devices) → (stored gateway.handler.registry).may_recover left → left ≡ found
 
   -- From the devices found, the inputs were handled one by one. Each took the step of the definitions, or failed. Only
@@ -63,7 +63,7 @@ module _ {S : Type 0} (stored : S → DeviceStoreState) where
     pub run : Run (initial_state base found) inputs results answers last
     pub are_out : out answers
     pub has_last_state : HasState stored new last
-    pub recoverable : (stored new.registry).sound
+    pub reopenable : (stored new.registry).reopenable
     pub crash_leaves_prefix : (left : Devices) → (stored new.registry).may_recover left
         → AfterPrefix (initial_state base found) inputs results left
 
@@ -113,19 +113,20 @@ module _ {S : Type 0} (stored : S → DeviceStoreState) where
     pub read : ReadInTurns turns serial serial_unread desk desk_unread
     pub serial_left : serial_in.left new.1 ≡ Some serial_unread
     pub desk_left : desk_in.left new.2 ≡ Some desk_unread
-    pub radio : List ℕ
-    pub lines : List ℕ
-    pub radio_held : serial_out.held new.3 ≡ Some (sent ++ radio)
-    pub lines_held : desk_out.held new.4 ≡ Some (printed ++ lines)
+    pub radio_written : List ℕ
+    pub desk_written : List ℕ
+    pub radio_is_appended : serial_out.held new.3 ≡ Some (sent ++ radio_written)
+    pub desk_is_appended : desk_out.held new.4 ≡ Some (printed ++ desk_written)
     pub specified : MatchResult result
         (λ _. (length turns ≡ count)
         × AllReadsSucceed (source_value serial_in old.1) (source_value serial_in new.1) (serial_reads turns)
         × AllReadsSucceed (source_value desk_in old.2) (source_value desk_in new.2) (desk_reads turns)
         × AsSpecified base found (inputs_of [] (events_of_turns turns))
-        (λ answers. (radio ≡ all_radio_bytes answers) × (lines ≡ all_desk_text explains answers)) new.0.handler)
+        (λ answers. (radio_written ≡ all_radio_bytes answers) × (desk_written ≡ all_desk_text explains answers))
+        new.0.handler)
         (λ _. BrokenOff base found (inputs_of [] (events_of_turns turns))
-        (λ answers. IsPrefix radio (all_radio_bytes answers)
-        × IsPrefix lines (all_desk_text explains answers)) new.0.handler)
+        (λ answers. IsPrefix radio_written (all_radio_bytes answers)
+        × IsPrefix desk_written (all_desk_text explains answers)) new.0.handler)
 
   abbrev pub ServesAsSpecified : {P Q R D : Type 0} → sources.Ghosts P → sources.Ghosts Q → sinks.Ghosts R
       → sinks.Ghosts D → (explains : Bool) → Result Summary RunFault

@@ -4,13 +4,13 @@ use Rattle.std.specs.Prelude.{Option, None, Some, Result, IsOk}
 use Rattle.learned_devices.specs.DeviceStoreState.{DeviceStoreState}
 use Rattle.gateway_core.specs.Step.{Answer}
 use Rattle.gateway_core.specs.Calls.{GatewayValue}
-use Rattle.gateway_core.specs.Events.{Event, Chunk, inputs_of}
-use Rattle.byte_io.specs.Counts.{HasCountRoom, NoneFailed, NoneFailedOrEmpty}
+use Rattle.gateway_core.specs.Events.{InputEvent, Chunk, inputs_of}
+use Rattle.byte_io.specs.Counts.{CanCountCalls, NoneFailed, NoneFailedOrEmpty}
 use Rattle.byte_io.specs.declared.sink.Sink as sinks
 use Rattle.byte_io.specs.declared.source.Source as sources
-use Rattle.gateway_loop.specs.declared.runs.RunFault.{RunFault}
-use Rattle.gateway_loop.specs.declared.runs.RunFault.TheVariants.{Read, Write, TooManyTurns}
-use Rattle.gateway_loop.specs.declared.runs.Summary.{Summary}
+use Rattle.gateway_loop.specs.declared.run_result.RunFault.{RunFault}
+use Rattle.gateway_loop.specs.declared.run_result.RunFault.TheVariants.{Read, Write, TooManyTurns}
+use Rattle.gateway_loop.specs.declared.run_result.Summary.{Summary}
 use Rattle.gateway_loop.specs.Processing.{Breaks, Processes}
 use Rattle.gateway_loop.specs.Reads.{OneMoreReadFails, AllReadsSucceed}
 use Rattle.gateway_loop.specs.Streams.{SinkValue, SourceValue, sink_value, source_value}
@@ -38,7 +38,7 @@ abbrev pub serial_reads_and_chunk : List Turn → Option (List ℕ) → List (Li
 serial_reads_and_chunk turns None = serial_reads turns
 serial_reads_and_chunk turns (Some chunk) = serial_reads turns ++ chunk ∷ []
 
-abbrev pub events_and_chunk : List Turn → Option (List ℕ) → List Event
+abbrev pub events_and_chunk : List Turn → Option (List ℕ) → List InputEvent
 events_and_chunk turns None = events_of_turns turns
 events_and_chunk turns (Some chunk) = events_of_turns turns ++ Chunk chunk ∷ []
 
@@ -55,7 +55,8 @@ module _ {S : Type 0} (old new : LiveValue S) where
   pub record AllSucceeded (turns : ℕ) : Type 0 where
     pub serial_reads_made : new.serial.counts.calls ≡ old.serial.counts.calls + turns
     pub desk_reads_made : new.desk.counts.calls ≡ old.desk.counts.calls + turns
-    pub serial_writes_succeeded : NoneFailedOrEmpty old.serial_and_desk_sinks.0.counts new.serial_and_desk_sinks.0.counts
+    pub serial_writes_succeeded : NoneFailedOrEmpty old.serial_and_desk_sinks.0.counts
+        new.serial_and_desk_sinks.0.counts
     pub desk_writes_succeeded : NoneFailedOrEmpty old.serial_and_desk_sinks.1.counts new.serial_and_desk_sinks.1.counts
     pub no_serial_read_failed : NoneFailed old.serial.counts new.serial.counts
     pub no_desk_read_failed : NoneFailed old.desk.counts new.desk.counts
@@ -63,23 +64,24 @@ module _ {S : Type 0} (old new : LiveValue S) where
 -- the counters can count this many more reads of both sources, and, for all four, one more call that fails and one more
 -- that returns 0 bytes
 pub record CanCountTurns {S : Type 0} (now : LiveValue S) (turns : ℕ) : Type 0 where
-  pub serial_in : HasCountRoom now.serial.counts turns
-  pub desk_in : HasCountRoom now.desk.counts turns
-  pub serial_out : HasCountRoom now.serial_and_desk_sinks.0.counts 0
-  pub desk_out : HasCountRoom now.serial_and_desk_sinks.1.counts 0
+  pub serial_in : CanCountCalls now.serial.counts turns
+  pub desk_in : CanCountCalls now.desk.counts turns
+  pub serial_out : CanCountCalls now.serial_and_desk_sinks.0.counts 0
+  pub desk_out : CanCountCalls now.serial_and_desk_sinks.1.counts 0
 
 module _ {S : Type 0} (stored : S → DeviceStoreState) where
   -- an answer to an order of the last turn was not written completely
   pub record BreaksAtOrder (old new : GatewayValue S) (turns : List Turn) (breaks : List Answer → Answer → Type 0)
       : Type 0 where
-    pub before : List Turn
+    pub earlier_turns : List Turn
     pub last : Turn
-    pub is_last : turns ≡ before ++ last ∷ []
-    pub done : List Event
-    pub order : Event
-    pub later : List Event
-    pub whole : events_of_turns turns ≡ (events_and_chunk before (Some last.chunk) ++ done) ++ order ∷ later
-    pub broken : Breaks stored old new (events_and_chunk before (Some last.chunk) ++ done) order breaks
+    pub is_last : turns ≡ earlier_turns ++ last ∷ []
+    pub earlier_events : List InputEvent
+    pub order : InputEvent
+    pub later_events : List InputEvent
+    pub whole : events_of_turns turns ≡ (events_and_chunk earlier_turns (Some last.chunk) ++ earlier_events)
+        ++ order ∷ later_events
+    pub broken : Breaks stored old new (events_and_chunk earlier_turns (Some last.chunk) ++ earlier_events) order breaks
 
   -- An answer was not written completely: to a packet of the chunk after the turns, or otherwise to an order of the
   -- last turn.
@@ -102,7 +104,7 @@ module _ {S T : Type 0} (stored : S → DeviceStoreState) (at : T → LiveValue 
     pub counted : summary.items ≡ min (length (inputs_of (at old).gateway.rest (events_of_turns read))) (2 ^ 64 - 1)
 
   -- a read failed, and everything read before it was handled and answered
-  pub record ServesUntilRead (old new : T) : Type 0 where
+  pub record ServesUntilReadFails (old new : T) : Type 0 where
     pub read : List Turn
     pub chunk : Option (List ℕ)
     pub fails : NextReadFails (at old) (at new) read chunk
@@ -110,7 +112,7 @@ module _ {S T : Type 0} (stored : S → DeviceStoreState) (at : T → LiveValue 
         ((live_output explains).puts (at old).serial_and_desk_sinks (at new).serial_and_desk_sinks)
 
   -- no read failed, and an answer was not written completely
-  pub record ServesUntilWrite (old new : T) : Type 0 where
+  pub record ServesUntilWriteFails (old new : T) : Type 0 where
     pub read : List Turn
     pub chunk : Option (List ℕ)
     pub serial : AllReadsSucceed (at old).serial (at new).serial (serial_reads_and_chunk read chunk)
@@ -119,10 +121,10 @@ module _ {S T : Type 0} (stored : S → DeviceStoreState) (at : T → LiveValue 
         ((live_output explains).breaks (at old).serial_and_desk_sinks (at new).serial_and_desk_sinks)
 
   -- what was done before a fault; `TooManyTurns` is never returned
-  abbrev pub ServesUntil : (old new : T) → RunFault → Type 0
-  ServesUntil old new Read = ServesUntilRead old new
-  ServesUntil old new Write = ServesUntilWrite old new
-  ServesUntil old new TooManyTurns = ⊥
+  abbrev pub ServesUntilFault : (old new : T) → RunFault → Type 0
+  ServesUntilFault old new Read = ServesUntilReadFails old new
+  ServesUntilFault old new Write = ServesUntilWriteFails old new
+  ServesUntilFault old new TooManyTurns = ⊥
 
 module _ {S T : Type 0} (at : T → LiveValue S) where
   -- if the calls can be counted, `Ok` is returned exactly when all turns were made and all calls succeeded

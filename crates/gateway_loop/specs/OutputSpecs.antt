@@ -10,9 +10,9 @@ pub record OutputSpec (O : Type 0) : Type 1 where
   pub puts : (old new : O) (answers : List Answer) → Type 0
   pub breaks : (old new : O) (complete : List Answer) (cut : Answer) → Type 0
   pub puts_nothing : (old : O) → puts old old []
-  pub more : (old mid new : O) (first second : List Answer) → puts old mid first → puts mid new second
+  pub puts_join : (old mid new : O) (first second : List Answer) → puts old mid first → puts mid new second
       → puts old new (first ++ second)
-  pub broken : (old mid new : O) (first second : List Answer) (last : Answer) → puts old mid first
+  pub breaks_join : (old mid new : O) (first second : List Answer) (last : Answer) → puts old mid first
       → breaks mid new second last → breaks old new (first ++ second) last
 
 -- one answer was written, or at most a part of it
@@ -26,8 +26,8 @@ output_by_view view output = record {
   puts = λ old new. output.puts (view old) (view new);
   breaks = λ old new. output.breaks (view old) (view new);
   puts_nothing = λ old. output.puts_nothing (view old);
-  more = λ old mid new. output.more (view old) (view mid) (view new);
-  broken = λ old mid new. output.broken (view old) (view mid) (view new);
+  puts_join = λ old mid new. output.puts_join (view old) (view mid) (view new);
+  breaks_join = λ old mid new. output.breaks_join (view old) (view mid) (view new);
 }
 
 -- An output has a constant flag: it determines which of two outputs the answers go to.
@@ -38,19 +38,21 @@ module _ {V : Type 0} (output : Bool → OutputSpec V) where
   abbrev pub BreaksByFlag : (old new : Bool × V) → List Answer → Answer → Type 0
   BreaksByFlag old new answers last = (new.0 ≡ old.0) × (output old.0).breaks old.1 new.1 answers last
 
-  pub more_by_flag : (old mid new : Bool × V) (first second : List Answer) → PutsByFlag old mid first
+  pub puts_join_by_flag : (old mid new : Bool × V) (first second : List Answer) → PutsByFlag old mid first
       → PutsByFlag mid new second
       → PutsByFlag old new (first ++ second)
-  more_by_flag old mid new first second (same, a) (still, b) = (
+  puts_join_by_flag old mid new first second (same, a) (still, b) = (
     still ∙ same,
-    (output old.0).more old.1 mid.1 new.1 first second a (subst (λ flag. (output flag).puts mid.1 new.1 second) same b),
+    (output old.0).puts_join old.1 mid.1 new.1 first second a
+        (subst (λ flag. (output flag).puts mid.1 new.1 second) same b),
   )
 
-  pub broken_by_flag : (old mid new : Bool × V) (first second : List Answer) (last : Answer) → PutsByFlag old mid first
+  pub breaks_join_by_flag : (old mid new : Bool × V) (first second : List Answer) (last : Answer)
+      → PutsByFlag old mid first
       → BreaksByFlag mid new second last → BreaksByFlag old new (first ++ second) last
-  broken_by_flag old mid new first second last (same, a) (still, b) = (
+  breaks_join_by_flag old mid new first second last (same, a) (still, b) = (
     still ∙ same,
-    (output old.0).broken old.1 mid.1 new.1 first second last a
+    (output old.0).breaks_join old.1 mid.1 new.1 first second last a
         (subst (λ flag. (output flag).breaks mid.1 new.1 second last) same b),
   )
 
@@ -59,8 +61,8 @@ module _ {V : Type 0} (output : Bool → OutputSpec V) where
     puts = PutsByFlag;
     breaks = BreaksByFlag;
     puts_nothing = λ old. (refl, (output old.0).puts_nothing old.1);
-    more = more_by_flag;
-    broken = broken_by_flag;
+    puts_join = puts_join_by_flag;
+    breaks_join = breaks_join_by_flag;
   }
 
 -- Each answer goes to two outputs, to the second after the first.
@@ -75,16 +77,16 @@ module _ {A B : Type 0} (one : OutputSpec A) (other : OutputSpec B) where
       (one.breaks old.0 new.0 answers last × other.puts old.1 new.1 answers)
       ⊎ (one.puts old.0 new.0 (answers ++ last ∷ []) × other.breaks old.1 new.1 answers last)
 
-  pub pair_broken : (old mid new : A × B) (first second : List Answer) (last : Answer) → PutsBoth old mid first
+  pub breaks_join_in_pair : (old mid new : A × B) (first second : List Answer) (last : Answer) → PutsBoth old mid first
       → BreaksInPair mid new second last → BreaksInPair old new (first ++ second) last
-  pair_broken old mid new first second last a (inl b) = inl (
-    one.broken old.0 mid.0 new.0 first second last a.0 b.0,
-    other.more old.1 mid.1 new.1 first second a.1 b.1,
+  breaks_join_in_pair old mid new first second last a (inl b) = inl (
+    one.breaks_join old.0 mid.0 new.0 first second last a.0 b.0,
+    other.puts_join old.1 mid.1 new.1 first second a.1 b.1,
   )
-  pair_broken old mid new first second last a (inr b) = inr (
+  breaks_join_in_pair old mid new first second last a (inr b) = inr (
     subst (one.puts old.0 new.0) (sym (append_assoc first second (last ∷ [])))
-        (one.more old.0 mid.0 new.0 first (second ++ last ∷ []) a.0 b.0),
-    other.broken old.1 mid.1 new.1 first second last a.1 b.1,
+        (one.puts_join old.0 mid.0 new.0 first (second ++ last ∷ []) a.0 b.0),
+    other.breaks_join old.1 mid.1 new.1 first second last a.1 b.1,
   )
 
   abbrev pub paired_output : OutputSpec (A × B)
@@ -92,9 +94,9 @@ module _ {A B : Type 0} (one : OutputSpec A) (other : OutputSpec B) where
     puts = PutsBoth;
     breaks = BreaksInPair;
     puts_nothing = λ old. (one.puts_nothing old.0, other.puts_nothing old.1);
-    more = λ old mid new first second a b. (
-      one.more old.0 mid.0 new.0 first second a.0 b.0,
-      other.more old.1 mid.1 new.1 first second a.1 b.1,
+    puts_join = λ old mid new first second a b. (
+      one.puts_join old.0 mid.0 new.0 first second a.0 b.0,
+      other.puts_join old.1 mid.1 new.1 first second a.1 b.1,
     );
-    broken = pair_broken;
+    breaks_join = breaks_join_in_pair;
   }

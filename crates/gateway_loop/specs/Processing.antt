@@ -6,7 +6,7 @@ use Rattle.esp3_frames.specs.PacketsAndRest.{rest_of}
 use Rattle.gateway_core.specs.Step.{Input, Received, Answer}
 use Rattle.gateway_core.specs.Handling.{HandlerValue, Handles}
 use Rattle.gateway_core.specs.Calls.{GatewayValue}
-use Rattle.gateway_core.specs.Events.{Event, Chunk, Line, inputs_of, bytes_in}
+use Rattle.gateway_core.specs.Events.{InputEvent, Chunk, Line, inputs_of, bytes_in}
 use Rattle.gateway_loop.specs.Script.{HasPartToLastLf, script, with_lf}
 
 -- no packet is ready, and the rest may become one
@@ -15,7 +15,7 @@ pub record HasNoReadyPacket {S : Type 0} (gateway : GatewayValue S) : Type 0 whe
   pub rest : MayBecomePacket gateway.rest
 
 -- a line, or a prefix of a chunk
-abbrev pub IsWholeOrChunkPrefix : (event other : Event) → Type 0
+abbrev pub IsWholeOrChunkPrefix : (event other : InputEvent) → Type 0
 IsWholeOrChunkPrefix (Chunk bytes) (Chunk some) = (more : List ℕ) × (bytes ≡ some ++ more)
 IsWholeOrChunkPrefix (Line line) (Line other) = other ≡ line
 IsWholeOrChunkPrefix event other = ⊥
@@ -23,7 +23,7 @@ IsWholeOrChunkPrefix event other = ⊥
 -- Below, `puts` says that exactly these answers were written, and `breaks` that they were, and one more incompletely.
 module _ {S : Type 0} (stored : S → DeviceStoreState) where
   -- the inputs were handled, and their answers written
-  pub record Answers (old new : HandlerValue S) (inputs : List Input) (puts : List Answer → Type 0) : Type 0 where
+  pub record AnswersInputs (old new : HandlerValue S) (inputs : List Input) (puts : List Answer → Type 0) : Type 0 where
     pub answers : List Answer
     pub handled : Handles stored old inputs answers new
     pub out : puts answers
@@ -38,28 +38,30 @@ module _ {S : Type 0} (stored : S → DeviceStoreState) where
     pub out : breaks answers last
 
   -- exactly the events' inputs were handled and answered
-  pub record Processes (old new : GatewayValue S) (events : List Event) (puts : List Answer → Type 0) : Type 0 where
-    pub answered : Answers old.handler new.handler (inputs_of old.rest events) puts
+  pub record Processes (old new : GatewayValue S) (events : List InputEvent)
+      (puts : List Answer → Type 0) : Type 0 where
+    pub answered : AnswersInputs old.handler new.handler (inputs_of old.rest events) puts
     pub rest : new.rest ≡ rest_of (old.rest ++ bytes_in events)
     pub idle : HasNoReadyPacket new
 
   -- after these events, one event was begun, and an answer to one of its inputs was not written completely: the inputs
   -- so far were handled, and the packets that the event's bytes completed after them are ready
-  pub record Breaks (old new : GatewayValue S) (events : List Event) (event : Event)
+  pub record Breaks (old new : GatewayValue S) (events : List InputEvent) (event : InputEvent)
       (breaks : List Answer → Answer → Type 0)
       : Type 0 where
-    pub begun_event : Event
+    pub begun_event : InputEvent
     pub begun_is_prefix : IsWholeOrChunkPrefix event begun_event
     pub inputs : List Input
-    pub begun_inputs : List Input
-    pub inputs_are : inputs ≡ inputs_of old.rest events ++ begun_inputs
-    pub not_empty : 0 < length begun_inputs
+    pub handled_of_begun_event : List Input
+    pub inputs_are : inputs ≡ inputs_of old.rest events ++ handled_of_begun_event
+    pub not_empty : 0 < length handled_of_begun_event
     pub ready_packets_are : inputs_of old.rest (events ++ begun_event ∷ []) ≡ inputs ++ map Received new.ready
     pub rest : new.rest ≡ rest_of (old.rest ++ bytes_in (events ++ begun_event ∷ []))
     pub answered : LastAnswerCutShort old.handler new.handler inputs breaks
 
   -- the lines that LF ends in what was read were processed
-  pub record ProcessesEnded (old new : GatewayValue S) (input : List ℕ) (puts : List Answer → Type 0) : Type 0 where
+  pub record ProcessesEndedLines (old new : GatewayValue S) (input : List ℕ)
+      (puts : List Answer → Type 0) : Type 0 where
     pub ended : List ℕ
     pub is : HasPartToLastLf input ended
     pub processed : Processes old new (script ended) puts
@@ -70,15 +72,16 @@ module _ {S : Type 0} (stored : S → DeviceStoreState) where
     pub part : List ℕ
     pub more : List ℕ
     pub whole : input ≡ with_lf part ++ more
-    pub events : List Event
-    pub event : Event
+    pub events : List InputEvent
+    pub event : InputEvent
     pub is : script (with_lf part) ≡ events ++ event ∷ []
     pub broken : Breaks old new events event breaks
 
   -- an answer was not written completely, at the last of these events
-  pub record BreaksAtLastEvent (old new : GatewayValue S) (all : List Event) (breaks : List Answer → Answer → Type 0)
+  pub record BreaksAtLastEvent (old new : GatewayValue S) (all : List InputEvent)
+      (breaks : List Answer → Answer → Type 0)
       : Type 0 where
-    pub events : List Event
-    pub event : Event
+    pub events : List InputEvent
+    pub event : InputEvent
     pub whole : all ≡ events ++ event ∷ []
     pub broken : Breaks old new events event breaks

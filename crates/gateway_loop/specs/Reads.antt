@@ -2,7 +2,7 @@
 use Rattle.std.specs.Prelude.{◌≡◌, ◌≤◌, ◌+◌, ◌⊎◌, ⊤, IfSome, Option, ℕ, List, [], ◌∷◌, ◌++◌, length}
 use Rattle.std.specs.Io.KnownBytes.{Consumes}
 use Rattle.std.specs.List.{concat}
-use Rattle.byte_io.specs.Counts.{CallsMade, NoneFailed, FailedOnceMore}
+use Rattle.byte_io.specs.Counts.{CallsMade, NoneFailed, OneMoreFailed}
 use Rattle.byte_io.specs.ReadLimit.{max_read}
 use Rattle.gateway_loop.specs.Streams.{SourceValue}
 
@@ -19,8 +19,8 @@ AreReads left before (bytes ∷ more) = IsNextRead left before bytes × AreReads
 
 -- each of these is a read, and together they returned exactly what the source lost
 pub record GivesBytes (old new : SourceValue) (reads : List (List ℕ)) : Type 0 where
-  pub all : Consumes old.left new.left (concat reads)
-  pub each : AreReads old.left [] reads
+  pub all : Consumes old.unread new.unread (concat reads)
+  pub each : AreReads old.unread [] reads
 
 -- exactly this many reads were made, none failed, and they returned these bytes, split in some way
 pub record AllReadsSucceed (old new : SourceValue) (reads : List (List ℕ)) : Type 0 where
@@ -32,7 +32,7 @@ pub record AllReadsSucceed (old new : SourceValue) (reads : List (List ℕ)) : T
 pub record OneMoreReadFails (old new : SourceValue) (reads : List (List ℕ)) : Type 0 where
   pub bytes_read : GivesBytes old new reads
   pub calls_made : CallsMade old.counts new.counts (length reads + 1)
-  pub failed : FailedOnceMore old.counts new.counts
+  pub failed : OneMoreFailed old.counts new.counts
 
 -- at most this many reads were made; perhaps one failed, and returned nothing
 abbrev pub MakesAtMostReads : (old new : SourceValue) (most : ℕ) → Type 0

@@ -7,22 +7,22 @@ use Rattle.std.specs.Str.Lines.{lines}
 use Rattle.hex.specs.Hex.{decode_of}
 use Rattle.hex.specs.declared.error.FromHexError.{FromHexError}
 use Rattle.actuator_commands.specs.Limits.{max_line}
-use Rattle.gateway_core.specs.Events.{Event, Chunk, Line}
+use Rattle.gateway_core.specs.Events.{InputEvent, Chunk, Line}
 
 -- the bytes that the digits of a line spell, or otherwise the line
-abbrev pub chunk_if_decoded : (line : List ℕ) → Result (List ℕ) FromHexError → Event
+abbrev pub chunk_if_decoded : (line : List ℕ) → Result (List ℕ) FromHexError → InputEvent
 chunk_if_decoded line (Ok bytes) = Chunk bytes
 chunk_if_decoded line (Err fault) = Line line
 
 -- `S`, one space and an even number of hexadecimal digits are a serial chunk, unless the line is too long
-abbrev pub event_of_script_line : (line : List ℕ) → Event
+abbrev pub event_of_script_line : (line : List ℕ) → InputEvent
 event_of_script_line line =
     if nat_le (length line) max_line && starts_with nat_eq line (codes "S ") then chunk_if_decoded line
     (decode_of (drop 2 line))
     else Line line
 
 -- a line ends with LF, or CR LF, or the end of the script
-abbrev pub script : (input : List ℕ) → List Event
+abbrev pub script : (input : List ℕ) → List InputEvent
 script input = map event_of_script_line (lines input)
 
 -- it contains no LF
@@ -38,4 +38,4 @@ pub record HasPartToLastLf (input ended : List ℕ) : Type 0 where
   pub tail : List ℕ
   pub whole : input ≡ ended ++ tail
   pub ends : (ended ≡ []) ⊎ ((front : List ℕ) × (ended ≡ with_lf front))
-  pub one : HasNoLf tail
+  pub no_lf : HasNoLf tail

@@ -4,13 +4,13 @@ use Rattle.std.specs.Io.KnownBytes.{Consumes, IsAtEnd}
 use Rattle.learned_devices.specs.DeviceStoreState.{DeviceStoreState}
 use Rattle.gateway_core.specs.Calls.{GatewayValue}
 use Rattle.gateway_core.specs.Events.{inputs_of}
-use Rattle.byte_io.specs.Counts.{HasCountRoom, OnlyEmptyOnce, NoneFailedOrEmpty}
+use Rattle.byte_io.specs.Counts.{CanCountCalls, OneEmptyNoneFailed, NoneFailedOrEmpty}
 use Rattle.byte_io.specs.declared.sink.Sink as sinks
 use Rattle.byte_io.specs.declared.source.Source as sources
-use Rattle.gateway_loop.specs.declared.runs.RunFault.{RunFault}
-use Rattle.gateway_loop.specs.declared.runs.RunFault.TheVariants.{Read, Write, TooManyTurns}
-use Rattle.gateway_loop.specs.declared.runs.Summary.{Summary}
-use Rattle.gateway_loop.specs.Processing.{Processes, ProcessesEnded, BreaksAtLastEvent, BreaksAtEndedLine}
+use Rattle.gateway_loop.specs.declared.run_result.RunFault.{RunFault}
+use Rattle.gateway_loop.specs.declared.run_result.RunFault.TheVariants.{Read, Write, TooManyTurns}
+use Rattle.gateway_loop.specs.declared.run_result.Summary.{Summary}
+use Rattle.gateway_loop.specs.Processing.{Processes, ProcessesEndedLines, BreaksAtLastEvent, BreaksAtEndedLine}
 use Rattle.gateway_loop.specs.Script.{script}
 use Rattle.gateway_loop.specs.Streams.{SinkValue, SourceValue, sink_value, source_value}
 use Rattle.gateway_loop.specs.Written.{AppendsReplayText, AppendsCutReplayText}
@@ -31,50 +31,50 @@ module _ {S T : Type 0} (stored : S → DeviceStoreState) (at : T → ReplayValu
   -- answers was written
   pub record Replays (old new : T) (summary : Summary) : Type 0 where
     pub input : List ℕ
-    pub read : Consumes (at old).source.left (at new).source.left input
-    pub at_end : IsAtEnd (at new).source.left
+    pub read : Consumes (at old).source.unread (at new).source.unread input
+    pub at_end : IsAtEnd (at new).source.unread
     pub processed : Processes stored (at old).gateway (at new).gateway (script input)
-        (AppendsReplayText explains (at old).sink.held (at new).sink.held)
+        (AppendsReplayText explains (at old).sink.contents (at new).sink.contents)
     pub counted : summary.items ≡ min (length (inputs_of (at old).gateway.rest (script input))) (2 ^ 64 - 1)
 
   -- the lines that LF ends in what was read were replayed
-  pub record ReplaysEnded (old new : T) : Type 0 where
+  pub record ReplaysEndedLines (old new : T) : Type 0 where
     pub input : List ℕ
-    pub read : Consumes (at old).source.left (at new).source.left input
-    pub processed : ProcessesEnded stored (at old).gateway (at new).gateway input
-        (AppendsReplayText explains (at old).sink.held (at new).sink.held)
+    pub read : Consumes (at old).source.unread (at new).source.unread input
+    pub processed : ProcessesEndedLines stored (at old).gateway (at new).gateway input
+        (AppendsReplayText explains (at old).sink.contents (at new).sink.contents)
 
   -- a write failed at a line that LF ends in what was read, and all reads returned something
   pub record BreaksAtLine (old new : T) (input : List ℕ) : Type 0 where
     pub reads : NoneFailedOrEmpty (at old).source.counts (at new).source.counts
     pub broken : BreaksAtEndedLine stored (at old).gateway (at new).gateway input
-        (AppendsCutReplayText explains (at old).sink.held (at new).sink.held)
+        (AppendsCutReplayText explains (at old).sink.contents (at new).sink.contents)
 
   -- a write failed at the last event of the script, and one read returned nothing
-  pub record BreaksAtEnd (old new : T) (input : List ℕ) : Type 0 where
-    pub reads : OnlyEmptyOnce (at old).source.counts (at new).source.counts
-    pub at_end : IsAtEnd (at new).source.left
+  pub record BreaksAtEndOfScript (old new : T) (input : List ℕ) : Type 0 where
+    pub reads : OneEmptyNoneFailed (at old).source.counts (at new).source.counts
+    pub at_end : IsAtEnd (at new).source.unread
     pub broken : BreaksAtLastEvent stored (at old).gateway (at new).gateway (script input)
-        (AppendsCutReplayText explains (at old).sink.held (at new).sink.held)
+        (AppendsCutReplayText explains (at old).sink.contents (at new).sink.contents)
 
   -- a write failed
-  pub record ReplaysUntilWrite (old new : T) : Type 0 where
+  pub record ReplaysUntilWriteFails (old new : T) : Type 0 where
     pub input : List ℕ
-    pub read : Consumes (at old).source.left (at new).source.left input
-    pub broken : BreaksAtLine old new input ⊎ BreaksAtEnd old new input
+    pub read : Consumes (at old).source.unread (at new).source.unread input
+    pub broken : BreaksAtLine old new input ⊎ BreaksAtEndOfScript old new input
 
   -- what was done before a fault
-  abbrev pub ReplaysUntil : (old new : T) → RunFault → Type 0
-  ReplaysUntil old new Read = ReplaysEnded old new
-  ReplaysUntil old new Write = ReplaysUntilWrite old new
-  ReplaysUntil old new TooManyTurns = ReplaysEnded old new
+  abbrev pub ReplaysUntilFault : (old new : T) → RunFault → Type 0
+  ReplaysUntilFault old new Read = ReplaysEndedLines old new
+  ReplaysUntilFault old new Write = ReplaysUntilWriteFails old new
+  ReplaysUntilFault old new TooManyTurns = ReplaysEndedLines old new
 
 module _ {S T : Type 0} (at : T → ReplayValue S) where
   -- If the calls can be counted, `TooManyTurns` is returned exactly when this many reads were made and all calls
   -- succeeded.
   abbrev pub FailsIffTooManyTurns : {A : Type 0} → Result A RunFault → (old new : T) (turns : ℕ) → Type 0
   FailsIffTooManyTurns result old new turns =
-      HasCountRoom (at old).source.counts turns → HasCountRoom (at old).sink.counts 0
+      CanCountCalls (at old).source.counts turns → CanCountCalls (at old).sink.counts 0
       → ((result ≡ Err TooManyTurns) ↔ (((at new).source.counts.calls ≡ (at old).source.counts.calls + turns)
       × NoneFailedOrEmpty (at old).source.counts (at new).source.counts
       × NoneFailedOrEmpty (at old).sink.counts (at new).sink.counts))

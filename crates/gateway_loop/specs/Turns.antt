@@ -2,7 +2,7 @@
 use Rattle.std.specs.Prelude.{◌-◌, ◌==◌, ℕ, List, [], ◌∷◌, ◌++◌, length, take, drop, map}
 use Rattle.std.specs.List.{slice_split}
 use Rattle.std.specs.Str.Lines.{strip_carriage_return}
-use Rattle.gateway_core.specs.Events.{Event, Chunk, Line}
+use Rattle.gateway_core.specs.Events.{InputEvent, Chunk, Line}
 
 -- the bytes that one turn read, of the serial line and then of the desk
 pub record Turn : Type 0 where
@@ -22,17 +22,17 @@ lines_ended_by_lf bytes =
     let parts = slice_split (λ byte. byte == 10) bytes in take (length parts - 1) parts
 
 -- the orders of the desk: its lines that LF ends. One CR before LF is not part of a line
-abbrev pub desk_line_events : (bytes : List ℕ) → List Event
+abbrev pub desk_line_events : (bytes : List ℕ) → List InputEvent
 desk_line_events bytes = map (λ line. Line (strip_carriage_return line)) (lines_ended_by_lf bytes)
 
 -- For each turn its chunk, and then the orders that its desk bytes complete: those in the desk's bytes so far, without
 -- those in the bytes before the turn.
-abbrev pub events_of_turns_after : (before : List ℕ) → List Turn → List Event
+abbrev pub events_of_turns_after : (before : List ℕ) → List Turn → List InputEvent
 events_of_turns_after before [] = []
 events_of_turns_after before (turn ∷ turns) =
     let now = before ++ turn.desk in
     Chunk turn.chunk ∷ (drop (length (desk_line_events before)) (desk_line_events now)
     ++ events_of_turns_after now turns)
 
-abbrev pub events_of_turns : List Turn → List Event
+abbrev pub events_of_turns : List Turn → List InputEvent
 events_of_turns turns = events_of_turns_after [] turns

@@ -6,7 +6,7 @@ use Rattle.hex.specs.Hex.{encode_lower}
 use Rattle.gateway_core.specs.Step.{Answer}
 use Rattle.byte_io.specs.Writes.{AppendsPart}
 use Rattle.byte_io.specs.declared.sink.Sink as sinks
-use Rattle.gateway_loop.specs.declared.replay_text.ReplayOutput.{ReplayOutput}
+use Rattle.gateway_loop.specs.declared.replay_output.ReplayOutput.{ReplayOutput}
 use Rattle.gateway_loop.specs.OutputSpecs.{OutputSpec, output_by_flag, output_by_view}
 use Rattle.gateway_loop.specs.Streams.{sink_value}
 use Rattle.gateway_loop.specs.TextOutput.{text_output}

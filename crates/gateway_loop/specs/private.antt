@@ -1,4 +1,4 @@
 -- For private postconditions: no public contract depends on these.
 pub mod DriverSteps
-pub mod LineLoop
+pub mod LineSplitting
 pub mod Lines

@@ -2,13 +2,13 @@
 ghost use Rattle.std.specs.Prelude.{◌≡◌, ◌+◌, ◌≤◌, ℕ, [], IfErr, IfOk};
 ghost use Rattle.byte_io.specs.Counts.{CallsMade};
 ghost use Rattle.gateway_loop.specs.Headline.{ServesAsSpecified};
-ghost use Rattle.gateway_loop.specs.LiveGateway.{Serves, ServesUntil, SucceedsIffAllTurns, live_value};
+ghost use Rattle.gateway_loop.specs.LiveGateway.{Serves, ServesUntilFault, SucceedsIffAllTurns, live_value};
 
 use crate::driver::Driver;
-use crate::line_loop::{LineSource, LineSplitter};
+use crate::line_splitter::{LineSource, LineSplitter};
 use crate::live_outputs::LiveOutputs;
 use crate::partial_line::PartialLine;
-use crate::runs::{RunFault, Summary};
+use crate::run_result::{RunFault, Summary};
 use byte_io::{MAX_READ, Sink, Source};
 use gateway_core::{DeviceStore, GatewayOver};
 
@@ -42,7 +42,7 @@ pub fn live<P: Source, Q: Source, R: Sink, D: Sink, S: DeviceStore>(
     ensures ok { IfOk result (Serves S.store_state (live_value P.Source Q.Source R.Sink D.Sink) explains
         (gateway.old, serial_in.old, desk_in.old, serial_out.old, desk_out.old)
         (gateway.new, serial_in.new, desk_in.new, serial_out.new, desk_out.new) turns) }
-    ensures err { IfErr result (ServesUntil S.store_state (live_value P.Source Q.Source R.Sink D.Sink) explains
+    ensures err { IfErr result (ServesUntilFault S.store_state (live_value P.Source Q.Source R.Sink D.Sink) explains
         (gateway.old, serial_in.old, desk_in.old, serial_out.old, desk_out.old)
         (gateway.new, serial_in.new, desk_in.new, serial_out.new, desk_out.new)) }
 

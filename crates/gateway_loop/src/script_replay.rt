@@ -1,17 +1,17 @@
 //! The loop that replays a script.
 ghost use Rattle.std.specs.Prelude.{◌≡◌, Err, [], IfErr, IfOk, OnOk};
-ghost use Rattle.byte_io.specs.Counts.{OnlyEmptyOnce, OnlyFailedOnce, NoneFailedOrEmpty};
+ghost use Rattle.byte_io.specs.Counts.{OneEmptyNoneFailed, OneFailedNoneEmpty, NoneFailedOrEmpty};
 ghost use Rattle.gateway_loop.specs.CallCounts.{OneFailedOrEmpty, NoneFailedAtMostOneEmpty};
 ghost use Rattle.gateway_loop.specs.Headline.{ReplaysAsSpecified};
 ghost use Rattle.gateway_loop.specs.Reads.{MakesAtMostReads};
-ghost use Rattle.gateway_loop.specs.ScriptReplay.{Replays, ReplaysUntil, FailsIffTooManyTurns, replay_value};
+ghost use Rattle.gateway_loop.specs.ScriptReplay.{Replays, ReplaysUntilFault, FailsIffTooManyTurns, replay_value};
 ghost use Rattle.gateway_loop.specs.Streams.{source_value};
 
 use crate::driver::Driver;
-use crate::line_loop::{LineSource, LineSplitter};
+use crate::line_splitter::{LineSource, LineSplitter};
 use crate::partial_line::PartialLine;
-use crate::replay_text::ReplayOutput;
-use crate::runs::{RunFault, Summary};
+use crate::replay_output::ReplayOutput;
+use crate::run_result::{RunFault, Summary};
 use byte_io::{MAX_READ, Sink, Source};
 use gateway_core::{DeviceStore, GatewayOver};
 
@@ -42,14 +42,14 @@ pub fn replay<R: Source, W: Sink, S: DeviceStore>(
     // What is read, handled and written.
     ensures ok { IfOk result (Replays S.store_state (replay_value R.Source W.Sink) explains
         (gateway.old, reader.old, writer.old) (gateway.new, reader.new, writer.new)) }
-    ensures err { IfErr result (ReplaysUntil S.store_state (replay_value R.Source W.Sink) explains
+    ensures err { IfErr result (ReplaysUntilFault S.store_state (replay_value R.Source W.Sink) explains
         (gateway.old, reader.old, writer.old) (gateway.new, reader.new, writer.new)) }
 
     // How the reads and the writes went.
     ensures reads { MakesAtMostReads (source_value R.Source reader.old) (source_value R.Source reader.new) turns }
-    ensures ended { OnOk result (OnlyEmptyOnce (R.counts reader.old) (R.counts reader.new)
+    ensures ended { OnOk result (OneEmptyNoneFailed (R.counts reader.old) (R.counts reader.new)
         × NoneFailedOrEmpty (W.counts writer.old) (W.counts writer.new)) }
-    ensures read { result ≡ Err RunFault.Read → OnlyFailedOnce (R.counts reader.old) (R.counts reader.new)
+    ensures read { result ≡ Err RunFault.Read → OneFailedNoneEmpty (R.counts reader.old) (R.counts reader.new)
         × NoneFailedOrEmpty (W.counts writer.old) (W.counts writer.new) }
     ensures write { result ≡ Err RunFault.Write → NoneFailedAtMostOneEmpty (R.counts reader.old) (R.counts reader.new)
         × OneFailedOrEmpty (W.counts writer.old) (W.counts writer.new) }

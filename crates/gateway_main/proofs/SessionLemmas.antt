@@ -21,7 +21,7 @@ module _ {C : Type 0} (state : C → State) where
       (began : Starts state database base old) → Handles (registry_state_of state) old items answers new
       → HasCleanDisk (state new.registry) → CrashLeavesSession (state new.registry) base began.found items answers
   handled_is_a_life database base old new items answers began handled clean trees may =
-      let held = handled.recoverable clean began.registries trees may in
+      let held = handled.reopenable clean began.registries trees may in
       let left = held.devices in
       let P : ℕ → Type 0 = λ b. SessionMayLeave b began.found items answers None left in (
         left,

@@ -1,19 +1,14 @@
--- How a gateway begins over a registry that was opened, and why the start fails.
-use Rattle.std.proofs.Common.{◌≡◌, ℕ, Bool, true, false, IsTrue, refl, sym, subst}
-use Rattle.std.specs.Prelude.{if◌then◌else◌}
+-- How a gateway begins over a registry that was opened.
+use Rattle.std.proofs.Common.{◌≡◌, ℕ, IsTrue, refl, sym, subst}
 use Rattle.sqlite.specs.State.{State, HasCleanDisk}
 use Rattle.esp3_frames.proofs.ForCallers.{empty_may_become}
 use Rattle.learned_devices.specs.Devices.{Devices}
 use Rattle.device_registry.specs.Holding.{OpenFinds, registry_state_of}
-use Rattle.device_registry.specs.Opening.{IsOpened, RefusesAndDrops}
-use Rattle.device_registry.specs.declared.fault.OpenFault.{OpenFault}
-use Rattle.device_registry.specs.declared.fault.OpenFault.TheVariants.{NotARegistry, Failed}
+use Rattle.device_registry.specs.Opening.{IsOpened}
 use Rattle.gateway_core.specs.Calls.{GatewayValue, new_gateway_value}
 use Rattle.gateway_loop.specs.Processing.{HasNoReadyPacket}
-use Rattle.gateway_main.specs.Faults.{fault_of_open}
 use Rattle.gateway_loop.specs.Headline.{IsNew}
-use Rattle.gateway_main.specs.Started.{MayFailToStart, Starts}
-use Rattle.gateway_main.specs.declared.fault.Fault.TheVariants.{Store, Memory}
+use Rattle.gateway_main.specs.Started.{Starts}
 
 pub idle_at_first : {S : Type 0} (base : ℕ) (registry : S) (new : GatewayValue S)
     → new ≡ new_gateway_value base registry
@@ -56,17 +51,6 @@ new_gateway {C} state database registry base new is opened =
     let opens = it.opens.1 in (
       it.opens.0,
       opens.found,
-      record { value = refl; holds_found = opens.now; recoverable = it.registries; crash_leaves_found = opens.crash },
+      record { value = refl; holds_found = opens.now; reopenable = it.registries; crash_leaves_found = opens.crash },
       it.ready.shows.is_open,
     ))
-
-memory_or_store : {C : Type 0} (state : C → State) (database : C) (is_memory : Bool)
-    → MayFailToStart state database (if is_memory then Memory else Store)
-memory_or_store state database true = tt
-memory_or_store state database false = tt
-
--- a failed open is reported with its own cause
-pub refuses_as_open : {C : Type 0} (state : C → State) (database : C) (why : OpenFault)
-    → RefusesAndDrops state database why → MayFailToStart state database (fault_of_open why)
-refuses_as_open state database NotARegistry refused = refused refl
-refuses_as_open state database (Failed fault) refused = memory_or_store state database fault.is_memory

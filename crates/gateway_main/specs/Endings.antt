@@ -12,18 +12,18 @@ use Rattle.gateway_cli.specs.declared.CommandLineFault.TheVariants as refused
 use Rattle.gateway_main.specs.declared.ending.Ending.{Ending}
 use Rattle.gateway_main.specs.declared.ending.Ending.TheVariants.{Failed, NotText, BadBase, ClapOutput}
 use Rattle.gateway_main.specs.declared.fault.Fault.{Fault}
-use Rattle.gateway_main.specs.declared.fault.Fault.TheVariants.{Memory, Run}
-use Rattle.gateway_loop.specs.declared.runs.RunFault.{RunFault}
-use Rattle.gateway_loop.specs.declared.runs.Summary.{Summary}
-use Rattle.gateway_main.specs.Faults.{fault_of_store}
+use Rattle.gateway_main.specs.declared.fault.Fault.TheVariants.{Run}
+use Rattle.gateway_loop.specs.declared.run_result.RunFault.{RunFault}
+use Rattle.gateway_loop.specs.declared.run_result.Summary.{Summary}
+use Rattle.gateway_main.specs.Faults.{fault_of_store, memory_fault}
 
 -- if the arguments of the process are not available: out of memory, or one is not text
 abbrev pub ending_if_no_arguments : IoErrorKind → Ending
-ending_if_no_arguments io.OutOfMemory = Failed Memory
+ending_if_no_arguments io.OutOfMemory = Failed memory_fault
 ending_if_no_arguments _ = NotText
 
 abbrev pub ending_of_clap_error : ErrorKind → Error → Ending
-ending_of_clap_error OutOfMemory error = Failed Memory
+ending_of_clap_error OutOfMemory error = Failed memory_fault
 ending_of_clap_error _ error = ClapOutput error
 
 -- if the command line is rejected

@@ -6,7 +6,7 @@ use Rattle.device_registry.specs.Holding.{OpenFinds, IsReturnedByClose, Opens, r
 use Rattle.gateway_core.specs.SessionCalls.{BeginsSession, ClosedSessionLeaves, SessionMayLeave}
 use Rattle.gateway_core.specs.Calls.{GatewayValue}
 use Rattle.gateway_core.specs.Handling.{HandlerValue, Handles}
-use Rattle.gateway_core.specs.Events.{Event, inputs_of}
+use Rattle.gateway_core.specs.Events.{InputEvent, inputs_of}
 use Rattle.gateway_core.specs.Step.{Input, Answer}
 use Rattle.gateway_loop.specs.Processing.{Processes, Breaks}
 use Rattle.gateway_main.specs.Started.{Starts}
@@ -23,7 +23,7 @@ module _ {C : Type 0} (state : C → State) where
   -- written.
   abbrev pub RunsAreSessions : (puts : List Answer → Type 0) → Type 0
   RunsAreSessions puts =
-      (database : C) (base : ℕ) (old new : GatewayValue C) (events : List Event)
+      (database : C) (base : ℕ) (old new : GatewayValue C) (events : List InputEvent)
       → (began : Starts state database base old.handler)
       → (done : Processes (registry_state_of state) old new events puts)
       → HasCleanDisk (state new.handler.registry)
@@ -33,7 +33,7 @@ module _ {C : Type 0} (state : C → State) where
   -- The same if a write failed. The last answer may be missing, but its input was handled.
   abbrev pub BrokenRunsAreSessions : (breaks : List Answer → Answer → Type 0) → Type 0
   BrokenRunsAreSessions breaks =
-      (database : C) (base : ℕ) (old new : GatewayValue C) (events : List Event) (event : Event)
+      (database : C) (base : ℕ) (old new : GatewayValue C) (events : List InputEvent) (event : InputEvent)
       → (began : Starts state database base old.handler)
       → (broken : Breaks (registry_state_of state) old new events event breaks)
       → HasCleanDisk (state new.handler.registry)
@@ -43,7 +43,7 @@ module _ {C : Type 0} (state : C → State) where
   -- The session ends by `close`, and the next open finds what it leaves, which is what was known at its end.
   abbrev pub ClosedRunsAreSessions : (puts : List Answer → Type 0) → Type 0
   ClosedRunsAreSessions puts =
-      (database opened : C) (base : ℕ) (old new : GatewayValue C) (events : List Event) (next : Devices)
+      (database opened : C) (base : ℕ) (old new : GatewayValue C) (events : List InputEvent) (next : Devices)
       → (began : Starts state database base old.handler)
       → (done : Processes (registry_state_of state) old new events puts)
       → HasCleanDisk (state new.handler.registry) → IsReturnedByClose (state new.handler.registry)
@@ -53,7 +53,8 @@ module _ {C : Type 0} (state : C → State) where
   -- the same if a write failed
   abbrev pub BrokenClosedRunsAreSessions : (breaks : List Answer → Answer → Type 0) → Type 0
   BrokenClosedRunsAreSessions breaks =
-      (database opened : C) (base : ℕ) (old new : GatewayValue C) (events : List Event) (event : Event) (next : Devices)
+      (database opened : C) (base : ℕ) (old new : GatewayValue C) (events : List InputEvent) (event : InputEvent)
+      (next : Devices)
       → (began : Starts state database base old.handler)
       → (broken : Breaks (registry_state_of state) old new events event breaks)
       → HasCleanDisk (state new.handler.registry) → IsReturnedByClose (state new.handler.registry)

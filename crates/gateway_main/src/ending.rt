@@ -7,6 +7,7 @@ use crate::fault::Fault;
 use clap::error::ErrorKind;
 use gateway_cli::CommandLineFault;
 use gateway_loop::{RunFault, Summary};
+use std::alloc::AllocError;
 use std::io;
 
 /// Why the program ended without completing what it was asked.
@@ -41,7 +42,7 @@ impl From<CommandLineFault> for Ending {
         match why {
             CommandLineFault::BadBase => Ending::BadBase,
             CommandLineFault::ClapError(error) if error.kind() == ErrorKind::OutOfMemory =>
-                Ending::Failed(Fault::Memory),
+                Ending::Failed(Fault::from(AllocError)),
             CommandLineFault::ClapError(error) => Ending::ClapOutput(error),
         }
     }
@@ -52,7 +53,7 @@ pub fn ending_without_arguments(error: &io::Error) -> Ending
     ensures { result ≡ ending_if_no_arguments (error_kind error.now) }
 {
     match error.kind() {
-        io::ErrorKind::OutOfMemory => Ending::Failed(Fault::Memory),
+        io::ErrorKind::OutOfMemory => Ending::Failed(Fault::from(AllocError)),
         _ => Ending::NotText,
     }
 }

@@ -19,8 +19,8 @@ use std::alloc::Global;
 /// no packet is ready, and no byte has arrived. Creates the registry's tables if the database has none of them. The
 /// registry caches this many looked-up senders, 1 to `MAX_CACHED`; no postcondition says so.
 ///
-/// Fails as opening the registry does, or if out of memory, and then drops the connection. Which of `Store` and
-/// `Memory` is returned is tested, not proved.
+/// Fails as opening the registry does, or if out of memory, and then drops the connection. Whether the fault of an open
+/// is out of memory or a failed database is tested, not proved.
 pub fn start<C: SqlConnection + Drop>(
     alloc: Global,
     conn: C,

@@ -11,7 +11,7 @@ use Rattle.json_lines.specs.declared.packet.ShownPacket.{ShownPacket}
 use Rattle.json_lines.specs.declared.packet.ShownPacket.TheVariants.{Telegram, WithoutTelegram}
 use Rattle.teach_in.specs.declared.handling_reason.HandlingReason.{HandlingReason}
 use Rattle.json_lines.proofs.CommaTexts.{behind, behind-comma}
-use Rattle.json_lines.proofs.PacketLineTexts.{strength-alone}
+use Rattle.json_lines.proofs.PacketTextsInjective.{strength-alone}
 
 regrouped : (first others more : List ℕ) → (((first ++ others) ++ codes "}") ++ codes "\n") ++ more
     ≡ first ++ (others ++ (codes "}\n" ++ more))

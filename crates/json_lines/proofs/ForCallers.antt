@@ -1,2 +1,2 @@
 -- The facts about the definitions that proofs of the crates above cite.
-pub use Rattle.json_lines.proofs.TeachTexts.{of_teach_lines}
+pub use Rattle.json_lines.proofs.TeachTextOutcome.{of_teach_lines}

@@ -2,10 +2,10 @@ pub mod CommaTexts
 pub mod ForCallers
 pub mod HexTexts
 pub mod LineTexts
-pub mod PacketLineTexts
+pub mod PacketTextsInjective
 pub mod PacketTexts
 pub mod ReadingTexts
 pub mod Distinguishable
-pub mod TeachLines
-pub mod TeachTexts
-pub mod WhyWords
+pub mod TeachTextsInjective
+pub mod TeachTextOutcome
+pub mod ReasonWords

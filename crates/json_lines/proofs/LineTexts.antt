@@ -21,12 +21,12 @@ use Rattle.teach_in.specs.declared.outcome.Outcome.TheVariants.{NoProfile}
 use Rattle.json_lines.specs.declared.counts.Counts.{Counts}
 use Rattle.json_lines.specs.Lines.{TeachLine, ModuleResponse, text, text_or_null, in_quotes, member_text, object_text}
 use Rattle.json_lines.specs.Lines.{Teach, DeviceLine, ListEnd, StatusLine, ResponseLine}
-use Rattle.json_lines.specs.Lines.{eep_string, outcome_word, mode_word, code_names}
+use Rattle.json_lines.specs.Lines.{eep_string, outcome_word, mode_word, return_code_names}
 use Rattle.json_lines.specs.private.LineData.{NeedsNoEscape, IsLineOf, value_or_null as data_or_null, members}
 use Rattle.json_lines.specs.private.LineData.{object_of}
 use Rattle.json_lines.specs.private.LineData.{number_data}
 use Rattle.json_lines.specs.private.LineData.{profile_data}
-use Rattle.json_lines.specs.private.LineData.{teach_members, device_members, list_members, status_members}
+use Rattle.json_lines.specs.private.LineData.{teach_members, device_members, list_end_members, status_members}
 use Rattle.json_lines.specs.private.LineData.{response_members}
 use Rattle.json_lines.proofs.HexTexts.{plain-id, plain-eep, plain-learn_as_text, plain_bytes}
 
@@ -68,7 +68,7 @@ object_written (m ∷ ms) plain =
 line_written : (ms : List (List ℕ × Data)) (line : List ℕ) → ArePlain ms → has_float (object_of ms) ≡ false
     → IsLineOf (SendsValue (object_of ms)) line → line ≡ object_text (named_texts ms) ++ codes "\n"
 line_written ms line plain whole sent =
-    let made = text_of_value (object_of ms) sent.log sent.text sent.writes sent.made whole in
+    let made = text_of_value (object_of ms) sent.log sent.text sent.log_written sent.made whole in
     sent.ends ∙ ap (λ (text : List ℕ). text ++ codes "\n") (made ∙ object_written ms plain)
 
 -- ---- the parts of the lines
@@ -117,8 +117,8 @@ plain-mode LearnAnswer = refl
 plain-mode (LearnAs eep) = plain-learn_as_text eep
 
 text-name : (code : ℕ)
-    → compact_text (data_or_null string (slice_get code_names code)) ≡ text_or_null in_quotes
-    (slice_get code_names code)
+    → compact_text (data_or_null string (slice_get return_code_names code)) ≡ text_or_null in_quotes
+    (slice_get return_code_names code)
 unfolding serde_json_on_literals
 text-name zero = refl
 text-name (suc zero) = refl
@@ -151,10 +151,10 @@ device_written known bytes sent =
     let whole : has_float (object_of (device_members known)) ≡ false = rw (no_float-maker known.maker) refl in
     line_written (device_members known) bytes (refl, (refl, (refl, (refl, (refl, tt))))) whole sent ∙ same
 
-pub list_written : (count : ℕ) (bytes : List ℕ) → IsLineOf (SendsValue (object_of (list_members count))) bytes
+pub list_written : (count : ℕ) (bytes : List ℕ) → IsLineOf (SendsValue (object_of (list_end_members count))) bytes
     → bytes ≡ text (ListEnd count)
 unfolding serde_json_on_literals
-list_written count bytes sent = line_written (list_members count) bytes (refl, (refl, tt)) refl sent
+list_written count bytes sent = line_written (list_end_members count) bytes (refl, (refl, tt)) refl sent
 
 pub status_written : (counts : Counts) (mode : Mode) (bytes : List ℕ)
     → IsLineOf (SendsValue (object_of (status_members counts mode))) bytes → bytes ≡ text (StatusLine counts mode)
@@ -174,5 +174,6 @@ response_written response line bytes sent =
     let ms : List (List ℕ × Data) = response_members response.code (encode_upper response.bytes) in
     let same : object_text (named_texts ms) ++ codes "\n" ≡ text (ResponseLine response) =
     rw (plain_bytes response.bytes bytes, text-name response.code) refl in
-    let whole : has_float (object_of ms) ≡ false = rw (no_float-name (slice_get code_names response.code)) refl in
+    let whole : has_float (object_of ms)
+    ≡ false = rw (no_float-name (slice_get return_code_names response.code)) refl in
     line_written ms line (refl, (refl, (refl, (refl, tt)))) whole sent ∙ same

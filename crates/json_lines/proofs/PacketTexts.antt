@@ -32,13 +32,13 @@ pub sender_pieces : (out dbm dest eep id maker : List ℕ)
     ∷ (codes "maker", maker) ∷ [])
 sender_pieces out dbm dest eep id maker = simp (append_assoc, append-nil)
 
--- the members of a content, part by part
+-- the payload, the RORG and the status, part by part
 pub content_pieces : (out payload rorg status : List ℕ)
     → (((((out ++ codes "\"payload\":") ++ payload) ++ codes ",\"rorg\":") ++ rorg) ++ codes ",\"status\":") ++ status
     ≡ out ++ members_text ((codes "payload", payload) ∷ (codes "rorg", rorg) ∷ (codes "status", status) ∷ [])
 content_pieces out payload rorg status = simp (append_assoc, append-nil)
 
--- the members of an end, part by part
+-- the type of the line and the reason, part by part
 pub end_pieces : (out why : List ℕ) → (out ++ codes "\"type\":\"packet\",\"why\":") ++ why
     ≡ out ++ members_text ((codes "type", codes "\"packet\"") ∷ (codes "why", why) ∷ [])
 end_pieces out why = simp (append_assoc, append-nil)

@@ -1,7 +1,7 @@
 -- The counters of the gateway. Own choice: a counter of 64 bits that has reached its maximum does not change.
 use Rattle.std.specs.Prelude.{ℕ, ◌+◌, ◌-◌, ◌^◌, min, Option, Some, None}
 use Rattle.json_lines.specs.declared.counts.Counter.{Counter}
-use Rattle.json_lines.specs.declared.counts.Counter.TheVariants.{Ignored, Reading, Refused, Response, Teach}
+use Rattle.json_lines.specs.declared.counts.Counter.TheVariants.{Ignored, Reading, Refused, Response, TeachLine}
 use Rattle.json_lines.specs.declared.counts.Counts.{Counts}
 
 -- all counters are 0
@@ -22,7 +22,7 @@ increment counts Ignored = record counts { ignored = saturated_increment counts.
 increment counts Reading = record counts { readings = saturated_increment counts.readings }
 increment counts Refused = record counts { refused = saturated_increment counts.refused }
 increment counts Response = record counts { responses = saturated_increment counts.responses }
-increment counts Teach = record counts { teach = saturated_increment counts.teach }
+increment counts TeachLine = record counts { teach = saturated_increment counts.teach }
 
 -- one counter is incremented, or none
 abbrev pub increment_if_any : Counts → Option Counter → Counts

@@ -144,8 +144,9 @@ mode_word (LearnAs eep) = learn_as_text eep
 
 -- the names of the return codes from 0 on (EnOcean Serial Protocol 3, "Packet type 2: RESPONSE"). Own choice: other
 -- codes have none
-abbrev pub code_names : List (List ℕ)
-code_names = codes "OK" ∷ codes "ERROR" ∷ codes "NOT_SUPPORTED" ∷ codes "WRONG_PARAM" ∷ codes "OPERATION_DENIED" ∷ []
+abbrev pub return_code_names : List (List ℕ)
+return_code_names =
+    codes "OK" ∷ codes "ERROR" ∷ codes "NOT_SUPPORTED" ∷ codes "WRONG_PARAM" ∷ codes "OPERATION_DENIED" ∷ []
 
 -- the error's name. Own choice
 abbrev pub error_word : ErrorName → List ℕ
@@ -192,7 +193,7 @@ members_of (StatusLine counts mode) =
 members_of (ResponseLine response) =
     (codes "code", decimal response.code)
     ∷ (codes "data", in_quotes (encode_upper response.bytes))
-    ∷ (codes "name", text_or_null in_quotes (slice_get code_names response.code))
+    ∷ (codes "name", text_or_null in_quotes (slice_get return_code_names response.code))
     ∷ (codes "type", in_quotes (codes "response")) ∷ []
 members_of Done = (codes "type", in_quotes (codes "ok")) ∷ []
 members_of (Error name) =

@@ -11,9 +11,11 @@ use Rattle.json_lines.specs.declared.packet.ShownPacket.{ShownPacket}
 use Rattle.json_lines.specs.declared.packet.ShownPacket.TheVariants.{Telegram, WithoutTelegram}
 use Rattle.erp1_telegrams.specs.declared.address.FilterReason.TheVariants.{FromBroadcast, ForOthers}
 use Rattle.teach_in.specs.declared.handling_reason.HandlingReason.{HandlingReason}
-use Rattle.teach_in.specs.declared.handling_reason.HandlingReason.TheVariants.{Refused, Response, EmptyResponse, OtherType, NoTelegram}
+use Rattle.teach_in.specs.declared.handling_reason.HandlingReason.TheVariants.{Refused, Response, EmptyResponse}
+use Rattle.teach_in.specs.declared.handling_reason.HandlingReason.TheVariants.{OtherType, NoTelegram}
 use Rattle.teach_in.specs.declared.handling_reason.HandlingReason.TheVariants.{FilteredOut, TeachInReply, TeachIn}
-use Rattle.teach_in.specs.declared.handling_reason.HandlingReason.TheVariants.{WindowClosed, OtherMode, Read, UnknownSender, WrongKind}
+use Rattle.teach_in.specs.declared.handling_reason.HandlingReason.TheVariants.{WindowClosed, OtherMode, Read}
+use Rattle.teach_in.specs.declared.handling_reason.HandlingReason.TheVariants.{UnknownSender, WrongKind}
 use Rattle.teach_in.specs.declared.handling_reason.HandlingReason.TheVariants.{WrongLength, OtherMessage}
 
 -- the word for the reason; for the outcome for a sender, the outcome's word. Own choice
@@ -42,15 +44,15 @@ id_string id = in_quotes (id_text id)
 -- ---- the members of a line, in the byte order of their names
 
 -- how a telegram was received, and its sender. Own choice
-abbrev pub sender_members : ShownTelegram → List (List ℕ × List ℕ)
-sender_members telegram =
+abbrev pub reception_and_sender_members : ShownTelegram → List (List ℕ × List ℕ)
+reception_and_sender_members telegram =
     (codes "dbm", text_or_null dbm_text telegram.dbm)
     ∷ (codes "dest", text_or_null id_string telegram.dest)
     ∷ (codes "eep", text_or_null eep_string telegram.eep)
     ∷ (codes "id", id_string telegram.id)
     ∷ (codes "maker", text_or_null decimal telegram.maker) ∷ []
 
--- the content of a telegram. Own choice
+-- the payload, the RORG and the status of a telegram. Own choice
 abbrev pub raw_telegram_members : ShownTelegram → List (List ℕ × List ℕ)
 raw_telegram_members telegram =
     (codes "payload", in_quotes (encode_upper telegram.payload))
@@ -63,7 +65,7 @@ non_telegram_members kind size = (codes "kind", decimal kind) ∷ (codes "size",
 
 -- the contents of the packet. Own choice
 abbrev pub packet_members : ShownPacket → List (List ℕ × List ℕ)
-packet_members (Telegram telegram) = sender_members telegram ++ raw_telegram_members telegram
+packet_members (Telegram telegram) = reception_and_sender_members telegram ++ raw_telegram_members telegram
 packet_members (WithoutTelegram kind size) = non_telegram_members kind size
 
 -- the type of the line, and the reason. Own choice
@@ -80,19 +82,19 @@ packet_text line = object_text (packet_members line.packet ++ type_and_why_membe
 abbrev pub members_text : List (List ℕ × List ℕ) → List ℕ
 members_text = join_by member_text (codes ",")
 
--- the length of the longest text of the members of a sender, of a content, and of an end, and of the longest line: with
--- both braces, a comma after the sender's members and one after the content's, and the line feed
-abbrev pub max_sender_members : ℕ
-max_sender_members = 75
+-- the length of the longest text of a sender's members, of a raw telegram's, and of the type and the reason, and of the
+-- longest line: with both braces, a comma after the first and after the second of these, and the line feed
+abbrev pub max_reception_and_sender_members_len : ℕ
+max_reception_and_sender_members_len = 75
 
-abbrev pub max_raw_telegram_members : ℕ
-max_raw_telegram_members = 66
+abbrev pub max_raw_telegram_members_len : ℕ
+max_raw_telegram_members_len = 66
 
-abbrev pub max_type_and_why_members : ℕ
-max_type_and_why_members = 38
+abbrev pub max_type_and_why_members_len : ℕ
+max_type_and_why_members_len = 38
 
 abbrev pub max_packet_line : ℕ
-max_packet_line = max_sender_members + max_raw_telegram_members + max_type_and_why_members + 5
+max_packet_line = max_reception_and_sender_members_len + max_raw_telegram_members_len + max_type_and_why_members_len + 5
 
 -- ---- the numbers of a packet line are in the ranges of those of a packet
 

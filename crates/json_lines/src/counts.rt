@@ -14,7 +14,7 @@ pub enum Counter {
     /// A response of the radio module.
     Response,
     /// A telegram for which the desk receives a teach line.
-    Teach,
+    TeachLine,
 }
 
 /// How many inputs were counted under each name since the gateway was made. A counter that has reached
@@ -56,7 +56,7 @@ impl Counts {
             Counter::Reading => self.readings = self.readings.saturating_add(1),
             Counter::Refused => self.refused = self.refused.saturating_add(1),
             Counter::Response => self.responses = self.responses.saturating_add(1),
-            Counter::Teach => self.teach = self.teach.saturating_add(1),
+            Counter::TeachLine => self.teach = self.teach.saturating_add(1),
         }
     }
 }

@@ -3,7 +3,7 @@
 ghost use Rattle.std.specs.Prelude.{◌≡◌, IfOk};
 ghost use Rattle.serde_json.specs.Events.{SendsValue};
 ghost use Rattle.json_lines.specs.Lines.{DeviceLine, ListEnd, list_lines, text, texts};
-ghost use Rattle.json_lines.specs.private.LineData.{device_members, list_members, object_of};
+ghost use Rattle.json_lines.specs.private.LineData.{device_members, list_end_members, object_of};
 
 use crate::line::{Line, line_of};
 use crate::parts::{put_id, put_maker, put_profile};
@@ -40,15 +40,15 @@ impl Serialize for DeviceObject<'_> {
 
 // The members of the line after the devices.
 #[derive(Drop)]
-struct ListObject {
+struct ListEndObject {
     count: usize,
 }
 
-impl Described for ListObject {
-    ghost writes = { λ line. SendsValue (object_of (list_members line.count)) };
+impl Described for ListEndObject {
+    ghost writes = { λ line. SendsValue (object_of (list_end_members line.count)) };
 }
 
-impl Serialize for ListObject {
+impl Serialize for ListEndObject {
     fn serialize<S: Serializer>(&self, out: &mut S) -> Result<(), S::Error> {
         out.begin_map(Some(2))?;
         out.key("count")?;
@@ -69,7 +69,7 @@ fn device_line(alloc: Global, device: &Device) -> Result<Line, AllocError>
 fn list_end(alloc: Global, count: usize) -> Result<Line, AllocError>
     ensures { IfOk result (λ line. line ≡ text (ListEnd count)) }
 {
-    line_of(alloc, &ListObject { count })
+    line_of(alloc, &ListEndObject { count })
 }
 
 /// The lines of some devices, in their order, and then the line of their count.

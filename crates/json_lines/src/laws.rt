@@ -19,7 +19,7 @@ pub fn teach_texts_are_injective()
 {}
 
 /// Each word for a reason stands for one reason.
-pub fn why_words_are_injective()
+pub fn reason_words_are_injective()
     ensures { (why other : HandlingReason) → reason_word why ≡ reason_word other → why ≡ other }
 {}
 
@@ -31,7 +31,7 @@ pub fn packet_texts_are_injective()
 
 /// Whatever follows them, a line for the desk and a packet line never have the same text. So a reader can separate them
 /// line by line.
-pub fn packet_lines_are_distinguishable()
+pub fn desk_and_packet_lines_differ()
     ensures { (line : DeskLine) (packet : PacketLine) (a b : List ℕ) → text line ++ a ≢ packet_text packet ++ b }
 {}
 

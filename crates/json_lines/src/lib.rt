@@ -16,11 +16,11 @@ mod line;
 mod packet;
 mod parts;
 mod reading;
+mod reason_words;
 mod response;
 mod status;
 mod teach;
 mod text_parts;
-mod why_words;
 
 pub use counts::{Counter, Counts};
 pub use devices::device_lines;

@@ -2,31 +2,33 @@
 
 ghost use Rattle.std.specs.Prelude.{◌≡◌, ◌+◌, ◌≤◌, ◌++◌, length};
 ghost use Rattle.arrayvec.specs.ArrayVec.{array_vec_len};
-ghost use Rattle.json_lines.specs.PacketLines.{raw_telegram_members, type_and_why_members, members_text, non_telegram_members};
-ghost use Rattle.json_lines.specs.PacketLines.{packet_members, packet_text, sender_members};
-ghost use Rattle.json_lines.specs.PacketLines.{max_raw_telegram_members, max_type_and_why_members, max_packet_line};
-ghost use Rattle.json_lines.specs.PacketLines.{max_sender_members};
+ghost use Rattle.json_lines.specs.PacketLines.{raw_telegram_members, type_and_why_members, members_text};
+ghost use Rattle.json_lines.specs.PacketLines.{non_telegram_members};
+ghost use Rattle.json_lines.specs.PacketLines.{packet_members, packet_text, reception_and_sender_members};
+ghost use Rattle.json_lines.specs.PacketLines.{max_raw_telegram_members_len, max_type_and_why_members_len};
+ghost use Rattle.json_lines.specs.PacketLines.{max_packet_line};
+ghost use Rattle.json_lines.specs.PacketLines.{max_reception_and_sender_members_len};
 
 use crate::limits::MAX_PACKET_LINE;
+use crate::reason_words::reason_word;
 use crate::text_parts::{
     PacketBuffer, put, put_byte, put_dbm, put_dest, put_id, put_maker, put_number, put_payload,
     put_profile_or_null, put_string,
 };
-use crate::why_words::reason_word;
 use arrayvec::ArrayVec;
 use erp1_telegrams::{Eep, Telegram};
 use std::marker::Model;
 use teach_in::HandlingReason;
 
-/// A telegram, and what is known about its sender. In contracts its value is what the line shows of it, the record
-/// `ShownTelegram` of `specs/ShownTelegram.antt`.
+/// A telegram, and the profile and manufacturer ID that its line shows. In contracts its value is what the line shows
+/// of it, the record `ShownTelegram` of `specs/ShownTelegram.antt`.
 #[derive(Clone, Debug, Drop)]
 pub struct ShownTelegram {
     /// The telegram.
     pub telegram: Telegram,
-    /// The profile of its sender, if it is known.
+    /// The profile that the telegram contains, or that of its sender, if it is known.
     pub eep: Option<Eep>,
-    /// The manufacturer ID of its sender, if it is known.
+    /// The manufacturer ID that the telegram contains, or that of its sender, if it is known.
     pub maker: Option<u16>,
 }
 
@@ -62,10 +64,10 @@ pub struct PacketLine {
 }
 
 // How a telegram was received, and its sender.
-fn put_sender_members(shown: &ShownTelegram, out: &mut PacketBuffer)
-    requires { array_vec_len out.old + max_sender_members ≤ max_packet_line }
-    ensures items { out.new.items ≡ out.old.items ++ members_text (sender_members shown.now) }
-    ensures len { array_vec_len out.new ≤ array_vec_len out.old + max_sender_members }
+fn put_reception_and_sender_members(shown: &ShownTelegram, out: &mut PacketBuffer)
+    requires { array_vec_len out.old + max_reception_and_sender_members_len ≤ max_packet_line }
+    ensures items { out.new.items ≡ out.old.items ++ members_text (reception_and_sender_members shown.now) }
+    ensures len { array_vec_len out.new ≤ array_vec_len out.old + max_reception_and_sender_members_len }
 {
     put(b"\"dbm\":", out);
     put_dbm(shown.telegram.dbm(), out);
@@ -79,11 +81,11 @@ fn put_sender_members(shown: &ShownTelegram, out: &mut PacketBuffer)
     put_maker(shown.maker, out);
 }
 
-// The content of a telegram.
+// The payload, the RORG and the status of a telegram.
 fn put_raw_telegram_members(shown: &ShownTelegram, out: &mut PacketBuffer)
-    requires { array_vec_len out.old + max_raw_telegram_members ≤ max_packet_line }
+    requires { array_vec_len out.old + max_raw_telegram_members_len ≤ max_packet_line }
     ensures items { out.new.items ≡ out.old.items ++ members_text (raw_telegram_members shown.now) }
-    ensures len { array_vec_len out.new ≤ array_vec_len out.old + max_raw_telegram_members }
+    ensures len { array_vec_len out.new ≤ array_vec_len out.old + max_raw_telegram_members_len }
 {
     put(b"\"payload\":", out);
     put_payload(shown.telegram.payload(), out);
@@ -93,7 +95,7 @@ fn put_raw_telegram_members(shown: &ShownTelegram, out: &mut PacketBuffer)
     put_byte(shown.telegram.status(), out);
 }
 
-// Any other packet.
+// A packet without a telegram: its type, and the number of bytes of its data.
 fn put_non_telegram_members(kind: u8, size: u16, out: &mut PacketBuffer)
     requires { array_vec_len out.old + 25 ≤ max_packet_line }
     ensures items { out.new.items ≡ out.old.items ++ members_text (non_telegram_members kind size) }
@@ -106,13 +108,16 @@ fn put_non_telegram_members(kind: u8, size: u16, out: &mut PacketBuffer)
 }
 
 fn put_packet(packet: &ShownPacket, out: &mut PacketBuffer)
-    requires { array_vec_len out.old + max_sender_members + max_raw_telegram_members + 1 ≤ max_packet_line }
+    requires { array_vec_len out.old + max_reception_and_sender_members_len + max_raw_telegram_members_len + 1
+        ≤ max_packet_line }
     ensures items { out.new.items ≡ out.old.items ++ members_text (packet_members packet.now) }
-    ensures len { array_vec_len out.new ≤ array_vec_len out.old + max_sender_members + max_raw_telegram_members + 1 }
+    ensures len { array_vec_len out.new
+        ≤ array_vec_len out.old + max_reception_and_sender_members_len + max_raw_telegram_members_len
+        + 1 }
 {
     match packet {
         ShownPacket::Telegram(shown) => {
-            put_sender_members(shown, out);
+            put_reception_and_sender_members(shown, out);
             put(b",", out);
             put_raw_telegram_members(shown, out);
         }
@@ -122,9 +127,9 @@ fn put_packet(packet: &ShownPacket, out: &mut PacketBuffer)
 
 // The type of the line, and the reason.
 fn put_type_and_why_members(why: HandlingReason, out: &mut PacketBuffer)
-    requires { array_vec_len out.old + max_type_and_why_members ≤ max_packet_line }
+    requires { array_vec_len out.old + max_type_and_why_members_len ≤ max_packet_line }
     ensures items { out.new.items ≡ out.old.items ++ members_text (type_and_why_members why) }
-    ensures len { array_vec_len out.new ≤ array_vec_len out.old + max_type_and_why_members }
+    ensures len { array_vec_len out.new ≤ array_vec_len out.old + max_type_and_why_members_len }
 {
     put(b"\"type\":\"packet\",\"why\":", out);
     put_string(reason_word(why).as_bytes(), out);

@@ -3,7 +3,7 @@
 ghost use Rattle.std.specs.Prelude.{◌≡◌, IfOk, OnOk, slice_get};
 ghost use Rattle.serde_json.specs.Data.{string};
 ghost use Rattle.serde_json.specs.Events.{SendsValue};
-ghost use Rattle.json_lines.specs.Lines.{ResponseLine, code_names, text};
+ghost use Rattle.json_lines.specs.Lines.{ResponseLine, return_code_names, text};
 ghost use Rattle.json_lines.specs.private.LineData.{object_of, value_or_null, response_members};
 
 use crate::line::{Line, line_of};
@@ -12,7 +12,7 @@ use std::alloc::{AllocError, Global};
 
 // The name of a return code, or null.
 fn put_code_name<S: Serializer>(code: u8, out: &mut S) -> Result<(), S::Error>
-    ensures { OnOk result (SendsValue (value_or_null string (slice_get code_names code))
+    ensures { OnOk result (SendsValue (value_or_null string (slice_get return_code_names code))
         (S.written out.old) (S.written out.new)) }
 {
     match code {

@@ -31,7 +31,8 @@ use Rattle.sqlite_sql.specs.declared.ops.CompareOp.TheVariants.{Eq, Ne}
 use Rattle.sqlite_sql.proofs.QueryLemmas.{output_cmp_total}
 use Rattle.sqlite_keyed.proofs.SortLemmas.{sorted_unique}
 use Rattle.sqlite.proofs.Callers.{one_permutation}
-use Rattle.keyed_table.specs.Queries.{rows_query, lookup_params, key_differs_from_param, find_query, all_query, count_rows}
+use Rattle.keyed_table.specs.Queries.{rows_query, lookup_params, key_differs_from_param, find_query, all_query}
+use Rattle.keyed_table.specs.Queries.{count_rows}
 use Rattle.keyed_table.specs.Queries.{count_others_query, plain_query}
 use Rattle.keyed_table.specs.Rows.{HasKey, AreKeyed, map_of}
 use Rattle.keyed_table.proofs.RowsApart.{ranked, ranked_rises, ranked_permutes}

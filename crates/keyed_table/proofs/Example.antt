@@ -51,7 +51,7 @@ codec = record {
   back = λ id metres fits. refl;
   stored = λ tree id metres. simp casts;
   mends = λ tree id metres. refl;
-  sends = λ db tree id metres rows given. given.1;
+  upsert_row_is = λ db tree id metres rows given. given.1;
   passing_is_row = λ tree id metres fits judged. checked tree id metres judged.3;
 }
 

@@ -52,10 +52,12 @@ module _ {V : Type 0} (c : Codec V) (codec : IsCodec c) (meant : SqlTextsCompile
     -- the row of a key, or none
     pub looks_up : (id : ℕ) → Shown c.find_sql (lookup_params id) old new rows
         → ((get m id ≡ None) × (rows ≡ []))
-        ⊎ ((r : Row) × (get m id ≡ Some (c.value r)) × (rows ≡ eval_all c.select_terms (env_of (lookup_params id) r) ∷ [])
+        ⊎ ((r : Row) × (get m id ≡ Some (c.value r)) × (rows ≡ eval_all c.select_terms (env_of (lookup_params id) r)
+        ∷ [])
         × (rowid r ≡ Int (pos id)))
     looks_up id shows = subst (λ m. ((get m id ≡ None) × (rows ≡ []))
-        ⊎ ((r : Row) × (get m id ≡ Some (c.value r)) × (rows ≡ eval_all c.select_terms (env_of (lookup_params id) r) ∷ [])
+        ⊎ ((r : Row) × (get m id ≡ Some (c.value r)) × (rows ≡ eval_all c.select_terms (env_of (lookup_params id) r)
+        ∷ [])
         × (rowid r ≡ Int (pos id)))) h.is (answers.finds c.value h.tree old.now.trees (keyed h) id rows
         (answer_of (lookup_params id) old new rows (meant.find old.now.schema h.at h.tree h.stands) refl shows))
 
@@ -94,7 +96,8 @@ module _ {V : Type 0} (c : Codec V) (codec : IsCodec c) (meant : SqlTextsCompile
   upsert_does : (id : ℕ) (v : V) → c.Fits id v → (s : State) (after : Database) (text : List ℕ) (tally : Tally)
       (m : FinMap nat_cmp V) (h : HoldsMap c s.now m) → IsDatabase s.now → Unit {0}
       → Does s.step_limit (mode_of s) (c.params id v) s.now text None
-      (InsertOr h.at Replace (Values c.upsert_terms c.upsert_width) []) (Ok (tally, after)) → HoldsMap c after (insert m id v)
+      (InsertOr h.at Replace (Values c.upsert_terms c.upsert_width) []) (Ok (tally, after))
+      → HoldsMap c after (insert m id v)
   upsert_does id v fits s after text tally m h sound room does =
       let table = table_of c h.tree in
       let new = c.row id v in
@@ -105,7 +108,7 @@ module _ {V : Type 0} (c : Codec V) (codec : IsCodec c) (meant : SqlTextsCompile
       ∙ ap (with_rowid Chosen there) (codec.stored h.tree id v) ∙ given_key there new key in
       let it = upserts s.now.schema h.at table h.stands.there (lone_alone h.lone) s.step_limit (mode_of s)
       (c.params id v) new (codec.stored h.tree id v) (Values c.upsert_terms c.upsert_width) s.now.trees tally after refl
-      (λ rows given. (new, codec.sends s.now h.tree id v rows given, kept)) does in
+      (λ rows given. (new, codec.upsert_row_is s.now h.tree id v rows given, kept)) does in
       changed s.now after m (insert m id v) h it.0
       (subst (AllByRecursion c.IsRow) (sym it.1.rows) (all-put_row c.IsRow new _
       (codec.passing_is_row h.tree id v fits it.1.judged) (all_without_all c.IsRow there (ids_of it.1.found) h.rows)))

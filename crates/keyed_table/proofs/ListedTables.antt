@@ -151,12 +151,12 @@ names_apart earlier (row ∷ rows) h =
     )
 
 -- no two rows have the same name
-RowidsAreUntied : List Row → Type 0
-RowidsAreUntied = IsAscending (λ a b. sound.same_name (name_in a) (name_in b) ≡ false)
+NamesAreUntied : List Row → Type 0
+NamesAreUntied = IsAscending (λ a b. sound.same_name (name_in a) (name_in b) ≡ false)
 
-one_row : (rows : List Row) (a b : Row) → RowidsAreUntied rows
+one_row : (rows : List Row) (a b : Row) → NamesAreUntied rows
     → Has rows a → Has rows b → map to_ascii_lowercase (name_in a) ≡ map to_ascii_lowercase (name_in b) → a ≡ b
-unfolding RowidsAreUntied
+unfolding NamesAreUntied
 one_row [] a b apart p q same = absurd p
 one_row (r ∷ rows) a b apart (inl p) (inl q) same = p ∙ sym q
 one_row (r ∷ rows) a b apart (inl p) (inr q) same =
@@ -191,8 +191,8 @@ module _ (db : Database) (sound : IsDatabase db) where
   abbrev objects : List Row
   objects = db.trees catalog_tree
 
-  apart : RowidsAreUntied objects
-  unfolding RowidsAreUntied
+  apart : NamesAreUntied objects
+  unfolding NamesAreUntied
   apart = (names_apart [] objects (list_parts objects sound.lists.listed.loads).1).1
 
   -- the table of this name is what the text defines

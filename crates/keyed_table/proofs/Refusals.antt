@@ -7,7 +7,7 @@ use Rattle.sqlite.specs.Effect.{IsDatabase}
 use Rattle.sqlite.specs.State.{State, Executes, ExecutesInside, IsNotRun, IsUnchanged}
 use Rattle.sqlite.specs.State.{IsRolledBack, KeepsCommit, FailsToQuery}
 use Rattle.sqlite.proofs.Callers.{IsPlain}
-use Rattle.keyed_table.specs.Stores.{IsSettledOpen, KeepsDatabaseIfOpen}
+use Rattle.keyed_table.specs.Stores.{IsSettledOpen, KeepsDatabaseIfStillOpen}
 use Rattle.keyed_table.proofs.Statements.{IsSpared, not_run, not_executed, not_shown}
 
 -- after a query the connection still shows the same
@@ -19,7 +19,7 @@ rests old mid same rest = record {
   sound = subst IsDatabase (sym same.0.now_is) rest.sound;
 }
 
-pub unchanged_remains : (old new : State) → IsUnchanged old new → KeepsDatabaseIfOpen old new
+pub unchanged_remains : (old new : State) → IsUnchanged old new → KeepsDatabaseIfStillOpen old new
 unchanged_remains old new same is_open rest = (rests old new same rest, same.0.now_is)
 
 -- it returns to what was committed, which is what it showed
@@ -35,12 +35,12 @@ back_at old new is_open idle same last rest = (
   same,
 )
 
-pub undone_remains : (old new : State) → IsRolledBack old new → KeepsDatabaseIfOpen old new
+pub undone_remains : (old new : State) → IsRolledBack old new → KeepsDatabaseIfStillOpen old new
 undone_remains old new back is_open rest =
     let both = back.undone is_open in
     back_at old new is_open back.autocommit (both.0 ∙ sym rest.settled) both.1 rest
 
-spared_remains : (old new : State) → IsSpared old new → KeepsDatabaseIfOpen old new
+spared_remains : (old new : State) → IsSpared old new → KeepsDatabaseIfStillOpen old new
 spared_remains old new (inl same) = unchanged_remains old new same
 spared_remains old new (inr back) = undone_remains old new back
 
@@ -49,8 +49,8 @@ spared_open old new (inl same) is_open = same.0.was_open
 spared_open old new (inr back) is_open = back.was_open is_open
 
 -- earlier queries changed nothing
-pub remains_after : (old mid new : State) → IsUnchanged old mid → KeepsDatabaseIfOpen mid new
-    → KeepsDatabaseIfOpen old new
+pub remains_after : (old mid new : State) → IsUnchanged old mid → KeepsDatabaseIfStillOpen mid new
+    → KeepsDatabaseIfStillOpen old new
 remains_after old mid new same remains is_open rest =
     let it = remains is_open (rests old mid same rest) in (it.0, it.1 ∙ same.0.now_is)
 
@@ -69,18 +69,19 @@ not_run_kept sql params old new e rest h is_open =
     spared_remains old new is_spared is_open (rest (spared_open old new is_spared is_open))
 
 pub kept_if : {T E : Type 0} (r : Result T E) (old mid new : State) → IsUnchanged old mid → IsSettledOpen old
-    → OnErr r (KeepsDatabaseIfOpen mid new) → OnErr r (IsTrue new.is_open → IsSettledOpen new × (new.now ≡ old.now))
+    → OnErr r (KeepsDatabaseIfStillOpen mid new) → OnErr r (IsTrue new.is_open → IsSettledOpen new
+    × (new.now ≡ old.now))
 kept_if (Ok v) old mid new same rest h = tt
 kept_if (Err e) old mid new same rest h = λ is_open. remains_after old mid new same h is_open rest
 
 pub executed_if : (sql : List ℕ) (params : Row) (old new : State) (r : Result ℕ Error) → Executes sql params old new r
-    → OnErr r (KeepsDatabaseIfOpen old new)
+    → OnErr r (KeepsDatabaseIfStillOpen old new)
 executed_if sql params old new (Ok n) h = tt
 executed_if sql params old new (Err e) h = spared_remains old new (not_executed sql params old new e h)
 
 pub queried_if : {V : Type 0} (sql : List ℕ) (params : Row) (old new : State) (r : Result V Error)
     → IsPlain (understood old.now.schema sql) → IfErr r (FailsToQuery sql params old new)
-    → OnErr r (KeepsDatabaseIfOpen old new)
+    → OnErr r (KeepsDatabaseIfStillOpen old new)
 queried_if sql params old new (Ok v) plain h = tt
 queried_if sql params old new (Err e) plain h = spared_remains old new (not_shown sql params old new plain e h)
 

@@ -14,7 +14,7 @@ use Rattle.sqlite.specs.State.{IsNotRun, IsUnchanged, IsRolledBack, shows_rows, 
 use Rattle.sqlite.specs.State.{FailsToQuery, FailsToShow, CommitsShowing}
 use Rattle.sqlite.proofs.Callers.{IsPlain, command_of, statement_of, never_commits, unchanged_then}
 use Rattle.sqlite.proofs.StateLemmas.{survives_then}
-use Rattle.keyed_table.specs.Stores.{IsReady, KeepsHeld, WritesNothing}
+use Rattle.keyed_table.specs.Stores.{IsReady, KeepsValueIfStillOpen, WritesNothing}
 
 module _ (sql : List ℕ) (params : Row) (old : State) (command : Command)
     (is : command_of (understood old.now.schema sql) ≡ command) (plain : IsPlain (understood old.now.schema sql)) where
@@ -96,7 +96,7 @@ module _ {V : Type 0} (P : V → Type 0) (sql : List ℕ) (old new : State) wher
 module _ {M : Type 0} {Holds : Database → M → Type 0} where
   -- ---- nothing is written
 
-  pub unchanged : (old new : State) → IsUnchanged old new → KeepsHeld Holds old new
+  pub unchanged : (old new : State) → IsUnchanged old new → KeepsValueIfStillOpen Holds old new
   unchanged old new same is_open = (
     same.0.was_open,
     λ m shows. record {
@@ -108,7 +108,7 @@ module _ {M : Type 0} {Holds : Database → M → Type 0} where
     },
   )
 
-  undone : (old new : State) → IsRolledBack old new → KeepsHeld Holds old new
+  undone : (old new : State) → IsRolledBack old new → KeepsValueIfStillOpen Holds old new
   undone old new back is_open = (
     back.was_open is_open,
     λ m shows.
@@ -125,7 +125,7 @@ module _ {M : Type 0} {Holds : Database → M → Type 0} where
 
   -- ---- a failure
 
-  pub spared : (old new : State) → IsSpared old new → KeepsHeld Holds old new
+  pub spared : (old new : State) → IsSpared old new → KeepsValueIfStillOpen Holds old new
   spared old new (inl same) = unchanged old new same
   spared old new (inr back) = undone old new back
 
@@ -133,7 +133,8 @@ module _ {M : Type 0} {Holds : Database → M → Type 0} where
 
   -- ---- a call
 
-  pub stays_from : (old new : State) → Survives old new (λ _. ⊥) → (HasCleanDisk new → KeepsHeld Holds old new)
+  pub stays_from : (old new : State) → Survives old new (λ _. ⊥)
+      → (HasCleanDisk new → KeepsValueIfStillOpen Holds old new)
       → WritesNothing Holds old new
   stays_from old new survives goes_on = record {
     clean = λ clean. let was : HasCleanDisk old = omega (arith, survives.clean) in was;
@@ -151,12 +152,12 @@ module _ {M : Type 0} {Holds : Database → M → Type 0} where
         first.goes_on (second.clean clean) late.0 in (early.0, λ m shows. late.1 m (early.1 m shows));
   }
 
-  pub ready_on : (old new : State) → KeepsHeld Holds old new → IsTrue new.is_open → IsReady Holds old
+  pub ready_on : (old new : State) → KeepsValueIfStillOpen Holds old new → IsTrue new.is_open → IsReady Holds old
       → IsReady Holds new
   ready_on old new goes_on is_open ready =
       record { held = ready.held; shows = (goes_on is_open).1 ready.held ready.shows }
 
-  -- a query of a ready registry
+  -- a query of a ready database
   query_stays : {V : Type 0} (sql : List ℕ) (params : Row) (old new : State) (items : V → List Row) (r : Result V Error)
       → (HasCleanDisk old → IsPlain (understood old.now.schema sql))
       → Survives old new (CommitsShowing sql params old)
@@ -177,7 +178,7 @@ module _ {M : Type 0} {Holds : Database → M → Type 0} where
     where
       goes : (r : Result _ Error) → IsPlain (understood old.now.schema sql)
           → IfOk r (λ v. Shown sql params old new (items v)) → IfErr r (FailsToQuery sql params old new)
-          → KeepsHeld Holds old new
+          → KeepsValueIfStillOpen Holds old new
       goes (Ok v) known shown failed = unchanged old new (shown_same sql params old new known (items v) shown)
       goes (Err e) known shown failed = spared old new (not_shown sql params old new known e failed)
 
@@ -203,7 +204,7 @@ module _ {M : Type 0} {Holds : Database → M → Type 0} where
   -- compiling a text, which writes nothing
   module _ {V : Type 0} (P : V → Type 0) (sql : List ℕ) (old new : State) where
     compiled_goes : (r : Result V Error) → IfOk r (λ v. P v × IsUnchanged old new)
-        → IfErr r (λ e. (params : Row) → IsNotRun old new sql params e) → KeepsHeld Holds old new
+        → IfErr r (λ e. (params : Row) → IsNotRun old new sql params e) → KeepsValueIfStillOpen Holds old new
     compiled_goes (Ok v) ok err = unchanged old new ok.1
     compiled_goes (Err e) ok err = spared old new (not_run sql [] old new e (err []))
 
@@ -213,7 +214,7 @@ module _ {M : Type 0} {Holds : Database → M → Type 0} where
         → WritesNothing Holds old new
     compiled_stays r survives ok err = stays_from old new survives (λ clean. compiled_goes r (ok clean) (err clean))
 
-    -- and which implies that the registry is open
+    -- and which implies that the connection is open
     pub compiled_ready : (r : Result V Error) → IfOk r (λ v. P v × IsUnchanged old new)
         → (IsTrue old.is_open → IsReady Holds old) → OnOk r (IsReady Holds new)
     compiled_ready (Ok v) ok ready = ready_on old new (unchanged old new ok.1) ok.1.0.is_open (ready ok.1.0.was_open)

@@ -12,7 +12,7 @@ use Rattle.sqlite.proofs.Callers.{survives_begin}
 use Rattle.sqlite_trees.specs.Tree.{Trees}
 use Rattle.sqlite_trees.specs.declared.store.Store.{Ghosts}
 use Rattle.sqlite.specs.Effect.{Database, IsDatabase}
-use Rattle.keyed_table.specs.Stores.{KeepsDatabaseIfOpen, IsReadyWith}
+use Rattle.keyed_table.specs.Stores.{KeepsDatabaseIfStillOpen, IsReadyWith}
 use Rattle.keyed_table.specs.Transactions.{IsUncommitted, IsMidTransaction, HasRunStatements}
 use Rattle.keyed_table.proofs.Refusals.{back_at, inside_commit, made_commit, then_commit}
 
@@ -64,8 +64,8 @@ module _ {S : Type 0} (g : Ghosts S) where
     uncommitted = uncommitted_then (state g a) (state g b) (state g c) it.uncommitted
         (ran_once text (state g b) (state g c) r crash ran)
 
-    pub saturated_increment : (n : ℕ) → r ≡ Ok n → IsMidTransaction g (texts ++ text ∷ []) a c
-    saturated_increment n is =
+    pub one_more_text : (n : ℕ) → r ≡ Ok n → IsMidTransaction g (texts ++ text ∷ []) a c
+    one_more_text n is =
         let step = λ (clean : HasCleanDisk (state g c)).
         subst (ExecutesInside 0 text [] (state g b) (state g c)) is (ran clean) in
         goes_on texts (text ∷ []) a b c it
@@ -89,7 +89,7 @@ since g old start new is it =
 
 module _ (old last new : State) (it : IsUncommitted old last) where
   -- a rollback restores the state
-  back : HasCleanDisk last → IsRolledBack last new → KeepsDatabaseIfOpen old new
+  back : HasCleanDisk last → IsRolledBack last new → KeepsDatabaseIfStillOpen old new
   back clean gone is_open rest =
       let both = gone.undone is_open in
       let same : last.committed ≡ old.committed = (it.kept clean).committed (gone.was_open is_open) in
@@ -104,7 +104,7 @@ module _ (old last new : State) (it : IsUncommitted old last) where
 
     pub uncommitted_remains : {V : Type 0} (r : Result V Error) → (HasCleanDisk last → IsTrue last.in_transaction)
         → (HasCleanDisk new → IfErr r (FailsToCommit last new)) → HasCleanDisk new
-        → OnErr r (KeepsDatabaseIfOpen old new)
+        → OnErr r (KeepsDatabaseIfStillOpen old new)
     uncommitted_remains (Ok v) inside failed clean = tt
     uncommitted_remains (Err e) inside failed clean = elim (failed clean) [
       | inl fails ↦ back (omega (arith, clean, commits.clean)) fails.3

@@ -10,7 +10,7 @@ use Rattle.sqlite.specs.State.{State, HasCleanDisk, Survives, Executes, CommitsB
 use Rattle.sqlite.proofs.Callers.{runs_as, statement_of}
 use Rattle.sqlite_schema.specs.declared.command.Command.{Command}
 use Rattle.sqlite_trees.specs.Tree.{Trees}
-use Rattle.keyed_table.specs.Stores.{HoldsIn, IsReadyWith, IsReady, KeepsHeld, CommitsOrMayBeLeft}
+use Rattle.keyed_table.specs.Stores.{HoldsIn, IsReadyWith, IsReady, KeepsValueIfStillOpen, CommitsOrMayBeLeft}
 use Rattle.keyed_table.proofs.TextMeaning.{CompilesTo}
 use Rattle.keyed_table.proofs.Statements.{commits_as, spared, not_executed}
 
@@ -119,7 +119,7 @@ module _ {M : Type 0} {Holds : Database → M → Type 0} (sql : List ℕ) (para
       ok_of (Ok count) clean h = λ m shows. made old new count m (room clean m shows) shows h
       ok_of (Err e) clean h = tt
 
-      err_of : (r : Result ℕ Error) → Executes sql params old new r → OnErr r (KeepsHeld Holds old new)
+      err_of : (r : Result ℕ Error) → Executes sql params old new r → OnErr r (KeepsValueIfStillOpen Holds old new)
       err_of (Ok count) h = tt
       err_of (Err e) h = spared old new (not_executed sql params old new e h)
 

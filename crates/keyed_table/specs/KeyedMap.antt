@@ -28,13 +28,13 @@ pub record Codec (V : Type 0) : Type 1 where
   pub columns : List Column
   pub checks : List Term
   pub IsRow : Row → Type 0
-  pub Fits : ℕ → V → Type 0
+  pub Fits : (id : ℕ) → V → Type 0
   pub value : Row → V
-  pub row : ℕ → V → Row
+  pub row : (id : ℕ) → V → Row
   -- what SELECT shows of a row
   pub select_terms : List Term
   -- the parameters of the upsert, and the row that it sends
-  pub params : ℕ → V → Row
+  pub params : (id : ℕ) → V → Row
   pub upsert_terms : List Term
   pub upsert_width : ℕ
   pub find_sql : List ℕ
@@ -56,7 +56,7 @@ module _ {V : Type 0} (c : Codec V) where
     pub back : (id : ℕ) (v : V) → c.Fits id v → c.value (c.row id v) ≡ v
     pub stored : (tree id : ℕ) (v : V) → cast_row (table_of c tree) (c.row id v) ≡ c.row id v
     pub mends : (tree id : ℕ) (v : V) → mended Replace (table_of c tree) (c.row id v) ≡ c.row id v
-    pub sends : (db : Database) (tree id : ℕ) (v : V) (rows : List Row)
+    pub upsert_row_is : (db : Database) (tree id : ℕ) (v : V) (rows : List Row)
         → IsSource db (stamped (table_of c tree) (c.params id v)) (Values c.upsert_terms c.upsert_width) rows
         → rows ≡ c.row id v ∷ []
     pub passing_is_row : (tree id : ℕ) (v : V) → c.Fits id v → IsJudged (table_of c tree) (c.row id v) None

@@ -14,7 +14,7 @@ use Rattle.sqlite_sql.specs.declared.ops.CompareOp.TheVariants.{Eq, Ne}
 use Rattle.sqlite_sql.specs.declared.aggregate.AggregateOp.TheVariants.{CountRows}
 
 -- what is shown of each row of this tree that passes the tests
-abbrev pub rows_query : (tree : ℕ) (tests shown : List Term) → List Collation → List (Term × Key) → Query
+abbrev pub rows_query : (tree : ℕ) (tests shown : List Term) → List Collation → (order : List (Term × Key)) → Query
 rows_query tree tests shown collations order = record {
   from = inner tree end;
   filter = tests;
@@ -45,11 +45,11 @@ abbrev pub key_differs_from_param : Term
 key_differs_from_param = op2 (Compare Ne Binary) (col 1 0) (col 0 0)
 
 -- the row of a key
-abbrev pub find_query : (tree : ℕ) → List Term → Query
+abbrev pub find_query : (tree : ℕ) (shown : List Term) → Query
 find_query tree shown = plain_query tree (key_equals_param ∷ []) shown
 
 -- all rows, by rising key
-abbrev pub all_query : (tree : ℕ) → List Term → Query
+abbrev pub all_query : (tree : ℕ) (shown : List Term) → Query
 all_query tree shown =
     rows_query tree [] shown [] ((col 1 0, record { collation = Binary; descending = false }) ∷ [])
 

@@ -12,8 +12,8 @@ pub record IsSettledOpen (s : State) : Type 0 where
   pub sound : IsDatabase s.now
 
 -- if the connection is still open, it shows the same database as before, with no open transaction
-abbrev pub KeepsDatabaseIfOpen : (old new : State) → Type 0
-KeepsDatabaseIfOpen old new = IsTrue new.is_open → IsSettledOpen old → IsSettledOpen new × (new.now ≡ old.now)
+abbrev pub KeepsDatabaseIfStillOpen : (old new : State) → Type 0
+KeepsDatabaseIfStillOpen old new = IsTrue new.is_open → IsSettledOpen old → IsSettledOpen new × (new.now ≡ old.now)
 
 -- when a database holds a value
 module _ {M : Type 0} (Holds : Database → M → Type 0) where
@@ -41,14 +41,15 @@ module _ {M : Type 0} (Holds : Database → M → Type 0) where
   IsReadyIfOpen s = HasCleanDisk s → IsTrue s.is_open → IsReady s
 
   -- if the connection is still open, it was open before, and the database holds the same value
-  abbrev pub KeepsHeld : (old new : State) → Type 0
-  KeepsHeld old new = IsTrue new.is_open → IsTrue old.is_open × ((m : M) → IsReadyWith old m → IsReadyWith new m)
+  abbrev pub KeepsValueIfStillOpen : (old new : State) → Type 0
+  KeepsValueIfStillOpen old new = IsTrue new.is_open → IsTrue old.is_open
+      × ((m : M) → IsReadyWith old m → IsReadyWith new m)
 
   -- nothing is written
   pub record WritesNothing (old new : State) : Type 0 where
     pub clean : HasCleanDisk new → HasCleanDisk old
     pub crash : HasCleanDisk new → (trees : Trees) → new.may_leave trees → old.may_leave trees
-    pub goes_on : HasCleanDisk new → KeepsHeld old new
+    pub goes_on : HasCleanDisk new → KeepsValueIfStillOpen old new
 
   -- the update is made and committed; or it failed, and then a crash may leave it nevertheless
   pub record CommitsOrMayBeLeft {T E : Type 0} (old new : State) (update : M → M) (result : Result T E) : Type 0 where
@@ -56,4 +57,4 @@ module _ {M : Type 0} (Holds : Database → M → Type 0) where
     pub crash : HasCleanDisk new → (trees : Trees) → new.may_leave trees → old.may_leave trees
         ⊎ (IsTrue old.is_open × ((m : M) → IsReadyWith old m → HoldsIn trees (update m)))
     pub made : HasCleanDisk new → OnOk result ((m : M) → IsReadyWith old m → IsReadyWith new (update m))
-    pub refused : HasCleanDisk new → OnErr result (KeepsHeld old new)
+    pub refused : HasCleanDisk new → OnErr result (KeepsValueIfStillOpen old new)

@@ -175,7 +175,7 @@ fn supported_profiles(rt: HostRuntime) {
 fn data_of_a_contact(rt: HostRuntime) -> Result<(), Fail> {
     let telegram = Telegram::new(0xD5, &[0x09], 0x0180_0ABC, 0, BROADCAST, None)?;
     let mut readings = Readings::new();
-    let result = profiles_rps::read_data(Eep::new(0xD5, 0x00, 0x01), &telegram, &mut readings);
+    let result = profiles_rps::read_1bs_data(0x00, 0x01, &telegram, &mut readings);
     let is_well = are_said(&readings, &[("CO", Wanted::Word("closed"))]);
     assert!(rt; result == Ok(()) && is_well, "{readings:?}");
     Ok(())
@@ -193,7 +193,7 @@ fn data_of_a_temperature_sensor(rt: HostRuntime) -> Result<(), Fail> {
         None,
     )?;
     let mut readings = Readings::new();
-    let result = profiles_4bs::read_data(Eep::new(0xA5, 0x02, 0x05), &telegram, &mut readings);
+    let result = profiles_4bs::read_4bs_data(0x02, 0x05, &telegram, &mut readings);
     let is_well = are_said(&readings, &[("TMP", Wanted::Value(1024, 51, "C"))]);
     assert!(rt; result == Ok(()) && is_well, "{readings:?}");
     Ok(())

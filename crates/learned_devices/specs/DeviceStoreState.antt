@@ -11,7 +11,7 @@ pub record DeviceStoreState : Type 1 where
   -- a crash may leave these devices
   pub may_recover : Devices → Type 0
   -- whatever a crash leaves can be opened again (for a registry: it is a registry)
-  pub sound : Type 0
+  pub reopenable : Type 0
 
 -- the devices are as they were, and a crash leaves only what it could leave before
 pub record Keeps (old new : DeviceStoreState) (devices : Devices) : Type 0 where

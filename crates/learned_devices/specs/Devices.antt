@@ -36,8 +36,8 @@ abbrev pub max_devices : ℕ
 max_devices = 1000
 
 -- the devices are full for this sender: the maximum number of others is learned
-abbrev pub is_full : Devices → (id : ℕ) → Bool
-is_full devices id = nat_le max_devices (len (remove devices id))
+abbrev pub is_full_for : Devices → (id : ℕ) → Bool
+is_full_for devices id = nat_le max_devices (len (remove devices id))
 
 -- an operation on a sender: learn it with a profile and a maker, forget it, or give it a label
 pub data Operation : Type 0 where

@@ -6,14 +6,15 @@ use Rattle.std.specs.FinMap.{get}
 use Rattle.learned_devices.specs.declared.Device.{Device}
 use Rattle.learned_devices.specs.declared.fault.LearnFault.{LearnFault}
 use Rattle.learned_devices.specs.declared.fault.LearnFault.TheVariants.{Full, Failed}
-use Rattle.learned_devices.specs.Devices.{Devices, DeviceUpdate, device_of, devices_by_ascending_id, is_full, learn_update}
+use Rattle.learned_devices.specs.Devices.{Devices, DeviceUpdate, device_of, devices_by_ascending_id, is_full_for}
+use Rattle.learned_devices.specs.Devices.{learn_update}
 use Rattle.learned_devices.specs.Devices.{forget_update, relabel_update}
 use Rattle.learned_devices.specs.DeviceStoreState.{DeviceStoreState, Keeps, Commits, LeavesPending}
 
 -- a sender is looked up
 pub record LooksUp {E : Type 0} (old new : DeviceStoreState) (id : ℕ) (result : Result (Option Device) E) : Type 0 where
   pub clean : new.honest → old.honest
-  pub recoverable : new.honest → new.sound
+  pub reopenable : new.honest → new.reopenable
   pub devices : new.honest → (devices : Devices) → old.holds devices
       → MatchResult result (λ found. (found ≡ device_of devices id) × Keeps old new devices)
       (λ _. Keeps old new devices)
@@ -22,22 +23,22 @@ pub record LooksUp {E : Type 0} (old new : DeviceStoreState) (id : ℕ) (result 
 pub record Updates {A E : Type 0} (old new : DeviceStoreState) (update : DeviceUpdate)
     (result : Result A E) : Type 0 where
   pub clean : new.honest → old.honest
-  pub recoverable : new.honest → new.sound
+  pub reopenable : new.honest → new.reopenable
   pub devices : new.honest → (devices : Devices) → old.holds devices
       → MatchResult result (λ _. Commits new update devices) (λ _. LeavesPending old new update devices)
 
 -- A device is not learned. If 1,000 others are, nothing is written; otherwise the call failed, at its commit or before.
 abbrev pub RefusesToLearn : (old new : DeviceStoreState) → Device → Devices → LearnFault → Type 0
-RefusesToLearn old new it devices Full = IsTrue (is_full devices it.id) × Keeps old new devices
+RefusesToLearn old new it devices Full = IsTrue (is_full_for devices it.id) × Keeps old new devices
 RefusesToLearn old new it devices (Failed fault) =
-    MatchBool (is_full devices it.id) (Keeps old new devices) (LeavesPending old new (learn_update it) devices)
+    MatchBool (is_full_for devices it.id) (Keeps old new devices) (LeavesPending old new (learn_update it) devices)
 
 -- a device is learned and replaces the data of its sender, except for the label
 pub record Learns {A : Type 0} (old new : DeviceStoreState) (it : Device) (result : Result A LearnFault) : Type 0 where
   pub clean : new.honest → old.honest
-  pub recoverable : new.honest → new.sound
+  pub reopenable : new.honest → new.reopenable
   pub devices : new.honest → (devices : Devices) → old.holds devices
-      → MatchResult result (λ _. (is_full devices it.id ≡ false) × Commits new (learn_update it) devices)
+      → MatchResult result (λ _. (is_full_for devices it.id ≡ false) × Commits new (learn_update it) devices)
       (RefusesToLearn old new it devices)
 
 -- a sender is forgotten, even if it was not learned
@@ -49,7 +50,7 @@ pub record Relabels {E : Type 0} (old new : DeviceStoreState) (id : ℕ) (label 
     (result : Result Bool E) : Type 0
   where
     pub clean : new.honest → old.honest
-    pub recoverable : new.honest → new.sound
+    pub reopenable : new.honest → new.reopenable
     pub devices : new.honest → (devices : Devices) → old.holds devices
         → MatchResult result (λ known. (known ≡ is_some (get devices id))
         × MatchBool known (Commits new (relabel_update id label) devices) (Keeps old new devices))
@@ -59,6 +60,7 @@ pub record Relabels {E : Type 0} (old new : DeviceStoreState) (id : ℕ) (label 
 -- all devices are listed
 pub record ListsAll {E : Type 0} (old new : DeviceStoreState) (result : Result (Vec Device Global) E) : Type 0 where
   pub clean : new.honest → old.honest
-  pub recoverable : new.honest → new.sound
+  pub reopenable : new.honest → new.reopenable
   pub devices : new.honest → (devices : Devices) → old.holds devices
-      → MatchResult result (λ all. (all.items ≡ devices_by_ascending_id devices) × Keeps old new devices) (λ _. Keeps old new devices)
+      → MatchResult result (λ all. (all.items ≡ devices_by_ascending_id devices) × Keeps old new devices)
+      (λ _. Keeps old new devices)

@@ -6,7 +6,7 @@ ghost use Rattle.learned_devices.specs.Labels.{max_label};
 ghost use Rattle.learned_devices.specs.Ranges.{MakerFitsTwoBytes};
 
 /// The limits of the code are those of the definitions.
-pub fn limits()
+pub fn limits_agree()
     ensures devices { MAX_DEVICES ≡ max_devices }
     ensures label { MAX_LABEL ≡ max_label }
 {}

@@ -7,7 +7,7 @@ use std::alloc::AllocError;
 use std::test::Fail;
 
 /// The text of the label made from a text, if it is one.
-fn reported(label: &Option<Label>) -> Option<&str> {
+fn text_of(label: &Option<Label>) -> Option<&str> {
     label.as_ref().map(Label::as_str)
 }
 
@@ -20,7 +20,7 @@ fn labels(rt: HostRuntime) -> Result<(), Fail> {
         "a  b\\c",
         "12345678901234567890123456789012",
     ] {
-        assert_eq!(rt; reported(&Label::new(text)), Some(text));
+        assert_eq!(rt; text_of(&Label::new(text)), Some(text));
     }
     assert_eq!(rt; MAX_LABEL, 32);
     assert_eq!(rt; Label::empty().as_str(), "");

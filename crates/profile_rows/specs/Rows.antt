@@ -12,17 +12,17 @@ use Rattle.profile_rows.specs.Reading.{Meaning, value, word, raw, out_of_range, 
 pub data RowKind : Type 0 where
   -- a value with a unit: the first number means the third, in tenths of the unit, and the second means the fourth;
   -- linear between them
-  range : ℕ → ℕ → ℤ → ℤ → List ℕ → RowKind
+  range : (raw_a raw_b : ℕ) (tenths_a tenths_b : ℤ) (unit : List ℕ) → RowKind
   -- the word listed with the number
   words : List (ℕ × List ℕ) → RowKind
   -- one word below a number, another from that number on
-  threshold : ℕ → List ℕ → List ℕ → RowKind
+  threshold : (bound : ℕ) (below from : List ℕ) → RowKind
   -- 0 to 100 percent, and a word for 127
-  percent_or_word_127 : List ℕ → RowKind
+  percent_or_word_127 : (text : List ℕ) → RowKind
   -- a value with a unit: the number divided by a divisor
-  over : ℕ → List ℕ → RowKind
+  over : (divisor : ℕ) (unit : List ℕ) → RowKind
   -- a value with a unit: the number divided by ten to the power of another field, given by its offset and length
-  over_power : ℕ → ℕ → List ℕ → RowKind
+  over_power : (offset len : ℕ) (unit : List ℕ) → RowKind
   -- the number itself
   number : RowKind
   -- all numbers are reserved: none has a meaning
@@ -32,11 +32,11 @@ pub data RowKind : Type 0 where
 pub data Condition : Type 0 where
   always : Condition
   -- the field at this offset, of this length, is this number
-  field_equals : ℕ → ℕ → ℕ → Condition
+  field_equals : (offset len n : ℕ) → Condition
   -- the field at this offset, of this length, is above this number
-  field_above : ℕ → ℕ → ℕ → Condition
+  field_above : (offset len n : ℕ) → Condition
   -- the bit NU of the status is this number
-  nu_equals : ℕ → Condition
+  nu_equals : (n : ℕ) → Condition
   both : Condition → Condition → Condition
 
 -- a row: its name, the offset and length of its field, its condition, and the meaning of its number

@@ -14,7 +14,13 @@ reading_and_tariff cumulative current =
       condition = field_equals 29 1 0;
       kind = over_power 30 2 cumulative;
     }
-    ∷ record { name = codes "MR"; offset = 0; len = 24; condition = field_equals 29 1 1; kind = over_power 30 2 current }
+    ∷ record {
+      name = codes "MR";
+      offset = 0;
+      len = 24;
+      condition = field_equals 29 1 1;
+      kind = over_power 30 2 current;
+    }
     ∷ record { name = codes "TI"; offset = 24; len = 4; condition = always; kind = number }
     ∷ []
 

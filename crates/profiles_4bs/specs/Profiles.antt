@@ -1,5 +1,5 @@
 -- The readings of 4BS telegrams.
-use Rattle.std.specs.Prelude.{Bool, List, ◌++◌, is_some, Option, Result}
+use Rattle.std.specs.Prelude.{ℕ, Bool, List, ◌++◌, is_some, Option, Result}
 use Rattle.erp1_telegrams.specs.declared.eep.Eep.{Eep}
 use Rattle.erp1_telegrams.specs.Telegram.{Telegram}
 use Rattle.profile_rows.specs.Reading.{Entry}
@@ -27,6 +27,10 @@ all_profiles =
     ++ gas_profiles
     ++ room_operating_panel_profiles
     ++ meter_profiles
+
+-- the profile A5-FUNC-TYPE
+abbrev pub four_bs_profile : (func typ : ℕ) → Eep
+four_bs_profile func typ = record { rorg = 0xA5; func = func; typ = typ }
 
 -- the rows of a profile, if it is supported
 unfoldable pub rows_of : Eep → Option (List Row)

@@ -29,14 +29,14 @@ temperature_of_10_bits coldest hottest =
     ∷ []
 
 -- A5-02-01: -40 to 0 C; for each further type both bounds are 10 C higher
-abbrev pub profile_over_40_degrees : (typ : ℕ) → ProfileGroup
-profile_over_40_degrees typ =
+abbrev pub profile_spanning_40_degrees : (typ : ℕ) → ProfileGroup
+profile_spanning_40_degrees typ =
     let more = pos (100 * (typ - 0x01)) in
     record { rorg = 0xA5; func = 0x02; types = typ ∷ []; rows = temperature_of_8_bits (more -ℤ pos 400) more }
 
 -- A5-02-10: -60 to 20 C; for each further type both bounds are 10 C higher
-abbrev pub profile_over_80_degrees : (typ : ℕ) → ProfileGroup
-profile_over_80_degrees typ =
+abbrev pub profile_spanning_80_degrees : (typ : ℕ) → ProfileGroup
+profile_spanning_80_degrees typ =
     let more = pos (100 * (typ - 0x10)) in
     record {
       rorg =
@@ -47,14 +47,15 @@ profile_over_80_degrees typ =
     }
 
 -- A5-02-01 to A5-02-0B
-abbrev pub profiles_over_40_degrees : List ProfileGroup
-profiles_over_40_degrees =
-    map profile_over_40_degrees (0x01 ∷ 0x02 ∷ 0x03 ∷ 0x04 ∷ 0x05 ∷ 0x06 ∷ 0x07 ∷ 0x08 ∷ 0x09 ∷ 0x0A ∷ 0x0B ∷ [])
+abbrev pub profiles_spanning_40_degrees : List ProfileGroup
+profiles_spanning_40_degrees =
+    map profile_spanning_40_degrees (0x01 ∷ 0x02 ∷ 0x03 ∷ 0x04 ∷ 0x05 ∷ 0x06 ∷ 0x07 ∷ 0x08 ∷ 0x09 ∷ 0x0A ∷ 0x0B ∷ [])
 
 -- A5-02-10 to A5-02-1B
-abbrev pub profiles_over_80_degrees : List ProfileGroup
-profiles_over_80_degrees =
-    map profile_over_80_degrees (0x10 ∷ 0x11 ∷ 0x12 ∷ 0x13 ∷ 0x14 ∷ 0x15 ∷ 0x16 ∷ 0x17 ∷ 0x18 ∷ 0x19 ∷ 0x1A ∷ 0x1B ∷ [])
+abbrev pub profiles_spanning_80_degrees : List ProfileGroup
+profiles_spanning_80_degrees =
+    map profile_spanning_80_degrees
+    (0x10 ∷ 0x11 ∷ 0x12 ∷ 0x13 ∷ 0x14 ∷ 0x15 ∷ 0x16 ∷ 0x17 ∷ 0x18 ∷ 0x19 ∷ 0x1A ∷ 0x1B ∷ [])
 
 -- A5-02-20: -10 to 41.2 C, A5-02-30: -40 to 62.3 C
 abbrev pub profiles_of_10_bits : List ProfileGroup
@@ -64,4 +65,4 @@ profiles_of_10_bits =
     ∷ []
 
 abbrev pub temperature_profiles : List ProfileGroup
-temperature_profiles = profiles_over_40_degrees ++ profiles_over_80_degrees ++ profiles_of_10_bits
+temperature_profiles = profiles_spanning_40_degrees ++ profiles_spanning_80_degrees ++ profiles_of_10_bits

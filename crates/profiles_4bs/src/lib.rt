@@ -12,4 +12,4 @@ mod profiles;
 mod room_operating_panel;
 mod temperature;
 
-pub use crate::profiles::{read, read_data, supports};
+pub use crate::profiles::{read, read_4bs_data, supports, supports_4bs};

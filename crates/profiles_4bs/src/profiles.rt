@@ -5,7 +5,7 @@ ghost use Rattle.std.specs.Bool.{OnFalse};
 ghost use Rattle.profile_rows.specs.ReadResult.{read_result, entries_if};
 ghost use Rattle.profile_rows.specs.Payload.{is_data, readings_by};
 ghost use Rattle.profile_rows.specs.Rows.{entries_of};
-ghost use Rattle.profiles_4bs.specs.Profiles.{rows_of, supported, readings_of};
+ghost use Rattle.profiles_4bs.specs.Profiles.{four_bs_profile, rows_of, supported, readings_of};
 
 use crate::{
     gas, humidity, light, light_temperature_occupancy, meter, occupancy, room_operating_panel,
@@ -15,52 +15,65 @@ use bit_fields::get;
 use erp1_telegrams::{Contents, Eep, Telegram, lrn_bit, rorg};
 use profile_rows::{Readings, Unreadable};
 
-/// Sets `readings` to what the rows of a profile read in a payload, and returns whether the profile has rows. Each
+/// Sets `readings` to what the rows of the profile A5-FUNC-TYPE read in a payload, and returns whether it has rows.
+/// Each
 /// function has the profiles of one FUNC.
 #[tactic(auto, unfolding(crate::specs::Profiles::rows_of))]
-fn read_if_supported(eep: Eep, bytes: &[u8; 4], readings: &mut Readings) -> bool
-    ensures exact { entries_if result readings.new.items ≡ option_map (entries_of bytes.now) (rows_of eep) }
+fn read_if_supported(func: u8, typ: u8, bytes: &[u8; 4], readings: &mut Readings) -> bool
+    ensures exact { entries_if result readings.new.items
+        ≡ option_map (entries_of bytes.now) (rows_of (four_bs_profile func typ)) }
     ensures none { OnFalse result (readings.new ≡ readings.old) }
 {
-    match (eep.rorg, eep.func) {
-        (0xA5, 0x02) => temperature::read_if_supported(eep.typ, bytes, readings),
-        (0xA5, 0x04) => humidity::read_if_supported(eep.typ, bytes, readings),
-        (0xA5, 0x06) => light::read_if_supported(eep.typ, bytes, readings),
-        (0xA5, 0x07) => occupancy::read_if_supported(eep.typ, bytes, readings),
-        (0xA5, 0x08) => light_temperature_occupancy::read_if_supported(eep.typ, bytes, readings),
-        (0xA5, 0x09) => gas::read_if_supported(eep.typ, bytes, readings),
-        (0xA5, 0x10) => room_operating_panel::read_if_supported(eep.typ, bytes, readings),
-        (0xA5, 0x12) => meter::read_if_supported(eep.typ, bytes, readings),
+    match func {
+        0x02 => temperature::read_if_supported(typ, bytes, readings),
+        0x04 => humidity::read_if_supported(typ, bytes, readings),
+        0x06 => light::read_if_supported(typ, bytes, readings),
+        0x07 => occupancy::read_if_supported(typ, bytes, readings),
+        0x08 => light_temperature_occupancy::read_if_supported(typ, bytes, readings),
+        0x09 => gas::read_if_supported(typ, bytes, readings),
+        0x10 => room_operating_panel::read_if_supported(typ, bytes, readings),
+        0x12 => meter::read_if_supported(typ, bytes, readings),
         _ => false,
     }
 }
 
 /// Whether a profile is supported: whether it is in `all_profiles` of `specs/Profiles.antt`. `read` returns
-/// `NotSupported` exactly if it is not. The function decodes zeros and drops the readings, so the code names each
-/// profile only once, in the functions `read_if_supported`.
+/// `NotSupported` exactly if it is not.
 pub fn supports(eep: Eep) -> bool
     ensures { result ≡ supported eep }
 {
-    read_if_supported(eep, &[0; 4], &mut Readings::new())
+    match eep.rorg {
+        rorg::FOUR_BS => supports_4bs(eep.func, eep.typ),
+        _ => false,
+    }
 }
 
-// Decodes the payload of a data telegram by a profile.
-fn read_bytes(eep: Eep, bytes: &[u8; 4], readings: &mut Readings) -> Result<(), Unreadable>
-    ensures exact { read_result result readings.new.items ≡ readings_by entries_of (rows_of eep) (Ok bytes.now) }
+/// The same for the profile A5-FUNC-TYPE. The function decodes zeros and drops the readings, so the code names each
+/// profile only once, in the functions `read_if_supported`.
+pub fn supports_4bs(func: u8, typ: u8) -> bool
+    ensures { result ≡ supported (four_bs_profile func typ) }
+{
+    read_if_supported(func, typ, &[0; 4], &mut Readings::new())
+}
+
+// Decodes the payload of a data telegram by the profile A5-FUNC-TYPE.
+fn read_bytes(func: u8, typ: u8, bytes: &[u8; 4], readings: &mut Readings) -> Result<(), Unreadable>
+    ensures exact { read_result result readings.new.items
+        ≡ readings_by entries_of (rows_of (four_bs_profile func typ)) (Ok bytes.now) }
     ensures err { OnErr result (readings.new ≡ readings.old) }
 {
-    if read_if_supported(eep, bytes, readings) {
+    if read_if_supported(func, typ, bytes, readings) {
         Ok(())
     } else {
         Err(Unreadable::NotSupported)
     }
 }
 
-// The error for a telegram that the profile cannot read for this reason.
-fn refusal_of(eep: Eep, reason: Unreadable) -> Unreadable
-    ensures { Err result ≡ readings_by entries_of (rows_of eep) (Err reason) }
+// The error for a telegram that the profile A5-FUNC-TYPE cannot read for this reason.
+fn refusal_of(func: u8, typ: u8, reason: Unreadable) -> Unreadable
+    ensures { Err result ≡ readings_by entries_of (rows_of (four_bs_profile func typ)) (Err reason) }
 {
-    if supports(eep) {
+    if supports_4bs(func, typ) {
         reason
     } else {
         Unreadable::NotSupported
@@ -75,25 +88,45 @@ pub fn read(eep: Eep, telegram: &Telegram, readings: &mut Readings) -> Result<()
     ensures exact { read_result result readings.new.items ≡ readings_of eep telegram.now }
     ensures err { OnErr result (readings.new ≡ readings.old) }
 {
-    match (eep.rorg, telegram.contents()) {
-        (rorg::FOUR_BS, Contents::FourBs(bytes)) => {
-            match get::<4, { lrn_bit::FOUR_BS_OFFSET }, 1>(bytes) {
-                1 => read_bytes(eep, bytes, readings),
-                _ => Err(refusal_of(eep, Unreadable::OtherMessage)),
-            }
-        }
-        _ => Err(refusal_of(eep, Unreadable::WrongKind)),
+    match eep.rorg {
+        rorg::FOUR_BS => read_4bs(eep.func, eep.typ, telegram, readings),
+        _ => Err(Unreadable::NotSupported),
     }
 }
 
-/// The same for a telegram that is known to be data, whose LRN bit is not read again.
-pub fn read_data(eep: Eep, telegram: &Telegram, readings: &mut Readings) -> Result<(), Unreadable>
-    requires { is_data telegram.now.rorg telegram.now.payload ≡ true }
-    ensures exact { read_result result readings.new.items ≡ readings_of eep telegram.now }
+// The same for the profile A5-FUNC-TYPE.
+fn read_4bs(
+    func: u8,
+    typ: u8,
+    telegram: &Telegram,
+    readings: &mut Readings,
+) -> Result<(), Unreadable>
+    ensures exact { read_result result readings.new.items ≡ readings_of (four_bs_profile func typ) telegram.now }
     ensures err { OnErr result (readings.new ≡ readings.old) }
 {
-    match (eep.rorg, telegram.contents()) {
-        (rorg::FOUR_BS, Contents::FourBs(bytes)) => read_bytes(eep, bytes, readings),
-        _ => Err(refusal_of(eep, Unreadable::WrongKind)),
+    match telegram.contents() {
+        Contents::FourBs(bytes) => match get::<4, { lrn_bit::FOUR_BS_OFFSET }, 1>(bytes) {
+            1 => read_bytes(func, typ, bytes, readings),
+            _ => Err(refusal_of(func, typ, Unreadable::OtherMessage)),
+        },
+        _ => Err(refusal_of(func, typ, Unreadable::WrongKind)),
+    }
+}
+
+/// Decodes a telegram that is known to be data, whose LRN bit is not read again, by the profile A5-FUNC-TYPE, as `read`
+/// does.
+pub fn read_4bs_data(
+    func: u8,
+    typ: u8,
+    telegram: &Telegram,
+    readings: &mut Readings,
+) -> Result<(), Unreadable>
+    requires { is_data telegram.now.rorg telegram.now.payload ≡ true }
+    ensures exact { read_result result readings.new.items ≡ readings_of (four_bs_profile func typ) telegram.now }
+    ensures err { OnErr result (readings.new ≡ readings.old) }
+{
+    match telegram.contents() {
+        Contents::FourBs(bytes) => read_bytes(func, typ, bytes, readings),
+        _ => Err(refusal_of(func, typ, Unreadable::WrongKind)),
     }
 }

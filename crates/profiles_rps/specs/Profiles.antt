@@ -1,5 +1,5 @@
 -- The readings of RPS and 1BS telegrams.
-use Rattle.std.specs.Prelude.{Bool, List, [], ◌∷◌, is_some, Option, Result}
+use Rattle.std.specs.Prelude.{ℕ, Bool, List, [], ◌∷◌, is_some, Option, Result}
 use Rattle.erp1_telegrams.specs.declared.eep.Eep.{Eep}
 use Rattle.erp1_telegrams.specs.Telegram.{Telegram}
 use Rattle.profile_rows.specs.Reading.{Entry}
@@ -18,6 +18,13 @@ all_profiles =
     ∷ record { rorg = 0xF6; func = 0x03; types = 0x01 ∷ 0x02 ∷ []; rows = four_rockers }
     ∷ record { rorg = 0xD5; func = 0x00; types = 0x01 ∷ []; rows = single_contact }
     ∷ []
+
+-- the profiles F6-FUNC-TYPE and D5-FUNC-TYPE
+abbrev pub rps_profile : (func typ : ℕ) → Eep
+rps_profile func typ = record { rorg = 0xF6; func = func; typ = typ }
+
+abbrev pub one_bs_profile : (func typ : ℕ) → Eep
+one_bs_profile func typ = record { rorg = 0xD5; func = func; typ = typ }
 
 -- the rows of a profile, if it is supported
 unfoldable pub rows_of : Eep → Option (List Row)

@@ -36,6 +36,10 @@ payload_readings_of eep =
     else if eep.rorg == 0xD2 && eep.func == 0x05 && eep.typ == 0x00 then Some blinds_control_readings
     else None
 
+-- the profile D2-FUNC-TYPE
+abbrev pub vld_profile : (func typ : ℕ) → Eep
+vld_profile func typ = record { rorg = 0xD2; func = func; typ = typ }
+
 -- a profile is supported if it has readings
 abbrev pub supported : Eep → Bool
 supported eep = is_some (payload_readings_of eep)

@@ -5,4 +5,4 @@ mod blinds_control;
 mod electronic_switches;
 mod profiles;
 
-pub use crate::profiles::{read, supports};
+pub use crate::profiles::{read, read_vld, supports, supports_vld};

@@ -2,40 +2,49 @@
 
 ghost use Rattle.std.specs.Prelude.{◌≡◌, option_map, IfNone, IfSome, OnErr};
 ghost use Rattle.profile_rows.specs.ReadResult.{read_result};
-ghost use Rattle.profiles_vld.specs.Profiles.{payload_readings_of, supported, readings_of};
+ghost use Rattle.profiles_vld.specs.Profiles.{vld_profile, payload_readings_of, supported, readings_of};
 
 use crate::{blinds_control, electronic_switches};
 use erp1_telegrams::{Contents, Eep, Telegram, rorg};
 use profile_rows::{Readings, Unreadable};
 
-/// Sets `readings` to the readings of a payload by a profile, or returns the first error; `None` if the profile is not
-/// supported.
+/// Sets `readings` to the readings of a payload by the profile D2-FUNC-TYPE, or returns the first error; `None` if the
+/// profile is not supported.
 fn read_if_supported(
-    eep: Eep,
+    func: u8,
+    typ: u8,
     payload: &[u8],
     readings: &mut Readings,
 ) -> Option<Result<(), Unreadable>>
     ensures exact { option_map (λ answer. read_result answer readings.new.items) result
-        ≡ option_map (λ says. says payload.now) (payload_readings_of eep) }
+        ≡ option_map (λ says. says payload.now) (payload_readings_of (vld_profile func typ)) }
     ensures none { IfNone result (readings.new ≡ readings.old) }
     ensures err { IfSome result (λ answer. OnErr answer (readings.new ≡ readings.old)) }
 {
-    match (eep.rorg, eep.func, eep.typ) {
-        (rorg::VLD, 0x01, 0x00..=0x12) => Some(electronic_switches::read_if_supported(
-            payload, readings,
-        )),
-        (rorg::VLD, 0x05, 0x00) => Some(blinds_control::read_if_supported(payload, readings)),
+    match (func, typ) {
+        (0x01, 0x00..=0x12) => Some(electronic_switches::read_if_supported(payload, readings)),
+        (0x05, 0x00) => Some(blinds_control::read_if_supported(payload, readings)),
         _ => None,
     }
 }
 
 /// Whether a profile is supported: whether `payload_readings_of` of `specs/Profiles.antt` has it. `read` returns
-/// `NotSupported` exactly if it has not. The function decodes an empty payload and drops the result, so the code names
-/// each profile only once, in `read_if_supported`.
+/// `NotSupported` exactly if it has not.
 pub fn supports(eep: Eep) -> bool
     ensures { result ≡ supported eep }
 {
-    read_if_supported(eep, &[], &mut Readings::new()).is_some()
+    match eep.rorg {
+        rorg::VLD => supports_vld(eep.func, eep.typ),
+        _ => false,
+    }
+}
+
+/// The same for the profile D2-FUNC-TYPE. The function decodes an empty payload and drops the result, so the code names
+/// each profile only once, in `read_if_supported`.
+pub fn supports_vld(func: u8, typ: u8) -> bool
+    ensures { result ≡ supported (vld_profile func typ) }
+{
+    read_if_supported(func, typ, &[], &mut Readings::new()).is_some()
 }
 
 /// Decodes a telegram by a profile: sets `readings` to its readings, in the order of the profile's rows (EnOcean
@@ -48,11 +57,27 @@ pub fn read(eep: Eep, telegram: &Telegram, readings: &mut Readings) -> Result<()
     ensures exact { read_result result readings.new.items ≡ readings_of eep telegram.now }
     ensures err { OnErr result (readings.new ≡ readings.old) }
 {
+    match eep.rorg {
+        rorg::VLD => read_vld(eep.func, eep.typ, telegram, readings),
+        _ => Err(Unreadable::NotSupported),
+    }
+}
+
+/// The same for the profile D2-FUNC-TYPE.
+pub fn read_vld(
+    func: u8,
+    typ: u8,
+    telegram: &Telegram,
+    readings: &mut Readings,
+) -> Result<(), Unreadable>
+    ensures exact { read_result result readings.new.items ≡ readings_of (vld_profile func typ) telegram.now }
+    ensures err { OnErr result (readings.new ≡ readings.old) }
+{
     match telegram.contents() {
         Contents::Vld(payload) => {
-            read_if_supported(eep, payload, readings).unwrap_or(Err(Unreadable::NotSupported))
+            read_if_supported(func, typ, payload, readings).unwrap_or(Err(Unreadable::NotSupported))
         }
-        _ if supports(eep) => Err(Unreadable::WrongKind),
+        _ if supports_vld(func, typ) => Err(Unreadable::WrongKind),
         _ => Err(Unreadable::NotSupported),
     }
 }

@@ -1,8 +1,8 @@
 //! Cases over registries that cache few senders and many: the output is the same.
 ghost use Rattle.std.specs.Prelude.{◌≤◌};
 
+use crate::report::Report;
 use crate::scripts::row;
-use crate::telling::Telling;
 use anyhow::Result;
 use device_registry::Registry;
 use gateway_core::{DeviceStore, GatewayOver};
@@ -13,27 +13,27 @@ use std::alloc::Global;
 /// More reads than these sessions need.
 const TURNS: u64 = 1000;
 
-pub(crate) fn tell(rt: &HostRuntime, telling: &mut Telling) -> Result<()> {
+pub(crate) fn run_cases(rt: &HostRuntime, report: &mut Report) -> Result<()> {
     for name in ["two-hundred-contacts", "contact-learned-and-forgotten"] {
-        tell_of(rt, telling, name, 1)?;
-        tell_of(rt, telling, name, 64)?;
-        tell_of(rt, telling, name, 1024)?;
+        run_of(rt, report, name, 1)?;
+        run_of(rt, report, name, 64)?;
+        run_of(rt, report, name, 1024)?;
     }
     Ok(())
 }
 
-fn tell_of(rt: &HostRuntime, telling: &mut Telling, name: &str, cache: usize) -> Result<()>
+fn run_of(rt: &HostRuntime, report: &mut Report, name: &str, cache: usize) -> Result<()>
     requires { (1 ≤ cache) × (cache ≤ 1024) }
 {
     let alloc = rt.alloc();
     let (script, wanted) = row(rt, name, false)?;
     let conn = Connection::open_in_memory(alloc)?;
     let Ok(registry) = Registry::open_with(alloc, conn, cache) else {
-        return telling.tell(rt, name, false);
+        return report.add_case(rt, name, false);
     };
     let is_well = is_written(alloc, registry, script.as_slice(), wanted.as_slice());
     let title = format!(in alloc; "{name} with a cache of {cache}")?;
-    telling.tell(rt, title.as_str(), is_well)
+    report.add_case(rt, title.as_str(), is_well)
 }
 
 /// Whether this is written for a script over this registry.

@@ -1,6 +1,7 @@
 //! The exit statuses of the program, and its messages for faults.
-use crate::telling::Telling;
+use crate::report::Report;
 use anyhow::Result;
+use device_registry::{OpenFault, StoreFault};
 use gateway_core::StartFault;
 use gateway_main::command_line::{CommandLineFault, read};
 use gateway_main::ending::{Ending, done_or_first_fault, ending_without_arguments, status};
@@ -9,35 +10,39 @@ use gateway_main::{RunFault, Summary};
 use std::alloc::{AllocError, Global};
 use std::io;
 
-pub(crate) fn tell(rt: &HostRuntime, telling: &mut Telling) -> Result<()> {
-    tell_faults(rt, telling)?;
-    tell_texts(rt, telling)?;
-    tell_statuses(rt, telling)?;
-    tell_command_lines(rt, telling)?;
-    tell_closes(rt, telling)
+pub(crate) fn run_cases(rt: &HostRuntime, report: &mut Report) -> Result<()> {
+    run_faults(rt, report)?;
+    run_texts(rt, report)?;
+    run_statuses(rt, report)?;
+    run_command_lines(rt, report)?;
+    run_closes(rt, report)
+}
+
+fn database_fault(why: StoreFault) -> Fault {
+    Fault::Database(OpenFault::Failed(why))
 }
 
 // Each fault has its text, and the status 1.
-fn tell_faults(rt: &HostRuntime, telling: &mut Telling) -> Result<()> {
+fn run_faults(rt: &HostRuntime, report: &mut Report) -> Result<()> {
     for (fault, text) in [
-        (Fault::NotARegistry, "not a registry"),
-        (Fault::Store, "store"),
-        (Fault::Memory, "memory"),
+        (Fault::Database(OpenFault::NotARegistry), "not a registry"),
+        (database_fault(StoreFault::store_failed()), "store"),
+        (database_fault(StoreFault::from(AllocError)), "memory"),
         (Fault::CannotOpenFile, "cannot open"),
         (Fault::Run(RunFault::Read), "read"),
         (Fault::Run(RunFault::Write), "write"),
         (Fault::Run(RunFault::TooManyTurns), "too many turns"),
     ] {
-        let is_well = fault.to_string(rt.alloc())?.as_str() == text
-            && status(&Err(Ending::from(fault))) == 1;
-        let name = format!(in rt.alloc(); "the fault: {text}")?;
-        telling.tell(rt, name.as_str(), is_well)?;
+        let printed = fault.to_string(rt.alloc())?;
+        let is_well = printed.as_str() == text && status(&Err(Ending::from(fault))) == 1;
+        let name = format!(in rt.alloc(); "the fault: {printed}")?;
+        report.add_case(rt, name.as_str(), is_well)?;
     }
     Ok(())
 }
 
 // Each cause for which no gateway starts has a text of its own, for callers of the libraries.
-fn tell_texts(rt: &HostRuntime, telling: &mut Telling) -> Result<()> {
+fn run_texts(rt: &HostRuntime, report: &mut Report) -> Result<()> {
     for (text, wanted) in [
         (StartFault::BadBase.to_string(rt.alloc())?, "not a base ID"),
         (
@@ -46,12 +51,12 @@ fn tell_texts(rt: &HostRuntime, telling: &mut Telling) -> Result<()> {
         ),
     ] {
         let name = format!(in rt.alloc(); "the text: {wanted}")?;
-        telling.tell(rt, name.as_str(), text.as_str() == wanted)?;
+        report.add_case(rt, name.as_str(), text.as_str() == wanted)?;
     }
     Ok(())
 }
 
-fn tell_statuses(rt: &HostRuntime, telling: &mut Telling) -> Result<()> {
+fn run_statuses(rt: &HostRuntime, report: &mut Report) -> Result<()> {
     let not_text = io::Error::from(io::ErrorKind::InvalidData);
     let out_of_memory = io::Error::from(AllocError);
     for (name, ended, wanted) in [
@@ -77,7 +82,7 @@ fn tell_statuses(rt: &HostRuntime, telling: &mut Telling) -> Result<()> {
             1,
         ),
     ] {
-        telling.tell(rt, name, status(&ended) == wanted)?;
+        report.add_case(rt, name, status(&ended) == wanted)?;
     }
     Ok(())
 }
@@ -101,13 +106,13 @@ const LINES: &str = "\
 2 enogate live --base 1 --serial s --desk d --out o --turns 1
 2 enogate live --base FF800000 --serial s --desk d --out o --turns 0";
 
-fn tell_command_lines(rt: &HostRuntime, telling: &mut Telling) -> Result<()> {
+fn run_command_lines(rt: &HostRuntime, report: &mut Report) -> Result<()> {
     for case in LINES.lines() {
         let is_well = match case.split_once(' ') {
             Some((wanted, line)) => status_of_line(rt.alloc(), line)? == wanted.parse().ok(),
             None => false,
         };
-        telling.tell(rt, case, is_well)?;
+        report.add_case(rt, case, is_well)?;
     }
     Ok(())
 }
@@ -125,7 +130,7 @@ fn status_of_line(alloc: Global, line: &str) -> Result<Option<u8>> {
 }
 
 // A path that cannot be opened is reported before the close, and so is the result of a run.
-fn tell_closes(rt: &HostRuntime, telling: &mut Telling) -> Result<()> {
+fn run_closes(rt: &HostRuntime, report: &mut Report) -> Result<()> {
     let summary = Summary { items: 2 };
     let refused = sqlite::Error::SqliteFailure(sqlite::ErrorCode::TransactionState);
     let out_of_memory = sqlite::Error::SqliteFailure(sqlite::ErrorCode::OutOfMemory);
@@ -147,13 +152,13 @@ fn tell_closes(rt: &HostRuntime, telling: &mut Telling) -> Result<()> {
             "a close that is refused",
             Ok(Ok(summary)),
             Err(refused),
-            Err(Fault::Store),
+            Err(database_fault(StoreFault::store_failed())),
         ),
         (
             "a close with no memory",
             Ok(Ok(summary)),
             Err(out_of_memory),
-            Err(Fault::Memory),
+            Err(database_fault(StoreFault::from(AllocError))),
         ),
         (
             "a run's fault and a close",
@@ -168,7 +173,7 @@ fn tell_closes(rt: &HostRuntime, telling: &mut Telling) -> Result<()> {
             Err(Fault::CannotOpenFile),
         ),
     ] {
-        telling.tell(rt, name, done_or_first_fault(served, closed) == wanted)?;
+        report.add_case(rt, name, done_or_first_fault(served, closed) == wanted)?;
     }
     Ok(())
 }

@@ -1,5 +1,5 @@
 //! New gateways over databases in memory, and one over what another has learned.
-use crate::telling::Telling;
+use crate::report::Report;
 use anyhow::{Result, bail};
 use device_registry::{MAX_CACHED, Registry, RegistryOver, SqlConnection};
 use gateway_core::{DeviceStore, Gateway, GatewayOver, Reply, StartFault};
@@ -75,16 +75,16 @@ pub(crate) fn serve_new<P: Source, Q: Source, R: Sink, D: Sink>(
     ))
 }
 
-pub(crate) fn tell(rt: &HostRuntime, telling: &mut Telling) -> Result<()> {
-    telling.tell(rt, "a base ID that is none", is_no_base(rt.alloc())?)?;
+pub(crate) fn run_cases(rt: &HostRuntime, report: &mut Report) -> Result<()> {
+    report.add_case(rt, "a base ID that is none", is_no_base(rt.alloc())?)?;
     let is_found = finds_what_was_learned_before(rt.alloc())?;
-    telling.tell(rt, "what was learned before", is_found)?;
+    report.add_case(rt, "what was learned before", is_found)?;
     let is_read = by_bytes(&mut with_contact(rt.alloc())?);
-    telling.tell(rt, "a packet byte by byte", is_read)?;
+    report.add_case(rt, "a packet byte by byte", is_read)?;
     let is_read = in_a_run(&mut with_contact(rt.alloc())?);
-    telling.tell(rt, "a packet in a run of bytes", is_read)?;
+    report.add_case(rt, "a packet in a run of bytes", is_read)?;
     let is_read = at_the_front(&mut with_contact(rt.alloc())?);
-    telling.tell(rt, "a packet at the front of some bytes", is_read)
+    report.add_case(rt, "a packet at the front of some bytes", is_read)
 }
 
 fn is_no_base(alloc: Global) -> Result<bool> {

@@ -5,20 +5,20 @@
 //! mutant it differed by; no mutant was tried by itself.
 mod bytes;
 mod crashes;
-mod cuts;
 mod disks;
 mod faults;
 mod live_faults;
 mod script;
+mod truncated;
 mod turns;
 
-use crate::telling::Telling;
+use crate::report::Report;
 use anyhow::Result;
 
-pub(crate) fn tell(rt: &HostRuntime, telling: &mut Telling) -> Result<()> {
-    crashes::tell(rt, telling)?;
-    cuts::tell(rt, telling)?;
-    bytes::tell(rt, telling)?;
-    faults::tell(rt, telling)?;
-    live_faults::tell(rt, telling)
+pub(crate) fn run_cases(rt: &HostRuntime, report: &mut Report) -> Result<()> {
+    crashes::run_cases(rt, report)?;
+    truncated::run_cases(rt, report)?;
+    bytes::run_cases(rt, report)?;
+    faults::run_cases(rt, report)?;
+    live_faults::run_cases(rt, report)
 }

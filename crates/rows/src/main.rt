@@ -4,33 +4,33 @@
 #![tactic(auto)]
 
 mod caches;
-mod cuts;
+mod chunks;
 mod endings;
 mod fakes;
 mod gateways;
 mod hostile;
-mod lives;
+mod live_turns;
 mod one_device;
 mod replays;
+mod report;
 mod scripts;
-mod telling;
 
 use anyhow::Result;
+use report::Report;
 use std::process::ExitCode;
-use telling::Telling;
 
 fn main(rt: HostRuntime) -> Result<ExitCode> {
-    let mut telling = Telling::new();
-    scripts::tell(&rt, &mut telling)?;
-    caches::tell(&rt, &mut telling)?;
-    gateways::tell(&rt, &mut telling)?;
-    one_device::tell(&rt, &mut telling)?;
-    replays::tell(&rt, &mut telling)?;
-    lives::tell(&rt, &mut telling)?;
-    endings::tell(&rt, &mut telling)?;
-    cuts::tell(&rt, &mut telling)?;
-    hostile::tell(&rt, &mut telling)?;
-    Ok(if telling.is_all_well() {
+    let mut report = Report::new();
+    scripts::run_cases(&rt, &mut report)?;
+    caches::run_cases(&rt, &mut report)?;
+    gateways::run_cases(&rt, &mut report)?;
+    one_device::run_cases(&rt, &mut report)?;
+    replays::run_cases(&rt, &mut report)?;
+    live_turns::run_cases(&rt, &mut report)?;
+    endings::run_cases(&rt, &mut report)?;
+    chunks::run_cases(&rt, &mut report)?;
+    hostile::run_cases(&rt, &mut report)?;
+    Ok(if report.is_all_well() {
         ExitCode::SUCCESS
     } else {
         ExitCode::FAILURE

@@ -2,7 +2,7 @@
 ghost use Rattle.std.specs.Prelude.{◌≡◌, [], ℕ};
 
 use crate::gateways::{BASE, written_by};
-use crate::telling::Telling;
+use crate::report::Report;
 use anyhow::Result;
 use gateway_core::GatewayOver;
 use learned_devices::{Device, DeviceStore, Label, LearnFault, StoreFault};
@@ -32,7 +32,7 @@ impl OneDevice {
 }
 
 impl DeviceStore for OneDevice {
-    ghost store_state = { λ _. record { honest = ⊥; holds = λ _. ⊥; may_recover = λ _. ⊥; sound = ⊥ } };
+    ghost store_state = { λ _. record { honest = ⊥; holds = λ _. ⊥; may_recover = λ _. ⊥; reopenable = ⊥ } };
 
     ghost wrote = { λ _ _ _ _. ⊥ };
 
@@ -109,7 +109,7 @@ const CASES: [(&str, bool, &[u8], &[u8]); 2] = [
     ),
 ];
 
-pub(crate) fn tell(rt: &HostRuntime, telling: &mut Telling) -> Result<()> {
+pub(crate) fn run_cases(rt: &HostRuntime, report: &mut Report) -> Result<()> {
     let alloc = rt.alloc();
     for (name, answers, script, wanted) in CASES {
         let store = OneDevice {
@@ -119,7 +119,7 @@ pub(crate) fn tell(rt: &HostRuntime, telling: &mut Telling) -> Result<()> {
         };
         let mut gateway = GatewayOver::new(alloc, store, BASE)?;
         let written = written_by(alloc, &mut gateway, script)?;
-        telling.tell(rt, name, written.as_slice() == wanted)?;
+        report.add_case(rt, name, written.as_slice() == wanted)?;
     }
     Ok(())
 }

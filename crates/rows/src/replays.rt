@@ -1,8 +1,8 @@
 //! Replays of short scripts, with readers and writers that fail, and with lines of maximum length.
 use crate::fakes::{Parts, Sips, TakesNothing};
 use crate::gateways::replay_new;
+use crate::report::Report;
 use crate::scripts::row;
-use crate::telling::Telling;
 use anyhow::Result;
 use gateway_main::{OverRead, OverWrite, RunFault, Source, Summary};
 use std::alloc::Global;
@@ -13,14 +13,14 @@ const TOO_LONG: &[u8] = b"{\"error\":\"too_long\",\"type\":\"error\"}\n";
 
 const NONE_LISTED: &[u8] = b"{\"count\":0,\"type\":\"list\"}\n";
 
-pub(crate) fn tell(rt: &HostRuntime, telling: &mut Telling) -> Result<()> {
-    tell_turns(rt, telling)?;
-    tell_items(rt, telling)?;
-    tell_lengths(rt, telling)?;
-    tell_ends(rt, telling)?;
-    tell_reads(rt, telling)?;
-    tell_writes(rt, telling)?;
-    tell_explained_writes(rt, telling)
+pub(crate) fn run_cases(rt: &HostRuntime, report: &mut Report) -> Result<()> {
+    run_turns(rt, report)?;
+    run_items(rt, report)?;
+    run_lengths(rt, report)?;
+    run_ends(rt, report)?;
+    run_reads(rt, report)?;
+    run_writes(rt, report)?;
+    run_explained_writes(rt, report)
 }
 
 /// Whether a replay has this result, and this is written.
@@ -47,14 +47,14 @@ pub(crate) fn is_written(alloc: Global, script: &[u8], text: &[u8]) -> Result<bo
 }
 
 // The end of the script is a read of its own.
-fn tell_turns(rt: &HostRuntime, telling: &mut Telling) -> Result<()> {
+fn run_turns(rt: &HostRuntime, report: &mut Report) -> Result<()> {
     let script = b"\n".as_slice();
     let too_many = Err(RunFault::TooManyTurns);
     let is_well = comes_to(rt.alloc(), &mut OverRead::new(script), 1, too_many, SYNTAX)?;
-    telling.tell(rt, "a turn too few", is_well)?;
+    report.add_case(rt, "a turn too few", is_well)?;
     let one = Ok(Summary { items: 1 });
     let is_well = comes_to(rt.alloc(), &mut OverRead::new(script), 2, one, SYNTAX)?;
-    telling.tell(rt, "just enough turns", is_well)
+    report.add_case(rt, "just enough turns", is_well)
 }
 
 const CONTACT_READ: &[u8] =
@@ -63,16 +63,16 @@ const CONTACT_READ: &[u8] =
     \"readings\":[{\"name\":\"CO\",\"word\":\"closed\"}],\"type\":\"reading\"}\n";
 
 // An order and a packet are two inputs, even if the packet is in two chunks and the last line has no end.
-fn tell_items(rt: &HostRuntime, telling: &mut Telling) -> Result<()> {
+fn run_items(rt: &HostRuntime, report: &mut Report) -> Result<()> {
     let script =
         b"add 01800ABC D5-00-01\nS 55000707017AD50901800ABC0001FFFFFFFF2D001F\n".as_slice();
     let two = Ok(Summary { items: 2 });
     let is_well = comes_to(rt.alloc(), &mut OverRead::new(script), 2, two, CONTACT_READ)?;
-    telling.tell(rt, "two items", is_well)?;
+    report.add_case(rt, "two items", is_well)?;
     let script =
         b"add 01800abc d5-00-01\r\nS 55000707017ad50901800A\nS BC0001ffffffff2d001f".as_slice();
     let is_well = comes_to(rt.alloc(), &mut OverRead::new(script), 2, two, CONTACT_READ)?;
-    telling.tell(rt, "two items in three lines", is_well)
+    report.add_case(rt, "two items in three lines", is_well)
 }
 
 /// A line of this many letters with this end. With 100 bytes of a chunk before it, it is split between two reads.
@@ -87,7 +87,7 @@ fn line_of(alloc: Global, length: usize, end: &[u8]) -> Result<Vec<u8>> {
 }
 
 // A line's end does not count towards its 200 bytes.
-fn tell_lengths(rt: &HostRuntime, telling: &mut Telling) -> Result<()> {
+fn run_lengths(rt: &HostRuntime, report: &mut Report) -> Result<()> {
     let cases: [(&str, usize, &[u8], &[u8]); 6] = [
         ("200 bytes and LF", 200, b"\n", SYNTAX),
         ("200 bytes, CR and LF", 200, b"\r\n", SYNTAX),
@@ -98,13 +98,13 @@ fn tell_lengths(rt: &HostRuntime, telling: &mut Telling) -> Result<()> {
     ];
     for (name, length, end, wanted) in cases {
         let script = line_of(rt.alloc(), length, end)?;
-        telling.tell(rt, name, is_written(rt.alloc(), script.as_slice(), wanted)?)?;
+        report.add_case(rt, name, is_written(rt.alloc(), script.as_slice(), wanted)?)?;
     }
     Ok(())
 }
 
 // One CR before LF belongs to the end of a line, and a CR before the end of the script to the line.
-fn tell_ends(rt: &HostRuntime, telling: &mut Telling) -> Result<()> {
+fn run_ends(rt: &HostRuntime, report: &mut Report) -> Result<()> {
     let cases: [(&str, &[u8], &[u8]); 7] = [
         ("a line with LF", b"list\n", NONE_LISTED),
         ("a line with CR and LF", b"list\r\n", NONE_LISTED),
@@ -115,25 +115,25 @@ fn tell_ends(rt: &HostRuntime, telling: &mut Telling) -> Result<()> {
         ("CR and LF alone", b"\r\n", SYNTAX),
     ];
     for (name, script, wanted) in cases {
-        telling.tell(rt, name, is_written(rt.alloc(), script, wanted)?)?;
+        report.add_case(rt, name, is_written(rt.alloc(), script, wanted)?)?;
     }
     Ok(())
 }
 
-fn tell_reads(rt: &HostRuntime, telling: &mut Telling) -> Result<()> {
+fn run_reads(rt: &HostRuntime, report: &mut Report) -> Result<()> {
     let alloc = rt.alloc();
     let one = Ok(Summary { items: 1 });
     let script = [b"\n".as_slice()];
     let mut reader = OverRead::new(Parts::new(&script, 0));
     let is_well = comes_to(alloc, &mut reader, 2, one, SYNTAX)?;
-    telling.tell(rt, "a read of 256 bytes", is_well)?;
+    report.add_case(rt, "a read of 256 bytes", is_well)?;
     let script = [b"\nadd 01800ABC D5".as_slice()];
     let mut reader = OverRead::new(Parts::new(&script, 2));
     let is_well = comes_to(alloc, &mut reader, 9, Err(RunFault::Read), SYNTAX)?;
-    telling.tell(rt, "a read that fails", is_well)
+    report.add_case(rt, "a read that fails", is_well)
 }
 
-fn tell_writes(rt: &HostRuntime, telling: &mut Telling) -> Result<()> {
+fn run_writes(rt: &HostRuntime, report: &mut Report) -> Result<()> {
     let alloc = rt.alloc();
     let script = b"\n\n".as_slice();
     let mut taken = Vec::new(alloc);
@@ -141,10 +141,10 @@ fn tell_writes(rt: &HostRuntime, telling: &mut Telling) -> Result<()> {
     let done = replay_new(alloc, &mut OverRead::new(script), &mut writer, false, 9)?;
     let is_well = done == Err(RunFault::Write)
         && taken.as_slice() == b"{\"error\":\"synta".as_slice();
-    telling.tell(rt, "a write that fails", is_well)?;
+    report.add_case(rt, "a write that fails", is_well)?;
     let mut writer = OverWrite::new(TakesNothing);
     let done = replay_new(alloc, &mut OverRead::new(script), &mut writer, false, 9)?;
-    telling.tell(
+    report.add_case(
         rt,
         "a writer that takes nothing",
         done == Err(RunFault::Write),
@@ -153,10 +153,10 @@ fn tell_writes(rt: &HostRuntime, telling: &mut Telling) -> Result<()> {
 
 // With explanations, each write fails in turn. Mutant: an output that continues after a failed write of the line that
 // explains a packet. It prints `at 83, differs`.
-fn tell_explained_writes(rt: &HostRuntime, telling: &mut Telling) -> Result<()> {
+fn run_explained_writes(rt: &HostRuntime, report: &mut Report) -> Result<()> {
     let (script, text) = row(rt, "every-kind-of-item", true)?;
     let wrong = first_wrong_explained(rt.alloc(), script.as_slice(), text.as_slice())?;
-    telling.tell_first(
+    report.add_first_wrong(
         rt,
         "each write of a replay that explains fails in turn",
         wrong,

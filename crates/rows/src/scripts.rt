@@ -4,7 +4,7 @@
 //! - `+ TEXT` is a line that is written only with explanations.
 //! - Any other line is written with explanations and without.
 use crate::gateways::replay_new;
-use crate::telling::Telling;
+use crate::report::Report;
 use anyhow::Result;
 use gateway_main::{OverRead, OverWrite};
 use std::fs;
@@ -14,13 +14,13 @@ const TURNS: u64 = 100_000;
 
 const NO_LF: &[u8] = b"\\ no LF\n";
 
-pub(crate) fn tell(rt: &HostRuntime, telling: &mut Telling) -> Result<()> {
+pub(crate) fn run_cases(rt: &HostRuntime, report: &mut Report) -> Result<()> {
     for line in fs::read_to_string(rt, "rows.txt")?.lines() {
         let is_well = match line.strip_suffix(" --explain") {
             Some(name) => is_replayed(rt, name, true)?,
             None => is_replayed(rt, line, false)?,
         };
-        telling.tell(rt, line, is_well)?;
+        report.add_case(rt, line, is_well)?;
     }
     Ok(())
 }

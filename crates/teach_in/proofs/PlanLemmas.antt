@@ -18,7 +18,7 @@ use Rattle.teach_in.specs.Profiles.{supported}
 use Rattle.teach_in.specs.Telegrams.{teach_in_of, one_byte_role, four_byte_role, ute_role}
 use Rattle.teach_in.specs.FourByte as four_byte
 use Rattle.teach_in.specs.Ute as ute
-use Rattle.teach_in.specs.Ute.{request_in, deletion, unused_request}
+use Rattle.teach_in.specs.Ute.{request_in, deletion_request, unused_request}
 use Rattle.teach_in.specs.Plans.{add, ute_plan, can_be_learned_by, plan_row_of, plan_in_mode, plan_of}
 
 -- what holds for both holds for the one that is chosen
@@ -62,7 +62,7 @@ hears-open Closed kind hears = absurd hears
 
 -- it is a query to forget its sender
 abbrev pub AsksDeletion : Teach → Type 0
-AsksDeletion kind = (query : UteQuery) × (kind ≡ Ute query) × (request_in query ≡ deletion)
+AsksDeletion kind = (query : UteQuery) × (kind ≡ Ute query) × (request_in query ≡ deletion_request)
 
 -- a property of plans for a telegram with this role in teach-in, in this mode: it holds for each possible plan
 pub record OfPlans (P : Plan → Type 0) (t : Telegram) (kind : Teach) (mode : Mode) : Type 0 where
@@ -75,8 +75,8 @@ module _ (P : Plan → Type 0) (t : Telegram) where
   of-asked : (query : UteQuery) (mode : Mode) → LearnsByTold mode → OfPlans P t (Ute query) mode
       → P (ute_plan t query)
   of-asked query mode reported each =
-      by_request P (request_in query == deletion) _ _
-      (λ is. each.forgets reported (query, refl, eqb-true (request_in query) deletion is))
+      by_request P (request_in query == deletion_request) _ _
+      (λ is. each.forgets reported (query, refl, eqb-true (request_in query) deletion_request is))
       (either P (request_in query == unused_request) _ _ (each.refuses reported General tt)
       (either P (supported query.eep) _ _ (each.adds reported _ _) (each.refuses reported Unsupported tt)))
     where

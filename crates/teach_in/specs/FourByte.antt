@@ -33,4 +33,5 @@ four_byte_reply_code outcome = None
 -- the reply to a query, from the gateway with this base ID, addressed to the sender: the query, except for DB0
 abbrev pub four_byte_reply : FourByteQuery → Outcome → (base : ℕ) → Option Telegram
 four_byte_reply query outcome base =
-    option_map (λ code. addressed_reply 0xA5 (take 3 query.payload ++ code ∷ []) query.id base) (four_byte_reply_code outcome)
+    option_map (λ code. addressed_reply 0xA5 (take 3 query.payload ++ code ∷ []) query.id base)
+    (four_byte_reply_code outcome)

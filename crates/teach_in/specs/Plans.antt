@@ -13,7 +13,7 @@ use Rattle.teach_in.specs.declared.telegrams.Teach.TheVariants.{Plain, Contact, 
 use Rattle.teach_in.specs.declared.ute.UteQuery.{UteQuery}
 use Rattle.teach_in.specs.Profiles.{supported}
 use Rattle.teach_in.specs.Telegrams.{teach_in_of}
-use Rattle.teach_in.specs.Ute.{request_in, deletion, unused_request}
+use Rattle.teach_in.specs.Ute.{request_in, deletion_request, unused_request}
 
 -- the sender is learned with this profile and this maker
 abbrev pub add : Telegram → Eep → (maker : Option ℕ) → Plan
@@ -28,15 +28,15 @@ abbrev pub contact_eep : Eep
 contact_eep = record { rorg = 0xD5; func = 0x00; typ = 0x01 }
 
 -- the same with the profile and maker of a query, if the profile is supported
-abbrev pub add_supported : Telegram → Eep → (maker : ℕ) → Plan
-add_supported t eep maker = if supported eep then add t eep (Some maker) else Refuse Unsupported
+abbrev pub add_if_supported : Telegram → Eep → (maker : ℕ) → Plan
+add_if_supported t eep maker = if supported eep then add t eep (Some maker) else Refuse Unsupported
 
 -- the plan for a UTE query; its sender is also learned if it is already known
 abbrev pub ute_plan : Telegram → UteQuery → Plan
 ute_plan t query =
-    if request_in query == deletion then Forget t.sender
+    if request_in query == deletion_request then Forget t.sender
     else if request_in query == unused_request then Refuse General
-    else add_supported t query.eep query.maker
+    else add_if_supported t query.eep query.maker
 
 -- whether a sender can be learned by this data telegram: of RPS if a button is pressed (the bit at offset 3), and any
 -- of VLD
@@ -51,10 +51,16 @@ pub record PlanRow : Type 0 where
 
 -- The table: a row for each role of a telegram in teach-in; for data it depends on whether the sender is already known.
 abbrev pub plan_row_of : Telegram → (known : Bool) → Teach → PlanRow
-plan_row_of t known Contact = record { by_own_profile = add t contact_eep None; by_desk_profile = λ eep. add_if_rorg 0xD5 t eep None }
-plan_row_of t known Bare = record { by_own_profile = Refuse NoProfile; by_desk_profile = λ eep. add_if_rorg 0xA5 t eep None }
+plan_row_of t known Contact = record {
+  by_own_profile = add t contact_eep None;
+  by_desk_profile = λ eep. add_if_rorg 0xD5 t eep None;
+}
+plan_row_of t known Bare = record {
+  by_own_profile = Refuse NoProfile;
+  by_desk_profile = λ eep. add_if_rorg 0xA5 t eep None;
+}
 plan_row_of t known (FourByte query) = record {
-  by_own_profile = add_supported t query.eep query.maker;
+  by_own_profile = add_if_supported t query.eep query.maker;
   by_desk_profile = λ eep. add_if_rorg 0xA5 t eep (Some query.maker);
 }
 plan_row_of t known Plain = record {

@@ -33,8 +33,8 @@ abbrev pub request_in : UteQuery → ℕ
 request_in query = field query.payload 2 2
 
 -- the request to forget the sender
-abbrev pub deletion : ℕ
-deletion = 1
+abbrev pub deletion_request : ℕ
+deletion_request = 1
 
 -- the request that is not used
 abbrev pub unused_request : ℕ

@@ -1,5 +1,5 @@
-//! The reason why a packet was handled the way it was. Its word is in `why_words.rt` of `json_lines`, and the counter
-//! that it increments in `disposition.rt` of `gateway_core`.
+//! The reason why a packet was handled the way it was. Its word is in `reason_words.rt` of `json_lines`, and the
+//! counter that it increments in `disposition.rt` of `gateway_core`.
 use crate::outcome::Outcome;
 use erp1_telegrams::FilterReason;
 

@@ -1,7 +1,7 @@
 //! The plan for the sender of a telegram, by the table of plans.
 ghost use Rattle.std.specs.Prelude.{◌≡◌, ◌==◌, ◌&&◌, Bool};
 ghost use Rattle.teach_in.specs.Telegrams.{teach_in_of};
-ghost use Rattle.teach_in.specs.Plans.{add, add_supported, ute_plan, can_be_learned_by, plan_of, plan_row_of};
+ghost use Rattle.teach_in.specs.Plans.{add, add_if_supported, ute_plan, can_be_learned_by, plan_of, plan_row_of};
 
 use crate::mode::Mode;
 use crate::outcome::Outcome;
@@ -34,8 +34,8 @@ fn add(telegram: &Telegram, eep: Eep, maker: Option<u16>) -> Plan
 }
 
 // The same with the profile and maker of a query, if that profile is supported.
-fn add_supported(telegram: &Telegram, eep: Eep, maker: u16) -> Plan
-    ensures { result ≡ add_supported telegram.now eep maker }
+fn add_if_supported(telegram: &Telegram, eep: Eep, maker: u16) -> Plan
+    ensures { result ≡ add_if_supported telegram.now eep maker }
 {
     if supported(eep) {
         add(telegram, eep, Some(maker))
@@ -51,7 +51,7 @@ fn ute_plan(telegram: &Telegram, query: &UteQuery) -> Plan
     match query.request() {
         DELETION_REQUEST => Plan::Forget(telegram.sender()),
         UNUSED_REQUEST => Plan::Refuse(Outcome::General),
-        _ => add_supported(telegram, query.eep(), query.maker()),
+        _ => add_if_supported(telegram, query.eep(), query.maker()),
     }
 }
 
@@ -62,7 +62,7 @@ fn plan_by_query(telegram: &Telegram, teach: &Teach) -> Plan
     match teach {
         Teach::Contact => add(telegram, CONTACT_EEP, None),
         Teach::Bare => Plan::Refuse(Outcome::NoProfile),
-        Teach::FourByte(query) => add_supported(telegram, query.eep(), query.maker()),
+        Teach::FourByte(query) => add_if_supported(telegram, query.eep(), query.maker()),
         Teach::Ute(query) => ute_plan(telegram, query),
         Teach::Plain | Teach::Answer => Plan::Silent,
     }

@@ -5,10 +5,10 @@ use Rattle.actuator_commands.specs.declared.orders.Target.{Target}
 use Rattle.actuator_commands.specs.declared.orders.Target.TheVariants.{One, All}
 use Rattle.actuator_commands.specs.Packets.{Message, ToOne, ToAll, message_of}
 
-abbrev pub target_of : Message → Target
-target_of (ToOne id payload_of) = One id
-target_of (ToAll offset payload) = All
+abbrev pub recipients_of : Message → Target
+recipients_of (ToOne id payload_of) = One id
+recipients_of (ToAll offset payload) = All
 
 -- the recipients of an order, if it is for devices
 abbrev pub target : Order → Option Target
-target order = option_map target_of (message_of order)
+target order = option_map recipients_of (message_of order)

@@ -1,5 +1,5 @@
-use Rattle.std.proofs.Common.{ap, codes, inr, map, subst, sym, ◌∙◌}
-use Rattle.std.specs.Prelude.{option_and_then}
+use Rattle.std.proofs.Common.{◌≡◌, Option, Some, ap, codes, inr, map, subst, sym, ◌∙◌}
+use Rattle.std.specs.Prelude.{option_and_then, option_map, IfSome}
 use Rattle.std.specs.String.{string_bytes}
 use Rattle.std.proofs.lemmas.Result.{err_from_is_err_and}
 use Rattle.clap.specs.Words.{App, takes}
@@ -8,17 +8,14 @@ use Rattle.gateway_cli.specs.CommandLine.{SubcommandAsksFor, option_flag, option
 use Rattle.gateway_cli.proofs.CommandLemmas.{complete_so, found_so, refused_so, taken_so}
 use Rattle.gateway_cli.proofs.read.Goals as goal
 
-pub explain_flag-requires : goal.explain_flag-requires
-explain_flag-requires c =
-    complete_so (map string_bytes c.args.words.now) c.in_ok-command.field-0 c.in_ok-matches.matches c.in-Some.base
-    c.in_ok-command.ensures c.in_ok-matches.ensures.kinds c.in_ok-matches.ensures.matches
-    (sym c.base_value.ensures ∙ c.in-Some.is)
+-- what holds of each option that is found
+at_some : {T : Type 0} (P : T → Type 0) (found : Option T) (x : T) → found ≡ Some x → IfSome found P → P x
+at_some P found x is holds = subst (λ (o : Option _). IfSome o P) is holds
 
-pub task_value-requires : goal.task_value-requires
-task_value-requires c =
-    complete_so (map string_bytes c.args.words.now) c.in_ok-command.field-0 c.in_ok-matches.matches c.in-Some.base
+pub options_of-requires : goal.options_of-requires
+options_of-requires c =
+    complete_so (map string_bytes c.args.words.now) c.in_ok-command.field-0 c.in_ok-matches.matches
     c.in_ok-command.ensures c.in_ok-matches.ensures.kinds c.in_ok-matches.ensures.matches
-    (sym c.base_value.ensures ∙ c.in-Some.is)
 
 pub returns-in_err-matches-clause-passes : goal.returns-in_err-matches-clause-passes
 returns-in_err-matches-clause-passes c =
@@ -43,29 +40,29 @@ pub returns-in-Some-clause-base : goal.returns-in-Some-clause-base
 returns-in-Some-clause-base c =
     let found = found_so (map string_bytes c.args.words.now) c.in_ok-command.field-0 c.in_ok-matches.matches
     c.in_ok-command.ensures c.in_ok-matches.ensures.matches in
-    ap (λ o. option_and_then base_in (option_text (codes "base") o)) (sym found) ∙ sym c.base_value.ensures
-    ∙ c.in-Some.is
+    ap (λ o. option_and_then base_in (option_text (codes "base") o)) (sym found) ∙ sym c.options_of.ensures.base
+    ∙ ap (option_map (λ (options : _). options.base)) c.in-Some.is
 
 pub returns-in-Some-clause-db : goal.returns-in-Some-clause-db
 returns-in-Some-clause-db c =
-    c.text_value.ensures
+    at_some _ c.options_of.result c.in-Some.options c.in-Some.is c.options_of.ensures.db
     ∙ ap (option_text (codes "db"))
     (found_so (map string_bytes c.args.words.now) c.in_ok-command.field-0 c.in_ok-matches.matches
     c.in_ok-command.ensures c.in_ok-matches.ensures.matches)
 
 pub returns-in-Some-clause-explain : goal.returns-in-Some-clause-explain
 returns-in-Some-clause-explain c =
-    c.explain_flag.ensures
+    at_some _ c.options_of.result c.in-Some.options c.in-Some.is c.options_of.ensures.explain
     ∙ ap (option_flag (codes "explain"))
     (found_so (map string_bytes c.args.words.now) c.in_ok-command.field-0 c.in_ok-matches.matches
     c.in_ok-command.ensures c.in_ok-matches.ensures.matches)
 
 pub returns-in-Some-clause-task : goal.returns-in-Some-clause-task
 returns-in-Some-clause-task c =
-    subst (λ found. SubcommandAsksFor found c.task_value.result)
+    subst (λ found. SubcommandAsksFor found c.in-Some.options.task)
     (found_so (map string_bytes c.args.words.now) c.in_ok-command.field-0 c.in_ok-matches.matches
     c.in_ok-command.ensures c.in_ok-matches.ensures.matches)
-    c.task_value.ensures
+    (at_some _ c.options_of.result c.in-Some.options c.in-Some.is c.options_of.ensures.task)
 
 pub returns-clause-refused : goal.returns-clause-refused
 returns-clause-refused c =
@@ -73,6 +70,6 @@ returns-clause-refused c =
     let found = found_so words c.in_ok-command.field-0 c.in_ok-matches.matches c.in_ok-command.ensures
     c.in_ok-matches.ensures.matches in (
       taken_so words c.in_ok-command.field-0 c.in_ok-command.ensures c.in_ok-matches.ensures.kinds,
-      ap (λ o. option_and_then base_in (option_text (codes "base") o)) (sym found) ∙ sym c.base_value.ensures
-          ∙ c.in-None.is,
+      ap (λ o. option_and_then base_in (option_text (codes "base") o)) (sym found) ∙ sym c.options_of.ensures.base
+          ∙ ap (option_map (λ (options : _). options.base)) c.in-None.is,
     )

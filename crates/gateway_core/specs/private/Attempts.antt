@@ -2,7 +2,7 @@
 use Rattle.std.specs.Prelude.{◌≡◌, ℕ, List, true, false, MatchBool, IsSome, Option, Some, None, Result, Ok, Err}
 use Rattle.learned_devices.specs.DeviceStoreState.{DeviceStoreState, Keeps, Commits, LeavesPending}
 use Rattle.learned_devices.specs.declared.Device.{Device}
-use Rattle.learned_devices.specs.Devices.{Devices, DeviceUpdate, is_full, learn_update, forget_update}
+use Rattle.learned_devices.specs.Devices.{Devices, DeviceUpdate, is_full_for, learn_update, forget_update}
 use Rattle.teach_in.specs.declared.mode.Mode.{Mode}
 use Rattle.teach_in.specs.declared.outcome.Outcome.{Outcome}
 use Rattle.teach_in.specs.declared.outcome.Outcome.TheVariants.{Accepted}
@@ -67,8 +67,8 @@ pub record Attempts {S : Type 0} (stored : S → DeviceStoreState) (old : Handle
   pub mode : new.mode ≡ old.mode
   pub counts : new.counts ≡ old.counts
   pub clean : (stored new.registry).honest → (stored old.registry).honest
-  pub recoverable : (stored new.registry).honest → (stored old.registry).sound
-      → (stored new.registry).sound
+  pub reopenable : (stored new.registry).honest → (stored old.registry).reopenable
+      → (stored new.registry).reopenable
   pub applies_or_fails : (stored new.registry).honest → (devices : Devices) → (stored old.registry).holds devices
       → AppliesOrFails (stored old.registry) (stored new.registry) devices (effect (state_of old devices)) result
 
@@ -92,8 +92,8 @@ pub record ChangesOnlyRegistry {S : Type 0} (stored : S → DeviceStoreState) (o
     (new : HandlerValue S) : Type 0 where
   pub same : new ≡ record old { registry = new.registry }
   pub clean : (stored new.registry).honest → (stored old.registry).honest
-  pub recoverable : (stored new.registry).honest → (stored old.registry).sound
-      → (stored new.registry).sound
+  pub reopenable : (stored new.registry).honest → (stored old.registry).reopenable
+      → (stored new.registry).reopenable
   pub result_for_devices : (stored new.registry).honest → (devices : Devices) → (stored old.registry).holds devices
       → IsSo devices
 
@@ -114,11 +114,12 @@ module _ (old new : DeviceStoreState) (devices : Devices) where
   -- a device is committed, or the registry is full, or the input fails
   abbrev pub LearnsOrFails : Device → Result (Option (Verdict × List ℕ)) Failure → Type 0
   LearnsOrFails known (Ok (Some committed)) =
-      (is_full devices known.id ≡ false) × Commits new (learn_update known) devices
-  LearnsOrFails known (Ok None) = (is_full devices known.id ≡ true) × Keeps old new devices
+      (is_full_for devices known.id ≡ false) × Commits new (learn_update known) devices
+  LearnsOrFails known (Ok None) = (is_full_for devices known.id ≡ true) × Keeps old new devices
   LearnsOrFails known (Err (BeforeCommit fault)) = Keeps old new devices
   LearnsOrFails known (Err (AtCommit fault)) =
-      MatchBool (is_full devices known.id) (Keeps old new devices) (LeavesPending old new (learn_update known) devices)
+      MatchBool (is_full_for devices known.id) (Keeps old new devices)
+      (LeavesPending old new (learn_update known) devices)
 
   -- the forgetting of a sender is committed, or the input fails
   abbrev pub ForgetsOrFails : (id : ℕ) → Result (Verdict × List ℕ) Failure → Type 0

@@ -54,7 +54,7 @@ impl Model for ReplyAndMode {
     ghost view = { λ done. record { answer = answer_of done.reply; disposition = None; mode = done.mode } };
 }
 
-// Sends nothing by radio.
+// The reply with this text for the desk, and nothing for the radio.
 fn reply_with(desk: DeskText) -> Reply
     ensures { answer_of result ≡ text_answer (desk_bytes desk) }
 {
@@ -106,7 +106,7 @@ pub(crate) fn mode_effect(mode: Mode) -> ReplyAndMode
     }
 }
 
-// The device has its new label.
+// The result of a `label` order whose device is learned and has its new label.
 pub(crate) fn relabel_effect() -> ReplyAndMode
     ensures { (id : ℕ) (label : List ℕ) → MatchesEffect result (Step.relabel_effect id label) }
 {

@@ -18,7 +18,7 @@ use json_lines::{ErrorName, device_lines, status_line};
 use learned_devices::{Device, DeviceStore, Label};
 use teach_in::{Mode, supported};
 
-// Opens the mode that learns with this profile.
+// Opens the mode that learns with this profile, if the profile is supported.
 fn learn_as_if_supported(eep: Eep) -> ReplyAndMode
     ensures { MatchesEffect result (if_supported_else_error eep (mode_effect (LearnAs eep))) }
 {

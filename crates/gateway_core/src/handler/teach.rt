@@ -6,7 +6,8 @@ ghost use Rattle.teach_in.specs.Plans.{plan_of};
 ghost use Rattle.teach_in.specs.Telegrams.{teach_in_of};
 ghost use Rattle.gateway_core.specs.Replies.{answer_of};
 ghost use Rattle.gateway_core.specs.Step;
-ghost use Rattle.gateway_core.specs.Step.{accept_effect, if_full_of_others_else, delete_effect, plan_effect, radio_bytes_of};
+ghost use Rattle.gateway_core.specs.Step.{accept_effect, if_full_of_others_else, delete_effect, plan_effect};
+ghost use Rattle.gateway_core.specs.Step.{radio_bytes_of};
 ghost use Rattle.gateway_core.specs.Step.{reply_telegram_of, device_teach_line};
 ghost use Rattle.gateway_core.specs.private.Attempts.{MatchesEffect, HasReplyCodeIfQuery, Attempts, state_of};
 
@@ -25,7 +26,8 @@ use teach_in::{
     HandlingReason, Mode, Outcome, Plan, Teach, Verdict, four_byte_reply, plan_for, ute_reply,
 };
 
-// The mode that learns with the desk's profile is for one sender.
+// The mode that is set when a sender is learned: the mode that learns with the desk's profile is for one sender, and
+// closes.
 fn mode_set_by_learning(mode: Mode) -> Option<Mode>
     ensures { result ≡ Step.mode_set_by_learning mode }
 {

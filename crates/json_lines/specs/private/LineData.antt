@@ -8,7 +8,7 @@ use Rattle.erp1_telegrams.specs.declared.eep.Eep.{Eep}
 use Rattle.learned_devices.specs.declared.Device.{Device}
 use Rattle.teach_in.specs.declared.mode.Mode.{Mode}
 use Rattle.json_lines.specs.declared.counts.Counts.{Counts}
-use Rattle.json_lines.specs.Lines.{TeachLine, id_text, eep_text, outcome_word, mode_word, code_names}
+use Rattle.json_lines.specs.Lines.{TeachLine, id_text, eep_text, outcome_word, mode_word, return_code_names}
 
 -- the text appears in a JSON string unchanged, with no escape
 abbrev pub NeedsNoEscape : (text : List ℕ) → Type 0
@@ -18,7 +18,7 @@ NeedsNoEscape text = escape text ≡ text
 pub record IsLineOf (Writes : Log → Log → Type 0) (line : List ℕ) : Type 0 where
   pub text : List ℕ
   pub log : Log
-  pub writes : Writes (Some []) log
+  pub log_written : Writes (Some []) log
   pub made : IsTextOf log text
   pub ends : line ≡ text ++ codes "\n"
 
@@ -65,8 +65,8 @@ device_members known =
     ∷ (codes "type", string (codes "device")) ∷ []
 
 -- the line after this many devices
-abbrev pub list_members : (count : ℕ) → List (List ℕ × Data)
-list_members count = (codes "count", number_data count) ∷ (codes "type", string (codes "list")) ∷ []
+abbrev pub list_end_members : (count : ℕ) → List (List ℕ × Data)
+list_end_members count = (codes "count", number_data count) ∷ (codes "type", string (codes "list")) ∷ []
 
 abbrev pub status_members : Counts → Mode → List (List ℕ × Data)
 status_members counts mode =
@@ -83,5 +83,5 @@ abbrev pub response_members : (code : ℕ) (digits : List ℕ) → List (List �
 response_members code digits =
     (codes "code", number_data code)
     ∷ (codes "data", string digits)
-    ∷ (codes "name", value_or_null string (slice_get code_names code))
+    ∷ (codes "name", value_or_null string (slice_get return_code_names code))
     ∷ (codes "type", string (codes "response")) ∷ []

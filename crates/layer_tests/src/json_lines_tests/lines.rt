@@ -239,7 +239,7 @@ const OF_COUNTS: [(Counter, usize); 5] = [
     (Counter::Reading, 2),
     (Counter::Refused, 3),
     (Counter::Response, 4),
-    (Counter::Teach, 5),
+    (Counter::TeachLine, 5),
 ];
 
 // A counter at its maximum does not change.

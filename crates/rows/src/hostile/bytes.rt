@@ -3,19 +3,19 @@
 //! A wrong byte in a header or in data is always detected by its CRC, and no header that begins at a sync byte in place
 //! of another byte has a correct CRC. Another program also found that no case holds the whole telegram back.
 use super::script::{Item, Known, State};
-use crate::cuts::{CONTACT, add_piece};
+use crate::chunks::{CONTACT, add_piece};
 use crate::gateways::{fresh, written_by};
-use crate::telling::Telling;
+use crate::report::Report;
 use anyhow::Result;
 use gateway_core::{DeviceStore, GatewayOver};
 use std::alloc::Global;
 
 // Mutant: a framer that does not compare the highest bit of the CRC of the data. It prints `at 1935, differs`.
-pub(crate) fn tell(rt: &HostRuntime, telling: &mut Telling) -> Result<()> {
+pub(crate) fn run_cases(rt: &HostRuntime, report: &mut Report) -> Result<()> {
     let alloc = rt.alloc();
     let mut gateway = fresh(alloc)?;
     let wrong = first_wrong(alloc, &mut gateway)?;
-    telling.tell_first(rt, "each byte of a packet replaced by each other", wrong)
+    report.add_first_wrong(rt, "each byte of a packet replaced by each other", wrong)
 }
 
 /// The number of the first case that is wrong, if any: 256 times the index of the byte, plus the replacement. The last

@@ -6,7 +6,7 @@ use super::disks::{
 };
 use super::script::{ITEMS, Item, Known, LABELS, OK, STORE, State};
 use crate::gateways::{BASE, written_by};
-use crate::telling::Telling;
+use crate::report::Report;
 use anyhow::{Result, bail};
 use device_registry::{MAX_CACHED, OpenFault, RegistryOver, SqlConnection, prepare};
 use gateway_core::{DeviceStore, GatewayOver};
@@ -65,7 +65,7 @@ struct Course {
 
 // Mutant: a registry that remembers a device that it failed to learn. It prints `a log that stops, at 28, differs` and
 // `a large database that stops, at 49, differs`.
-pub(crate) fn tell(rt: &HostRuntime, telling: &mut Telling) -> Result<()> {
+pub(crate) fn run_cases(rt: &HostRuntime, report: &mut Report) -> Result<()> {
     let alloc = rt.alloc();
     let empty = empty_files(alloc);
     let mut trial = Trial {
@@ -81,13 +81,13 @@ pub(crate) fn tell(rt: &HostRuntime, telling: &mut Telling) -> Result<()> {
         End::NotStarted,
         End::Refused,
     ];
-    tell_trial(rt, telling, "a log that stops", &trial, &ends)?;
+    run_trial(rt, report, "a log that stops", &trial, &ends)?;
     trial.items = &LABELS;
-    tell_trial(rt, telling, "a log that stops amid labels", &trial, &ends)?;
+    run_trial(rt, report, "a log that stops amid labels", &trial, &ends)?;
     trial.items = &ITEMS;
     trial.which = Which::Database;
     let ends = [End::NotConnected];
-    tell_trial(rt, telling, "a database that stops", &trial, &ends)?;
+    run_trial(rt, report, "a database that stops", &trial, &ends)?;
     let many = made(alloc, MANY)?;
     let trial = Trial {
         items: &ITEMS,
@@ -97,18 +97,18 @@ pub(crate) fn tell(rt: &HostRuntime, telling: &mut Telling) -> Result<()> {
         pages: 1,
     };
     let ends = [End::NotConnected, End::NotPrepared, End::Refused];
-    tell_trial(rt, telling, "a large database that stops", &trial, &ends)
+    run_trial(rt, report, "a large database that stops", &trial, &ends)
 }
 
-fn tell_trial(
+fn run_trial(
     rt: &HostRuntime,
-    telling: &mut Telling,
+    report: &mut Report,
     name: &str,
     trial: &Trial<'_>,
     ends: &[End],
 ) -> Result<()> {
     let wrong = first_wrong(rt.alloc(), trial, ends)?;
-    telling.tell_first(rt, name, wrong)
+    report.add_first_wrong(rt, name, wrong)
 }
 
 /// The first number of calls after which the file stops and a run is wrong, if any. Runs end in each of these ways, and
@@ -180,7 +180,7 @@ fn started<C: SqlConnection + Drop>(
     }
     match start(alloc, conn, BASE, MAX_CACHED) {
         Ok(gateway) => Ok(Some(gateway)),
-        Err(Fault::Store) => Ok(None),
+        Err(Fault::Database(OpenFault::Failed(fault))) if !fault.is_memory() => Ok(None),
         Err(_) => bail!("not refused by the store"),
     }
 }

@@ -3,8 +3,8 @@
 use super::script::{ITEMS, Known, Outcome, State, outcome_of, outcome_of_first};
 use crate::fakes::{Parts, Sips};
 use crate::gateways::{BASE, fresh, written_by};
-use crate::lives::NEVER;
-use crate::telling::Telling;
+use crate::live_turns::NEVER;
+use crate::report::Report;
 use anyhow::{Result, bail};
 use device_registry::{MAX_CACHED, RegistryOver, SqlConnection};
 use gateway_core::{DeviceStore, GatewayOver};
@@ -16,14 +16,14 @@ const TURNS: u64 = 1000;
 
 // Two mutants: event loops that close the window at a read that fails, and at a write that fails. They print `at 83,
 // differs` and `at 188, differs`.
-pub(crate) fn tell(rt: &HostRuntime, telling: &mut Telling) -> Result<()> {
+pub(crate) fn run_cases(rt: &HostRuntime, report: &mut Report) -> Result<()> {
     let alloc = rt.alloc();
     let wrong = first_wrong_read(alloc)?;
-    telling.tell_first(rt, "each read of a replay fails in turn", wrong)?;
+    report.add_first_wrong(rt, "each read of a replay fails in turn", wrong)?;
     let wrong = first_wrong_write(alloc)?;
-    telling.tell_first(rt, "each write of a replay fails in turn", wrong)?;
+    report.add_first_wrong(rt, "each write of a replay fails in turn", wrong)?;
     let is_well = is_kept_unreported(alloc)?;
-    telling.tell(rt, "a device that could not be reported is kept", is_well)
+    report.add_case(rt, "a device that could not be reported is kept", is_well)
 }
 
 /// How a replay ended, and what was written.

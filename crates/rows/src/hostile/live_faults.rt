@@ -4,8 +4,8 @@ use super::faults::knows;
 use super::script::{ITEMS, Outcome, outcome_of_first};
 use super::turns::{Turns, serve, whole};
 use crate::gateways::fresh;
-use crate::lives::NEVER;
-use crate::telling::Telling;
+use crate::live_turns::NEVER;
+use crate::report::Report;
 use anyhow::Result;
 use gateway_main::RunFault;
 use std::alloc::Global;
@@ -18,11 +18,11 @@ enum Failing {
 }
 
 // The mutants of `faults` print `at 4, differs` and `at 188, differs` here.
-pub(crate) fn tell(rt: &HostRuntime, telling: &mut Telling) -> Result<()> {
+pub(crate) fn run_cases(rt: &HostRuntime, report: &mut Report) -> Result<()> {
     let wrong = first_wrong_read(rt.alloc())?;
-    telling.tell_first(rt, "each read of a live gateway fails in turn", wrong)?;
+    report.add_first_wrong(rt, "each read of a live gateway fails in turn", wrong)?;
     let wrong = first_wrong_write(rt.alloc())?;
-    telling.tell_first(rt, "each write of a live gateway fails in turn", wrong)
+    report.add_first_wrong(rt, "each write of a live gateway fails in turn", wrong)
 }
 
 /// The first turn in which a read fails and anything is wrong.

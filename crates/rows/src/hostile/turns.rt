@@ -2,7 +2,7 @@
 use super::script::{ITEMS, Item};
 use crate::fakes::Parts;
 use crate::gateways::fresh;
-use crate::lives::{NEVER, RunResultIfOpened, serve_by};
+use crate::live_turns::{NEVER, Served, serve_by};
 use anyhow::Result;
 use gateway_core::{DeviceStore, GatewayOver};
 use std::alloc::Global;
@@ -91,7 +91,7 @@ pub(crate) fn ended(alloc: Global, at: usize, len: usize) -> Result<Turns> {
 }
 
 /// Serves the turns by a new gateway.
-pub(crate) fn serve_new(alloc: Global, turns: &Turns) -> Result<RunResultIfOpened> {
+pub(crate) fn serve_new(alloc: Global, turns: &Turns) -> Result<Served> {
     let mut gateway = fresh(alloc)?;
     serve(alloc, &mut gateway, turns, (0, 0), (NEVER, NEVER))
 }
@@ -103,7 +103,7 @@ pub(crate) fn serve<S: DeviceStore>(
     turns: &Turns,
     read_fails_at: (usize, usize),
     write_fails_at: (usize, usize),
-) -> Result<RunResultIfOpened> {
+) -> Result<Served> {
     let serial = views(alloc, &turns.serial)?;
     let desk = views(alloc, &turns.desk)?;
     let (serial_fails_at, desk_fails_at) = read_fails_at;

@@ -4,8 +4,8 @@ use Rattle.actuator_commands.proofs.orders.is_in_range.Goals as goal
 pub returns-then-channel-le-MAX_CHANNEL : goal.returns-then-channel-le-MAX_CHANNEL
 returns-then-channel-le-MAX_CHANNEL c = search rules
 
-pub returns-then-value-le-MAX_VALUE : goal.returns-then-value-le-MAX_VALUE
-returns-then-value-le-MAX_VALUE c = search rules
+pub returns-then-value-le-MAX_PERCENT : goal.returns-then-value-le-MAX_PERCENT
+returns-then-value-le-MAX_PERCENT c = search rules
 
 pub returns-in-Central : goal.returns-in-Central
 returns-in-Central c = search rules

@@ -1,106 +1,177 @@
-use Rattle.std.proofs.Common.{rules, subst, MatchOption, arith}
-use Rattle.sqlite.specs.State.{HasCleanDisk}
+use Rattle.std.proofs.Common.{◌≡◌, Bool, rules, subst, arith, IsTrue}
+use Rattle.sqlite.specs.State.{HasCleanDisk, IsUnchanged, State, Survives}
+use Rattle.device_registry.specs.declared.schema_check.TablesStatus.TheVariants.{Absent, Present, Unusable}
 use Rattle.device_registry.specs.declared.table.Version.{Version}
 use Rattle.device_registry.specs.declared.table.Version.TheVariants.{First, Second}
+use Rattle.device_registry.specs.Opening.{IsSettledOpen}
 use Rattle.device_registry.specs.Stored.{IsRegistry}
-use Rattle.device_registry.specs.Opening.{IsRegistryIn}
-use Rattle.device_registry.proofs.OpenCalls.{begun, begun_bare, begun_stop, took, first_asked, migrated}
+use Rattle.device_registry.specs.SchemaChecks.{admits_tables}
+use Rattle.device_registry.specs.private.TablesStatus.{tables_status}
+use Rattle.device_registry.proofs.OpenCalls.{Took, begun, begun_bare, begun_stop, took, first_asked, migrated}
 use Rattle.device_registry.proofs.OpenCalls.{migrated_other, migrated_stop, taken, taken_ready, taken_rows}
-use Rattle.device_registry.proofs.OpenCalls.{taken_stop, taken_others, migrated_others, is_other}
+use Rattle.device_registry.proofs.OpenCalls.{taken_stop, taken_others, migrated_others, no_registry, unusable}
 use Rattle.device_registry.proofs.OpenRewritesVersion.{renewed_by}
+use Rattle.device_registry.proofs.TablesStatusLemmas.{absent_free}
 use Rattle.device_registry.proofs.opening.create_or_recognize.Goals as goal
+
+-- the answer of `is_registry` about the version that the match has found
+accepted : (found version : Version) → found ≡ version → {old mid : State} {yes : Bool} → IsTrue yes
+    → (HasCleanDisk old → IsSettledOpen old) → Survives old mid (λ _. ⊥)
+    → (HasCleanDisk mid → IsUnchanged old mid × (IsTrue yes → IsRegistry found old.now)) → Took version old mid
+accepted found version is {old} {mid} {yes = is_registry} is_true rest survives asked =
+    took version rest survives
+    (subst (λ v. HasCleanDisk mid → IsUnchanged old mid × (IsTrue is_registry → IsRegistry v old.now)) is asked) is_true
 
 -- ---- the tables are created
 
-pub returns-in_err-create_tables-clause-crash : goal.returns-in_err-create_tables-clause-crash
-returns-in_err-create_tables-clause-crash g c = begun_stop c.requires.rest (search rules) c.create_tables.ensures.crash
+pub create_tables-requires-clause-clear : goal.create_tables-requires-clause-clear
+create_tables-requires-clause-clear g c clean =
+    let old = g.C.SqlConnection.state c.args.conn.now in
+    let absent : tables_status old.now.schema ≡ Absent = search rules in
+    (absent_free old.now.schema absent, (c.requires.rest clean).sound)
 
-pub returns-then-admits_tables-clause-prepared : goal.returns-then-admits_tables-clause-prepared
-returns-then-admits_tables-clause-prepared g c =
-    begun c.requires.rest (search rules) c.create_tables.ensures.crash c.in_ok-create_tables.ensures.made
+pub returns-in_err-create_tables-in-Absent-clause-crash : goal.returns-in_err-create_tables-in-Absent-clause-crash
+returns-in_err-create_tables-in-Absent-clause-crash g c =
+    let old = g.C.SqlConnection.state c.args.conn.now in
+    let absent : tables_status old.now.schema ≡ Absent = search rules in
+    begun_stop c.requires.rest (absent_free old.now.schema absent) c.create_tables.ensures.crash
 
-pub returns-then-admits_tables-clause-crash : goal.returns-then-admits_tables-clause-crash
-returns-then-admits_tables-clause-crash g c = begun_stop c.requires.rest (search rules) c.create_tables.ensures.crash
+pub returns-in_ok-create_tables-in-Absent-clause-prepared : goal.returns-in_ok-create_tables-in-Absent-clause-prepared
+returns-in_ok-create_tables-in-Absent-clause-prepared g c =
+    let old = g.C.SqlConnection.state c.args.conn.now in
+    let absent : tables_status old.now.schema ≡ Absent = search rules in
+    begun c.requires.rest (absent_free old.now.schema absent) c.create_tables.ensures.crash
+    c.in_ok-create_tables-in-Absent.ensures.made
 
-pub returns-then-admits_tables-clause-rows : goal.returns-then-admits_tables-clause-rows
-returns-then-admits_tables-clause-rows g c = begun_bare c.requires.rest (search rules) c.create_tables.ensures.crash
+pub returns-in_ok-create_tables-in-Absent-clause-crash : goal.returns-in_ok-create_tables-in-Absent-clause-crash
+returns-in_ok-create_tables-in-Absent-clause-crash g c =
+    let old = g.C.SqlConnection.state c.args.conn.now in
+    let absent : tables_status old.now.schema ≡ Absent = search rules in
+    begun_stop c.requires.rest (absent_free old.now.schema absent) c.create_tables.ensures.crash
 
-pub returns-then-admits_tables-clause-written : goal.returns-then-admits_tables-clause-written
-returns-then-admits_tables-clause-written g c = begun_bare c.requires.rest (search rules) c.create_tables.ensures.crash
+pub returns-in_ok-create_tables-in-Absent-clause-rows : goal.returns-in_ok-create_tables-in-Absent-clause-rows
+returns-in_ok-create_tables-in-Absent-clause-rows g c =
+    let old = g.C.SqlConnection.state c.args.conn.now in
+    let absent : tables_status old.now.schema ≡ Absent = search rules in
+    begun_bare c.requires.rest (absent_free old.now.schema absent) c.create_tables.ensures.crash
+
+pub returns-in_ok-create_tables-in-Absent-clause-written : goal.returns-in_ok-create_tables-in-Absent-clause-written
+returns-in_ok-create_tables-in-Absent-clause-written g c =
+    let old = g.C.SqlConnection.state c.args.conn.now in
+    let absent : tables_status old.now.schema ≡ Absent = search rules in
+    begun_bare c.requires.rest (absent_free old.now.schema absent) c.create_tables.ensures.crash
 
 -- ---- it is something else
 
-pub returns-in-None-clause-refused : goal.returns-in-None-clause-refused
-returns-in-None-clause-refused g c clean why =
+pub returns-then-not-branch-clause-refused : goal.returns-then-not-branch-clause-refused
+returns-then-not-branch-clause-refused g c clean why =
     let old = g.C.SqlConnection.state c.args.conn.now in
-    let early : HasCleanDisk old = omega (arith, clean, c.version_of.ensures.crash.clean) in
-    let found = c.in_ok-version_of.ensures.found clean in
-    is_other old (c.requires.rest early)
-    (subst (λ o. MatchOption o ((version : Version) → ¬ IsRegistryIn version old.now.trees)
-    (λ version. IsRegistry version old.now)) c.in-None.is found.1)
-    (λ clear. absurd (search rules))
+    let early : HasCleanDisk old = omega (arith, clean, c.is_registry.ensures.crash.clean) in
+    let present : tables_status old.now.schema ≡ Present c.in-Present.version = search rules in
+    no_registry c.in-Present.version old (c.requires.rest early) present
+    (c.is_registry.ensures.other clean (search rules))
+
+pub returns-in-Unusable-clause-refused : goal.returns-in-Unusable-clause-refused
+returns-in-Unusable-clause-refused g c clean why =
+    let old = g.C.SqlConnection.state c.args.conn.now in
+    let is : tables_status old.now.schema ≡ Unusable = search rules in
+    unusable old (c.requires.rest clean) is
 
 -- ---- it is a registry of version 1
 
-pub migrate_tables-requires-clause-idle : goal.migrate_tables-requires-clause-idle
-migrate_tables-requires-clause-idle g c = c.version_of.ensures.mode c.requires.idle
-
 pub migrate_tables-requires-clause-first : goal.migrate_tables-requires-clause-first
 migrate_tables-requires-clause-first g c =
-    first_asked (took First c.in-Some-First.is c.in-Some-First.field-0-is c.requires.rest
-    c.version_of.ensures.crash c.in_ok-version_of.ensures.found)
+    let is_true : IsTrue c.in_ok-is_registry-in-Present.field-0 = search rules in
+    let asked = accepted c.in-Present.version First c.in-First.is is_true c.requires.rest c.is_registry.ensures.crash
+    c.in_ok-is_registry-in-Present.ensures.ours in
+    first_asked asked
 
-pub returns-in_err-migrate_tables-in-Some-First-clause-crash :
-    goal.returns-in_err-migrate_tables-in-Some-First-clause-crash
-returns-in_err-migrate_tables-in-Some-First-clause-crash g c =
-    migrated_stop (took First c.in-Some-First.is c.in-Some-First.field-0-is c.requires.rest
-    c.version_of.ensures.crash c.in_ok-version_of.ensures.found)
-    c.version_of.ensures.crash c.migrate_tables.ensures.crash
+pub returns-in_err-migrate_tables-in-First-clause-crash : goal.returns-in_err-migrate_tables-in-First-clause-crash
+returns-in_err-migrate_tables-in-First-clause-crash g c =
+    let is_true : IsTrue c.in_ok-is_registry-in-Present.field-0 = search rules in
+    let asked = accepted c.in-Present.version First c.in-First.is is_true c.requires.rest c.is_registry.ensures.crash
+    c.in_ok-is_registry-in-Present.ensures.ours in
+    migrated_stop asked c.is_registry.ensures.crash c.migrate_tables.ensures.crash
 
-pub returns-in_ok-migrate_tables-in-Some-First : goal.returns-in_ok-migrate_tables-in-Some-First
-returns-in_ok-migrate_tables-in-Some-First g c =
-    let asked = took First c.in-Some-First.is c.in-Some-First.field-0-is c.requires.rest c.version_of.ensures.crash
-    c.in_ok-version_of.ensures.found in
-    let crash = c.migrate_tables.ensures.crash in
-    let done = c.in_ok-migrate_tables-in-Some-First.ensures in
-    record {
-      prepared = migrated asked crash done.made;
-      refused = search rules;
-      unchanged = search rules;
-      crash = migrated_stop asked c.version_of.ensures.crash crash;
-      rows = migrated_other asked crash;
-      written = migrated_other asked crash;
-      others = migrated_others asked crash done.others;
-      remains = search rules;
-    }
+pub returns-in_ok-migrate_tables-in-First-clause-prepared : goal.returns-in_ok-migrate_tables-in-First-clause-prepared
+returns-in_ok-migrate_tables-in-First-clause-prepared g c =
+    let is_true : IsTrue c.in_ok-is_registry-in-Present.field-0 = search rules in
+    let asked = accepted c.in-Present.version First c.in-First.is is_true c.requires.rest c.is_registry.ensures.crash
+    c.in_ok-is_registry-in-Present.ensures.ours in
+    migrated asked c.migrate_tables.ensures.crash c.in_ok-migrate_tables-in-First.ensures.made
+
+pub returns-in_ok-migrate_tables-in-First-clause-crash : goal.returns-in_ok-migrate_tables-in-First-clause-crash
+returns-in_ok-migrate_tables-in-First-clause-crash g c =
+    let is_true : IsTrue c.in_ok-is_registry-in-Present.field-0 = search rules in
+    let asked = accepted c.in-Present.version First c.in-First.is is_true c.requires.rest c.is_registry.ensures.crash
+    c.in_ok-is_registry-in-Present.ensures.ours in
+    migrated_stop asked c.is_registry.ensures.crash c.migrate_tables.ensures.crash
+
+pub returns-in_ok-migrate_tables-in-First-clause-rows : goal.returns-in_ok-migrate_tables-in-First-clause-rows
+returns-in_ok-migrate_tables-in-First-clause-rows g c =
+    let is_true : IsTrue c.in_ok-is_registry-in-Present.field-0 = search rules in
+    let asked = accepted c.in-Present.version First c.in-First.is is_true c.requires.rest c.is_registry.ensures.crash
+    c.in_ok-is_registry-in-Present.ensures.ours in
+    migrated_other asked c.migrate_tables.ensures.crash
+
+pub returns-in_ok-migrate_tables-in-First-clause-written : goal.returns-in_ok-migrate_tables-in-First-clause-written
+returns-in_ok-migrate_tables-in-First-clause-written g c =
+    let is_true : IsTrue c.in_ok-is_registry-in-Present.field-0 = search rules in
+    let asked = accepted c.in-Present.version First c.in-First.is is_true c.requires.rest c.is_registry.ensures.crash
+    c.in_ok-is_registry-in-Present.ensures.ours in
+    migrated_other asked c.migrate_tables.ensures.crash
 
 -- ---- it is a registry of version 2
 
 pub rewrite_version-requires : goal.rewrite_version-requires
-rewrite_version-requires g c = taken_ready (took Second c.in-Some-Second.is c.in-Some-Second.field-0-is c.requires.rest
-    c.version_of.ensures.crash c.in_ok-version_of.ensures.found)
+rewrite_version-requires g c =
+    let is_true : IsTrue c.in_ok-is_registry-in-Present.field-0 = search rules in
+    let asked = accepted c.in-Present.version Second c.in-Second.is is_true c.requires.rest c.is_registry.ensures.crash
+    c.in_ok-is_registry-in-Present.ensures.ours in
+    taken_ready asked
 
-pub returns-in_err-rewrite_version-in-Some-Second-clause-crash :
-    goal.returns-in_err-rewrite_version-in-Some-Second-clause-crash
-returns-in_err-rewrite_version-in-Some-Second-clause-crash g c =
-    taken_stop (took Second c.in-Some-Second.is c.in-Some-Second.field-0-is c.requires.rest
-    c.version_of.ensures.crash c.in_ok-version_of.ensures.found)
-    c.version_of.ensures.crash c.rewrite_version.ensures.crash
+pub returns-in_err-rewrite_version-in-Second-clause-crash : goal.returns-in_err-rewrite_version-in-Second-clause-crash
+returns-in_err-rewrite_version-in-Second-clause-crash g c =
+    let is_true : IsTrue c.in_ok-is_registry-in-Present.field-0 = search rules in
+    let asked = accepted c.in-Present.version Second c.in-Second.is is_true c.requires.rest c.is_registry.ensures.crash
+    c.in_ok-is_registry-in-Present.ensures.ours in
+    taken_stop asked c.is_registry.ensures.crash c.rewrite_version.ensures.crash
 
-pub returns-in_ok-rewrite_version-in-Some-Second : goal.returns-in_ok-rewrite_version-in-Some-Second
-returns-in_ok-rewrite_version-in-Some-Second g c =
-    let asked = took Second c.in-Some-Second.is c.in-Some-Second.field-0-is c.requires.rest c.version_of.ensures.crash
-    c.in_ok-version_of.ensures.found in
-    let crash = c.rewrite_version.ensures.crash in
-    let done = c.in_ok-rewrite_version-in-Some-Second.ensures in
-    record {
-      prepared = taken asked crash done.renewed;
-      refused = search rules;
-      unchanged = search rules;
-      crash = taken_stop asked c.version_of.ensures.crash crash;
-      rows = taken_rows asked crash done.rows;
-      written =
-          renewed_by c.in_ok-rewrite_version-in-Some-Second.field-0 asked c.version_of.ensures.crash crash done.runs;
-      others = taken_others asked crash done.rows;
-      remains = search rules;
-    }
+pub returns-in_ok-rewrite_version-in-Second-clause-prepared :
+    goal.returns-in_ok-rewrite_version-in-Second-clause-prepared
+returns-in_ok-rewrite_version-in-Second-clause-prepared g c =
+    let is_true : IsTrue c.in_ok-is_registry-in-Present.field-0 = search rules in
+    let asked = accepted c.in-Present.version Second c.in-Second.is is_true c.requires.rest c.is_registry.ensures.crash
+    c.in_ok-is_registry-in-Present.ensures.ours in
+    taken asked c.rewrite_version.ensures.crash c.in_ok-rewrite_version-in-Second.ensures.renewed
+
+pub returns-in_ok-rewrite_version-in-Second-clause-crash : goal.returns-in_ok-rewrite_version-in-Second-clause-crash
+returns-in_ok-rewrite_version-in-Second-clause-crash g c =
+    let is_true : IsTrue c.in_ok-is_registry-in-Present.field-0 = search rules in
+    let asked = accepted c.in-Present.version Second c.in-Second.is is_true c.requires.rest c.is_registry.ensures.crash
+    c.in_ok-is_registry-in-Present.ensures.ours in
+    taken_stop asked c.is_registry.ensures.crash c.rewrite_version.ensures.crash
+
+pub returns-in_ok-rewrite_version-in-Second-clause-rows : goal.returns-in_ok-rewrite_version-in-Second-clause-rows
+returns-in_ok-rewrite_version-in-Second-clause-rows g c =
+    let is_true : IsTrue c.in_ok-is_registry-in-Present.field-0 = search rules in
+    let asked = accepted c.in-Present.version Second c.in-Second.is is_true c.requires.rest c.is_registry.ensures.crash
+    c.in_ok-is_registry-in-Present.ensures.ours in
+    taken_rows asked c.rewrite_version.ensures.crash c.in_ok-rewrite_version-in-Second.ensures.rows
+
+pub returns-in_ok-rewrite_version-in-Second-clause-written :
+    goal.returns-in_ok-rewrite_version-in-Second-clause-written
+returns-in_ok-rewrite_version-in-Second-clause-written g c =
+    let is_true : IsTrue c.in_ok-is_registry-in-Present.field-0 = search rules in
+    let asked = accepted c.in-Present.version Second c.in-Second.is is_true c.requires.rest c.is_registry.ensures.crash
+    c.in_ok-is_registry-in-Present.ensures.ours in
+    renewed_by c.in_ok-rewrite_version-in-Second.field-0 asked c.is_registry.ensures.crash
+    c.rewrite_version.ensures.crash
+    c.in_ok-rewrite_version-in-Second.ensures.runs
+
+pub returns-in_ok-rewrite_version-in-Second-clause-others : goal.returns-in_ok-rewrite_version-in-Second-clause-others
+returns-in_ok-rewrite_version-in-Second-clause-others g c =
+    let is_true : IsTrue c.in_ok-is_registry-in-Present.field-0 = search rules in
+    let asked = accepted c.in-Present.version Second c.in-Second.is is_true c.requires.rest c.is_registry.ensures.crash
+    c.in_ok-is_registry-in-Present.ensures.ours in
+    taken_others asked c.rewrite_version.ensures.crash c.in_ok-rewrite_version-in-Second.ensures.rows

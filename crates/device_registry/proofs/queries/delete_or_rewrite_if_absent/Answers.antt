@@ -1,5 +1,5 @@
 use Rattle.std.proofs.Common.{◌∙◌, [], sym}
-use Rattle.device_registry.proofs.WritesTurn.{unknown_is_removed}
+use Rattle.device_registry.proofs.DeviceWrites.{unknown_is_removed}
 use Rattle.device_registry.specs.Table.{rewrite_version_sql}
 use Rattle.keyed_table.proofs.Writes.{executed_if}
 use Rattle.learned_devices.specs.Devices.{forget_update}

@@ -10,34 +10,34 @@ pub returns-in_err-rows-clause-stays : goal.returns-in_err-rows-clause-stays
 returns-in_err-rows-clause-stays g c =
     others_stay c.args.id c.in_ok-others.others.text (g.C.SqlConnection.state c.args.conn.now)
     (g.C.SqlConnection.state c.compile.new.conn)
-    (g.C.SqlConnection.state c.query_by_sender.new.conn) (λ v. v.items) c.query_by_sender.result c.compile.ensures.stays
+    (g.C.SqlConnection.state c.query_with_id.new.conn) (λ v. v.items) c.query_with_id.result c.compile.ensures.stays
     c.in_ok-others.ensures.text
-    c.in_ok-others.ensures.ready c.query_by_sender.ensures.survives c.query_by_sender.ensures.shown
-    c.query_by_sender.ensures.failed
+    c.in_ok-others.ensures.ready c.query_with_id.ensures.survives c.query_with_id.ensures.shown
+    c.query_with_id.ensures.failed
 
 pub returns-in_err-shown_count-clause-stays : goal.returns-in_err-shown_count-clause-stays
 returns-in_err-shown_count-clause-stays g c =
     others_stay c.args.id c.in_ok-others.others.text (g.C.SqlConnection.state c.args.conn.now)
     (g.C.SqlConnection.state c.compile.new.conn)
-    (g.C.SqlConnection.state c.query_by_sender.new.conn) (λ v. v.items) c.query_by_sender.result c.compile.ensures.stays
+    (g.C.SqlConnection.state c.query_with_id.new.conn) (λ v. v.items) c.query_with_id.result c.compile.ensures.stays
     c.in_ok-others.ensures.text
-    c.in_ok-others.ensures.ready c.query_by_sender.ensures.survives c.query_by_sender.ensures.shown
-    c.query_by_sender.ensures.failed
+    c.in_ok-others.ensures.ready c.query_with_id.ensures.survives c.query_with_id.ensures.shown
+    c.query_with_id.ensures.failed
 
 pub returns-clause-stays : goal.returns-clause-stays
 returns-clause-stays g c =
     others_stay c.args.id c.in_ok-others.others.text (g.C.SqlConnection.state c.args.conn.now)
     (g.C.SqlConnection.state c.compile.new.conn)
-    (g.C.SqlConnection.state c.query_by_sender.new.conn) (λ v. v.items) c.query_by_sender.result c.compile.ensures.stays
+    (g.C.SqlConnection.state c.query_with_id.new.conn) (λ v. v.items) c.query_with_id.result c.compile.ensures.stays
     c.in_ok-others.ensures.text
-    c.in_ok-others.ensures.ready c.query_by_sender.ensures.survives c.query_by_sender.ensures.shown
-    c.query_by_sender.ensures.failed
+    c.in_ok-others.ensures.ready c.query_with_id.ensures.survives c.query_with_id.ensures.shown
+    c.query_with_id.ensures.failed
 
 pub returns-clause-full : goal.returns-clause-full
 returns-clause-full g c clean =
     let mid = g.C.SqlConnection.state c.compile.new.conn in
-    let new = g.C.SqlConnection.state c.query_by_sender.new.conn in
-    let early : HasCleanDisk mid = omega (arith, clean, c.query_by_sender.ensures.survives.clean) in
+    let new = g.C.SqlConnection.state c.query_with_id.new.conn in
+    let early : HasCleanDisk mid = omega (arith, clean, c.query_with_id.ensures.survives.clean) in
     let ready = c.in_ok-others.ensures.ready early in
     let rows = c.in_ok-rows.rows.items in
     let shown : Shown count_others_sql (lookup_params c.args.id) mid new rows =

@@ -5,7 +5,7 @@ use Rattle.learned_devices.specs.Devices.{DeviceData, device_data}
 use Rattle.device_registry.specs.Table.{upsert_sql}
 use Rattle.device_registry.specs.Table.Rows.{upsert_params}
 use Rattle.keyed_table.proofs.Writes.{executed_if}
-use Rattle.device_registry.proofs.WritesTurn.{put_turns}
+use Rattle.device_registry.proofs.DeviceWrites.{put_turns}
 use Rattle.device_registry.proofs.queries.upsert.Goals as goal
 
 pub returns-clause-turns : goal.returns-clause-turns

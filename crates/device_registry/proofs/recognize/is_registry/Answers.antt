@@ -1,30 +1,17 @@
-use Rattle.std.proofs.Common.{rules, arith, ◌≡◌, ◌∙◌, ℕ, sym, Option, Some, option_and_then, IsTrue, subst}
+use Rattle.std.proofs.Common.{rules, arith, sym, IsTrue, subst}
 use Rattle.sqlite.specs.State.{HasCleanDisk}
 use Rattle.sqlite.specs.Effect.{Database}
-use Rattle.device_registry.specs.SchemaChecks.{tree_of_devices}
 use Rattle.device_registry.specs.Stored.{HasTables}
-use Rattle.device_registry.proofs.SchemaTests.{placed_tables}
+use Rattle.device_registry.proofs.TablesStatusLemmas.{in_trees}
 use Rattle.device_registry.proofs.TablesRecognized.{tables_taken, own_found}
 use Rattle.device_registry.proofs.OpenCalls.{taken_if, not_whole}
 use Rattle.device_registry.proofs.recognize.is_registry.Goals as goal
-
-pub returns-in_default-clause-other : goal.returns-in_default-clause-other
-returns-in_default-clause-other g c clean none own =
-    let old = g.C.SqlConnection.state c.args.conn.now in
-    let it = own_found c.args.version old (c.requires.rest clean) own in
-    let placed = placed_tables c.args.version old.now.schema it.tables in
-    let same : ◌≡◌ {A = Option ℕ} (Some c.args.meta) (Some it.tables.meta) = sym (c.requires.meta clean) ∙ placed.0 in
-    let is : tree_of_devices c.args.version old.now.schema c.args.meta ≡ Some it.tables.devices =
-    subst (λ o. option_and_then (tree_of_devices c.args.version old.now.schema) o ≡ Some it.tables.devices) (sym same)
-    placed.1 in
-    absurd (search rules)
 
 pub returns-then-not-branch-clause-other : goal.returns-then-not-branch-clause-other
 returns-then-not-branch-clause-other g c clean none own =
     let old = g.C.SqlConnection.state c.args.conn.now in
     let early : HasCleanDisk old = omega (arith, clean, c.lists_our_tables.ensures.crash.clean) in
-    let rest = c.requires.rest early in
-    let it = own_found c.args.version old rest own in
+    let it = own_found c.args.version old (c.requires.rest early) own in
     absurd (c.lists_our_tables.ensures.other clean (search rules) it.tables_listed)
 
 pub has_valid_rows-requires : goal.has_valid_rows-requires
@@ -33,10 +20,9 @@ has_valid_rows-requires g c clean =
     let early : HasCleanDisk old = omega (arith, clean, c.lists_our_tables.ensures.crash.clean) in
     let got = c.in_ok-lists_our_tables.ensures.ours clean in
     let yes : IsTrue c.in_ok-lists_our_tables.field-0 = search rules in
-    let is : tree_of_devices c.args.version old.now.schema c.args.meta ≡ Some c.in-Some._devices = search rules in
+    let at = in_trees c.args.version old.now.schema (c.requires.tables early) in
     subst (λ (db : Database). HasTables c.args.version db.schema) (sym got.0.0.now_is)
-    (tables_taken c.args.version old c.args.meta c.in-Some._devices (c.requires.rest early) (c.requires.meta early) is
-    (got.1 yes))
+    (tables_taken c.args.version old at.0 at.1 (c.requires.rest early) at.2 at.3 (got.1 yes))
 
 pub returns-clause-ours : goal.returns-clause-ours
 returns-clause-ours g c clean =
@@ -46,10 +32,9 @@ returns-clause-ours g c clean =
     let early : HasCleanDisk old = omega (arith, between, c.lists_our_tables.ensures.crash.clean) in
     let got = c.in_ok-lists_our_tables.ensures.ours between in
     let yes : IsTrue c.in_ok-lists_our_tables.field-0 = search rules in
-    let is : tree_of_devices c.args.version old.now.schema c.args.meta ≡ Some c.in-Some._devices = search rules in
+    let at = in_trees c.args.version old.now.schema (c.requires.tables early) in
     taken_if c.args.version c.has_valid_rows.result old mid (g.C.SqlConnection.state c.has_valid_rows.new.conn) got.0
-    (tables_taken c.args.version old c.args.meta c.in-Some._devices (c.requires.rest early) (c.requires.meta early) is
-    (got.1 yes)) (got.1 yes)
+    (tables_taken c.args.version old at.0 at.1 (c.requires.rest early) at.2 at.3 (got.1 yes)) (got.1 yes)
     (c.has_valid_rows.ensures.whole clean)
 
 pub returns-clause-other : goal.returns-clause-other

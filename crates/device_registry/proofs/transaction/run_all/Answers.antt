@@ -1,7 +1,7 @@
 use Rattle.std.proofs.Common.{rules, ◌∙◌, ◌<◌, map, take, length, subst, sym}
 use Rattle.std.proofs.lemmas.List.{map_more}
 use Rattle.device_registry.specs.private.Transaction.{IsMidTransaction}
-use Rattle.keyed_table.proofs.Transactions.{uncommitted, saturated_increment, if_refused}
+use Rattle.keyed_table.proofs.Transactions.{uncommitted, one_more_text, if_refused}
 use Rattle.device_registry.proofs.transaction.run_all.Goals as goal
 
 pub loop-text-preserved : goal.loop-text-preserved
@@ -12,7 +12,7 @@ loop-text-preserved g c =
       c.execute.ensures.same_reference ∙ c.loop-text.invariant.0,
       subst (λ ts. IsMidTransaction g.S.Store ts c.args.ours.now.conn.now c.execute.new.self.conn.now)
           (sym (map_more (λ text. text.now) texts at _ within))
-          (saturated_increment g.S.Store (map (λ text. text.now) (take at texts)) _ c.args.ours.now.conn.now
+          (one_more_text g.S.Store (map (λ text. text.now) (take at texts)) _ c.args.ours.now.conn.now
           c.loop-text.ours.conn.now c.execute.new.self.conn.now c.execute.result c.loop-text.invariant.1
           c.execute.ensures.survives c.execute.ensures.runs c.in_ok-execute.field-0 c.in_ok-execute.was),
     )

@@ -3,7 +3,7 @@ use Rattle.std.proofs.lemmas.List.{take_all}
 use Rattle.esp3_frames.specs.Packet.{Packet, IsPacket}
 use Rattle.esp3_frames.specs.Outcome.{packet_of}
 use Rattle.esp3_frames.proofs.PacketLemmas.{packet_length}
-use Rattle.esp3_frames.proofs.FramesByFront.{whole_length, front-packet, same_front}
+use Rattle.esp3_frames.proofs.PacketsAndRestByFront.{whole_length, front-packet, same_front}
 use Rattle.esp3_frames.proofs.packet.read_packet.Goals as goal
 use Rattle.esp3_frames.proofs.packet.read_packet.Goals.{in_default-via-in-Some+else-len-b, in_default-via-in_default}
 

@@ -1,6 +1,6 @@
 use Rattle.std.proofs.Common.{◌∙◌}
 use Rattle.esp3_frames.proofs.ForCallers.{frames-never}
-use Rattle.esp3_resync.proofs.FramesLemmas.{frames_at_sync}
+use Rattle.esp3_resync.proofs.PacketsAndRestLemmas.{frames_at_sync}
 use Rattle.esp3_resync.proofs.front.resync.Goals as goal
 
 pub skip_to_next_sync-requires : goal.skip_to_next_sync-requires

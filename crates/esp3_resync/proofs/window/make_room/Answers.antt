@@ -3,8 +3,8 @@ use Rattle.std.proofs.Common.{sym, subst, ap, ◌∙◌, arith}
 use Rattle.std.proofs.Common.{length-drop}
 use Rattle.std.proofs.Math.Seq.{paste, take-paste}
 use Rattle.std.proofs.lemmas.List.{take_all}
-use Rattle.esp3_resync.specs.private.RunningChecks.{HasRunningCrcs}
-use Rattle.esp3_resync.proofs.RunningLemmas.{noted_moved}
+use Rattle.esp3_resync.specs.private.RunningCrcs.{HasRunningCrcs}
+use Rattle.esp3_resync.proofs.RunningCrcLemmas.{noted_moved}
 use Rattle.esp3_resync.proofs.window.make_room.Goals as goal
 
 pub returns-clause-running : goal.returns-clause-running
@@ -24,7 +24,7 @@ returns-clause-running c =
     let beside = c.copy_within-2.ensures in
     let same = λ (k : ℕ) (below : k ≤ length w - s).
     beside.by_index.0 k 0 (omega arith) (omega (arith, r.has_capacity.1, within.1))
-    ∙ ap (λ j. get_or c.args.checks.now.items (s + j) 0) (omega arith)
+    ∙ ap (λ j. get_or c.args.crcs.now.items (s + j) 0) (omega arith)
     in
     record {
       has_capacity = (
@@ -35,6 +35,7 @@ returns-clause-running c =
       at_most_one_packet = omega (arith, ap length moved, length-drop s w);
       enough_slots = omega (arith, ap length moved, length-drop s w, beside.len, r.enough_slots);
       dropped = r.dropped ++ take s w;
-      noted = subst (λ (y : List ℕ). HasRunningCrcs (r.dropped ++ take s w) y c.copy_within-2.new.self.items) (sym moved)
-          (noted_moved r.dropped w c.args.checks.now.items c.copy_within-2.new.self.items s within.0 same r.noted);
+      noted = subst (λ (y : List ℕ). HasRunningCrcs (r.dropped ++ take s w) y c.copy_within-2.new.self.items)
+          (sym moved)
+          (noted_moved r.dropped w c.args.crcs.now.items c.copy_within-2.new.self.items s within.0 same r.noted);
     }

@@ -6,7 +6,7 @@ use Rattle.gateway_loop.specs.Turns.{Turn, desk_reads, serial_reads}
 use Rattle.gateway_loop.specs.LiveOutputs.{live_output_of}
 use Rattle.gateway_loop.proofs.CallCountLemmas.{made_both, made_first, made_more, made_none, not_failed}
 use Rattle.gateway_loop.proofs.CallCountLemmas.{well_at}
-use Rattle.gateway_loop.specs.declared.runs.RunFault.TheVariants.{Read, Write}
+use Rattle.gateway_loop.specs.declared.run_result.RunFault.TheVariants.{Read, Write}
 use Rattle.gateway_loop.proofs.HeadlineLemmas.{served, served_until}
 use Rattle.gateway_loop.proofs.ReadLemmas.{reads_fail, reads_more, reads_none}
 use Rattle.gateway_loop.proofs.TurnLemmas.{desk_reads-more, first_player, order_stops, piece_stops, piece_taken}
@@ -338,8 +338,8 @@ returns-clause-whole g c =
             let made = before.desk_made (omega (arith, fits)) in
             omega (arith, fits, made, done, last);
         serial_writes_succeeded = well_at g.R.Sink.counts c.args.serial_out.now now.serial.now _
-            (search rules) out.0.went;
-        desk_writes_succeeded = well_at g.D.Sink.counts c.args.desk_out.now now.desk.now _ (search rules) out.1.went;
+            (search rules) out.0.calls;
+        desk_writes_succeeded = well_at g.D.Sink.counts c.args.desk_out.now now.desk.now _ (search rules) out.1.calls;
         no_serial_read_failed = serial.none_failed;
         no_desk_read_failed = desk.none_failed;
       },

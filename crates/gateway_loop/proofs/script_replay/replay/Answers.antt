@@ -6,12 +6,12 @@ use Rattle.byte_io.specs.declared.tally.Failed.{Failed}
 use Rattle.byte_io.proofs.ForCallers.{went_well}
 use Rattle.gateway_loop.specs.Processing.{HasNoReadyPacket}
 use Rattle.gateway_loop.specs.CallCounts.{OneFailedOrEmpty, failed_in_second}
-use Rattle.gateway_loop.specs.declared.line_loop.LineSource.TheVariants.{ScriptLines}
+use Rattle.gateway_loop.specs.declared.line_splitter.LineSource.TheVariants.{ScriptLines}
 use Rattle.gateway_loop.specs.Streams.{source_value}
 use Rattle.gateway_loop.specs.Written.{replay_output_of}
-use Rattle.gateway_loop.specs.declared.runs.RunFault.TheVariants.{Read, TooManyTurns, Write}
+use Rattle.gateway_loop.specs.declared.run_result.RunFault.TheVariants.{Read, TooManyTurns, Write}
 use Rattle.gateway_loop.proofs.HeadlineLemmas.{replayed, replayed_until}
-use Rattle.gateway_loop.proofs.LineLoopLemmas.{bytes_none, bytes_behind, first_player, keeps_none, stops_behind}
+use Rattle.gateway_loop.proofs.LineSplitterLemmas.{bytes_none, bytes_behind, first_player, keeps_none, stops_behind}
 use Rattle.gateway_loop.proofs.CallCountLemmas.{wrong_at}
 use Rattle.gateway_loop.proofs.ReadLemmas.{one_read_more, reads_fail, reads_more, reads_none}
 use Rattle.gateway_loop.proofs.ScriptReplayLemmas.{part_at_end, part_at_line, plays_ended, plays_written}
@@ -95,7 +95,7 @@ returns-then-length-eq0-clause-ended g c =
     script_taken g.S.DeviceStore.store_state g.W.Sink _ c.loop-turn.splitter input
     c.process_last_script_line.new.self.driver taken
     (c.in-Ok-process_last_script_line.ensures.taken taken.rest taken.keeps) in
-    let went = done.processed.answered.out.1.went in
+    let went = done.processed.answered.out.1.calls in
     let reads = c.loop-turn.invariant.reads in search rules
 
 pub returns-in_default-clause-err : goal.returns-in_default-clause-err
@@ -132,8 +132,8 @@ returns-in_default-clause-write g c =
       wrong_at counts c.args.writer.now c.process_last_script_line.new.self.driver.reply_sink.sink.now _ (search rules)
           (failed_in_second (counts c.args.writer.now) (counts c.loop-turn.splitter.driver.reply_sink.sink.now)
           (counts c.process_last_script_line.new.self.driver.reply_sink.sink.now)
-          taken.taken.processed.answered.out.1.went
-          last.broken.answered.out.1.went),
+          taken.taken.processed.answered.out.1.calls
+          last.broken.answered.out.1.calls),
     )
 
 pub returns-in_default-process_bytes-clause-err : goal.returns-in_default-process_bytes-clause-err
@@ -175,7 +175,7 @@ returns-in_default-process_bytes-clause-write g c =
     λ _. (
       search rules,
       wrong_at g.W.Sink.counts c.args.writer.now c.process_bytes.new.self.driver.reply_sink.sink.now _ (search rules)
-          crash.broken.answered.out.1.went,
+          crash.broken.answered.out.1.calls,
     )
 
 pub returns-in_default-process_bytes-clause-too_many : goal.returns-in_default-process_bytes-clause-too_many
@@ -188,7 +188,7 @@ returns-in_default-process_bytes-clause-too_many g c =
     _ taken (c.in_default-process_bytes.ensures.stopped taken.rest taken.keeps) in
     let wrong : OneFailedOrEmpty (counts c.args.writer.now)
     (counts c.process_bytes.new.self.driver.reply_sink.sink.now) =
-    crash.broken.answered.out.1.went in search rules
+    crash.broken.answered.out.1.calls in search rules
 
 pub loop-turn-preserved : goal.loop-turn-preserved
 loop-turn-preserved g c =
@@ -212,7 +212,7 @@ loop-turn-preserved g c =
             c.in-Ok.ensures.bytes.0,
         now,
       );
-      writes = now.taken.processed.answered.out.1.went;
+      writes = now.taken.processed.answered.out.1.calls;
       reads =
           went_well Failed (reads c.args.reader.now) (reads c.loop-turn.reader) (reads c.read.new.self) c.in-Ok.length
           before.reads c.in-Ok.ensures.counted c.if-length-eq0.false;

@@ -2,9 +2,9 @@ use Rattle.std.proofs.Common.{◌≡◌, List, ℕ, length}
 use Rattle.std.specs.Io.KnownBytes.{Consumes}
 use Rattle.byte_io.specs.Counts.{NoneFailedOrEmpty}
 use Rattle.gateway_loop.specs.Processing.{HasNoReadyPacket}
-use Rattle.gateway_loop.specs.private.LineLoop.{TakesBytes}
+use Rattle.gateway_loop.specs.private.LineSplitting.{TakesEndedLines}
 use Rattle.gateway_loop.specs.Reads.{AllReadsSucceed}
-use Rattle.gateway_loop.specs.declared.line_loop.LineSource.TheVariants.{ScriptLines}
+use Rattle.gateway_loop.specs.declared.line_splitter.LineSource.TheVariants.{ScriptLines}
 use Rattle.gateway_loop.specs.Streams.{source_value}
 use Rattle.gateway_loop.specs.Written.{replay_output_of}
 use Rattle.gateway_loop.proofs.script_replay.replay.Given as goal
@@ -15,7 +15,8 @@ invariant-loop-turn g l = record {
   writer : l.splitter.driver.reply_sink.sink.ghost_name ≡ l.initial.splitter.driver.reply_sink.sink.ghost_name;
   idle : HasNoReadyPacket l.splitter.driver.gateway.now;
   progress : (input : List ℕ) × Consumes (g.R.Source.left l.fn.reader) (g.R.Source.left l.reader) input
-      × TakesBytes g.S.DeviceStore.store_state (replay_output_of g.W.Sink) ScriptLines l.initial.splitter l.splitter
+      × TakesEndedLines g.S.DeviceStore.store_state
+      (replay_output_of g.W.Sink) ScriptLines l.initial.splitter l.splitter
       input;
   writes : NoneFailedOrEmpty (g.W.Sink.counts l.fn.writer) (g.W.Sink.counts l.splitter.driver.reply_sink.sink.now);
   reads : NoneFailedOrEmpty (g.R.Source.counts l.fn.reader) (g.R.Source.counts l.reader);

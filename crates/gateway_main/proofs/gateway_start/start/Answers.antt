@@ -1,14 +1,14 @@
 use Rattle.std.proofs.Common.{sym, subst}
 use Rattle.std.proofs.lemmas.Result.{err_from_is_err_and}
 use Rattle.gateway_main.specs.Started.{MayFailToStart}
-use Rattle.gateway_main.proofs.StartLemmas.{idle_at_first, new_gateway, refuses_as_open, starts}
+use Rattle.gateway_main.proofs.StartLemmas.{idle_at_first, new_gateway, starts}
 use Rattle.gateway_main.proofs.gateway_start.start.Goals as goal
 
 pub returns-in_err-registry-clause-refused : goal.returns-in_err-registry-clause-refused
 returns-in_err-registry-clause-refused g c =
     let fault = err_from_is_err_and c.from_residual.result c.from_residual.ensures.1 in
     rw fault.1 (subst (MayFailToStart g.C.SqlConnection.state c.args.conn) (sym fault.2)
-    (refuses_as_open g.C.SqlConnection.state c.args.conn _ c.in_err-registry.ensures.refused))
+    c.in_err-registry.ensures.refused)
 
 pub returns-clause-idle : goal.returns-clause-idle
 returns-clause-idle g c =

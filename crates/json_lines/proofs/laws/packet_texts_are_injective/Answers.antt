@@ -1,4 +1,4 @@
-use Rattle.json_lines.proofs.PacketLineTexts.{one_packet_line}
+use Rattle.json_lines.proofs.PacketTextsInjective.{one_packet_line}
 use Rattle.json_lines.proofs.laws.packet_texts_are_injective.Goals as goal
 
 pub returns : goal.returns

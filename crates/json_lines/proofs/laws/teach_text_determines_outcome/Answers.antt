@@ -1,4 +1,4 @@
-use Rattle.json_lines.proofs.TeachTexts.{of_teach_lines}
+use Rattle.json_lines.proofs.TeachTextOutcome.{of_teach_lines}
 use Rattle.json_lines.proofs.laws.teach_text_determines_outcome.Goals as goal
 
 pub returns : goal.returns

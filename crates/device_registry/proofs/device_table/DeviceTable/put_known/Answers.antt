@@ -1,6 +1,6 @@
 use Rattle.learned_devices.specs.Devices.{Operation, DeviceUpdate, device_data}
 use Rattle.device_registry.specs.Holding.{WritesRow}
-use Rattle.device_registry.specs.private.TableCalls.{MakesKnown}
+use Rattle.device_registry.specs.private.TableCalls.{OperationMakesDevice}
 use Rattle.device_registry.proofs.RegistryCalls.{puts_it, stays_itself, room_if_known, refused_well, made_well}
 use Rattle.device_registry.proofs.RegistryCalls.{update_refused, update_made, ready_made}
 use Rattle.device_registry.proofs.device_table.DeviceTable.put_known.Goals as goal
@@ -29,7 +29,7 @@ pub returns-in_err-upsert-clause-updates : goal.returns-in_err-upsert-clause-upd
 returns-in_err-upsert-clause-updates g c =
     let old = g.C.SqlConnection.state c.self.inside.conn in
     let new = g.C.SqlConnection.state c.upsert.new.conn in
-    rw (← c.self.view_is) (λ (operation : Operation) (makes_known : MakesKnown old c.args.device operation).
+    rw (← c.self.view_is) (λ (operation : Operation) (makes_known : OperationMakesDevice old c.args.device operation).
     let update : DeviceUpdate = record { sender = c.args.device.id; operation = operation } in
     let makes = puts_it old old (stays_itself old) c.self.invariant update (device_data c.args.device)
     (λ clean devices has. (makes_known clean devices has).1) in
@@ -57,18 +57,18 @@ returns g c =
     let known = rw (← c.self.view_is) at c.requires.known in
     let update_by : Operation → DeviceUpdate =
     λ operation. record { sender = c.args.device.id; operation = operation } in
-    let makes = λ (operation : Operation) (makes_known : MakesKnown old c.args.device operation).
+    let makes = λ (operation : Operation) (makes_known : OperationMakesDevice old c.args.device operation).
     puts_it old old (stays_itself old) c.self.invariant (update_by operation) (device_data c.args.device)
     (λ clean devices has. (makes_known clean devices has).1) in
     record {
       updates = rw (← c.self.view_is) (λ (operation : Operation)
-          (makes_known : MakesKnown old c.args.device operation).
+          (makes_known : OperationMakesDevice old c.args.device operation).
           update_made old old new c.upsert.result (stays_itself old) c.self.invariant _ (update_by operation)
           (c.upsert.ensures.turns (update_by operation) (makes operation makes_known))
           (c.in_ok-upsert.ensures.turns (update_by operation) (makes operation makes_known)).made ready
           (λ trees is_open. g.met.C.SqlConnection.settled c.upsert.new.conn trees is_open));
       written = rw (← c.self.view_is) (λ (operation : Operation)
-          (makes_known : MakesKnown old c.args.device operation) clean devices has.
+          (makes_known : OperationMakesDevice old c.args.device operation) clean devices has.
           let turns = c.upsert.ensures.turns (update_by operation) (makes operation makes_known) in
           let row : WritesRow g.C.SqlConnection.state c.upsert.new.conn (update_by operation) devices = record {
             row = device_data c.args.device;

@@ -33,7 +33,7 @@ forget-requires-clause-known g c clean devices has =
 
 pub invariant_of-self : goal.invariant_of-self
 invariant_of-self g c = (
-  c.forget.ensures.forgets.recoverable,
+  c.forget.ensures.forgets.reopenable,
   changed_recalled (g.C.SqlConnection.state c.self.inside.table) (g.C.SqlConnection.state c.forget.new.self)
       (forget_update c.args.id) None
       c.self.inside.cache.entries c.drop_entry.new.cache.entries c.insert_entry.new.cache.entries
@@ -76,6 +76,6 @@ returns-in-Err-clause-forgets g c =
 
 pub invariant_of-self-in-Err : goal.invariant_of-self-in-Err
 invariant_of-self-in-Err g c = (
-  c.forget.ensures.forgets.recoverable,
+  c.forget.ensures.forgets.reopenable,
   cleared_recalled (g.C.SqlConnection.state c.forget.new.self) _ _ c.clear.ensures,
 )

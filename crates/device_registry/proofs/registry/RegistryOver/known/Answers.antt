@@ -17,7 +17,7 @@ returns-in-Some-clause-looks_up g c =
     let now = g.C.SqlConnection.state c.self.inside.table in
     rw (← c.self.view_is) (record {
       clean = λ clean. clean;
-      recoverable = c.self.invariant.0;
+      reopenable = c.self.invariant.0;
       devices =
           λ clean devices has. (
             recalled now c.args.id c.in-Some.known clean
@@ -43,7 +43,7 @@ returns-in-Some-clause-same g c clean =
 pub invariant_of-self-in-Ok : goal.invariant_of-self-in-Ok
 invariant_of-self-in-Ok g c =
     let old = g.C.SqlConnection.state c.self.inside.table in (
-      c.find.ensures.looks_up.recoverable,
+      c.find.ensures.looks_up.reopenable,
       found_recalled old (g.C.SqlConnection.state c.find.new.self) c.args.id c.in-Ok.known
           c.look_up_cached.new.cache.entries
           c.insert_entry.new.cache.entries c.find.ensures.looks_up.clean c.in-Ok.ensures.ready
@@ -55,7 +55,7 @@ invariant_of-self-in-Ok g c =
 pub returns-in-Ok-clause-looks_up : goal.returns-in-Ok-clause-looks_up
 returns-in-Ok-clause-looks_up g c =
     let looks = c.in-Ok.ensures.looks_up in
-    rw (← c.self.view_is) (record { clean = looks.clean; recoverable = looks.recoverable; devices = looks.devices })
+    rw (← c.self.view_is) (record { clean = looks.clean; reopenable = looks.reopenable; devices = looks.devices })
 
 pub returns-in-Ok-clause-ready : goal.returns-in-Ok-clause-ready
 returns-in-Ok-clause-ready g c clean = rw (← c.self.view_is) (c.in-Ok.ensures.ready clean)
@@ -63,10 +63,10 @@ returns-in-Ok-clause-ready g c clean = rw (← c.self.view_is) (c.in-Ok.ensures.
 pub returns-in-Err-clause-looks_up : goal.returns-in-Err-clause-looks_up
 returns-in-Err-clause-looks_up g c =
     let looks = c.in-Err.ensures.looks_up in
-    rw (← c.self.view_is) (record { clean = looks.clean; recoverable = looks.recoverable; devices = looks.devices })
+    rw (← c.self.view_is) (record { clean = looks.clean; reopenable = looks.reopenable; devices = looks.devices })
 
 pub invariant_of-self-in-Err : goal.invariant_of-self-in-Err
 invariant_of-self-in-Err g c = (
-  c.find.ensures.looks_up.recoverable,
+  c.find.ensures.looks_up.reopenable,
   cleared_recalled (g.C.SqlConnection.state c.find.new.self) _ _ c.clear.ensures,
 )

@@ -71,8 +71,8 @@ returns-in_ok-store_known-in-Some g c =
 
 -- ---- the sender is unknown
 
-pub store_learned-requires : goal.store_learned-requires
-store_learned-requires g c =
+pub store_new_unless_full-requires : goal.store_new_unless_full-requires
+store_new_unless_full-requires g c =
     let old = g.C.SqlConnection.state c.args.self.now in
     let mid = g.C.SqlConnection.state c.known.new.self in
     starts_unlabelled old mid c.args.device.id c.in_ok-known.field-0 c.in_ok-known.ensures.looks_up mid
@@ -82,16 +82,16 @@ pub returns-in-None-clause-learns : goal.returns-in-None-clause-learns
 returns-in-None-clause-learns g c =
     let old = g.C.SqlConnection.state c.args.self.now in
     let mid = g.C.SqlConnection.state c.known.new.self in
-    let new = g.C.SqlConnection.state c.store_learned.new.self in
+    let new = g.C.SqlConnection.state c.store_new_unless_full.new.self in
     learns_after old mid c.args.device.id c.in_ok-known.field-0 c.in_ok-known.ensures.looks_up new c.args.device
-    c.store_learned.result c.store_learned.ensures.learns
+    c.store_new_unless_full.result c.store_new_unless_full.ensures.learns
 
 pub returns-in-None-clause-written : goal.returns-in-None-clause-written
 returns-in-None-clause-written g c clean =
     let old = g.C.SqlConnection.state c.args.self.now in
     let mid = g.C.SqlConnection.state c.known.new.self in
-    let last = c.store_learned.new.self in
+    let last = c.store_new_unless_full.new.self in
     let new = g.C.SqlConnection.state last in
     written_after old mid c.args.device.id c.in_ok-known.field-0 c.in_ok-known.ensures.looks_up new
-    g.C.SqlConnection.state last (learn_update c.args.device) c.store_learned.result
-    (λ _. c.store_learned.ensures.written clean) (c.store_learned.ensures.learns.clean clean)
+    g.C.SqlConnection.state last (learn_update c.args.device) c.store_new_unless_full.result
+    (λ _. c.store_new_unless_full.ensures.written clean) (c.store_new_unless_full.ensures.learns.clean clean)

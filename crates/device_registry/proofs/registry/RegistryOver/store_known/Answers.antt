@@ -1,6 +1,6 @@
 use Rattle.std.proofs.Common.{◌∙◌, Some, option_map, ap, sym}
 use Rattle.learned_devices.specs.Devices.{Operation, DeviceUpdate, device}
-use Rattle.device_registry.specs.private.TableCalls.{MakesKnown}
+use Rattle.device_registry.specs.private.TableCalls.{OperationMakesDevice}
 use Rattle.device_registry.proofs.CacheAgreement.{changed_recalled, cleared_recalled}
 use Rattle.device_registry.proofs.registry.RegistryOver.store_known.Goals as goal
 
@@ -17,7 +17,7 @@ invariant_of-self g c =
     let known = rw (← c.self.view_is) at c.requires.known in
     let update : DeviceUpdate = record { sender = c.args.device.id; operation = known.0 } in
     let updates = c.in-Ok.ensures.updates known.0 known.1 in (
-      updates.recoverable,
+      updates.reopenable,
       changed_recalled old new update (Some c.copied-stored.result)
           c.self.inside.cache.entries c.drop_entry.new.cache.entries c.insert_entry.new.cache.entries
           updates.clean c.in-Ok.ensures.ready updates.devices
@@ -29,9 +29,9 @@ invariant_of-self g c =
 pub returns-in-Ok-clause-updates : goal.returns-in-Ok-clause-updates
 returns-in-Ok-clause-updates g c =
     rw (← c.self.view_is) (λ (operation : Operation)
-    (makes : MakesKnown (g.C.SqlConnection.state c.self.inside.table) c.args.device operation).
+    (makes : OperationMakesDevice (g.C.SqlConnection.state c.self.inside.table) c.args.device operation).
     let updates = c.in-Ok.ensures.updates operation makes in
-    record { clean = updates.clean; recoverable = updates.recoverable; devices = updates.devices })
+    record { clean = updates.clean; reopenable = updates.reopenable; devices = updates.devices })
 
 pub returns-in-Ok-clause-written : goal.returns-in-Ok-clause-written
 returns-in-Ok-clause-written g c = rw (← c.self.view_is) c.in-Ok.ensures.written
@@ -39,13 +39,13 @@ returns-in-Ok-clause-written g c = rw (← c.self.view_is) c.in-Ok.ensures.writt
 pub returns-in-Err-clause-updates : goal.returns-in-Err-clause-updates
 returns-in-Err-clause-updates g c =
     rw (← c.self.view_is) (λ (operation : Operation)
-    (makes : MakesKnown (g.C.SqlConnection.state c.self.inside.table) c.args.device operation).
+    (makes : OperationMakesDevice (g.C.SqlConnection.state c.self.inside.table) c.args.device operation).
     let updates = c.in-Err.ensures.updates operation makes in
-    record { clean = updates.clean; recoverable = updates.recoverable; devices = updates.devices })
+    record { clean = updates.clean; reopenable = updates.reopenable; devices = updates.devices })
 
 pub invariant_of-self-in-Err : goal.invariant_of-self-in-Err
 invariant_of-self-in-Err g c =
     let known = rw (← c.self.view_is) at c.requires.known in (
-      (c.put_known.ensures.updates known.0 known.1).recoverable,
+      (c.put_known.ensures.updates known.0 known.1).reopenable,
       cleared_recalled (g.C.SqlConnection.state c.put_known.new.self) _ _ c.clear.ensures,
     )

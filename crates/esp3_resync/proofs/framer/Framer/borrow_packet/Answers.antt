@@ -5,7 +5,7 @@ use Rattle.esp3_frames.specs.PacketsAndRest.{packets_and_rest}
 use Rattle.esp3_frames.specs.Outcome.{packet_of}
 use Rattle.esp3_frames.specs.Packet.{IsPacket}
 use Rattle.esp3_frames.proofs.ForCallers.{whole_length}
-use Rattle.esp3_resync.proofs.FramesLemmas.{lent, quiet_part_of_packet}
+use Rattle.esp3_resync.proofs.PacketsAndRestLemmas.{lent, quiet_part_of_packet}
 use Rattle.esp3_resync.proofs.HeaderLemmas.{held_bytes, is_empty, not_empty}
 use Rattle.esp3_resync.proofs.framer.Framer.borrow_packet.Goals as goal
 

@@ -2,7 +2,7 @@ use Rattle.std.proofs.Common.{◌≡◌, ℕ, List, length, refl, arith, ap, sub
 use Rattle.esp3_frames.specs.Framing.{MayBecomePacket}
 use Rattle.esp3_frames.specs.PacketsAndRest.{PacketsAndRest, packets_and_rest}
 use Rattle.esp3_frames.proofs.ForCallers.{framing_of, rest_may_become}
-use Rattle.esp3_resync.proofs.FramesLemmas.{ready_whole, unready_partial}
+use Rattle.esp3_resync.proofs.PacketsAndRestLemmas.{ready_whole, unready_partial}
 use Rattle.esp3_resync.proofs.HeaderLemmas.{is_whole, not_whole}
 use Rattle.esp3_resync.proofs.framer.Framer.is_ready.Goals as goal
 

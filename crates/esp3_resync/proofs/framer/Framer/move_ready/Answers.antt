@@ -7,7 +7,7 @@ use Rattle.esp3_frames.specs.declared.packet.Header.{Header}
 use Rattle.esp3_frames.proofs.ForCallers.{frames-whole}
 use Rattle.esp3_resync.specs.BufferedPacket.{packet_with}
 use Rattle.esp3_resync.specs.private.WindowFronts.{packet_at}
-use Rattle.esp3_resync.proofs.FramesLemmas.{ready_whole, unready_partial}
+use Rattle.esp3_resync.proofs.PacketsAndRestLemmas.{ready_whole, unready_partial}
 use Rattle.esp3_resync.proofs.HeaderLemmas.{is_whole, not_whole, whole_sum, whole_parts}
 use Rattle.esp3_resync.proofs.framer.Framer.move_ready.Goals as goal
 
@@ -81,7 +81,7 @@ returns-clause-taken c =
     ∙ drop-drop 1 k (drop 6 s) ∙ drop-drop (k + 1) 6 s ∙ ap (λ i. drop i s) count
     in
     let behind : packets_and_rest c.resync-self-inside.new.window ≡ packets_and_rest (drop n s) =
-    c.resync-self-inside.ensures.frames ∙ ap packets_and_rest left in
+    c.resync-self-inside.ensures.packets ∙ ap packets_and_rest left in
     let here = frames-whole s p whole in
     let ready = λ (x : PacketsAndRest). x.ready in
     let rest = λ (x : PacketsAndRest). x.rest in (

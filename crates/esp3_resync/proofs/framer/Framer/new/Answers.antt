@@ -1,7 +1,7 @@
 use Rattle.std.proofs.Common.{length, ap, ◌∙◌, arith}
 use Rattle.esp3_frames.specs.PacketsAndRest.{front_of, packets_and_rest}
 use Rattle.esp3_frames.proofs.ForCallers.{front-empty}
-use Rattle.esp3_resync.proofs.FramesLemmas.{packets_and_rest-empty}
+use Rattle.esp3_resync.proofs.PacketsAndRestLemmas.{packets_and_rest-empty}
 use Rattle.esp3_resync.proofs.framer.Framer.new.Goals as goal
 
 pub invariant_of-result : goal.invariant_of-result

@@ -1,6 +1,6 @@
 use Rattle.std.proofs.Common.{◌≡◌, List, ℕ, [], ◌++◌, length, take, sym, ap, ◌∙◌, arith, length-append, length-take}
 use Rattle.esp3_frames.specs.PacketsAndRest.{PacketsAndRest, packets_and_rest}
-use Rattle.esp3_resync.proofs.FramesLemmas.{few, packets_and_rest-noise, noise_taken, unready_partial}
+use Rattle.esp3_resync.proofs.PacketsAndRestLemmas.{few, packets_and_rest-noise, noise_taken, unready_partial}
 use Rattle.esp3_resync.proofs.HeaderLemmas.{held_bytes, is_empty, no_header}
 use Rattle.esp3_resync.proofs.framer.Framer.push_some.Goals as goal
 
@@ -14,7 +14,7 @@ returns-in-PartialPacket-clause-taken c =
     let w = c.self.inside.window in
     let t = take c.push_announced-count.result c.args.bytes.now in
     let h = held_bytes c.self.inside.front w c.args.self.now c.self.invariant c.self.view_is c.requires.none in
-    c.resync_with_header-self-inside.ensures.frames
+    c.resync_with_header-self-inside.ensures.packets
     ∙ ap packets_and_rest (c.push_announced-count.ensures.taken ∙ ap (λ (y : List ℕ). y ++ t) h.1)
 
 pub returns-in-PartialPacket-clause-before : goal.returns-in-PartialPacket-clause-before
@@ -57,7 +57,7 @@ returns-clause-taken c =
     let w = c.self.inside.window in
     let t = take c.push_header_bytes-count.result c.args.bytes.now in
     let h = held_bytes c.self.inside.front w c.args.self.now c.self.invariant c.self.view_is c.requires.none in
-    c.resync-self-inside.ensures.frames
+    c.resync-self-inside.ensures.packets
     ∙ ap packets_and_rest (c.push_header_bytes-count.ensures.taken ∙ ap (λ (y : List ℕ). y ++ t) h.1)
 
 pub returns-clause-before : goal.returns-clause-before

@@ -1,6 +1,6 @@
 use Rattle.std.proofs.Common.{◌-◌, length, drop, sym, ap, ◌∙◌, arith, length-take, length-drop}
 use Rattle.esp3_frames.specs.PacketsAndRest.{PacketsAndRest}
-use Rattle.esp3_resync.proofs.FramesLemmas.{idle, run_more, quiet_more, quiet_before, none_ready}
+use Rattle.esp3_resync.proofs.PacketsAndRestLemmas.{idle, run_more, quiet_more, quiet_before, none_ready}
 use Rattle.esp3_resync.proofs.HeaderLemmas.{not_never}
 use Rattle.esp3_resync.proofs.framer.Framer.push_until_ready.Goals as goal
 

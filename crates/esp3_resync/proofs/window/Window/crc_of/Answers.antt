@@ -20,7 +20,7 @@ returns c =
     sym (drop-drop from start b) ∙ ap (drop from) c.self.view_is in
     let inside : place + len ≤ length b =
     omega (arith, r.within.0, c.requires, ap length c.self.view_is, length-drop start b) in
-    let d = c.self.inside.checks.items in
+    let d = c.self.inside.crcs.items in
     let at = λ (i x : ℕ) (is : x ≡ get_or d i x) (below : i < length d). is ∙ get_or_default d i x 0 below in
     let size : len ≡ length w = omega (arith, length-take len (drop place b), length-drop place b) in
     c.check8_between.ensures.part (g ++ take place b) w

@@ -9,12 +9,12 @@ invariant_of-result c =
     let d = c.push.new.self.items in
     let none = c.in_ok-bytes.ensures.items in
     let one : d ≡ 0 ∷ [] =
-    c.in_ok-push.ensures.items ∙ ap (λ (y : List ℕ). y ++ 0 ∷ []) c.in_ok-checks.ensures.items in
+    c.in_ok-push.ensures.items ∙ ap (λ (y : List ℕ). y ++ 0 ∷ []) c.in_ok-crcs.ensures.items in
     let zero : get_or d 0 0 ≡ 0 = ap (λ (y : List ℕ). get_or y 0 0) one in
     record {
       has_capacity = (
         omega (arith, c.in_ok-bytes.ensures.exact),
-        omega (arith, c.in_ok-checks.ensures.exact, c.in_ok-push.ensures.capacity),
+        omega (arith, c.in_ok-crcs.ensures.exact, c.in_ok-push.ensures.capacity),
       );
       within = (omega arith, omega (arith, ap length none));
       at_most_one_packet = omega (arith, ap length none);

@@ -22,7 +22,7 @@ returns-in-Err-Full g c =
     rw (← c.self.view_is) (record {
       reported = tt;
       changes_only_registry =
-          alone g.S.DeviceStore.store_state _ _ _ _ _ _ c.learn.ensures.learns.clean c.learn.ensures.learns.recoverable
+          alone g.S.DeviceStore.store_state _ _ _ _ _ _ c.learn.ensures.learns.clean c.learn.ensures.learns.reopenable
           (λ honest devices has.
           let Refuses = λ (why : LearnFault). RefusesToLearn (g.S.DeviceStore.store_state c.self.inside.registry)
           (g.S.DeviceStore.store_state c.learn.new.self) c.args.device devices why in
@@ -35,7 +35,7 @@ returns-in-Err-Failed g c =
     rw (← c.self.view_is) (record {
       reported = tt;
       changes_only_registry =
-          alone g.S.DeviceStore.store_state _ _ _ _ _ _ c.learn.ensures.learns.clean c.learn.ensures.learns.recoverable
+          alone g.S.DeviceStore.store_state _ _ _ _ _ _ c.learn.ensures.learns.clean c.learn.ensures.learns.reopenable
           (λ honest devices has.
           let Refuses = λ (why : LearnFault). RefusesToLearn (g.S.DeviceStore.store_state c.self.inside.registry)
           (g.S.DeviceStore.store_state c.learn.new.self) c.args.device devices why in
@@ -54,6 +54,6 @@ returns g c =
         c.tell-line.ensures ∙ c.in_ok-draft.ensures.line,
       );
       changes_only_registry =
-          alone g.S.DeviceStore.store_state _ _ _ _ _ _ c.learn.ensures.learns.clean c.learn.ensures.learns.recoverable
+          alone g.S.DeviceStore.store_state _ _ _ _ _ _ c.learn.ensures.learns.clean c.learn.ensures.learns.reopenable
           c.in-Ok.ensures.learns.devices;
     })

@@ -15,7 +15,7 @@ pub returns-in_err-device : goal.returns-in_err-device
 returns-in_err-device g c =
     let error = err_from_is_err_and c.from_residual.result c.from_residual.ensures.1 in
     rw (← c.self.view_is, error.1, error.2)
-    (tries g.S.DeviceStore.store_state _ _ _ _ _ _ _ c.find.ensures.clean c.find.ensures.recoverable
+    (tries g.S.DeviceStore.store_state _ _ _ _ _ _ _ c.find.ensures.clean c.find.ensures.reopenable
     (λ honest devices has.
     let now = known_with c.self.inside.base c.self.inside.mode c.self.inside.counts devices in (
       permitted _ _ (data-need now c.args.telegram.now (device_of devices c.args.telegram.now.sender)),
@@ -26,7 +26,7 @@ pub returns-in_default : goal.returns-in_default
 returns-in_default g c =
     rw (← c.self.view_is) (tries-behind g.S.DeviceStore.store_state _ _ _ c.find.new.self _ _ _ refl
     c.find.ensures.clean
-    c.find.ensures.recoverable
+    c.find.ensures.reopenable
     (λ honest devices has.
     let found = c.in_ok-device.ensures.devices honest devices has in
     let known = sym c.in_default.is ∙ found.0 ∙ ap (device_of devices) c.sender.ensures in
@@ -38,7 +38,7 @@ pub returns-in_err-done : goal.returns-in_err-done
 returns-in_err-done g c =
     let error = err_from_is_err_and c.from_residual-in_err-done.result c.from_residual-in_err-done.ensures.1 in
     rw (← c.self.view_is, error.1, error.2)
-    (tries g.S.DeviceStore.store_state _ _ _ _ _ _ _ c.find.ensures.clean c.find.ensures.recoverable
+    (tries g.S.DeviceStore.store_state _ _ _ _ _ _ _ c.find.ensures.clean c.find.ensures.reopenable
     (λ honest devices has.
     let now = known_with c.self.inside.base c.self.inside.mode c.self.inside.counts devices in (
       permitted _ _ (data-need now c.args.telegram.now (device_of devices c.args.telegram.now.sender)),
@@ -48,7 +48,7 @@ returns-in_err-done g c =
 pub returns : goal.returns
 returns g c =
     rw (← c.self.view_is) (tries g.S.DeviceStore.store_state _ _ _ _ _ _ _ c.find.ensures.clean
-    c.find.ensures.recoverable
+    c.find.ensures.reopenable
     (λ honest devices has.
     let found = c.in_ok-device.ensures.devices honest devices has in
     let known = sym c.in-Some.is ∙ found.0 ∙ ap (device_of devices) c.sender.ensures in

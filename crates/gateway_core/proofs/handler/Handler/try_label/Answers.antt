@@ -11,7 +11,7 @@ returns g c =
     let new = c.relabel.new.self in
     let relabels = c.relabel.ensures.relabels in
     let Was = Relabels (stored old) (stored new) c.args.id c.args.label in
-    rw (← c.self.view_is) (tries stored _ _ _ _ _ _ _ relabels.clean relabels.recoverable
+    rw (← c.self.view_is) (tries stored _ _ _ _ _ _ _ relabels.clean relabels.reopenable
     (λ honest devices has.
     elim c.match-relabel.branch [
       | in-Ok-true w ↦

@@ -9,7 +9,7 @@ pub returns-in_err-device : goal.returns-in_err-device
 returns-in_err-device g c =
     let error = err_from_is_err_and c.from_residual.result c.from_residual.ensures.1 in
     rw (← c.self.view_is, error.1, error.2)
-    (tries g.S.DeviceStore.store_state _ _ _ _ _ _ _ c.find.ensures.clean c.find.ensures.recoverable
+    (tries g.S.DeviceStore.store_state _ _ _ _ _ _ _ c.find.ensures.clean c.find.ensures.reopenable
     (λ honest devices has. (
       permitted _ _ (known-need (device_of devices c.args.id) ordered_forget_effect (λ known. refl)),
       c.in_err-device.ensures.devices honest devices has,
@@ -19,7 +19,7 @@ pub returns-in-Some : goal.returns-in-Some
 returns-in-Some g c =
     rw (← c.self.view_is) (tries-behind g.S.DeviceStore.store_state _ _ _ c.find.new.self _ _ _ refl
     c.find.ensures.clean
-    c.find.ensures.recoverable
+    c.find.ensures.reopenable
     (λ honest devices has.
     let found = c.in_ok-device.ensures.devices honest devices has in
     (ap (λ known. if_learned_else_error known ordered_forget_effect) (sym (sym c.in-Some.is ∙ found.0)), found.1))
@@ -28,7 +28,7 @@ returns-in-Some g c =
 pub returns-in-None : goal.returns-in-None
 returns-in-None g c =
     rw (← c.self.view_is) (tries g.S.DeviceStore.store_state _ _ _ _ _ _ _ c.find.ensures.clean
-    c.find.ensures.recoverable
+    c.find.ensures.reopenable
     (λ honest devices has.
     let found = c.in_ok-device.ensures.devices honest devices has in
     rw (← (sym c.in-None.is ∙ found.0)) (c.error_effect.ensures, found.1)))

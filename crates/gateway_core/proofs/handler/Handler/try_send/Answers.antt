@@ -36,7 +36,7 @@ returns-in_err-device g c =
     let error = err_from_is_err_and c.from_residual.result c.from_residual.ensures.1 in
     let some : recipient_id c.args.order.now ≡ Some c.in-Some.id = sym c.recipient_id.ensures ∙ c.in-Some.is in
     rw (← c.self.view_is, error.1, error.2)
-    (tries g.S.DeviceStore.store_state _ _ _ _ _ _ _ c.find.ensures.clean c.find.ensures.recoverable
+    (tries g.S.DeviceStore.store_state _ _ _ _ _ _ _ c.find.ensures.clean c.find.ensures.reopenable
     (λ honest devices has.
     let now = known_with c.self.inside.base c.self.inside.mode c.self.inside.counts devices in
     let effect = sends-effect now c.args.order.now c.requires.sends
@@ -51,7 +51,7 @@ pub returns : goal.returns
 returns g c =
     let some : recipient_id c.args.order.now ≡ Some c.in-Some.id = sym c.recipient_id.ensures ∙ c.in-Some.is in
     rw (← c.self.view_is)
-    (tries g.S.DeviceStore.store_state _ _ _ _ _ _ _ c.find.ensures.clean c.find.ensures.recoverable
+    (tries g.S.DeviceStore.store_state _ _ _ _ _ _ _ c.find.ensures.clean c.find.ensures.reopenable
     (λ honest devices has.
     let found = c.in_ok-device.ensures.devices honest devices has in
     let now = known_with c.self.inside.base c.self.inside.mode c.self.inside.counts devices in

@@ -1,6 +1,6 @@
 use Rattle.std.proofs.Common.{rules, refl, take, drop, arith, length, ◌-◌, ◌∙◌, length-take, length-drop}
 use Rattle.std.proofs.lemmas.Result.{err_from_is_err_and}
-use Rattle.gateway_loop.proofs.ListLemmas.{split_rest, process_front}
+use Rattle.gateway_loop.proofs.ListLemmas.{split_rest, take_front}
 use Rattle.gateway_loop.proofs.DriverStepLemmas.{takes_nothing, takes_both, breaks_behind}
 use Rattle.gateway_loop.proofs.driver.Driver.process_chunk.Goals as goal
 
@@ -34,7 +34,7 @@ loop-count-preserved g c =
       within = omega (arith, within.1, length-take (length chunk - i) (drop i chunk), length-drop i chunk);
       gateway = search rules;
       loans = c.process_front.ensures.loans ∙ before.loans;
-      takes = rw (process_front chunk i n)
+      takes = rw (take_front chunk i n)
           (takes_both g.S.DeviceStore.store_state g.O.ReplySink.output c.args.self.now c.loop-count.self
           c.process_front.new.self
           (take i chunk) (take n (take (length chunk - i) (drop i chunk))) before.takes c.in_ok-count.ensures.taken);

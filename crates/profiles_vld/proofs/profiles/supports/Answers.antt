@@ -1,5 +1,0 @@
-use Rattle.std.proofs.Common.{rules}
-use Rattle.profiles_vld.proofs.profiles.supports.Goals as goal
-
-pub returns : goal.returns
-returns c = search rules
