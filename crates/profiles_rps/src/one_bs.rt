@@ -81,7 +81,8 @@ pub(crate) fn read_1bs(
     }
 }
 
-/// The same for a telegram that is known to be data, whose LRN bit is not read again.
+/// Decodes a telegram by the profile D5-FUNC-TYPE, as `read` does. The telegram is known to be data, so its LRN bit is
+/// not read again.
 pub fn read_1bs_data(
     func: u8,
     typ: u8,
