@@ -12,6 +12,7 @@ pub mod ForCallers
 pub mod MigrationMeaning
 pub mod ListDevicesAnswer
 pub mod CreateEffect
+pub mod OneTableLemmas
 pub mod OpenCalls
 pub mod TablesStatusLemmas
 pub mod OpenRewritesVersion

@@ -1,7 +1,7 @@
 -- The tests of a schema, and what they imply.
 use Rattle.std.proofs.Common.{inl, inr, ◌≡◌, ◌≢◌, ℕ, ◌==◌, List, Bool, true, false, not}
 use Rattle.std.proofs.Common.{◌&&◌, ◌||◌, Some, None, Option, if◌then◌else◌, refl, sym, ap, ◌∙◌, arith, IsTrue}
-use Rattle.std.proofs.Common.{is_some, is_none, slice_get, option_map, option_and_then, codes}
+use Rattle.std.proofs.Common.{is_some, is_none, slice_get, option_map, option_and_then, codes, count_by, subst}
 use Rattle.std.proofs.lemmas.Bool.Decides.{nat_tests}
 use Rattle.std.proofs.lemmas.Bool.{cases_Bool, not-true, or_parts, and_parts}
 use Rattle.std.specs.List.{AllByRecursion, list_any}
@@ -19,14 +19,18 @@ use Rattle.device_registry.specs.Stored.{HasTables, MigrationAddsNoSequence, oth
 use Rattle.device_registry.specs.Stored.{AdmitsTables}
 use Rattle.device_registry.specs.SchemaChecks.{refers_to, is_referenced, has_foreign_key_to_ours, is_indexed}
 use Rattle.device_registry.specs.SchemaChecks.{lacks_needed_sequence_table}
-use Rattle.device_registry.specs.SchemaChecks.{admits_tables, is_alone_in_tree}
+use Rattle.device_registry.specs.SchemaChecks.{admits_tables, has_one_table}
 use Rattle.device_registry.specs.SchemaChecks.{migration_adds_no_sequence}
 use Rattle.device_registry.specs.SchemaChecks.{is_unaffected, tree_if_unaffected, tree_of_table, tree_of_devices}
 use Rattle.device_registry.proofs.TablesAlone.{meta_lone, devices_lone, spares_meta, spares_devices}
 use Rattle.sqlite_rules.specs.Lists.{Has}
-use Rattle.sqlite_rules.proofs.ListLemmas.{all_has, all_from}
 use Rattle.sqlite_keyed.proofs.ListLemmas.{none_from_any, any_from_none, all_from_test, test_from_all}
-use Rattle.keyed_table.proofs.ListedTables.{IsNamed, placed}
+use Rattle.sqlite_rules.proofs.ListLemmas.{all_has, all_from, has_got}
+use Rattle.sqlite_catalog.proofs.SoundLemmas.{lowered}
+use Rattle.sqlite_catalog.proofs.StepLemmas.{named_once, same_itself}
+use Rattle.sqlite_trees.specs.Tree.{IsAscending}
+use Rattle.keyed_table.proofs.ListedTables.{IsNamed, has_name, placed}
+use Rattle.device_registry.proofs.OneTableLemmas.{one_passes, counts_one}
 
 spares : (schema : Schema) (name : List ℕ) → is_referenced schema name ≡ false
     → AllByRecursion (HasNoReferenceTo name) schema.tables
@@ -138,21 +142,26 @@ same_tree a b e = grind (arith, nat_tests)
 tree_same : (a b : ℕ) → (a == b) ≡ true → a ≡ b
 tree_same a b e = grind (arith, nat_tests)
 
-lone : (schema : Schema) (name : List ℕ) (tree : ℕ) → is_alone_in_tree schema name tree ≡ true
+lone : (schema : Schema) (name : List ℕ) (tree : ℕ) → IsNamed schema name tree → has_one_table schema tree ≡ true
     → AllByRecursion (TreeHasName name tree) schema.tables
-lone schema name tree h =
-    all_weaker (λ t. (not (t.tree == tree) || same_name t.name name) ≡ true) (TreeHasName name tree) (λ t passed is.
-    let e = same_tree t.tree tree is in rw e at passed) schema.tables
-    (all_from_test (λ t. not (t.tree == tree) || same_name t.name name) schema.tables h)
+lone schema name tree n one = all_from (TreeHasName name tree) schema.tables (λ t there is.
+    let same = one_passes (λ t. t.tree == tree) schema.tables n.table t (tree_same _ 1 one)
+    (has_got schema.tables n.at n.table n.there) (same_tree n.table.tree tree n.is) there (same_tree t.tree tree is) in
+    subst (λ t. same_name t.name name ≡ true) same (has_name schema name n.at n.table n.named n.there))
 
-is_alone : (schema : Schema) (name : List ℕ) (tree : ℕ) → AllByRecursion (TreeHasName name tree) schema.tables
-    → is_alone_in_tree schema name tree ≡ true
-is_alone schema name tree all = test_from_all (λ t. not (t.tree == tree) || same_name t.name name) schema.tables
-    (all_weaker (TreeHasName name tree) (λ t. (not (t.tree == tree) || same_name t.name name) ≡ true)
-    (λ t keeps. elim (cases_Bool (t.tree == tree)) [
-      | inl tie ↦ rw (tie, keeps (tree_same t.tree tree tie)) refl
-      | inr apart ↦ rw apart refl
-    ]) schema.tables all)
+-- no two tables have the same name
+abbrev pub AreNamedApart : Schema → Type 0
+AreNamedApart schema = IsAscending (λ a b. same_name a.name b.name ≡ false) schema.tables
+
+has_one : (schema : Schema) → AreNamedApart schema → (name : List ℕ) (table : Table) → Has schema.tables table
+    → same_name table.name name ≡ true → AllByRecursion (TreeHasName name table.tree) schema.tables
+    → has_one_table schema table.tree ≡ true
+has_one schema apart name table has named keeps =
+    same_tree _ 1 (counts_one (λ t. t.tree == table.tree) _ (λ t differs. absurd (let e = same_itself t.name in cc))
+    schema.tables apart table has (same_tree table.tree table.tree refl) (λ t there passes.
+    named_once schema.tables t table apart there has ((lowered t.name table.name).1
+    ((lowered t.name name).0 (all_has _ schema.tables t keeps there (tree_same t.tree table.tree passes))
+    ∙ sym ((lowered table.name name).0 named)))))
 
 are_so : (version : Version) (schema : Schema) → migration_adds_no_sequence version schema ≡ true
     → MigrationAddsNoSequence version schema
@@ -164,9 +173,10 @@ so_tested : (version : Version) (schema : Schema) → MigrationAddsNoSequence ve
 so_tested First schema h = ap not (sym (counted schema) ∙ h)
 so_tested Second schema h = refl
 
-left_alone : (version : Version) (schema : Schema) (meta devices : ℕ)
-    → is_unaffected version schema meta devices ≡ true → IsLeftAlone version schema meta devices
-left_alone version schema meta devices h =
+left_alone : (version : Version) (schema : Schema) (meta devices : ℕ) → IsNamed schema meta_name meta
+    → IsNamed schema (device_table_name version) devices → is_unaffected version schema meta devices ≡ true
+    → IsLeftAlone version schema meta devices
+left_alone version schema meta devices m d h =
     let count = and_parts _ _ h in
     let free = and_parts _ _ count.0 in
     let z = and_parts _ _ free.0 in
@@ -178,7 +188,7 @@ left_alone version schema meta devices h =
       alone =
           all_both (TreeHasName meta_name meta) (TreeHasName name devices)
           (λ table. TreeHasName meta_name meta table × TreeHasName name devices table) (λ t p q. (p, q)) schema.tables
-          (lone schema meta_name meta y.1) (lone schema name devices z.1);
+          (lone schema meta_name meta m y.1) (lone schema name devices d z.1);
       unreferenced = spared schema (not-true _ b.0);
       unindexed = all_both (λ index. index.table ≢ meta) (λ index. index.table ≢ devices)
           (λ index. (index.table ≢ meta) × (index.table ≢ devices)) (λ index p q. (p, q)) schema.indexes
@@ -223,17 +233,19 @@ module _ (version : Version) (schema : Schema) where
   found meta devices m h =
       let d = and_then_is (tree_if_unaffected version schema meta) (tree_of_table schema name) devices h in
       let alone = if_is (is_unaffected version schema meta d.0) d.0 devices d.2 in
+      let meta_is = named_at schema meta_name meta m in
+      let devices_are = named_at schema name devices (d.1 ∙ ap Some alone.1) in
       record {
-        meta_is = named_at schema meta_name meta m;
-        devices_are = named_at schema name devices (d.1 ∙ ap Some alone.1);
-        alone = left_alone version schema meta devices
+        meta_is = meta_is;
+        devices_are = devices_are;
+        alone = left_alone version schema meta devices meta_is devices_are
             (ap (is_unaffected version schema meta) (sym alone.1) ∙ alone.0);
       }
 
   -- and at which a registry has them
-  pub placed_tables : (t : HasTables version schema)
+  pub placed_tables : AreNamedApart schema → (t : HasTables version schema)
       → (tree_of_table schema meta_name ≡ Some t.meta) × (tree_of_devices version schema t.meta ≡ Some t.devices)
-  placed_tables t =
+  placed_tables apart t =
       let meta : tree_of_table schema meta_name ≡ Some t.meta = rw (t.meta_is_table.named, t.meta_is_table.there) in
       let devices : tree_of_table schema name ≡ Some t.devices = rw
       (t.devices_are_table.named, t.devices_are_table.there) in
@@ -242,8 +254,8 @@ module _ (version : Version) (schema : Schema) where
       let two = devices_lone schema t in
       let c = not_indexed schema t.meta one.unindexed in
       let d = not_indexed schema t.devices two.unindexed in
-      let m = is_alone schema meta_name t.meta one.keeps in
-      let n = is_alone schema name t.devices two.keeps in
+      let m = has_one schema apart meta_name _ one.listed one.named one.keeps in
+      let n = has_one schema apart name _ two.listed two.named two.keeps in
       let counted = so_tested version schema t.sequence_allowed in
       let alone : is_unaffected version schema t.meta t.devices
       ≡ true = rw (a, c, d, m, n, t.other_version_unused, counted) refl in

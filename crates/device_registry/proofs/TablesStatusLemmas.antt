@@ -11,7 +11,7 @@ use Rattle.device_registry.specs.declared.schema_check.TablesStatus.TheVariants.
 use Rattle.device_registry.specs.declared.table.Version.{Version}
 use Rattle.device_registry.specs.declared.table.Version.TheVariants.{First, Second}
 use Rattle.device_registry.specs.Opening.{IsRegistryIn, IsSettledOpen}
-use Rattle.device_registry.specs.SchemaChecks.{admits_tables, has_foreign_key_to_ours, is_alone_in_tree, is_indexed}
+use Rattle.device_registry.specs.SchemaChecks.{admits_tables, has_foreign_key_to_ours, has_one_table, is_indexed}
 use Rattle.device_registry.specs.SchemaChecks.{is_unaffected, lacks_needed_sequence_table, migration_adds_no_sequence}
 use Rattle.device_registry.specs.SchemaChecks.{tree_if_unaffected, tree_of_devices, tree_of_table}
 use Rattle.device_registry.specs.Stored.{AdmitsRegistry, other}
@@ -96,7 +96,7 @@ module _ (schema : Schema) (version : Version) where
   with_other meta devices tree is =
       let used = used_if schema (device_table_name (other version)) tree is in
       rw used (and_false (not (has_foreign_key_to_ours schema) && not (is_indexed schema meta) && not
-      (is_indexed schema devices) && is_alone_in_tree schema meta_name meta && is_alone_in_tree schema name devices)
+      (is_indexed schema devices) && has_one_table schema meta && has_one_table schema devices)
       (migration_adds_no_sequence version schema))
 
 -- ---- the three names
@@ -219,7 +219,7 @@ pub registry_present : (version : Version) (s : State) → IsSettledOpen s → I
 registry_present version s rest own =
     let tables = (own_found version s rest own).tables in
     let schema = s.now.schema in
-    let placed = placed_tables version schema tables in
+    let placed = placed_tables version schema rest.sound.lists.listed.named tables in
     let has : has_tables version schema ≡ true = rw (placed.0, placed.1) refl in
     let used = meta_used schema (used_if schema meta_name tables.meta placed.0) in
     go version has used tables.meta placed.0

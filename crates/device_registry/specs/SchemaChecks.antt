@@ -1,7 +1,7 @@
 -- The two tables in a schema, and the conditions on the objects beside them, as functions.
 use Rattle.std.specs.Prelude.{codes, ℕ, ◌==◌, List, Bool, true, not, ◌&&◌, ◌||◌, if◌then◌else◌, Option, Some, None}
-use Rattle.std.specs.Prelude.{is_none, slice_get, option_map, option_and_then}
-use Rattle.std.specs.List.{list_any, list_all}
+use Rattle.std.specs.Prelude.{is_none, slice_get, option_map, option_and_then, count_by}
+use Rattle.std.specs.List.{list_any}
 use Rattle.sqlite.specs.Schema.{Schema}
 use Rattle.sqlite.specs.Table.{Table}
 use Rattle.sqlite_schema.specs.Names.{same_name, table_named}
@@ -44,17 +44,16 @@ admits_tables schema =
     (is_used schema (device_table_name Second)) && not (has_foreign_key_to_ours schema)
     && not (lacks_needed_sequence_table schema)
 
--- no other table than that of this name is in the tree
-abbrev pub is_alone_in_tree : Schema → (name : List ℕ) (tree : ℕ) → Bool
-is_alone_in_tree schema name tree =
-    list_all (λ table. not (table.tree == tree) || same_name table.name name) schema.tables
+-- exactly one table is in the tree
+abbrev pub has_one_table : Schema → (tree : ℕ) → Bool
+has_one_table schema tree = count_by (λ table. table.tree == tree) schema.tables == 1
 
 -- no foreign key refers to our tables; no index is on the two of this version; no other table is in their trees; the
 -- name of the other version's table is free; tables that count their rowids have the table of the counts
 abbrev pub is_unaffected : Version → Schema → (meta devices : ℕ) → Bool
 is_unaffected version schema meta devices =
     not (has_foreign_key_to_ours schema) && not (is_indexed schema meta) && not (is_indexed schema devices)
-    && is_alone_in_tree schema meta_name meta && is_alone_in_tree schema (device_table_name version) devices && not
+    && has_one_table schema meta && has_one_table schema devices && not
     (is_used schema (device_table_name (other version))) && migration_adds_no_sequence version schema
 
 -- the tree of the table with this name

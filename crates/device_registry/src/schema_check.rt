@@ -5,7 +5,7 @@ ghost use Rattle.sqlite.specs.Table.{Table};
 ghost use Rattle.device_registry.specs.SchemaChecks.{refers_to, is_referenced, has_foreign_key_to_ours, is_indexed};
 ghost use Rattle.device_registry.specs.SchemaChecks.{lacks_needed_sequence_table};
 ghost use Rattle.device_registry.specs.SchemaChecks.{migration_adds_no_sequence};
-ghost use Rattle.device_registry.specs.SchemaChecks.{is_alone_in_tree, tree_of_table};
+ghost use Rattle.device_registry.specs.SchemaChecks.{has_one_table, tree_of_table};
 ghost use Rattle.device_registry.specs.private.TablesStatus.{is_index_or_view, are_creatable, are_unaffected};
 ghost use Rattle.device_registry.specs.private.TablesStatus.{tables_in_trees, tables_status};
 
@@ -99,12 +99,17 @@ fn are_creatable(schema: &Schema) -> bool
         && !lacks_needed_sequence_table(schema)
 }
 
-/// Whether no other table than that of this name is in the tree.
-fn is_alone_in_tree(schema: &Schema, name: &[u8], tree: u32) -> bool
-    ensures { result ≡ is_alone_in_tree schema.now name.now tree }
+/// Whether exactly one table is in the tree.
+fn has_one_table(schema: &Schema, tree: u32) -> bool
+    ensures { result ≡ has_one_table schema.now tree }
 {
-    schema.tables.as_slice().iter().all(|table| table.tree != tree
-        || same_name(table.name.as_slice(), name))
+    schema
+        .tables
+        .as_slice()
+        .iter()
+        .filter(|table| table.tree == tree)
+        .count()
+        == 1
 }
 
 /// Whether other objects do not affect the tables of this version, which are in these trees. There is no table of the
@@ -115,8 +120,8 @@ fn are_unaffected(schema: &Schema, version: Version, meta: u32, devices: u32) ->
     !has_foreign_key_to_ours(schema)
         && !is_indexed(schema, meta)
         && !is_indexed(schema, devices)
-        && is_alone_in_tree(schema, META, meta)
-        && is_alone_in_tree(schema, version.device_table_name(), devices)
+        && has_one_table(schema, meta)
+        && has_one_table(schema, devices)
         && !is_index_or_view(schema, version.other().device_table_name())
         && migration_adds_no_sequence(schema, version)
 }

@@ -7,7 +7,7 @@ use Rattle.device_registry.specs.declared.schema_check.TablesStatus.{TablesStatu
 use Rattle.device_registry.specs.declared.schema_check.TablesStatus.TheVariants.{Absent, Present, Unusable}
 use Rattle.device_registry.specs.declared.table.Version.{Version}
 use Rattle.device_registry.specs.declared.table.Version.TheVariants.{First, Second}
-use Rattle.device_registry.specs.SchemaChecks.{admits_tables, has_foreign_key_to_ours, is_alone_in_tree, is_indexed}
+use Rattle.device_registry.specs.SchemaChecks.{admits_tables, has_foreign_key_to_ours, has_one_table, is_indexed}
 use Rattle.device_registry.specs.SchemaChecks.{lacks_needed_sequence_table, migration_adds_no_sequence, tree_of_devices}
 use Rattle.device_registry.specs.SchemaChecks.{tree_of_table}
 use Rattle.device_registry.specs.Stored.{other}
@@ -41,7 +41,7 @@ are_creatable schema =
 abbrev pub are_unaffected : Version → Schema → (meta devices : ℕ) → Bool
 are_unaffected version schema meta devices =
     not (has_foreign_key_to_ours schema) && not (is_indexed schema meta) && not (is_indexed schema devices)
-    && is_alone_in_tree schema meta_name meta && is_alone_in_tree schema (device_table_name version) devices && not
+    && has_one_table schema meta && has_one_table schema devices && not
     (is_index_or_view schema (device_table_name (other version))) && migration_adds_no_sequence version schema
 
 -- the same, if the tables of the three names are in these trees
