@@ -69,7 +69,7 @@ fn serve<C: SqlConnection + Drop>(
     requires idle { (C.state conn).in_transaction ≡ false }
 {
     let mut gateway = start(rt.alloc(), conn, options.base, MAX_CACHED)?;
-    let served = match options.service() {
+    let served = match options.service {
         Service::Replay { reads } => Ok(replay_standard(
             rt,
             &mut gateway,
