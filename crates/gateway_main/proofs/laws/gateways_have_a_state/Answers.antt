@@ -1,5 +1,4 @@
 use Rattle.std.proofs.Common.{refl}
-use Rattle.learned_devices.specs.DeviceStoreState.{DeviceStoreState}
 use Rattle.sqlite.specs.State.{State}
 use Rattle.device_registry.specs.Holding.{HasSomeDevicesIfOpen, registry_state_of}
 use Rattle.gateway_core.specs.Handling.{HandlerValue, HasStateWhileHonest}
