@@ -32,10 +32,9 @@ use Rattle.clap.specs.declared.error.Error.{Error}
 use Rattle.clap.specs.declared.parser.matches.ArgMatches.{ArgMatches}
 use Rattle.clap.proofs.SimpleLemmas.{plain_fields}
 use Rattle.clap.proofs.ValueTestLemmas.{accepts-Accepts}
-use Rattle.gateway_cli.specs.Bases.{base_in}
 use Rattle.gateway_cli.specs.CommandLine.{HasExplain, HasRequiredOptions, IsAcceptedByClap, HasLiveOptions, base_rule}
 use Rattle.gateway_cli.specs.CommandLine.{enogate_app}
-use Rattle.gateway_cli.specs.CommandLine.{explain_rule, rows_if_replay_or_live, option_text}
+use Rattle.gateway_cli.specs.CommandLine.{explain_rule, rows_if_replay_or_live}
 use Rattle.gateway_cli.proofs.RequiredLemmas.{DefaultFits, HasOne, RowFits, RuleFits, default_one, found_in, given_one}
 use Rattle.gateway_cli.proofs.RequiredLemmas.{level_fits, none_missing, or_else_none}
 

@@ -11,11 +11,13 @@ use Rattle.clap.specs.declared.builder.ArgAction.TheVariants.{Set, SetTrue}
 use Rattle.clap.specs.declared.builder.value_parser.ValueParser.TheVariants.{Unsigned}
 use Rattle.clap.specs.declared.error.ErrorKind.TheVariants.{OutOfMemory}
 use Rattle.gateway_cli.specs.Bases.{base_in}
-use Rattle.gateway_cli.specs.declared.LiveOptions.{LiveOptions}
 use Rattle.gateway_cli.specs.declared.CommandLineFault.{CommandLineFault}
 use Rattle.gateway_cli.specs.declared.CommandLineFault.TheVariants.{ClapError, BadBase}
-use Rattle.gateway_cli.specs.declared.Task.{Task}
-use Rattle.gateway_cli.specs.declared.Task.TheVariants.{Replay, Live}
+use Rattle.gateway_cli.specs.declared.service.Access.{Access}
+use Rattle.gateway_cli.specs.declared.service.Access.TheVariants.{Read, ReadAndWrite, WriteAnew}
+use Rattle.gateway_cli.specs.declared.service.FileToOpen.{FileToOpen}
+use Rattle.gateway_cli.specs.declared.service.Service.{Service}
+use Rattle.gateway_cli.specs.declared.service.Service.TheVariants.{Replay, Live}
 
 -- `--NAME VALUE`, which is required
 abbrev pub required_rule : Text → Rule
@@ -104,22 +106,32 @@ pub record AreTurns (rows : List Row) (turns : ℕ) : Type 0 where
   pub least : 1 ≤ turns
   pub most : turns ≤ 4294967295
 
--- the options of `live` as they were given
-pub record AreLiveOptions (rows : List Row) (options : LiveOptions) : Type 0 where
-  pub serial : first_of (codes "serial") rows ≡ Some options.serial.now
-  pub desk : first_of (codes "desk") rows ≡ Some options.desk.now
-  pub out : first_of (codes "out") rows ≡ Some options.out.now
-  pub turns : AreTurns rows options.turns
+-- the file at the path that the option of this name has, with this access
+abbrev pub IsGivenFile : List Row → (name : Text) → Access → FileToOpen → Type 0
+IsGivenFile rows name access file = (first_of name rows ≡ Some file.path.now) × (file.access ≡ access)
 
--- the task of a subcommand, by its name and its options
-abbrev pub SubcommandAsksFor : Option (Text × List Row) → Task → Type 0
-SubcommandAsksFor None task = ⊥
-SubcommandAsksFor (Some (name, rows)) Replay = name ≡ codes "replay"
-SubcommandAsksFor (Some (name, rows)) (Live options) = (name ≡ codes "live") × AreLiveOptions rows options
+-- The files and the number of turns of `live` as they were given. The gateway reads and writes the serial line, reads
+-- the orders of the desk, and writes the answers to a new or emptied file.
+pub record AreLiveOptions (rows : List Row) (line orders answers : FileToOpen) (number : ℕ) : Type 0 where
+  pub serial : IsGivenFile rows (codes "serial") ReadAndWrite line
+  pub desk : IsGivenFile rows (codes "desk") Read orders
+  pub out : IsGivenFile rows (codes "out") WriteAnew answers
+  pub turns : AreTurns rows number
 
--- the task of a command line that `clap` accepts
-abbrev pub AsksFor : List Text → Task → Type 0
-AsksFor words task = SubcommandAsksFor (subcommand_of enogate_app words) task
+-- the maximum number of reads of a replay
+abbrev pub max_reads : ℕ
+max_reads = 4000000000
+
+-- the service of a subcommand, by its name and its options
+abbrev pub SubcommandAsksFor : Option (Text × List Row) → Service → Type 0
+SubcommandAsksFor None service = ⊥
+SubcommandAsksFor (Some (name, rows)) (Replay reads) = (name ≡ codes "replay") × (reads ≡ max_reads)
+SubcommandAsksFor (Some (name, rows)) (Live serial desk out turns) =
+    (name ≡ codes "live") × AreLiveOptions rows serial desk out turns
+
+-- the service of a command line that `clap` accepts
+abbrev pub AsksFor : List Text → Service → Type 0
+AsksFor words service = SubcommandAsksFor (subcommand_of enogate_app words) service
 
 -- a text was given for `--turns` that spells a number from 1 to 4294967295
 pub record HasValidTurns (rows : List Row) : Type 0 where

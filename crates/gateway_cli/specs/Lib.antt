@@ -1,3 +1,2 @@
 pub mod Bases
 pub mod CommandLine
-pub mod Service

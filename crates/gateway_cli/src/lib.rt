@@ -21,7 +21,7 @@ use option_values::options_of;
 pub use service::{Access, FileToOpen, Service};
 use std::alloc::{AllocError, Global};
 
-/// The task that the command line names, and its options.
+/// What a command line asks for.
 #[derive(Clone, Copy, Debug, PartialEq, Eq)]
 pub struct Options<'a> {
     /// The base ID of the radio module.
@@ -30,30 +30,8 @@ pub struct Options<'a> {
     pub db: Option<&'a str>,
     /// Whether the desk receives a line for each packet: what it was, what was done with it, and why.
     pub explain_packets: bool,
-    /// The task of the gateway.
-    pub task: Task<'a>,
-}
-
-/// The task of a gateway.
-#[derive(Clone, Copy, Debug, PartialEq, Eq)]
-pub enum Task<'a> {
-    /// Replay a script.
-    Replay,
-    /// Serve a serial line and a desk.
-    Live(LiveOptions<'a>),
-}
-
-/// The serial line and the desk to serve, and for how long.
-#[derive(Clone, Copy, Debug, PartialEq, Eq)]
-pub struct LiveOptions<'a> {
-    /// The path of the serial line.
-    pub serial: &'a str,
-    /// The path of the file with the desk's orders.
-    pub desk: &'a str,
-    /// The path of the file for the answers to the desk.
-    pub out: &'a str,
-    /// The number of turns, 1 to 4294967295.
-    pub turns: u32,
+    /// The service of the gateway.
+    pub service: Service<'a>,
 }
 
 /// Why a command line was rejected.
@@ -102,7 +80,7 @@ pub fn read<'a>(alloc: Global, words: &'a [String]) -> Result<Options<'a>, Comma
         option_map (λ path. path.now) options.db ≡ db_of_command_line (map string_bytes words.now)) }
     ensures explain { IfOk result (λ options. options.explain_packets
         ≡ explain_of_command_line (map string_bytes words.now)) }
-    ensures task { IfOk result (λ options. AsksFor (map string_bytes words.now) options.task) }
+    ensures service { IfOk result (λ options. AsksFor (map string_bytes words.now) options.service) }
     ensures is_base_id { IfOk result (λ options. Address.is_base_id options.base ≡ true) }
     ensures refused { IfErr result (RefusesCommandLine (map string_bytes words.now)) }
     ensures passes { takes enogate_app (map string_bytes words.now) ≡ true →

@@ -2,11 +2,12 @@
 ghost use Rattle.std.specs.Prelude.{◌≡◌, IfSome, List, Some, codes, is_some, option_and_then, option_map, true};
 ghost use Rattle.clap.specs.Words.{Row, first_of, found_of, rows_of, subcommand_rows_of};
 ghost use Rattle.gateway_cli.specs.Bases.{base_in};
-ghost use Rattle.gateway_cli.specs.CommandLine.{AreLiveOptions, AreTurns, SubcommandAsksFor, HasValidTurns};
-ghost use Rattle.gateway_cli.specs.CommandLine.{HasLiveOptions, HasRequiredOptions, rows_if_replay_or_live};
-ghost use Rattle.gateway_cli.specs.CommandLine.{option_flag, option_text};
+ghost use Rattle.gateway_cli.specs.CommandLine.{AreTurns, HasLiveOptions, HasRequiredOptions, HasValidTurns};
+ghost use Rattle.gateway_cli.specs.CommandLine.{IsGivenFile, SubcommandAsksFor, option_flag, option_text};
+ghost use Rattle.gateway_cli.specs.CommandLine.{rows_if_replay_or_live};
 
-use super::{LiveOptions, Options, Task};
+use super::{Access, FileToOpen, Options, Service};
+use crate::limits::MAX_READS;
 use actuator_commands::id_of;
 use clap::ArgMatches;
 use erp1_telegrams::is_base_id;
@@ -21,29 +22,29 @@ pub(super) fn options_of<'a>(matches: &ArgMatches<'a>) -> Option<Options<'a>>
         ≡ option_text (codes "db") (subcommand_rows_of matches.now)) }
     ensures explain { IfSome result (λ options. options.explain_packets
         ≡ option_flag (codes "explain") (subcommand_rows_of matches.now)) }
-    ensures task { IfSome result (λ options. SubcommandAsksFor (subcommand_rows_of matches.now) options.task) }
+    ensures service { IfSome result (λ options. SubcommandAsksFor (subcommand_rows_of matches.now) options.service) }
 {
     let (name, given) = matches.subcommand()?;
-    let task = task_of(name, given)?;
+    let service = service_of(name, given)?;
     Some(Options {
         base: base_of(given.get_str("base")?)?,
         db: given.get_str("db"),
         explain_packets: given.get_flag("explain"),
-        task,
+        service,
     })
 }
 
-/// The task of the subcommand of this name, if it is `replay` or `live`.
-fn task_of<'a>(name: &str, given: &ArgMatches<'a>) -> Option<Task<'a>>
+/// The service of the subcommand of this name, if it is `replay` or `live`.
+fn service_of<'a>(name: &str, given: &ArgMatches<'a>) -> Option<Service<'a>>
     requires { rows_if_replay_or_live (name.now, rows_of (found_of given.now)) ≡ Some (rows_of (found_of given.now))
         → HasRequiredOptions (Some (name.now, rows_of (found_of given.now))) }
     ensures named { option_map (λ _. rows_of (found_of given.now)) result
         ≡ rows_if_replay_or_live (name.now, rows_of (found_of given.now)) }
-    ensures task { IfSome result (SubcommandAsksFor (Some (name.now, rows_of (found_of given.now)))) }
+    ensures service { IfSome result (SubcommandAsksFor (Some (name.now, rows_of (found_of given.now)))) }
 {
     match name {
-        "replay" => Some(Task::Replay),
-        "live" => Some(Task::Live(live_options_of(given))),
+        "replay" => Some(Service::Replay { reads: MAX_READS }),
+        "live" => Some(live_service_of(given)),
         _ => None,
     }
 }
@@ -56,24 +57,25 @@ fn base_of(text: &str) -> Option<u32>
     if is_base_id(base) { Some(base) } else { None }
 }
 
-fn live_options_of<'a>(given: &ArgMatches<'a>) -> LiveOptions<'a>
+fn live_service_of<'a>(given: &ArgMatches<'a>) -> Service<'a>
     requires { HasLiveOptions (rows_of (found_of given.now)) }
-    ensures { AreLiveOptions (rows_of (found_of given.now)) result }
+    ensures { SubcommandAsksFor (Some (codes "live", rows_of (found_of given.now))) result }
 {
-    LiveOptions {
-        serial: path_value(given, "serial"),
-        desk: path_value(given, "desk"),
-        out: path_value(given, "out"),
-        turns: required_turns(given),
+    Service::Live {
+        serial: given_file(given, "serial", Access::ReadAndWrite),
+        desk: given_file(given, "desk", Access::Read),
+        out: given_file(given, "out", Access::WriteAnew),
+        turns: u64::from(required_turns(given)),
     }
 }
 
-fn path_value<'a>(given: &ArgMatches<'a>, name: &str) -> &'a str
+/// The file at the path that the option of this name has, with this access.
+fn given_file<'a>(given: &ArgMatches<'a>, name: &str, access: Access) -> FileToOpen<'a>
     requires { is_some (first_of name.now (rows_of (found_of given.now))) ≡ true }
-    ensures { first_of name.now (rows_of (found_of given.now)) ≡ Some result.now }
+    ensures { IsGivenFile (rows_of (found_of given.now)) name.now access result }
 {
     match given.get_str(name) {
-        Some(path) => path,
+        Some(path) => FileToOpen { path, access },
         None => unreachable!(),
     }
 }

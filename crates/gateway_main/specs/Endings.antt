@@ -8,9 +8,9 @@ use Rattle.clap.specs.declared.error.ErrorKind.{ErrorKind}
 use Rattle.clap.specs.declared.error.ErrorKind.TheVariants.{DisplayHelp, DisplayVersion, OutOfMemory}
 use Rattle.sqlite.specs.declared.error.Error.{Error as StoreError}
 use Rattle.gateway_cli.specs.declared.CommandLineFault.{CommandLineFault}
-use Rattle.gateway_cli.specs.declared.CommandLineFault.TheVariants as refused
+use Rattle.gateway_cli.specs.declared.CommandLineFault.TheVariants.{BadBase, ClapError}
 use Rattle.gateway_main.specs.declared.ending.Ending.{Ending}
-use Rattle.gateway_main.specs.declared.ending.Ending.TheVariants.{Failed, NotText, BadBase, ClapOutput}
+use Rattle.gateway_main.specs.declared.ending.Ending.TheVariants.{Failed, NotText, CommandLine}
 use Rattle.gateway_main.specs.declared.fault.Fault.{Fault}
 use Rattle.gateway_main.specs.declared.fault.Fault.TheVariants.{Run}
 use Rattle.gateway_loop.specs.declared.run_result.RunFault.{RunFault}
@@ -22,14 +22,15 @@ abbrev pub ending_if_no_arguments : IoErrorKind → Ending
 ending_if_no_arguments io.OutOfMemory = Failed memory_fault
 ending_if_no_arguments _ = NotText
 
+-- for an error of `clap`, by its kind
 abbrev pub ending_of_clap_error : ErrorKind → Error → Ending
 ending_of_clap_error OutOfMemory error = Failed memory_fault
-ending_of_clap_error _ error = ClapOutput error
+ending_of_clap_error _ error = CommandLine (ClapError error)
 
--- if the command line is rejected
+-- if the command line is rejected, or asks for help or for the version
 abbrev pub ending_of_command_line : CommandLineFault → Ending
-ending_of_command_line refused.BadBase = BadBase
-ending_of_command_line (refused.ClapError error) = ending_of_clap_error (kind_of error) error
+ending_of_command_line BadBase = CommandLine BadBase
+ending_of_command_line (ClapError error) = ending_of_clap_error (kind_of error) error
 
 -- the fault for which nothing ran, otherwise that of the run, otherwise that of closing its database
 abbrev pub done_or_first_fault_of : {A : Type 0} → Result (Result Summary RunFault) Fault → Result A StoreError
@@ -50,5 +51,5 @@ abbrev pub status_of : {A : Type 0} → Result A Ending → ℕ
 status_of (Ok done) = 0
 status_of (Err (Failed fault)) = 1
 status_of (Err NotText) = 2
-status_of (Err BadBase) = 2
-status_of (Err (ClapOutput error)) = status_of_kind (kind_of error)
+status_of (Err (CommandLine BadBase)) = 2
+status_of (Err (CommandLine (ClapError error))) = status_of_kind (kind_of error)

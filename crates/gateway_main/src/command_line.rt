@@ -1,4 +1,2 @@
 //! The parser of the command line, re-exported.
-pub use gateway_cli::{
-    Access, CommandLineFault, FileToOpen, LiveOptions, Options, Service, Task, read,
-};
+pub use gateway_cli::{Access, CommandLineFault, FileToOpen, Options, Service, read};

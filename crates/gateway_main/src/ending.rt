@@ -17,10 +17,8 @@ pub enum Ending {
     Failed(Fault),
     /// An argument is not text.
     NotText,
-    /// The base ID is invalid.
-    BadBase,
-    /// A message of `clap`: the command line is rejected, or asks for help or for the version.
-    ClapOutput(clap::Error),
+    /// The command line is rejected, or asks for help or for the version. If memory ran out, the ending is `Failed`.
+    CommandLine(CommandLineFault),
 }
 
 impl From<Fault> for Ending {
@@ -40,10 +38,9 @@ impl From<CommandLineFault> for Ending {
 
     fn from(why: CommandLineFault) -> Ending {
         match why {
-            CommandLineFault::BadBase => Ending::BadBase,
             CommandLineFault::ClapError(error) if error.kind() == ErrorKind::OutOfMemory =>
                 Ending::Failed(Fault::from(AllocError)),
-            CommandLineFault::ClapError(error) => Ending::ClapOutput(error),
+            other => Ending::CommandLine(other),
         }
     }
 }
@@ -79,8 +76,8 @@ pub fn status(ended: &Result<(), Ending>) -> u8
     match ended {
         Ok(()) => 0,
         Err(Ending::Failed(_)) => 1,
-        Err(Ending::NotText | Ending::BadBase) => 2,
-        Err(Ending::ClapOutput(error)) => match error.kind() {
+        Err(Ending::NotText | Ending::CommandLine(CommandLineFault::BadBase)) => 2,
+        Err(Ending::CommandLine(CommandLineFault::ClapError(error))) => match error.kind() {
             ErrorKind::DisplayHelp | ErrorKind::DisplayVersion => 0,
             _ => 2,
         },

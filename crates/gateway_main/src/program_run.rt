@@ -12,7 +12,7 @@ use crate::gateway_start::start;
 use crate::registry_gateway::{live, replay};
 use byte_io::{OverRead, OverWrite};
 use device_registry::{MAX_CACHED, RegistryOver, SqlConnection};
-use gateway_cli::{Access, FileToOpen, Options, Service};
+use gateway_cli::{Access, CommandLineFault, FileToOpen, Options, Service};
 use gateway_core::GatewayOver;
 use gateway_loop::{RunFault, Summary};
 use sqlite::Connection;
@@ -69,7 +69,7 @@ fn serve<C: SqlConnection + Drop>(
     requires idle { (C.state conn).in_transaction ≡ false }
 {
     let mut gateway = start(rt.alloc(), conn, options.base, MAX_CACHED)?;
-    let served = match options.service() {
+    let served = match options.service {
         Service::Replay { reads } => Ok(replay_standard(
             rt,
             &mut gateway,
@@ -145,7 +145,7 @@ fn print_ending(rt: &HostRuntime, ending: &Ending) {
     let _ = match ending {
         Ending::Failed(fault) => eprintln!(rt; "enogate: {fault}"),
         Ending::NotText => eprintln!(rt; "enogate: an argument is not text"),
-        Ending::BadBase => eprintln!(rt; "enogate: bad base"),
-        Ending::ClapOutput(error) => error.print(rt),
+        Ending::CommandLine(CommandLineFault::BadBase) => eprintln!(rt; "enogate: bad base"),
+        Ending::CommandLine(CommandLineFault::ClapError(error)) => error.print(rt),
     };
 }

@@ -1,8 +1,6 @@
 //! Command lines that are accepted and that are rejected, and the texts of help and version.
 use clap::error::ErrorKind;
-use gateway_cli::{
-    Access, CommandLineFault, FileToOpen, LiveOptions, Options, Service, Task, read,
-};
+use gateway_cli::{Access, CommandLineFault, FileToOpen, Options, Service, read};
 use std::test::Fail;
 
 fn words_of(rt: &HostRuntime, line: &str) -> Result<Vec<String>, Fail> {
@@ -31,20 +29,40 @@ fn stated(rt: &HostRuntime, line: &str) -> Result<String, Fail> {
     }
 }
 
-/// A command line, and its options.
+/// A command line, and what it asks for.
 struct Taken {
     line: &'static str,
     wanted: Options<'static>,
 }
 
-const TAKEN: [Taken; 14] = [
+const REPLAY: Service<'static> = Service::Replay {
+    reads: 4_000_000_000,
+};
+
+// The files of all lines of `live` below.
+const SERIAL: FileToOpen<'static> = FileToOpen {
+    path: "/dev/s",
+    access: Access::ReadAndWrite,
+};
+
+const DESK: FileToOpen<'static> = FileToOpen {
+    path: "in/d",
+    access: Access::Read,
+};
+
+const OUT: FileToOpen<'static> = FileToOpen {
+    path: "o",
+    access: Access::WriteAnew,
+};
+
+const TAKEN: [Taken; 16] = [
     Taken {
         line: "enogate replay --base FF800000",
         wanted: Options {
             base: 0xFF80_0000,
             db: None,
             explain_packets: false,
-            task: Task::Replay,
+            service: REPLAY,
         },
     },
     Taken {
@@ -53,7 +71,7 @@ const TAKEN: [Taken; 14] = [
             base: 0xFFFF_FF80,
             db: None,
             explain_packets: false,
-            task: Task::Replay,
+            service: REPLAY,
         },
     },
     Taken {
@@ -62,7 +80,7 @@ const TAKEN: [Taken; 14] = [
             base: 0xFF80_0000,
             db: Some("x.db"),
             explain_packets: false,
-            task: Task::Replay,
+            service: REPLAY,
         },
     },
     Taken {
@@ -71,7 +89,7 @@ const TAKEN: [Taken; 14] = [
             base: 0xFF80_0000,
             db: Some("a/b"),
             explain_packets: false,
-            task: Task::Replay,
+            service: REPLAY,
         },
     },
     Taken {
@@ -80,7 +98,7 @@ const TAKEN: [Taken; 14] = [
             base: 0xFF80_0000,
             db: None,
             explain_packets: true,
-            task: Task::Replay,
+            service: REPLAY,
         },
     },
     Taken {
@@ -89,7 +107,7 @@ const TAKEN: [Taken; 14] = [
             base: 0xFF80_0000,
             db: Some("x.db"),
             explain_packets: true,
-            task: Task::Replay,
+            service: REPLAY,
         },
     },
     Taken {
@@ -98,7 +116,16 @@ const TAKEN: [Taken; 14] = [
             base: 0xFF80_0000,
             db: Some("--explain"),
             explain_packets: false,
-            task: Task::Replay,
+            service: REPLAY,
+        },
+    },
+    Taken {
+        line: "enogate replay --base FFA1B280 --db x.db --explain",
+        wanted: Options {
+            base: 0xFFA1_B280,
+            db: Some("x.db"),
+            explain_packets: true,
+            service: REPLAY,
         },
     },
     Taken {
@@ -107,12 +134,12 @@ const TAKEN: [Taken; 14] = [
             base: 0xFF80_0000,
             db: None,
             explain_packets: false,
-            task: Task::Live(LiveOptions {
-                serial: "/dev/s",
-                desk: "in/d",
-                out: "o",
+            service: Service::Live {
+                serial: SERIAL,
+                desk: DESK,
+                out: OUT,
                 turns: 20,
-            }),
+            },
         },
     },
     Taken {
@@ -121,12 +148,12 @@ const TAKEN: [Taken; 14] = [
             base: 0xFF80_0000,
             db: None,
             explain_packets: false,
-            task: Task::Live(LiveOptions {
-                serial: "/dev/s",
-                desk: "in/d",
-                out: "o",
+            service: Service::Live {
+                serial: SERIAL,
+                desk: DESK,
+                out: OUT,
                 turns: 20,
-            }),
+            },
         },
     },
     Taken {
@@ -135,12 +162,12 @@ const TAKEN: [Taken; 14] = [
             base: 0xFF80_0000,
             db: Some("x.db"),
             explain_packets: false,
-            task: Task::Live(LiveOptions {
-                serial: "/dev/s",
-                desk: "in/d",
-                out: "o",
+            service: Service::Live {
+                serial: SERIAL,
+                desk: DESK,
+                out: OUT,
                 turns: 1,
-            }),
+            },
         },
     },
     Taken {
@@ -149,12 +176,26 @@ const TAKEN: [Taken; 14] = [
             base: 0xFF80_0000,
             db: Some("a/b"),
             explain_packets: false,
-            task: Task::Live(LiveOptions {
-                serial: "/dev/s",
-                desk: "in/d",
-                out: "o",
+            service: Service::Live {
+                serial: SERIAL,
+                desk: DESK,
+                out: OUT,
                 turns: 4_294_967_295,
-            }),
+            },
+        },
+    },
+    Taken {
+        line: "enogate live --base FF800000 --serial /dev/s --desk in/d --out o --turns 4294967295",
+        wanted: Options {
+            base: 0xFF80_0000,
+            db: None,
+            explain_packets: false,
+            service: Service::Live {
+                serial: SERIAL,
+                desk: DESK,
+                out: OUT,
+                turns: 4_294_967_295,
+            },
         },
     },
     Taken {
@@ -163,12 +204,12 @@ const TAKEN: [Taken; 14] = [
             base: 0xFF80_0000,
             db: None,
             explain_packets: false,
-            task: Task::Live(LiveOptions {
-                serial: "/dev/s",
-                desk: "in/d",
-                out: "o",
+            service: Service::Live {
+                serial: SERIAL,
+                desk: DESK,
+                out: OUT,
                 turns: 20,
-            }),
+            },
         },
     },
     Taken {
@@ -177,12 +218,12 @@ const TAKEN: [Taken; 14] = [
             base: 0xFF80_0000,
             db: None,
             explain_packets: true,
-            task: Task::Live(LiveOptions {
-                serial: "/dev/s",
-                desk: "in/d",
-                out: "o",
+            service: Service::Live {
+                serial: SERIAL,
+                desk: DESK,
+                out: OUT,
                 turns: 20,
-            }),
+            },
         },
     },
     Taken {
@@ -191,12 +232,12 @@ const TAKEN: [Taken; 14] = [
             base: 0xFF80_0000,
             db: Some("x.db"),
             explain_packets: true,
-            task: Task::Live(LiveOptions {
-                serial: "/dev/s",
-                desk: "in/d",
-                out: "o",
+            service: Service::Live {
+                serial: SERIAL,
+                desk: DESK,
+                out: OUT,
                 turns: 1,
-            }),
+            },
         },
     },
 ];
@@ -430,59 +471,4 @@ fn texts_reported(rt: HostRuntime) -> Result<(), Fail> {
         );
     }
     Ok(())
-}
-
-/// Options, and the service that they ask for.
-struct ServiceCase {
-    options: Options<'static>,
-    service: Service<'static>,
-}
-
-const SERVICE_CASES: [ServiceCase; 2] = [
-    ServiceCase {
-        options: Options {
-            base: 0xFFA1_B280,
-            db: Some("x.db"),
-            explain_packets: true,
-            task: Task::Replay,
-        },
-        service: Service::Replay {
-            reads: 4_000_000_000,
-        },
-    },
-    ServiceCase {
-        options: Options {
-            base: 0xFF80_0000,
-            db: None,
-            explain_packets: false,
-            task: Task::Live(LiveOptions {
-                serial: "/dev/s",
-                desk: "in/d",
-                out: "o",
-                turns: 4_294_967_295,
-            }),
-        },
-        service: Service::Live {
-            serial: FileToOpen {
-                path: "/dev/s",
-                access: Access::ReadAndWrite,
-            },
-            desk: FileToOpen {
-                path: "in/d",
-                access: Access::Read,
-            },
-            out: FileToOpen {
-                path: "o",
-                access: Access::WriteAnew,
-            },
-            turns: 4_294_967_295,
-        },
-    },
-];
-
-#[test]
-fn services(rt: HostRuntime) {
-    for (row, case) in SERVICE_CASES.iter().enumerate() {
-        assert_eq!(rt; case.options.service(), case.service, "row {row}");
-    }
 }

@@ -57,12 +57,12 @@ returns-in-Some-clause-explain c =
     (found_so (map string_bytes c.args.words.now) c.in_ok-command.field-0 c.in_ok-matches.matches
     c.in_ok-command.ensures c.in_ok-matches.ensures.matches)
 
-pub returns-in-Some-clause-task : goal.returns-in-Some-clause-task
-returns-in-Some-clause-task c =
-    subst (λ found. SubcommandAsksFor found c.in-Some.options.task)
+pub returns-in-Some-clause-service : goal.returns-in-Some-clause-service
+returns-in-Some-clause-service c =
+    subst (λ found. SubcommandAsksFor found c.in-Some.options.service)
     (found_so (map string_bytes c.args.words.now) c.in_ok-command.field-0 c.in_ok-matches.matches
     c.in_ok-command.ensures c.in_ok-matches.ensures.matches)
-    (at_some _ c.options_of.result c.in-Some.options c.in-Some.is c.options_of.ensures.task)
+    (at_some _ c.options_of.result c.in-Some.options c.in-Some.is c.options_of.ensures.service)
 
 pub returns-clause-refused : goal.returns-clause-refused
 returns-clause-refused c =

@@ -1,4 +1,4 @@
-use Rattle.std.proofs.Common.{◌≡◌, ap, codes, sym, rules, List, ℕ, Option, Some, None, false, ◌∙◌}
+use Rattle.std.proofs.Common.{◌≡◌, ap, codes, sym, rules, List, Option, Some, None, false, ◌∙◌}
 use Rattle.std.specs.Prelude.{option_and_then, option_map}
 use Rattle.std.specs.Option.{option_map_or}
 use Rattle.std.specs.Str.{bytes_eq}
