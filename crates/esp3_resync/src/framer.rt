@@ -11,8 +11,8 @@ ghost use Rattle.esp3_frames.specs.Outcome.{packet_of};
 ghost use Rattle.esp3_frames.specs.Packet.{Packet, max_data, max_packet};
 ghost use Rattle.esp3_resync.specs.BufferedPacket.{packet_with};
 
-use crate::front::{WindowFront, announced_data_len, resync, resync_with_header};
-use crate::runs::{len_before_sync, push_announced, push_header_bytes};
+use crate::front::{WindowFront, announced_data_len, resync, resync_whole};
+use crate::runs::{len_before_sync, push_header_bytes};
 use crate::window::Window;
 use esp3_frames::{Header, MAX_PACKET, PacketRef, packet_at_start};
 use std::alloc::{AllocError, Global};
@@ -158,9 +158,14 @@ impl Framer {
             ≡ 0 }
     {
         if let WindowFront::PartialPacket(header) = self.front {
-            let count = push_announced(&mut self.window, header, bytes);
-            self.front = resync_with_header(&mut self.window, header);
-            return count;
+            let missing = announced_data_len(header) + 7 - self.window.len();
+            if bytes.len() < missing {
+                self.window.extend(bytes);
+                return bytes.len();
+            }
+            self.window.extend(&bytes[..missing]);
+            self.front = resync_whole(&mut self.window, header);
+            return missing;
         }
         if let WindowFront::Empty = self.front {
             let count = len_before_sync(bytes);

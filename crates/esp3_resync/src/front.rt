@@ -1,9 +1,10 @@
 //! The front of a window: a part of a packet, a whole one, or bytes to skip.
-ghost use Rattle.std.specs.Prelude.{◌≡◌, ◌+◌, MatchOption};
+ghost use Rattle.std.specs.Prelude.{◌≡◌, ◌+◌, ◌≤◌, length, MatchOption};
+ghost use Rattle.std.specs.Bool.{OnTrue, OnFalse};
 ghost use Rattle.esp3_frames.specs.PacketsAndRest.{front_of, packets_and_rest};
 ghost use Rattle.esp3_frames.specs.PacketsAndRest;
-ghost use Rattle.esp3_frames.specs.PacketsAndRest.Front.{Never};
-ghost use Rattle.esp3_resync.specs.private.WindowFronts.{HasHeader, IsWindowFront};
+ghost use Rattle.esp3_frames.specs.PacketsAndRest.Front.{Never, Whole};
+ghost use Rattle.esp3_resync.specs.private.WindowFronts.{HasHeader, IsWindowFront, packet_at};
 
 use crate::window::Window;
 use esp3_frames::{Header, SYNC_BYTE, announces_data, read_header};
@@ -28,19 +29,15 @@ pub fn announced_data_len(header: Header) -> usize
     header.data_len as usize + header.opt_len as usize
 }
 
-// The front of a window that begins with this header. `None` if the packet's CRC is wrong.
-fn front_with_header(window: &Window, header: Header) -> Option<WindowFront>
-    requires { HasHeader window.now header }
-    ensures { MatchOption result (front_of window.now ≡ Never) (λ front. IsWindowFront front window.now) }
+// Whether the CRC of the packet with this header is right. The window holds all bytes of the packet.
+fn has_right_crc(window: &Window, header: Header) -> bool
+    requires has { HasHeader window.now header }
+    requires whole { header.data_len + header.opt_len + 7 ≤ length window.now }
+    ensures right { OnTrue result (front_of window.now ≡ Whole (packet_at header window.now)) }
+    ensures wrong { OnFalse result (front_of window.now ≡ Never) }
 {
     let len = announced_data_len(header);
-    if window.len() < len + 7 {
-        Some(WindowFront::PartialPacket(header))
-    } else if window.byte_or(len + 6, 0) == window.crc_of(6, len) {
-        Some(WindowFront::WholePacket(header))
-    } else {
-        None
-    }
+    window.byte_or(len + 6, 0) == window.crc_of(6, len)
 }
 
 // Whether a packet may begin with these at most five bytes. Missing bytes are assumed to be valid.
@@ -71,7 +68,13 @@ fn front(window: &Window) -> Option<WindowFront>
     let Ok(header) = read_header(first_six) else {
         return None;
     };
-    front_with_header(window, header)
+    if window.len() < announced_data_len(header) + 7 {
+        Some(WindowFront::PartialPacket(header))
+    } else if has_right_crc(window, header) {
+        Some(WindowFront::WholePacket(header))
+    } else {
+        None
+    }
 }
 
 /// Skips bytes until a packet may begin at the front, and returns the front.
@@ -87,24 +90,16 @@ pub fn resync(window: &mut Window) -> WindowFront
     }
 }
 
-// Skips the first byte, at which no packet begins, and then proceeds as `resync`, so it does not check that byte again.
-fn resync_after_first(window: &mut Window) -> WindowFront
-    requires { front_of window.old ≡ Never }
+/// The same for a window that holds all bytes of the packet with this header. The header is not read again.
+pub fn resync_whole(window: &mut Window, header: Header) -> WindowFront
+    requires has { HasHeader window.old header }
+    requires whole { header.data_len + header.opt_len + 7 ≤ length window.old }
     ensures packets { packets_and_rest window.new ≡ packets_and_rest window.old }
     ensures front { IsWindowFront result window.new }
 {
+    if has_right_crc(window, header) {
+        return WindowFront::WholePacket(header);
+    }
     window.skip_to_next_sync();
     resync(window)
-}
-
-/// The same for a window that begins with this header, which is not read again.
-pub fn resync_with_header(window: &mut Window, header: Header) -> WindowFront
-    requires { HasHeader window.old header }
-    ensures packets { packets_and_rest window.new ≡ packets_and_rest window.old }
-    ensures front { IsWindowFront result window.new }
-{
-    match front_with_header(window, header) {
-        Some(front) => front,
-        None => resync_after_first(window),
-    }
 }

@@ -1,29 +1,9 @@
 //! The number of bytes that can be processed at once: no byte but the last of them may make a packet ready.
 ghost use Rattle.std.specs.Prelude.{◌≡◌, ◌≢◌, ℕ, ◌<◌, ◌≤◌, ◌++◌, length, take, slice_index};
-ghost use Rattle.esp3_frames.specs.PacketsAndRest.{front_of};
-ghost use Rattle.esp3_frames.specs.PacketsAndRest.Front.{Partial};
-ghost use Rattle.esp3_resync.specs.private.WindowFronts.{HasHeader};
 
-use crate::front::announced_data_len;
 use crate::window::Window;
-use esp3_frames::{Header, SYNC_BYTE};
+use esp3_frames::SYNC_BYTE;
 use memchr::memchr;
-
-/// Appends bytes of the packet whose header begins the window, up to its last one, and returns their number.
-pub fn push_announced(window: &mut Window, header: Header, bytes: &[u8]) -> usize
-    requires has { HasHeader window.old header }
-    requires partial { front_of window.old ≡ Partial }
-    ensures within { result ≤ length bytes.now }
-    ensures some { 0 < length bytes.now → 0 < result }
-    ensures taken { window.new ≡ window.old ++ take result bytes.now }
-    ensures has { HasHeader window.new header }
-    ensures before { (k : ℕ) → k < result → front_of (window.old ++ take k bytes.now) ≡ Partial }
-{
-    let missing = announced_data_len(header) + 7 - window.len();
-    let count = missing.min(bytes.len());
-    window.extend(&bytes[..count]);
-    count
-}
 
 /// Appends bytes until there are six, which may be a header, and returns their number.
 pub fn push_header_bytes(window: &mut Window, bytes: &[u8]) -> usize

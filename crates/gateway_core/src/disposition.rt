@@ -1,12 +1,9 @@
 //! The disposition of a packet.
 ghost use Rattle.std.specs.Prelude.{◌≡◌};
-ghost use Rattle.esp3_frames.specs.Outcome.{packet_of};
 ghost use Rattle.gateway_core.specs.Dispositions;
 ghost use Rattle.gateway_core.specs.Dispositions.{without_device, eep_in_query, maker_in_query};
 
 use erp1_telegrams::Eep;
-use esp3_frames::PacketRef;
-use esp3_frames::packet_type::{RADIO_ERP1, RESPONSE};
 use json_lines::Counter;
 use learned_devices::Device;
 use profile_rows::Unreadable;
@@ -65,17 +62,6 @@ impl Disposition {
             | HandlingReason::WrongLength
             | HandlingReason::OtherMessage => Counter::Ignored,
         }
-    }
-}
-
-// Why a packet that carries no telegram and is no response is ignored.
-pub(crate) fn why_no_telegram_or_response(packet: &PacketRef<'_>) -> HandlingReason
-    ensures { result ≡ Dispositions.why_no_telegram_or_response (packet_of packet.now) }
-{
-    match packet.kind {
-        RADIO_ERP1 => HandlingReason::NoTelegram,
-        RESPONSE => HandlingReason::EmptyResponse,
-        _ => HandlingReason::OtherType,
     }
 }
 

@@ -21,7 +21,7 @@ packet_at h w = packet_with h (take (h.data_len + h.opt_len) (drop 6 w))
 abbrev pub IsWindowFront : WindowFront → List ℕ → Type 0
 IsWindowFront found.Empty w = w ≡ []
 IsWindowFront found.PartialHeader w = (front_of w ≡ Partial) × (0 < length w) × (length w < 6)
-IsWindowFront (found.PartialPacket h) w = (front_of w ≡ Partial) × HasHeader w h
+IsWindowFront (found.PartialPacket h) w = HasHeader w h × (length w < h.data_len + h.opt_len + 7)
 IsWindowFront (found.WholePacket h) w = front_of w ≡ Whole (packet_at h w)
 
 -- v is w from its first sync byte on, or nothing if it has none

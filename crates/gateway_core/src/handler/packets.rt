@@ -1,6 +1,7 @@
 //! Handling a packet of the serial line.
-ghost use Rattle.std.specs.Prelude.{◌≡◌, true, IfOk, Some};
+ghost use Rattle.std.specs.Prelude.{◌≡◌, true, IfOk, Some, Err};
 ghost use Rattle.esp3_frames.specs.Outcome.{packet_of};
+ghost use Rattle.erp1_telegrams.specs.Telegram.{telegram_of};
 ghost use Rattle.learned_devices.specs.Devices.{device_of};
 ghost use Rattle.profile_rows.specs.Payload.{is_data};
 ghost use Rattle.teach_in.specs.declared.telegrams.Teach.TheVariants.{Plain};
@@ -10,14 +11,14 @@ ghost use Rattle.gateway_core.specs.Responses;
 ghost use Rattle.gateway_core.specs.Step.{case_effect, data_case, reading_effect, telegram_effect, non_telegram_effect};
 ghost use Rattle.gateway_core.specs.private.Attempts.{MatchesEffect, Attempts};
 
-use crate::disposition::{Disposition, why_no_telegram_or_response, why_unread};
+use crate::disposition::{Disposition, why_unread};
 use crate::failure::Failure;
 use crate::handler::Handler;
 use crate::handler::effect::{PacketEffect, ignored_effect, packet_desk_effect};
 use crate::profiles;
 use crate::reply::DeskText;
 use crate::response::response_in;
-use erp1_telegrams::{Telegram, filter_reason};
+use erp1_telegrams::{Telegram, TelegramFault, filter_reason};
 use esp3_frames::PacketRef;
 use json_lines::{reading_line, response_line};
 use learned_devices::{Device, DeviceStore};
@@ -82,16 +83,23 @@ impl<S: DeviceStore> Handler<S> {
         }
     }
 
-    // Handles a packet without a telegram, or fails.
-    pub(crate) fn try_non_telegram(&self, packet: &PacketRef<'_>) -> Result<PacketEffect, Failure>
+    // Handles a packet that carries no telegram, or fails. `fault` says why there is none.
+    pub(crate) fn try_non_telegram(
+        &self,
+        packet: &PacketRef<'_>,
+        fault: TelegramFault,
+    ) -> Result<PacketEffect, Failure>
+        requires { telegram_of (packet_of packet.now) ≡ Err fault }
         ensures { Attempts S.store_state self.now (λ _. non_telegram_effect (packet_of packet.now)
             (Responses.response_in (packet_of packet.now))) result self.now }
     {
-        let Some(response) = response_in(packet) else {
-            return Ok(ignored_effect(why_no_telegram_or_response(packet)));
-        };
-        let line = response_line(self.alloc, response.code, response.bytes)?;
-        let disposition = Disposition::without_device(HandlingReason::Response);
-        Ok(packet_desk_effect(disposition, DeskText::Owned(line)))
+        match response_in(packet, fault) {
+            Ok(response) => {
+                let line = response_line(self.alloc, response.code, response.bytes)?;
+                let disposition = Disposition::without_device(HandlingReason::Response);
+                Ok(packet_desk_effect(disposition, DeskText::Owned(line)))
+            }
+            Err(why) => Ok(ignored_effect(why)),
+        }
     }
 }

@@ -1,6 +1,5 @@
-use Rattle.std.proofs.Common.{length, ap, ◌∙◌, arith}
-use Rattle.esp3_frames.specs.PacketsAndRest.{front_of, packets_and_rest}
-use Rattle.esp3_frames.proofs.ForCallers.{front-empty}
+use Rattle.std.proofs.Common.{ap, ◌∙◌}
+use Rattle.esp3_frames.specs.PacketsAndRest.{packets_and_rest}
 use Rattle.esp3_resync.proofs.PacketsAndRestLemmas.{packets_and_rest-empty}
 use Rattle.esp3_resync.proofs.framer.Framer.new.Goals as goal
 

@@ -1,29 +1,60 @@
-use Rattle.std.proofs.Common.{◌≡◌, List, ℕ, [], ◌++◌, length, take, sym, ap, ◌∙◌, arith, length-append, length-take}
+use Rattle.std.proofs.Common.{◌≡◌, ◌<◌, ◌+◌, ◌-◌, List, ℕ, [], ◌++◌, length, take, sym, ap, ◌∙◌, arith}
+use Rattle.std.proofs.Common.{length-append, length-take}
+use Rattle.std.proofs.lemmas.List.{take_all}
 use Rattle.esp3_frames.specs.PacketsAndRest.{PacketsAndRest, packets_and_rest}
+use Rattle.esp3_frames.specs.declared.packet.Header.{Header}
+use Rattle.esp3_resync.specs.private.WindowFronts.{IsWindowFront}
+use Rattle.esp3_resync.specs.declared.front.WindowFront.{WindowFront}
+use Rattle.esp3_resync.specs.declared.front.WindowFront.TheVariants as found
 use Rattle.esp3_resync.proofs.PacketsAndRestLemmas.{few, packets_and_rest-noise, noise_taken, unready_partial}
-use Rattle.esp3_resync.proofs.HeaderLemmas.{held_bytes, is_empty, no_header}
+use Rattle.esp3_resync.proofs.HeaderLemmas.{held_bytes, is_empty, no_header, is_part, header_stays, waits}
 use Rattle.esp3_resync.proofs.framer.Framer.push_some.Goals as goal
 
-pub push_announced-count-requires-clause-partial : goal.push_announced-count-requires-clause-partial
-push_announced-count-requires-clause-partial c =
+pub invariant_of-self : goal.invariant_of-self
+invariant_of-self c =
     let w = c.self.inside.window in
-    (held_bytes c.self.inside.front w c.args.self.now c.self.invariant c.self.view_is c.requires.none).0
+    let b = c.args.bytes.now in
+    let h = c.in-PartialPacket.header in
+    rw (c.extend.ensures, c.in-PartialPacket.is) (
+      header_stays w b h (is_part c.self.inside.front w h c.in-PartialPacket.is c.self.invariant).0,
+      omega (arith, length-append w b),
+    )
+
+pub returns-then-bytes-missing-clause-taken : goal.returns-then-bytes-missing-clause-taken
+returns-then-bytes-missing-clause-taken c =
+    let w = c.self.inside.window in
+    let b = c.args.bytes.now in
+    let h = held_bytes c.self.inside.front w c.args.self.now c.self.invariant c.self.view_is c.requires.none in
+    ap packets_and_rest (c.extend.ensures ∙ ap (λ (y : List ℕ). y ++ b) h.1
+    ∙ ap (λ (y : List ℕ). c.args.self.now.rest ++ y) (sym (take_all (length b) b (omega arith))))
+
+-- bytes up to the one before the packet's last make no packet ready
+quiet : (x : WindowFront) (w b : List ℕ) (f : PacketsAndRest) (h : Header) (k : ℕ) → x ≡ found.PartialPacket h
+    → IsWindowFront x w → packets_and_rest w ≡ f → length f.ready ≡ 0 → length w + k < h.data_len + h.opt_len + 7
+    → length (packets_and_rest (f.rest ++ take k b)).ready ≡ 0
+quiet x w b f h k e is view none short =
+    ap (λ (y : List ℕ). length (packets_and_rest (y ++ take k b)).ready) (sym (held_bytes x w f is view none).1)
+    ∙ unready_partial (w ++ take k b)
+    (waits (w ++ take k b) h (header_stays w (take k b) h (is_part x w h e is).0)
+    (omega (arith, length-append w (take k b), length-take k b)))
+
+pub returns-then-bytes-missing-clause-before : goal.returns-then-bytes-missing-clause-before
+returns-then-bytes-missing-clause-before c = λ k before.
+    quiet c.self.inside.front c.self.inside.window c.args.bytes.now c.args.self.now c.in-PartialPacket.header k
+    c.in-PartialPacket.is c.self.invariant c.self.view_is c.requires.none (omega arith)
 
 pub returns-in-PartialPacket-clause-taken : goal.returns-in-PartialPacket-clause-taken
 returns-in-PartialPacket-clause-taken c =
     let w = c.self.inside.window in
-    let t = take c.push_announced-count.result c.args.bytes.now in
+    let t = take (c.announced_data_len.result + 7 - c.len.result) c.args.bytes.now in
     let h = held_bytes c.self.inside.front w c.args.self.now c.self.invariant c.self.view_is c.requires.none in
-    c.resync_with_header-self-inside.ensures.packets
-    ∙ ap packets_and_rest (c.push_announced-count.ensures.taken ∙ ap (λ (y : List ℕ). y ++ t) h.1)
+    c.resync_whole-self-inside.ensures.packets
+    ∙ ap packets_and_rest (c.extend-in-PartialPacket.ensures ∙ ap (λ (y : List ℕ). y ++ t) h.1)
 
 pub returns-in-PartialPacket-clause-before : goal.returns-in-PartialPacket-clause-before
-returns-in-PartialPacket-clause-before c = λ k below.
-    let w = c.self.inside.window in
-    let t = take k c.args.bytes.now in
-    let h = held_bytes c.self.inside.front w c.args.self.now c.self.invariant c.self.view_is c.requires.none in
-    ap (λ (y : List ℕ). length (packets_and_rest (y ++ t)).ready) (sym h.1)
-    ∙ unready_partial (w ++ t) (c.push_announced-count.ensures.before k below)
+returns-in-PartialPacket-clause-before c = λ k before.
+    quiet c.self.inside.front c.self.inside.window c.args.bytes.now c.args.self.now c.in-PartialPacket.header k
+    c.in-PartialPacket.is c.self.invariant c.self.view_is c.requires.none (omega arith)
 
 pub push_header_bytes-count-requires : goal.push_header_bytes-count-requires
 push_header_bytes-count-requires c =

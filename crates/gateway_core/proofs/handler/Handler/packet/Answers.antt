@@ -7,15 +7,15 @@ use Rattle.gateway_core.specs.private.Attempts.{disposition_or_failed}
 use Rattle.gateway_core.proofs.AttemptLemmas.{tries-handles, tries-same}
 use Rattle.gateway_core.proofs.handler.Handler.packet.Goals as goal
 
-pub returns-in_default : goal.returns-in_default
-returns-in_default g c =
+pub returns-in-Err : goal.returns-in-Err
+returns-in-Err g c =
     let packet = packet_of c.args.packet.now in
-    let reply = c.finish_packet-reply in
-    let none = sym c.read.ensures ∙ c.in_default.is in
+    let reply = c.finish_packet-reply-in-Err in
+    let none = sym c.read.ensures ∙ c.in-Err.is in
     tries-handles g.S.DeviceStore.store_state _ _ _ (Received packet) _ _
     (record {
       answer_is = ap (λ l. with_explanation (packet_text l) (answer_of reply.result.0))
-          (c.line_without_telegram-line.ensures c.in_default.field-0 none)
+          (c.line_without_telegram-line.ensures c.in-Err.fault none)
           ∙ ap (λ a. with_packet_line (packet_line_for (Received packet) a) (answer_of reply.result.0))
           reply.ensures.disposition
           ∙ ap (with_packet_line (packet_line_for (Received packet)
@@ -27,10 +27,10 @@ returns-in_default g c =
       registry = reply.ensures.registry;
     }) (tries-same g.S.DeviceStore.store_state _ _ _ _ _ (λ devices. rw none refl) c.try_non_telegram-tried.ensures)
 
-pub returns : goal.returns
-returns g c =
+pub returns-in-Ok : goal.returns-in-Ok
+returns-in-Ok g c =
     let packet = packet_of c.args.packet.now in
-    let reply = c.finish_packet-reply-2 in
+    let reply = c.finish_packet-reply in
     let telegram = sym c.read.ensures ∙ c.in-Ok.is in
     tries-handles g.S.DeviceStore.store_state _ _ _ (Received packet) _ _
     (record {
