@@ -144,21 +144,20 @@ impl<S: DeviceStore> Handler<S> {
         ensures { Handles S.store_state self.old (Received (packet_of packet.now) ∷ []) (packet_answer result ∷ [])
             self.new }
     {
-        match read(packet) {
-            Ok(telegram) => {
-                let teach = classify(&telegram);
-                let tried = self.try_telegram(&telegram, &teach);
-                let (reply, disposition) = self.finish_packet(tried);
-                let line = line_of_telegram(telegram, &teach, disposition);
-                HandledPacket { reply, line }
-            }
+        let telegram = match read(packet) {
+            Ok(telegram) => telegram,
             Err(fault) => {
                 let tried = self.try_non_telegram(packet, fault);
                 let (reply, disposition) = self.finish_packet(tried);
                 let line = line_without_telegram(packet, disposition);
-                HandledPacket { reply, line }
+                return HandledPacket { reply, line };
             }
-        }
+        };
+        let teach = classify(&telegram);
+        let tried = self.try_telegram(&telegram, &teach);
+        let (reply, disposition) = self.finish_packet(tried);
+        let line = line_of_telegram(telegram, &teach, disposition);
+        HandledPacket { reply, line }
     }
 
     /// Handles a line of the desk.

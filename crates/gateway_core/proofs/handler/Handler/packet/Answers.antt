@@ -10,7 +10,7 @@ use Rattle.gateway_core.proofs.handler.Handler.packet.Goals as goal
 pub returns-in-Err : goal.returns-in-Err
 returns-in-Err g c =
     let packet = packet_of c.args.packet.now in
-    let reply = c.finish_packet-reply-in-Err in
+    let reply = c.finish_packet-reply in
     let none = sym c.read.ensures ∙ c.in-Err.is in
     tries-handles g.S.DeviceStore.store_state _ _ _ (Received packet) _ _
     (record {
@@ -27,10 +27,10 @@ returns-in-Err g c =
       registry = reply.ensures.registry;
     }) (tries-same g.S.DeviceStore.store_state _ _ _ _ _ (λ devices. rw none refl) c.try_non_telegram-tried.ensures)
 
-pub returns-in-Ok : goal.returns-in-Ok
-returns-in-Ok g c =
+pub returns : goal.returns
+returns g c =
     let packet = packet_of c.args.packet.now in
-    let reply = c.finish_packet-reply in
+    let reply = c.finish_packet-reply-2 in
     let telegram = sym c.read.ensures ∙ c.in-Ok.is in
     tries-handles g.S.DeviceStore.store_state _ _ _ (Received packet) _ _
     (record {
