@@ -2,14 +2,18 @@
 
 Another program may have written `status`, `status` and an order without a lock, and the gateway may not have answered
 them when the command opens the lines. Their answers look like those of the command. So the command writes more fences
-in a row than any of these orders follow.
+in a row than are before any of these orders. A row of `status` orders directly before the fences does not count: the
+order of the command follows it.
 
 Each command keeps the desk locked until its order is answered. So only what is after the text of the last command can
-be unanswered. A text ends with `status` CR LF; its other lines end with LF. Programs that end each line with the same
-characters do not write this.
+be unanswered. A text ends with an order, LF, and `status` CR LF. A program that ends all of its lines in the same way
+does not write this.
 
 An order that fails with `memory` or `store` does not end a row of status lines, because a packet gives the same line,
-and could do so between the fences of the command. So only orders that cannot fail in this way end a row on the desk."""
+and could do so between the fences of the command. So only orders that cannot fail in this way end a row on the desk.
+
+The longest row is at most what is on the desk since the last text. With a bridge, which gives `base` every ten minutes,
+it has about ten orders."""
 from __future__ import annotations
 
 import re

@@ -242,6 +242,17 @@ class OrdersOfOthers(DeskTest):
                 self.clock.acts[len(self.clock.slept) + 1] = lambda: self.write(*ANSWER)
                 self.made().ask("learn on")
 
+    def test_signals_are_held_until_the_desk_is_looked_at_again(self):
+        """The process that keeps the lock would otherwise take a wrong answer for that of the order."""
+        def look(*_words):
+            self.assertIn(signal.SIGTERM, signal.pthread_sigmask(signal.SIG_BLOCK, []))
+            return True
+        self.clock.acts[1] = lambda: self.write(*ANSWER)
+        with mock.patch.object(desks, "is_longest", side_effect=look) as looked:
+            self.made().ask("learn on")
+        looked.assert_called_once()
+        self.assertNotIn(signal.SIGTERM, signal.pthread_sigmask(signal.SIG_BLOCK, []))
+
     def test_the_order_status_takes_any_status_line(self):
         with self.write_at_once(self.others):
             self.clock.acts[1] = lambda: self.write(status())
