@@ -37,10 +37,12 @@ class Orders(unittest.TestCase):
 
     def test_the_end_of_a_long_line(self):
         """A line has its length without one CR at its end. The longest one that is valid has 200 bytes."""
-        for line, is_valid in ((200, b"\r"), True), ((201, b"\r"), False), ((200, b"\r\r"), False), \
-                ((200, b"\r\r\r"), False), ((201, b"\r\r"), False), ((199, b"\r\r"), True), ((200, b"\r\rx"), False):
-            with self.subTest(line):
-                given = self.orders("orders", b"x" * line[0] + line[1]).removesuffix(b"\n")
+        for length, end, is_valid in (
+            (200, b"\r", True), (201, b"\r", False), (200, b"\r\r", False), (200, b"\r\r\r", False),
+            (201, b"\r\r", False), (199, b"\r\r", True), (200, b"\r\rx", False),
+        ):
+            with self.subTest((length, end)):
+                given = self.orders("orders", b"x" * length + end).removesuffix(b"\n")
                 self.assertEqual(len(given.removesuffix(b"\r")) <= 200, is_valid)
 
     def test_the_longest_message(self):
