@@ -15,7 +15,8 @@ There are more than two of them before the order if other programs may have writ
 Some lines only orders give: `ok`, `device`, `list`, and all errors but `memory` and `store`. Teach lines come from
 orders and from packets; the counter `teach` of two status lines says how many came from packets in between. The rule:
 
-1. Nothing counts until as many status lines as are before the order have come without a line of an order between them.
+1. Nothing counts until as many status lines as are before the order have come without a line of an order between them;
+   if an error `memory` or `store` is between them, more may be needed (fence.py).
 2. The lines from there to the next status line are the answer if exactly one answer is among them that this order can
    have: lines that only orders give, or a teach line that no packet gave. If there is neither, it is an error `memory`
    or `store` that does not directly follow the packet line of a packet that failed.
@@ -130,13 +131,14 @@ def is_of_order(raw: bytes) -> bool:
 
 class AnswerFinder:
     """Finds the answers to orders among the lines that come after they were written. `least` is the number of fences
-    before the first order."""
+    before the first order. With errors among them that packets have, too, `least_with_errors` are needed."""
 
     def __init__(self, *orders: str):
         self.orders = [Order(order) for order in orders]
-        self.least = LEAST
-        # How many status lines have come without a line of an order between them.
-        self.fences = 0
+        self.least = self.least_with_errors = LEAST
+        # How many status lines have come without a line of an order between them, and how many of them after the last
+        # error that packets have, too.
+        self.fences = self.fences_after_error = 0
         self.window: Window | None = None
         # The answers to the first orders, for each place where they may have begun.
         self.begun: list[list[Answer]] = []
@@ -170,14 +172,15 @@ class AnswerFinder:
             return [Answer([line])]
         window, self.window = self.window, Window(closing)
         if window is None:
-            self.fences = 1
+            self.fences = self.fences_after_error = 1
             return None
-        if self.fences >= self.least:
+        if self.fences_after_error >= self.least or self.fences >= self.least_with_errors:
             self.begun.append([])
         self.begun = [[*answers, answer] for answers in self.begun
                       if (answer := self.orders[len(answers)].answer_in(window, closing))]
         has_order = bool(window.own) or window.taught_by_orders(closing) != 0
         self.fences = 1 if has_order else self.fences + 1
+        self.fences_after_error = 1 if has_order or window.failed else self.fences_after_error + 1
         return next((answers for answers in self.begun if len(answers) == len(self.orders)), None)
 
 

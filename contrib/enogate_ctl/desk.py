@@ -133,8 +133,10 @@ class Desk:
         finder.least = needed(file.read())
         with held():
             file.append(finder.text)
-            if not finder.is_status and not is_longest(finder.least, file.read(), file.text):
-                finder.least = NEVER
+            desk = file.read()
+            finder.least_with_errors = needed(desk, with_errors=True)
+            if not finder.is_status and not is_longest(finder.least, desk, file.text):
+                finder.least = finder.least_with_errors = NEVER
         if finder.least == NEVER:
             raise Unrecognizable
 

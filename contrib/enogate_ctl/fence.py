@@ -7,26 +7,28 @@ order of the command follows it.
 
 Each command keeps the desk locked until its order is answered. So only what is after the text of the last command can
 be unanswered. A text ends with an order, LF, and `status` CR LF. A program that ends all of its lines in the same way
-does not write this.
+does not write this. A row of MAX_FENCES `status` orders or more counts as answered: a program that asks often writes
+one in a day, and all of it is unanswered only if the program waits for no answer.
 
-An order that fails with `memory` or `store` does not end a row of status lines, because a packet gives the same line,
-and could do so between the fences of the command. So only orders that cannot fail in this way end a row on the desk.
-
-The longest row is at most what is on the desk since the last text. With a bridge, which gives `base` every ten minutes,
-it has about ten orders."""
+An order that fails with `memory` or `store` gives the same line as a packet that fails. If such a line is in a row of
+status lines, the row may be two rows on the desk, with this order between them. Then the row must be longer than all
+status orders on the desk since the last order that cannot fail in this way."""
 from __future__ import annotations
 
 import re
 
 from .answers import LEAST, REFUSALS, SHARED
 
+# The most fences before an order: the gateway reads so many, an order and the last fence at once.
+MAX_FENCES = 24
 TEXT_END = re.compile(rb"^status\n(?!status\n)[^\r\n]+\nstatus\r\n", re.MULTILINE)
 # The orders that cannot fail with an error that packets have, too.
 SURE = frozenset(verb.encode() for verb, errors in REFUSALS.items() if not errors & SHARED)
 
 
-def needed(desk: bytes) -> int:
-    """How many fences an order needs after what is on the desk."""
+def needed(desk: bytes, with_errors: bool = False) -> int:
+    """How many status lines in a row show that the order is next whose fences follow what is on the desk: without an
+    error that packets have, too, or with such errors between them."""
     start = max((found.end() for found in TEXT_END.finditer(desk)), default=0)
     row = longest = 0
     for order in desk[start:].removesuffix(b"\n").split(b"\n"):
@@ -34,9 +36,9 @@ def needed(desk: bytes) -> int:
             row += 1
             continue
         longest = max(longest, row)
-        if order.split(b" ")[0] in SURE:
+        if not with_errors or order.split(b" ")[0] in SURE:
             row = 0
-    return max(LEAST, longest + 1)
+    return max(LEAST, longest + 1) if with_errors else max(LEAST, min(longest + 1, MAX_FENCES))
 
 
 def is_longest(fences: int, desk: bytes, text: bytes) -> bool:

@@ -56,7 +56,25 @@ class Rule(unittest.TestCase):
         for least, wanted in ((2, OK), (3, refused), (4, None)):
             with self.subTest(least):
                 finder = AnswerFinder("label 01800ABC x")
-                finder.least = least
+                finder.least = finder.least_with_errors = least
+                answers = filter(None, (finder.take(json.dumps(line).encode()) for line in lines))
+                found = next(answers, None)
+                self.assertEqual(found and found[0].lines[0].members, wanted)
+
+    def test_an_error_in_a_row_of_status_lines(self):
+        """It may be that of an order between two rows. After it a new row begins, which is the second that counts."""
+        fence, failed, refused = status(), error("store"), error("unknown_device")
+        for with_errors, lines, wanted in (
+            (4, (fence, failed, fence, fence, OK, fence, fence, fence, refused, fence), refused),
+            (3, (fence, failed, fence, fence, OK, fence), OK), (4, (fence, failed, fence, fence, fence, OK, fence), OK),
+            (4, (fence, fence, failed, fence, fence, OK, fence), OK),
+            (5, (fence, fence, failed, fence, fence, OK, fence), None),
+            (9, (fence, packet("refused"), failed, fence, fence, OK, fence), OK),
+            (9, (fence, failed, fence, fence, failed, fence, OK, fence), None),
+        ):
+            with self.subTest((with_errors, lines)):
+                finder = AnswerFinder("label 01800ABC x")
+                finder.least, finder.least_with_errors = 3, with_errors
                 answers = filter(None, (finder.take(json.dumps(line).encode()) for line in lines))
                 found = next(answers, None)
                 self.assertEqual(found and found[0].lines[0].members, wanted)

@@ -209,6 +209,13 @@ class OrdersOfOthers(DeskTest):
         self.assertEqual(self.desk.read_bytes(),
                          self.others.encode() + b"status\nstatus\nstatus\nlabel 01800ABD x\nstatus\r\n")
 
+    def test_one_of_them_fails(self):
+        """With the line of a packet that fails, two rows of their status lines would look like one."""
+        self.desk.write_text("status\nlist\nstatus\nlabel 01800ABC x\n")
+        self.clock.acts[1] = lambda: self.write(status(), error("store"), status(), OK, status(), status())
+        self.clock.acts[2] = lambda: self.write(self.refused, status())
+        self.assertEqual(self.made().ask("label 01800ABD x").error, "unknown_device")
+
     def test_after_the_next_order_they_do_not_count(self):
         self.desk.write_text(self.others)
         self.assertEqual([self.appended() for _ in range(3)], [3, 2, 2])
@@ -266,7 +273,7 @@ class OrdersOfOthers(DeskTest):
             return len(kept)
 
         def keep(_desk, file, lines, finder):
-            self.clock.acts[len(self.clock.slept) + 1] = lambda: self.write(*ANSWER)
+            self.clock.acts[len(self.clock.slept) + 1] = lambda: self.write(*[status()] * 9, *ANSWER)
             begin = self.clock.now
             self.made().wait_for_end(file, lines, finder)
             kept.append(self.clock.now - begin)

@@ -2,22 +2,22 @@
 import unittest
 
 from enogate_ctl.answers import AnswerFinder
-from enogate_ctl.fence import SURE, is_longest, needed
+from enogate_ctl.fence import MAX_FENCES, SURE, is_longest, needed
 
 TEXT = "status\nstatus\nlist\nstatus\r\n"
 PAIR = "status\nstatus\ncentral 0 on\n"
 
 
 class Needed(unittest.TestCase):
-    def assert_needed(self, *cases):
+    def assert_needed(self, *cases, with_errors=False):
         """So many fences are needed for each of these texts on the desk."""
         for fences, text in cases:
             with self.subTest(text):
-                self.assertEqual(needed(text.encode()), fences)
+                self.assertEqual(needed(text.encode(), with_errors), fences)
 
     def test_one_more_than_any_order_of_another_program_has(self):
         self.assert_needed((2, ""), (2, "list\n"), (2, "status\nlist\n"), (3, PAIR), (4, "status\n" + PAIR),
-                           (4, "status\n" + PAIR + PAIR.replace("central 0 on", "base")), (3, "status\n\nstatus\n\n"),
+                           (4, "status\n" + PAIR + PAIR.replace("central 0 on", "base")), (2, "status\n\nstatus\n\n"),
                            (3, PAIR + "status\nbase\n"), (6, "status\n" * 5 + "base\n" + PAIR))
 
     def test_a_row_at_the_end_does_not_count(self):
@@ -28,13 +28,25 @@ class Needed(unittest.TestCase):
         self.assert_needed((3, PAIR.replace("\n", "\r\n")), (2, PAIR.replace("status", "status\r\r")),
                            (2, PAIR.replace("status", "status ")), (2, PAIR.replace("status", "Status")))
 
-    def test_only_orders_that_cannot_fail_end_a_row(self):
+    def test_each_order_ends_a_row(self):
+        for order in ("learn on", "list", "add 01800ABC D5-00-01", "status x", "x", ""):
+            self.assert_needed((2, f"status\n{order}\n" * 9), (3, f"status\nstatus\n{order}\n" * 9))
+
+    def test_with_errors_only_orders_that_cannot_fail_end_a_row(self):
         self.assertEqual(SURE, {b"learn", b"base", b"central", b"level", b"teach"})
         for order in ("learn on", "learn off", "base", "central 0 on", "level 0 0 0", "teach 0"):
-            self.assert_needed((2, f"status\n{order}\nstatus\n{order}\n"))
+            self.assert_needed((2, f"status\n{order}\n" * 9), with_errors=True)
         for order in ("list", "add 01800ABC D5-00-01", "remove 01800ABC", "label 01800ABC x", "stop 01800ABC", "x", "",
                       "learned", "query 01800ABC 0"):
-            self.assert_needed((3, f"status\n{order}\nstatus\n{order}\n"))
+            self.assert_needed((10, f"status\n{order}\n" * 9), with_errors=True)
+
+    def test_a_long_row_is_answered(self):
+        row = "status\n"
+        self.assert_needed((23, 22 * row + "list\n"), (24, 23 * row + "list\n"), (24, 2000 * row + "list\n"))
+        self.assert_needed((2001, 2000 * row + "list\n"), with_errors=True)
+        finder = AnswerFinder("label 01800ABC " + 32 * "x")
+        finder.least = MAX_FENCES
+        self.assertLessEqual(len(finder.text), 256)
 
     def test_what_is_before_the_end_of_a_text_is_answered(self):
         several = AnswerFinder("label 01800ABC x", "list").text.decode()

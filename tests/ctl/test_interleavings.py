@@ -86,7 +86,7 @@ class Case:
         self.finder = AnswerFinder(*self.orders)
         seen = len(self.before) if self.source.random() < 0.8 else self.source.randrange(len(self.before) + 1)
         texts = [b"".join(order.encode() + b"\n" for order in orders) for orders in (self.before[:seen], self.before)]
-        self.finder.least = needed(texts[0])
+        self.finder.least, self.finder.least_with_errors = needed(texts[0]), needed(texts[1], with_errors=True)
         self.own = self.finder.text.decode().replace("\r", "").split("\n")[:-1]
         self.is_recognizable = self.finder.is_status or is_longest(self.finder.least, texts[1], self.finder.text)
 
@@ -127,6 +127,17 @@ class Case:
             elif statuses >= self.finder.least > own and (event.order == "status" or (
                     event.is_failed_packet and not self.explains)):
                 return True
+        return False
+
+    @property
+    def may_be_late(self) -> bool:
+        """Whether the rule may find no answer, by the manual page. Without packet lines a packet fails between the
+        fences of the command, and more fences would be needed because of the orders of another program."""
+        own = 0
+        for event in self.seen:
+            own += event.who == "own"
+            if event.is_failed_packet and 0 < own < self.finder.least < self.finder.least_with_errors:
+                return not self.explains
         return False
 
     def pieces(self) -> list[list[Event]]:
@@ -198,7 +209,7 @@ class Interleavings(unittest.TestCase):
     def result(self, case: Case, result: list[bytes] | str) -> str:
         """What became of the order of a case."""
         if isinstance(result, str):
-            return result
+            return "unsure" if result == "late" and case.may_be_late else result
         if result == case.answer or (case.order == "status" and b'"mode"' in result[0]):
             # any status line that is written after the order was given answers `status`
             return "right"
@@ -219,6 +230,7 @@ class Interleavings(unittest.TestCase):
         self.assertEqual(found["late"], 0)
         self.assertGreater(found["right"], 20000)
         self.assertLess(found["ambiguous"], 80)
+        self.assertLess(found["unsure"], 10)
         self.assertLess(found["unrecognizable"], 300)
         self.assertLess(found["other error"] + found["other profile"], 200)
 
@@ -230,7 +242,9 @@ class Interleavings(unittest.TestCase):
     def test_another_program_with_pairs_of_status_orders(self):
         found = self.results(4000, 3, has_pair=True)
         self.assertEqual((self.wrong[:1], found["late"]), ([], 0))
-        self.assertGreater(found["right"], 1000)
+        self.assertLess(found["ambiguous"], 20)
+        self.assertLess(found["unsure"], 50)
+        self.assertGreater(found["right"], 2800)
 
     def test_fences_that_fail(self):
         """Such an order may be late."""
@@ -259,7 +273,7 @@ class SeveralOrders(unittest.TestCase):
     def result(self, case: Case, result: list[list[bytes]] | str) -> str:
         """What became of the orders of a case."""
         if isinstance(result, str):
-            return result
+            return "unsure" if result == "late" and case.may_be_late else result
         if any(is_shared(lines[-1]) for lines in result):
             return "again"
         if result == case.answers:
@@ -274,6 +288,7 @@ class SeveralOrders(unittest.TestCase):
         found = self.results(6000, 5)
         self.assertEqual((self.wrong[:1], found["late"]), ([], 0))
         self.assertLess(found["ambiguous"], 3)
+        self.assertLess(found["unsure"], 50)
         self.assertGreater(found["right"], 4200)
         self.assertGreater(found["again"], 100)
 
@@ -286,6 +301,7 @@ class SeveralOrders(unittest.TestCase):
         found = self.results(2000, 7, failing=0.3, has_pair=True)
         self.assertEqual((self.wrong[:1], found["late"]), ([], 0))
         self.assertLess(found["ambiguous"], 10)
+        self.assertLess(found["unsure"], 200)
         self.assertGreater(found["right"], 500)
 
     def test_fences_that_fail(self):
