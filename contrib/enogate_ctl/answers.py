@@ -10,10 +10,13 @@ again. No line names its order, and a telegram can give the same line as an orde
     ORDER
     status
 
+There are more than two of them before the order if other programs may have written two without an answer (fence.py).
+
 Some lines only orders give: `ok`, `device`, `list`, and all errors but `memory` and `store`. Teach lines come from
 orders and from packets; the counter `teach` of two status lines says how many came from packets in between. The rule:
 
-1. Nothing counts until two status lines have come without a line of an order between them.
+1. Nothing counts until as many status lines as are before the order have come without a line of an order between them;
+   if an error `memory` or `store` is between them, more may be needed (fence.py).
 2. The lines from there to the next status line are the answer if exactly one answer is among them that this order can
    have: lines that only orders give, or a teach line that no packet gave. If there is neither, it is an error `memory`
    or `store` that does not directly follow the packet line of a packet that failed.
@@ -31,7 +34,10 @@ from typing import Any
 from enogate_mqtt.lines import BadLine, Content, Deleted, EndOfList, Learned, Listed, Status, Strange
 from enogate_mqtt.lines import content_of_members, members_of
 
-OPENING, CLOSING = b"status\nstatus\n", b"status\n"
+# A fence, and the last one of a text, which shows where the text ends. The gateway removes one CR before LF.
+FENCE, LAST_FENCE = b"status\n", b"status\r\n"
+# How many fences are before an order, at least.
+LEAST = 2
 # The errors that packets have, too.
 SHARED = frozenset({"memory", "store"})
 # The errors that each order can have (docs/guide/orders.md).
@@ -124,12 +130,15 @@ def is_of_order(raw: bytes) -> bool:
 
 
 class AnswerFinder:
-    """Finds the answers to orders among the lines that come after they were written."""
+    """Finds the answers to orders among the lines that come after they were written. `least` is the number of fences
+    before the first order. With errors among them that packets have, too, `least_with_errors` are needed."""
 
     def __init__(self, *orders: str):
         self.orders = [Order(order) for order in orders]
-        # How many status lines have come without a line of an order between them.
-        self.fences = 0
+        self.least = self.least_with_errors = LEAST
+        # How many status lines have come without a line of an order between them, and how many of them after the last
+        # error that packets have, too.
+        self.fences = self.fences_after_error = 0
         self.window: Window | None = None
         # The answers to the first orders, for each place where they may have begun.
         self.begun: list[list[Answer]] = []
@@ -138,8 +147,8 @@ class AnswerFinder:
     def text(self) -> bytes:
         """The text for the desk."""
         if self.is_status:
-            return CLOSING
-        return OPENING + b"".join(order.text + CLOSING for order in self.orders)
+            return FENCE
+        return FENCE * self.least + FENCE.join(order.text for order in self.orders) + LAST_FENCE
 
     @property
     def is_status(self) -> bool:
@@ -163,14 +172,15 @@ class AnswerFinder:
             return [Answer([line])]
         window, self.window = self.window, Window(closing)
         if window is None:
-            self.fences = 1
+            self.fences = self.fences_after_error = 1
             return None
-        if self.fences >= 2:
+        if self.fences_after_error >= self.least or self.fences >= self.least_with_errors:
             self.begun.append([])
         self.begun = [[*answers, answer] for answers in self.begun
                       if (answer := self.orders[len(answers)].answer_in(window, closing))]
         has_order = bool(window.own) or window.taught_by_orders(closing) != 0
         self.fences = 1 if has_order else self.fences + 1
+        self.fences_after_error = 1 if has_order or window.failed else self.fences_after_error + 1
         return next((answers for answers in self.begun if len(answers) == len(self.orders)), None)
 
 

@@ -2,6 +2,7 @@
 from __future__ import annotations
 
 import os
+import sys
 import time
 from typing import Callable, Sequence
 
@@ -9,14 +10,17 @@ from enogate_mqtt.follow import Follower, end_of
 
 from .answers import Answer, AnswerFinder, is_of_order
 from .desk_file import DeskFile, Unusable
+from .fence import is_longest, needed
 from .places import Places
-from .stops import Stopped, restore
+from .stops import Stopped, held, restore
 
 # The pauses of the command and of the process that keeps the lock, in seconds.
 PAUSE, LONG_PAUSE = 0.01, 0.1
 # How long that process keeps the lock: in all, and after the gateway answers orders again. The second is for an order
 # whose fence failed, which never gets its answer.
 LONGEST_KEPT, KEPT_AFTER_ANSWER = 3600.0, 10.0
+# So many fences before an order do not come: the process then keeps the lock as long as for an order without an answer.
+NEVER = sys.maxsize
 
 
 class NoAnswer(Exception):
@@ -25,6 +29,10 @@ class NoAnswer(Exception):
 
 class TooLate(Exception):
     """The time for an answer is over."""
+
+
+class Unrecognizable(Exception):
+    """Another program wrote orders at the same moment, and its answer could be taken for that of the order."""
 
 
 class Lines:
@@ -101,18 +109,36 @@ class Desk:
         """Writes the orders and waits for their answers."""
         lines = Lines(self.places.lines)
         try:
-            file.append(finder.text)
+            self.write(file, finder)
             return self.wait(file, lines, finder, limit)
         except TooLate as late:
             self.keep_lock(file, lines, finder)
             raise NoAnswer(f"the gateway did not answer within {self.timeout:g} s, and may still carry out the order: "
                            "check the gateway with enogate-check") from late
+        except Unrecognizable as error:
+            self.keep_lock(file, lines, finder)
+            raise NoAnswer("another program gave orders at the same moment, so no answer can be recognized: find out "
+                           "with `list` or `status` whether the order was carried out, and give it again if not"
+                           ) from error
         except Stopped:
             if file.text:
                 self.keep_lock(file, lines, finder)
             raise
         finally:
             lines.close()
+
+    def write(self, file: DeskFile, finder: AnswerFinder) -> None:
+        """Writes the orders with the fences that they need. The lines must be open already: then all orders that are
+        unanswered at their place are on the desk. Other programs may write between the two looks at it."""
+        finder.least = needed(file.read())
+        with held():
+            file.append(finder.text)
+            desk = file.read()
+            finder.least_with_errors = needed(desk, with_errors=True)
+            if not finder.is_status and not is_longest(finder.least, desk, file.text):
+                finder.least = finder.least_with_errors = NEVER
+        if finder.least == NEVER:
+            raise Unrecognizable
 
     def wait(self, file: DeskFile, lines: Lines, finder: AnswerFinder, limit: float) -> list[Answer]:
         """The answers, if they come in time and the desk still has the orders then."""

@@ -39,6 +39,10 @@ class DeskFile:
             return False
         return True
 
+    def read(self) -> bytes:
+        """What is on the desk; after `append`, what is before the appended text and the end of a line before it."""
+        return os.pread(self.file, self.start if self.text else os.fstat(self.file).st_size, 0)
+
     def append(self, text: bytes) -> None:
         """Appends this text in a single write. If the file ends with an incomplete line, that line is ended first."""
         size = os.fstat(self.file).st_size

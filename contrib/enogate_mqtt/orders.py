@@ -23,7 +23,7 @@ def orders_of(topics: Topics, topic: str, payload: bytes) -> bytes:
     if len(payload) > MAX_MESSAGE:
         raise Refused(f"{len(payload)} bytes, the maximum is {MAX_MESSAGE}")
     if topic == topics.orders:
-        return b"".join(line[:MAX_LINE] + b"\n" for line in payload.split(b"\n") if line)
+        return b"".join(without_end(line)[:MAX_LINE] + b"\n" for line in payload.split(b"\n") if line)
     command = payload.decode("ascii", "replace")
     if topic == topics.learn_command:
         order, expected = LEARN.get(command), "ON or OFF"
@@ -32,6 +32,12 @@ def orders_of(topics: Topics, topic: str, payload: bytes) -> bytes:
     if order is None:
         raise Refused(f"{payload[:SHOWN_OF_A_PAYLOAD]!r} is not {expected}")
     return order.encode() + b"\n"
+
+
+def without_end(line: bytes) -> bytes:
+    """A line without the CR of CR LF, which the gateway removes too: `status` CR LF is the end of a text of enogatectl.
+    Of several CR none is removed: with one fewer it would be another order."""
+    return line[:-1] if line.endswith(b"\r") and not line.endswith(b"\r\r") else line
 
 
 def command_order(place: str, command: str) -> tuple[str | None, str]:

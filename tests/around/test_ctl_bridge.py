@@ -13,6 +13,7 @@ from typing import Callable
 
 from bridge_testcase import OWN, GatewayTest
 from ctl_testcase import OK, REFUSED, Run
+from enogate_ctl.fence import needed
 from oracle.esp3 import sent
 from programs import WITHIN, lines_of, wait_for
 from services import BASE, CONTRIB, of_type
@@ -26,6 +27,8 @@ ROUNDS, MESSAGES = 3, 6
 # The pause between two messages, in seconds.
 PAUSE = 1.0
 SWITCH = "D2-01-12"
+# An order between its fences. Those of another program may be directly before them.
+FENCED = re.compile(rb"^(?:status\n)+(?!status\n)[^\r\n]+\nstatus\r\n", re.MULTILINE)
 # The types of the lines that end an answer.
 ENDS = ("ok", "teach", "error", "list", "status")
 SENSOR, NEVER_HEARD = "01800A02", "01800A03"
@@ -144,10 +147,11 @@ class Orders(WithBridge):
 
     def bridge_orders(self) -> tuple[int, int]:
         """How many orders `list` and `status` the bridge has given by itself. Each order of a program that is not
-        `status` is between three."""
-        on_desk, given = lines_of(self.gateway.desk), [order.split(" ")[0] for order in self.given]
-        fenced = sum(verb != "status" for verb in given)
-        statuses = given.count("status") + 3 * fenced + MESSAGES * 2
+        `status` has fences before it, and one after it, which ends with CR."""
+        desk, given = self.gateway.desk.read_bytes(), [order.split(" ")[0] for order in self.given]
+        on_desk = desk.decode("ascii").split("\n")
+        fences = sum(needed(desk[:found.start()]) for found in FENCED.finditer(desk))
+        statuses = given.count("status") + fences + MESSAGES * 2
         return on_desk.count("list") - given.count("list"), on_desk.count("status") - statuses
 
     def assert_answered(self) -> None:

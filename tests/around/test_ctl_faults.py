@@ -37,6 +37,19 @@ class Hangs(CtlTest):
                 self.go_on()
                 self.assert_ends(self.end(second), REFUSED, "unknown_device: ")
 
+    def test_orders_of_another_program_that_are_not_answered_yet(self):
+        """Between their fences they look like the order. The first one is answered with `ok`."""
+        self.assertEqual(self.ctl("add", "01900114", "D2-01-12").status, OK)
+        for fences in (2, 3):
+            with self.subTest(fences):
+                self.hang()
+                self.gateway.order(*["status"] * fences, "switch 01900114 0 on", "status")
+                size = self.desk_size()
+                process = self.begin("label", "01900112", "x")
+                self.wait_for_order(size)
+                self.go_on()
+                self.assert_ends(self.end(process), REFUSED, "unknown_device: ")
+
     def test_an_interrupted_order_keeps_the_lock(self):
         for number in (signal.SIGINT, signal.SIGTERM, signal.SIGHUP):
             with self.subTest(number.name):

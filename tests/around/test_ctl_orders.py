@@ -61,9 +61,9 @@ class Orders(CtlTest):
     def test_one_write_between_status_orders(self):
         before = self.gateway.desk.read_bytes()
         self.ctl("central", "3", "on")
-        self.assertEqual(self.gateway.desk.read_bytes(), before + b"status\nstatus\ncentral 3 on\nstatus\n")
+        self.assertEqual(self.gateway.desk.read_bytes(), before + b"status\nstatus\ncentral 3 on\nstatus\r\n")
         self.ctl("status")
-        self.assertEqual(self.gateway.desk.read_bytes(), before + b"status\nstatus\ncentral 3 on\nstatus\nstatus\n")
+        self.assertEqual(self.gateway.desk.read_bytes(), before + b"status\nstatus\ncentral 3 on\nstatus\r\nstatus\n")
 
     def test_json_is_the_lines_themselves(self):
         accepted = '{"eep":"D5-00-01","id":"01900001","maker":null,"result":"accepted","type":"teach"}\n'

@@ -77,7 +77,7 @@ class Orders(GatewayTest):
             errors = [f'{{"error":"{error}","type":"error"}}' for error in ("too_long", "syntax")]
             self.assert_soon(self.answers, [*errors, OK, OK])
         with self.subTest("the orders"):
-            self.assert_seen(self.given()[before:], ["0" * 202, "li\0st", "learn on\r", "learn off"])
+            self.assert_seen(self.given()[before:], ["0" * 202, "li\0st", "learn on", "learn off"])
         with self.subTest("the journal"):
             self.assert_seen(self.bridge.journal()[2:], [])
 

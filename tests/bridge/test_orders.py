@@ -28,6 +28,23 @@ class Orders(unittest.TestCase):
         """A line of 201 bytes and CR, and more: without its end it would be one of 201 bytes with CR LF."""
         self.assertEqual(len(self.orders("orders", b"x" * 201 + b"\rmore")), 203)
 
+    def test_the_end_of_a_line(self):
+        """A CR that the gateway would remove is removed."""
+        for payload, text in ((b"list\r\nstatus\r\n", b"list\nstatus\n"), (b"status\r", b"status\n"), (b"\r\n", b"\n"),
+                              (b"status\r\r", b"status\r\r\n"), (b"a\rb\n", b"a\rb\n")):
+            with self.subTest(payload):
+                self.assertEqual(self.orders("orders", payload), text)
+
+    def test_the_end_of_a_long_line(self):
+        """A line has its length without one CR at its end. The longest one that is valid has 200 bytes."""
+        for length, end, is_valid in (
+            (200, b"\r", True), (201, b"\r", False), (200, b"\r\r", False), (200, b"\r\r\r", False),
+            (201, b"\r\r", False), (199, b"\r\r", True), (200, b"\r\rx", False),
+        ):
+            with self.subTest((length, end)):
+                given = self.orders("orders", b"x" * length + end).removesuffix(b"\n")
+                self.assertEqual(len(given.removesuffix(b"\r")) <= 200, is_valid)
+
     def test_the_longest_message(self):
         self.assertEqual(MAX_MESSAGE, 16384)
         self.assertEqual(len(self.orders("orders", b"x\n" * 8192)), 16384)

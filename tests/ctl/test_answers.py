@@ -37,9 +37,47 @@ def between(order, *lines, before=0, after=0):
 class Rule(unittest.TestCase):
     def test_text(self):
         self.assertEqual(AnswerFinder("label 01800ABC a  b").text,
-                         b"status\nstatus\nlabel 01800ABC a  b\nstatus\n")
+                         b"status\nstatus\nlabel 01800ABC a  b\nstatus\r\n")
         self.assertEqual(AnswerFinder("status").text, b"status\n")
-        self.assertLess(len(AnswerFinder("label 01800ABC " + 32 * "x").text), 70)
+        self.assertLess(len(AnswerFinder("label 01800ABC " + 32 * "x").text), 71)
+
+    def test_more_fences(self):
+        """The order `status` needs none."""
+        finder = AnswerFinder("list")
+        finder.least = 4
+        self.assertEqual(finder.text, b"status\nstatus\nstatus\nstatus\nlist\nstatus\r\n")
+        finder = AnswerFinder("status")
+        finder.least = 4
+        self.assertEqual(finder.text, b"status\n")
+
+    def test_fewer_status_lines_than_fences_are_those_of_another_program(self):
+        fence, refused = status(), error("unknown_device")
+        lines = fence, fence, OK, fence, fence, fence, refused, fence
+        for least, wanted in ((2, OK), (3, refused), (4, None)):
+            with self.subTest(least):
+                finder = AnswerFinder("label 01800ABC x")
+                finder.least = finder.least_with_errors = least
+                answers = filter(None, (finder.take(json.dumps(line).encode()) for line in lines))
+                found = next(answers, None)
+                self.assertEqual(found and found[0].lines[0].members, wanted)
+
+    def test_an_error_in_a_row_of_status_lines(self):
+        """It may be that of an order between two rows. After it a new row begins, which is the second that counts."""
+        fence, failed, refused = status(), error("store"), error("unknown_device")
+        for with_errors, lines, wanted in (
+            (4, (fence, failed, fence, fence, OK, fence, fence, fence, refused, fence), refused),
+            (3, (fence, failed, fence, fence, OK, fence), OK), (4, (fence, failed, fence, fence, fence, OK, fence), OK),
+            (4, (fence, fence, failed, fence, fence, OK, fence), OK),
+            (5, (fence, fence, failed, fence, fence, OK, fence), None),
+            (9, (fence, packet("refused"), failed, fence, fence, OK, fence), OK),
+            (9, (fence, failed, fence, fence, failed, fence, OK, fence), None),
+        ):
+            with self.subTest((with_errors, lines)):
+                finder = AnswerFinder("label 01800ABC x")
+                finder.least, finder.least_with_errors = 3, with_errors
+                answers = filter(None, (finder.take(json.dumps(line).encode()) for line in lines))
+                found = next(answers, None)
+                self.assertEqual(found and found[0].lines[0].members, wanted)
 
     def test_own_lines(self):
         self.assertEqual(between("learn on", OK), [OK])
@@ -175,7 +213,7 @@ class SeveralOrders(unittest.TestCase):
 
     def test_text(self):
         self.assertEqual(AnswerFinder(*self.LABELS[:2]).text,
-                         b"status\nstatus\nlabel 01800ABC x\nstatus\nlabel 01800ABD x\nstatus\n")
+                         b"status\nstatus\nlabel 01800ABC x\nstatus\nlabel 01800ABD x\nstatus\r\n")
 
     def test_each_has_its_own_answer(self):
         lines = status(), status(), OK, status(), error("unknown_device"), status(), OK, status()

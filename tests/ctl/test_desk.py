@@ -55,7 +55,7 @@ class Asking(DeskTest):
         self.clock.acts[3] = lambda: self.write(*ANSWER)
         answer = self.made().ask("learn on")
         self.assertEqual(([line.members for line in answer.lines], answer.error), ([OK], None))
-        self.assertEqual(self.desk.read_text(), "status\nstatus\nlearn on\nstatus\n")
+        self.assertEqual(self.desk.read_bytes(), b"status\nstatus\nlearn on\nstatus\r\n")
         self.assertEqual((self.clock.slept, self.forks), ([PAUSE] * 3, 0))
 
     def test_an_error(self):
@@ -67,8 +67,8 @@ class Asking(DeskTest):
         with mock.patch("os.write", wraps=os.write) as write:
             self.clock.acts[1] = lambda: self.write(*ANSWER)
             self.made().ask("learn on")
-        self.assertEqual([call.args[1] for call in write.call_args_list], [b"status\nstatus\nlearn on\nstatus\n"])
-        self.assertEqual(self.desk.read_text(), "list\nstatus\nstatus\nlearn on\nstatus\n")
+        self.assertEqual([call.args[1] for call in write.call_args_list], [b"status\nstatus\nlearn on\nstatus\r\n"])
+        self.assertEqual(self.desk.read_bytes(), b"list\nstatus\nstatus\nlearn on\nstatus\r\n")
 
     def test_the_desk_is_unlocked_and_files_are_closed(self):
         before = len(os.listdir("/proc/self/fd"))
@@ -184,6 +184,112 @@ class Asking(DeskTest):
             self.assert_no_answer(f"the lines {self.lines} cannot be read: Permission denied; become root, or a member "
                                   "of the group enogate (log in again afterwards)")
         self.assertEqual(self.desk.read_text(), "")
+
+
+class OrdersOfOthers(DeskTest):
+    """Orders that another program wrote without a lock, and that are not answered yet."""
+
+    def setUp(self):
+        super().setUp()
+        self.others = "status\nstatus\nswitch 01800ABC 0 on\n"
+        self.refused = error("unknown_device")
+
+    def appended(self):
+        """What the order has appended to the desk."""
+        self.clock.acts[len(self.clock.slept) + 1] = lambda: self.write(*[status()] * 9, self.refused, status())
+        before = self.desk.read_bytes()
+        self.assertEqual(self.made().ask("label 01800ABD x").error, "unknown_device")
+        return self.desk.read_bytes().removeprefix(before).count(b"status\n")
+
+    def test_their_answer_is_not_taken(self):
+        self.desk.write_text(self.others)
+        self.clock.acts[1] = lambda: self.write(status(), status(), OK, status(), status(), status())
+        self.clock.acts[2] = lambda: self.write(self.refused, status())
+        self.assertEqual(self.made().ask("label 01800ABD x").error, "unknown_device")
+        self.assertEqual(self.desk.read_bytes(),
+                         self.others.encode() + b"status\nstatus\nstatus\nlabel 01800ABD x\nstatus\r\n")
+
+    def test_one_of_them_fails(self):
+        """With the line of a packet that fails, two rows of their status lines would look like one."""
+        self.desk.write_text("status\nlist\nstatus\nlabel 01800ABC x\n")
+        self.clock.acts[1] = lambda: self.write(status(), error("store"), status(), OK, status(), status())
+        self.clock.acts[2] = lambda: self.write(self.refused, status())
+        self.assertEqual(self.made().ask("label 01800ABD x").error, "unknown_device")
+
+    def test_after_the_next_order_they_do_not_count(self):
+        self.desk.write_text(self.others)
+        self.assertEqual([self.appended() for _ in range(3)], [3, 2, 2])
+
+    def test_several_orders(self):
+        self.desk.write_text(self.others)
+        self.clock.acts[1] = lambda: self.write(status(), status(), OK, *[status()] * 3, self.refused, status(), OK,
+                                                status())
+        answers = self.made().ask_all(["label 01800ABD x", "label 01800ABE x"])
+        self.assertEqual([answer.error for answer in answers], ["unknown_device", None])
+
+    def write_at_once(self, text):
+        """Another program appends this just before the command."""
+        def write(file, own):
+            with self.desk.open("a") as other:
+                other.write(text)
+            return real(file, own)
+        real = os.write
+        return mock.patch("os.write", side_effect=write)
+
+    def test_orders_that_are_written_at_the_same_moment(self):
+        text = ("another program gave orders at the same moment, so no answer can be recognized: find out with `list` "
+                "or `status` whether the order was carried out, and give it again if not")
+        for other in (self.others, "list", "status"):
+            with self.subTest(other), self.write_at_once(other):
+                self.forks = 0
+                self.assert_no_answer(text)
+                self.assertEqual((self.clock.slept, self.forks), ([], 1))
+        for other in ("status\n", "status\nlist\n"):
+            with self.subTest(other), self.write_at_once(other):
+                self.clock.acts[len(self.clock.slept) + 1] = lambda: self.write(*ANSWER)
+                self.made().ask("learn on")
+
+    def test_signals_are_held_until_the_desk_is_looked_at_again(self):
+        """The process that keeps the lock would otherwise take a wrong answer for that of the order."""
+        def look(*_words):
+            self.assertIn(signal.SIGTERM, signal.pthread_sigmask(signal.SIG_BLOCK, []))
+            return True
+        self.clock.acts[1] = lambda: self.write(*ANSWER)
+        with mock.patch.object(desks, "is_longest", side_effect=look) as looked:
+            self.made().ask("learn on")
+        looked.assert_called_once()
+        self.assertNotIn(signal.SIGTERM, signal.pthread_sigmask(signal.SIG_BLOCK, []))
+
+    def test_the_order_status_takes_any_status_line(self):
+        with self.write_at_once(self.others):
+            self.clock.acts[1] = lambda: self.write(status())
+            self.made().ask("status")
+
+    def test_the_lock_is_kept_then(self):
+        """Also if lines look like the answer."""
+        kept = []
+
+        def fork():
+            return len(kept)
+
+        def keep(_desk, file, lines, finder):
+            self.clock.acts[len(self.clock.slept) + 1] = lambda: self.write(*[status()] * 9, *ANSWER)
+            begin = self.clock.now
+            self.made().wait_for_end(file, lines, finder)
+            kept.append(self.clock.now - begin)
+        with self.write_at_once(self.others), mock.patch.object(Desk, "keep_lock", keep):
+            self.assertRaises(NoAnswer, self.made().ask, "learn on")
+        self.assertAlmostEqual(kept[0], KEPT_AFTER_ANSWER, 0)
+
+    def test_the_desk_is_read_after_the_lines_are_opened(self):
+        """An order that comes between the two may be answered after the place at which the lines were opened."""
+        def opened(path):
+            made = Lines(path)
+            with self.desk.open("a") as other:
+                other.write(self.others)
+            return made
+        with mock.patch.object(desks, "Lines", opened):
+            self.assertEqual(self.appended() - 2, 3)
 
 
 class Keeping(DeskTest):
