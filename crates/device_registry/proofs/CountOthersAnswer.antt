@@ -20,7 +20,6 @@ use Rattle.device_registry.specs.Stored.{IsVersion2RegistryOf}
 use Rattle.device_registry.proofs.DeviceCodec.{data_in, keyed}
 use Rattle.device_registry.proofs.DeviceMeaning.{count_means}
 use Rattle.device_registry.proofs.DevicesHeld.{few_devices, fewer}
-use Rattle.keyed_table.proofs.Statements.{compiled_query_stays}
 
 pub counts : (old new : State) (id : ℕ) (rows : List Row) (devices : Devices) → IsVersion2RegistryOf old.now devices
     → Shown count_others_sql (lookup_params id) old new rows → rows ≡ (count (len (remove devices id)) ∷ []) ∷ []
@@ -36,18 +35,6 @@ pub others_plain : (s : State) → IsReady s → IsPlain (understood s.now.schem
 others_plain s ready =
     let r = ready.shows.holds.registry in
     (count_means s.now.schema r.tables.devices_at r.tables.devices r.tables.devices_are_table).is_plain
-
--- the query writes nothing
-pub others_stay : {V : Type 0} (id : ℕ) (text : List ℕ) (old mid new : State) (items : V → List Row)
-    (r : Result V Error)
-    → WritesNothing old mid → (HasCleanDisk mid → text ≡ count_others_sql) → (HasCleanDisk mid → IsReady mid)
-    → Survives mid new (CommitsShowing text (lookup_params id) mid)
-    → (HasCleanDisk new → IfOk r (λ v. Shown text (lookup_params id) mid new (items v)))
-    → (HasCleanDisk new → IfErr r (FailsToQuery text (lookup_params id) mid new)) → WritesNothing old new
-others_stay id text old mid new items r first is ready survives shown failed =
-    compiled_query_stays count_others_sql text (lookup_params id) old mid new items r first is
-    (λ clean. others_plain mid (ready clean))
-    survives shown failed
 
 shown_number : (v : Value) (n : ℕ) (row : Row) (more : List Row) → (v ∷ []) ∷ [] ≡ row ∷ more
     → column row 0 ≡ Int (pos n) → v ≡ Int (pos n)

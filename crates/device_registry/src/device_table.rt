@@ -56,9 +56,11 @@ impl<C: SqlConnection> DeviceTable<C> {
     }
 
     /// Upserts a device, unless the registry is full of others, and returns whether it did. The device has the label
-    /// that its sender gets: the stored one, or the empty one if the sender is unknown.
+    /// that its sender gets: the stored one, or the empty one if the sender is unknown. A look-up has shown that the
+    /// connection is open.
     pub fn learn_unless_full(&mut self, device: Device) -> Result<bool, Error>
-        requires { HasCleanDisk (C.state self.old) → (devices : Devices) → HasDevicesIfOpen (C.state self.old) devices →
+        requires ready { HasCleanDisk (C.state self.old) → IsReady (C.state self.old) }
+        requires learned { HasCleanDisk (C.state self.old) → (devices : Devices) → HasDevicesIfOpen (C.state self.old) devices →
             data_after (get devices device.id) (Learn device.eep device.maker) ≡ Some (device_data device) }
         ensures adds { LearnsUnlessFull (registry_state (C.state self.old))
             (registry_state (C.state self.new)) device result }

@@ -1,6 +1,6 @@
-//! The registry's calls of the database, one statement each. A query first compiles its statement, which fails on a
-//! closed connection. A write requires an open connection, which an earlier query has shown: nothing is known about the
-//! writes of a closed one.
+//! The registry's calls of the database, one statement each. The first query of a call compiles its statement before
+//! it runs it, which fails on a closed connection. The count of the others and the writes require an open connection,
+//! which an earlier query has shown: nothing is known about the writes of a closed one.
 ghost use Rattle.std.specs.Prelude.{◌≡◌, [], ◌∷◌, map, pos, false, is_some, Ok, OnOk, OnErr, IfOk, IfErr};
 ghost use Rattle.std.specs.FinMap.{insert, get};
 ghost use Rattle.sqlite.specs.declared.types.Value.TheVariants.{Int, Text};
@@ -35,7 +35,19 @@ fn compile<C: SqlConnection>(conn: &mut C, sql: &str) -> Result<Statement, Error
 }
 
 /// The rows that a query for one sender shows.
-fn query_with_id<C: SqlConnection>(
+fn query_with_id<C: SqlConnection>(conn: &mut C, sql: &str, id: u32) -> Result<Vec<Row>, Error>
+    ensures shown { HasCleanDisk (C.state conn.new) → IfOk result
+        (λ rows. Shown sql.now (Int (pos id) ∷ []) (C.state conn.old) (C.state conn.new) rows.items) }
+    ensures failed { HasCleanDisk (C.state conn.new) →
+        IfErr result (FailsToQuery sql.now (Int (pos id) ∷ []) (C.state conn.old) (C.state conn.new)) }
+    ensures survives { Survives (C.state conn.old) (C.state conn.new)
+        (CommitsShowing sql.now (Int (pos id) ∷ []) (C.state conn.old)) }
+{
+    conn.query_all(sql, params![i64::from(id)])
+}
+
+/// The same for a query that was compiled.
+fn query_compiled_with_id<C: SqlConnection>(
     conn: &mut C,
     statement: &Statement,
     id: u32,
@@ -63,18 +75,17 @@ pub(crate) fn look_up<C: SqlConnection>(conn: &mut C, id: u32) -> Result<Vec<Row
         → IsDeviceOrNone (device_of devices id) rows.items)) }
 {
     let find = compile(conn, FIND)?;
-    query_with_id(conn, &find, id)
+    query_compiled_with_id(conn, &find, id)
 }
 
 /// Whether the registry is full for a sender.
 pub(crate) fn is_full_for<C: SqlConnection>(conn: &mut C, id: u32) -> Result<bool, Error>
-    requires { IsReadyIfOpen (C.state conn.old) }
+    requires { HasCleanDisk (C.state conn.old) → IsReady (C.state conn.old) }
     ensures stays { WritesNothing (C.state conn.old) (C.state conn.new) }
     ensures full { HasCleanDisk (C.state conn.new) → IfOk result (λ full. IsReady (C.state conn.new) ×
         ((devices : Devices) → IsReadyWith (C.state conn.old) devices → full ≡ is_full_for devices id)) }
 {
-    let others = compile(conn, COUNT_OTHERS)?;
-    let rows = query_with_id(conn, &others, id)?;
+    let rows = query_with_id(conn, COUNT_OTHERS, id)?;
     Ok(shown_count(&rows)? >= MAX_DEVICES as u64)
 }
 

@@ -158,7 +158,8 @@ module _ {M : Type 0} {Holds : Database → M → Type 0} where
       record { held = ready.held; shows = (goes_on is_open).1 ready.held ready.shows }
 
   -- a query of a ready database
-  query_stays : {V : Type 0} (sql : List ℕ) (params : Row) (old new : State) (items : V → List Row) (r : Result V Error)
+  pub query_stays : {V : Type 0} (sql : List ℕ) (params : Row) (old new : State) (items : V → List Row)
+      (r : Result V Error)
       → (HasCleanDisk old → IsPlain (understood old.now.schema sql))
       → Survives old new (CommitsShowing sql params old)
       → (HasCleanDisk new → IfOk r (λ v. Shown sql params old new (items v)))

@@ -42,13 +42,12 @@ macro_rules! read_rows {
 }
 
 /// Sets `readings: &mut Readings` to what the rows of the profile's arm read, and returns whether there is such an arm.
-/// If not, `readings` does not change. An arm is written as `pattern => { rows }`. The pattern is that of
-/// `(RORG, FUNC, TYPE)` or, if RORG and FUNC are known, of the type alone. Example, for `eep: Eep` and
-/// `bytes: &[u8; 1]`:
+/// If not, `readings` does not change. An arm is written as `pattern => { rows }`. The pattern is that of `(FUNC, TYPE)`
+/// or, if FUNC is known, of the type alone. Example, for `bytes: &[u8; 1]`:
 ///
 /// ```text
-/// read_profiles! { readings, (eep.rorg, eep.func, eep.typ), bytes, 1;
-///     (0xD5, 0x00, 0x01) => { "CO" (7, 1) [] words(&[(0, "open"), (1, "closed")]); }
+/// read_profiles! { readings, (func, typ), bytes, 1;
+///     (0x00, 0x01) => { "CO" (7, 1) [] words(&[(0, "open"), (1, "closed")]); }
 /// }
 /// ```
 #[macro_export]

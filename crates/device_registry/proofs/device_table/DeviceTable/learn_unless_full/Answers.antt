@@ -6,6 +6,9 @@ use Rattle.device_registry.proofs.RegistryCalls.{adds_not, is_full_then, refused
 use Rattle.device_registry.proofs.RegistryCalls.{add_refused, made_well, add_made, ready_both, ready_made}
 use Rattle.device_registry.proofs.device_table.DeviceTable.learn_unless_full.Goals as goal
 
+pub is_full_for-requires : goal.is_full_for-requires
+is_full_for-requires g c = rw (← c.self.view_is) at c.requires.ready
+
 -- ---- the count failed
 
 pub invariant_of-self : goal.invariant_of-self
@@ -61,7 +64,7 @@ invariant_of-self-in_err-upsert g c =
     let update = learn_update c.args.device in
     let stays = c.is_full_for.ensures.stays in
     let makes = puts_it old mid stays c.self.invariant update (device_data c.args.device)
-    (rw (← c.self.view_is) at c.requires) in
+    (rw (← c.self.view_is) at c.requires.learned) in
     refused_well old mid new update c.upsert.result stays c.self.invariant (c.upsert.ensures.turns update makes)
     (c.in_err-upsert.ensures.turns update makes).refused
 
@@ -73,7 +76,7 @@ returns-in_err-upsert-clause-adds g c =
     let update = learn_update c.args.device in
     let stays = c.is_full_for.ensures.stays in
     let makes = puts_it old mid stays c.self.invariant update (device_data c.args.device)
-    (rw (← c.self.view_is) at c.requires) in
+    (rw (← c.self.view_is) at c.requires.learned) in
     rw (← c.self.view_is) (add_refused old mid new c.upsert.result stays c.self.invariant c.args.device
     c.from_residual-in_err-upsert.result c.from_residual-in_err-upsert.ensures.0 (c.upsert.ensures.turns update makes)
     (c.in_err-upsert.ensures.turns update makes).refused
@@ -90,7 +93,7 @@ invariant_of-self-2 g c =
     let update = learn_update c.args.device in
     let stays = c.is_full_for.ensures.stays in
     let makes = puts_it old mid stays c.self.invariant update (device_data c.args.device)
-    (rw (← c.self.view_is) at c.requires) in
+    (rw (← c.self.view_is) at c.requires.learned) in
     made_well old mid new update c.upsert.result stays c.self.invariant (c.upsert.ensures.turns update makes)
     (c.in_ok-upsert.ensures.turns update makes).made
     (λ clean. (c.in_ok-is_full_for.ensures.full clean).0)
@@ -102,7 +105,7 @@ returns g c =
     let new = g.C.SqlConnection.state c.upsert.new.conn in
     let update = learn_update c.args.device in
     let stays = c.is_full_for.ensures.stays in
-    let asked = rw (← c.self.view_is) at c.requires in
+    let asked = rw (← c.self.view_is) at c.requires.learned in
     let makes = puts_it old mid stays c.self.invariant update (device_data c.args.device) asked in
     let turns = c.upsert.ensures.turns update makes in
     let made = (c.in_ok-upsert.ensures.turns update makes).made in

@@ -71,8 +71,11 @@ returns-in_ok-store_known-in-Some g c =
 
 -- ---- the sender is unknown
 
-pub store_new_unless_full-requires : goal.store_new_unless_full-requires
-store_new_unless_full-requires g c =
+pub store_new_unless_full-requires-clause-ready : goal.store_new_unless_full-requires-clause-ready
+store_new_unless_full-requires-clause-ready g c clean = (c.in_ok-known.ensures.ready clean).1
+
+pub store_new_unless_full-requires-clause-learned : goal.store_new_unless_full-requires-clause-learned
+store_new_unless_full-requires-clause-learned g c =
     let old = g.C.SqlConnection.state c.args.self.now in
     let mid = g.C.SqlConnection.state c.known.new.self in
     starts_unlabelled old mid c.args.device.id c.in_ok-known.field-0 c.in_ok-known.ensures.looks_up mid

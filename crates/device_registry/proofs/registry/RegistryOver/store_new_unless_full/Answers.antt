@@ -5,8 +5,11 @@ use Rattle.device_registry.specs.private.TableCalls.{LearnsUnlessFull}
 use Rattle.device_registry.proofs.CacheAgreement.{changed_recalled, full_recalled, cleared_recalled}
 use Rattle.device_registry.proofs.registry.RegistryOver.store_new_unless_full.Goals as goal
 
-pub learn_unless_full-requires : goal.learn_unless_full-requires
-learn_unless_full-requires g c = rw (← c.self.view_is) at c.requires
+pub learn_unless_full-requires-clause-ready : goal.learn_unless_full-requires-clause-ready
+learn_unless_full-requires-clause-ready g c = rw (← c.self.view_is) at c.requires.ready
+
+pub learn_unless_full-requires-clause-learned : goal.learn_unless_full-requires-clause-learned
+learn_unless_full-requires-clause-learned g c = rw (← c.self.view_is) at c.requires.learned
 
 -- ---- the registry is not full
 
@@ -23,7 +26,7 @@ invariant_of-self g c =
           c.drop_entry.new.cache.entries c.insert_entry.new.cache.entries adds.clean c.in-Ok-true.ensures.ready
           (λ clean devices has. (adds.devices clean devices has).1)
           (λ clean devices has. ap (λ it. Some it) c.copied-copy.ensures
-          ∙ sym (ap (option_map (device c.args.device.id)) ((rw (← c.self.view_is) at c.requires) clean devices has)))
+          ∙ sym (ap (option_map (device c.args.device.id)) ((rw (← c.self.view_is) at c.requires.learned) clean devices has)))
           c.self.invariant.1 c.drop_entry.ensures.kept c.insert_entry.ensures.kept,
     )
 
