@@ -273,7 +273,7 @@ class Orders(GrowthsTest):
         self.assertEqual(after - before, wanted)
 
     def test_a_third_add(self):
-        self.assert_growths(56, self.TWO, "add 00000003 D5-00-01\n")
+        self.assert_growths(51, self.TWO, "add 00000003 D5-00-01\n")
 
     def test_an_add_of_a_known_device(self):
         self.assert_growths(32, self.TWO, "add 00000001 D5-00-01\n")
