@@ -28,7 +28,7 @@ use Rattle.keyed_table.proofs.RowsApart.{ranked, ranked_rises, ranked_permutes}
 use Rattle.keyed_table.proofs.RowsAsMap.{differ_from, keyed_turned, key_below}
 use Rattle.keyed_table.proofs.TextMeaning.{answer_of}
 use Rattle.device_registry.proofs.DeviceCodec.{key_of, keyed, stored_keyed}
-use Rattle.device_registry.proofs.ListDevicesAnswer.{shown, shows_devices, shows_ranked}
+use Rattle.device_registry.proofs.ListDevicesAnswer.{shows_devices, shows_ranked}
 use Rattle.std.specs.List.{AllByRecursion}
 use Rattle.std.proofs.lemmas.Bool.Decides.{nat_tests}
 use Rattle.std.proofs.lemmas.List.{length-map}
@@ -36,7 +36,7 @@ use Rattle.std.proofs.lemmas.Int.{ints}
 use Rattle.sqlite.specs.declared.types.Value.{Value}
 use Rattle.sqlite_trees.proofs.ListLemmas.{all_weaker, all-permutation, ascending-map, pull_back}
 use Rattle.keyed_table.proofs.Statements.{shown_same}
-use Rattle.device_registry.proofs.StatementTexts.{all_query}
+use Rattle.device_registry.proofs.StatementTexts.{all_query, shown}
 use Rattle.device_registry.proofs.DeviceMeaning.{all_means}
 use Rattle.device_registry.proofs.VersionMeaning.{version_query, version_means}
 use Rattle.std.proofs.lemmas.Bool.{and_parts}
