@@ -1,8 +1,8 @@
 -- The effect of the statement that copies the devices of version 1.
-use Rattle.std.proofs.Common.{◌≡◌, ℕ, pos, List, [], ◌∷◌, Some, Option, refl, sym, subst, slice_get}
+use Rattle.std.proofs.Common.{◌≡◌, ℕ, List, [], ◌∷◌, Some, Option, refl, slice_get}
 use Rattle.std.specs.List.{AllByRecursion}
 use Rattle.std.specs.List.Sorted.{IsPermutation}
-use Rattle.sqlite.specs.declared.types.Value.TheVariants.{Null, Int, Text}
+use Rattle.sqlite.specs.declared.types.Value.TheVariants.{Null}
 use Rattle.sqlite.specs.declared.run.Mode.{Mode}
 use Rattle.sqlite.specs.Order.{Row}
 use Rattle.sqlite.specs.Schema.{Schema}
@@ -26,10 +26,7 @@ use Rattle.device_registry.proofs.StatementTexts.{copy_query}
 -- a row of a device with the empty label is stored as it is given
 stored : (n : ℕ) (row : Row) → IsDeviceRow (with_empty_label row)
     → cast_row (device_table Second n) (with_empty_label row) ≡ with_empty_label row
-stored n row it =
-    let is : with_empty_label row ≡ Int (pos it.id) ∷ Null ∷ Int (pos it.eep) ∷ Int it.maker ∷ Text [] ∷ [] =
-    λ i. it.id_is i ∷ Null ∷ it.eep_is i ∷ it.maker_is i ∷ Text [] ∷ [] in
-    subst (λ r. cast_row (device_table Second n) r ≡ r) (sym is) (simp casts)
+stored n row it = rw (it.id_is, it.eep_is, it.maker_is) (simp casts)
 
 all_stored : (n : ℕ) (rows : List Row) → AllByRecursion IsDeviceRow (upgraded_rows First rows)
     → AllByRecursion (λ r. cast_row (device_table Second n) r ≡ r) (upgraded_rows First rows)

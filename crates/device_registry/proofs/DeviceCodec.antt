@@ -40,7 +40,7 @@ eep_back eep short =
 
 pub data_back : (id : ℕ) (it : DeviceData) → IsShort it.eep → data_in (device_row id it) ≡ it
 data_back id it short =
-    ap₂ (λ (e : Eep) (o : Option ℕ). let it : DeviceData = record { eep = e; maker = o; label = it.label } in it)
+    ap₂ (λ (e : Eep) (o : Option ℕ). let now : DeviceData = record it { eep = e; maker = o } in now)
     (eep_back it.eep short) (maker_back it.maker)
 
 pub key_of : (row : Row) → IsDeviceRow row → HasKey row

@@ -1,20 +1,17 @@
 -- The meaning of the texts on the device table.
-use Rattle.std.proofs.Common.{ℕ, List, [], ◌∷◌, codes, None, Some, refl}
-use Rattle.sqlite.specs.Collation.TheVariants.{Binary}
+use Rattle.std.proofs.Common.{ℕ, [], ◌∷◌, codes, None, refl}
 use Rattle.sqlite.specs.Command.TheVariants.{Delete, InsertOr, Select}
 use Rattle.sqlite.specs.Schema.{Schema}
-use Rattle.sqlite.specs.Source.TheVariants as source
 use Rattle.sqlite_ast.specs.declared.Binary.TheVariants.{Eq, Ne}
 use Rattle.sqlite_ast.specs.declared.Conflict.TheVariants as conflict
-use Rattle.sqlite_ast.specs.declared.Expr.TheVariants.{CallStar, Parameter, Text}
+use Rattle.sqlite_ast.specs.declared.Expr.TheVariants.{CallStar}
 use Rattle.sqlite_ast.specs.declared.Rows.TheVariants.{Values}
-use Rattle.sqlite_ast.specs.declared.Shown.{Shown as Column}
 use Rattle.sqlite_ast.specs.declared.Shown.TheVariants.{One}
 use Rattle.sqlite_ast.specs.declared.Statement.TheVariants as written
 use Rattle.sqlite_schema.specs.declared.command.Conflict.TheVariants.{Replace}
 use Rattle.sqlite_tied.specs.Compute.{everything}
 use Rattle.keyed_table.specs.Queries.{count_others_query, program_of}
-use Rattle.keyed_table.proofs.SelectMeaning.{IsPlainSelect, plain_select, select_means, column_read, by_column}
+use Rattle.keyed_table.proofs.SelectMeaning.{IsPlainSelect, plain_select, select_means, by_column}
 use Rattle.keyed_table.proofs.SelectMeaning.{parameter_test, count_draft}
 use Rattle.keyed_table.proofs.TextMeaning.{ParsesAs, CompilesTo, draft_of}
 use Rattle.keyed_table.proofs.WriteMeaning.{delete_means, insert_means}
@@ -23,20 +20,8 @@ use Rattle.device_registry.specs.declared.table.Version.TheVariants.{First, Seco
 use Rattle.device_registry.specs.Stored.{IsTableAt}
 use Rattle.device_registry.specs.Table.{find_sql, find_all_sql, count_others_sql, upsert_sql, delete_sql}
 use Rattle.device_registry.specs.Table.{device_table_name, device_table}
-use Rattle.device_registry.proofs.StatementTexts.{find_query, all_query, forget_query, put_terms}
-
--- the label that is shown, and the name of its column
-abbrev label_read : Version → Column
-label_read First = One (Text []) None (codes "''")
-label_read Second = column_read (codes "label")
-
-abbrev shown_columns : Version → List (List ℕ)
-shown_columns First = codes "id" ∷ codes "eep" ∷ codes "maker" ∷ codes "''" ∷ []
-shown_columns Second = codes "id" ∷ codes "eep" ∷ codes "maker" ∷ codes "label" ∷ []
-
-abbrev columns_read : Version → List Column
-columns_read version = column_read (codes "id") ∷ column_read (codes "eep") ∷ column_read (codes "maker")
-    ∷ label_read version ∷ []
+use Rattle.device_registry.proofs.StatementTexts.{find_query, all_query, forget_query, put_source, parameters}
+use Rattle.device_registry.proofs.StatementTexts.{columns_read, shown_columns, collations}
 
 -- ---- how the texts are read
 
@@ -57,7 +42,7 @@ unfolding everything
 count_is = record { read = record { parsed = _; read = refl; is = refl; needs_no_time = refl } }
 
 put_read : ParsesAs upsert_sql (written.Insert conflict.Replace (device_table_name Second) (shown_columns Second)
-    (Values ((Parameter 1 ∷ Parameter 2 ∷ Parameter 3 ∷ Parameter 4 ∷ []) ∷ [])) [] [])
+    (Values (parameters ∷ [])) [] [])
 unfolding everything
 put_read = record { parsed = _; read = refl; is = refl; needs_no_time = refl }
 
@@ -65,14 +50,14 @@ forget_read : ParsesAs delete_sql (written.Delete (device_table_name Second) (pa
 unfolding everything
 forget_read = record { parsed = _; read = refl; is = refl; needs_no_time = refl }
 
--- ---- the commands. The rowid has no collation, and neither has a literal text.
+-- ---- the commands
 
 module _ (schema : Schema) (at d : ℕ) where
   pub find_means : IsTableAt schema (device_table_name Second) (device_table Second d) at
       → CompilesTo schema find_sql (Select (program_of (find_query d)) (shown_columns Second))
   unfolding everything
   find_means it = select_means find_is it (draft_of (device_table Second d) (find_query d))
-      (None ∷ Some Binary ∷ Some Binary ∷ Some Binary ∷ [])
+      (collations Second)
       (rw (it.there, it.there)) (record { from = refl; accepted = refl })
 
   pub count_means : IsTableAt schema (device_table_name Second) (device_table Second d) at
@@ -82,7 +67,7 @@ module _ (schema : Schema) (at d : ℕ) where
       (rw (it.there, it.there)) (record { from = refl; accepted = refl })
 
   pub put_means : IsTableAt schema (device_table_name Second) (device_table Second d) at
-      → CompilesTo schema upsert_sql (InsertOr at Replace (source.Values put_terms 5) [])
+      → CompilesTo schema upsert_sql (InsertOr at Replace put_source [])
   unfolding everything
   put_means it = insert_means it _ put_read refl (λ base. rw (it.named, it.there))
 
@@ -97,9 +82,9 @@ pub all_means : (version : Version) (schema : Schema) (at d : ℕ)
     → CompilesTo schema (find_all_sql version) (Select (program_of (all_query version d)) (shown_columns version))
 unfolding everything
 all_means First schema at d it = select_means (all_is First) it (draft_of (device_table First d) (all_query First d))
-    (None ∷ Some Binary ∷ Some Binary ∷ None ∷ [])
+    (collations First)
     (rw (it.there, it.there, it.there, it.there)) (record { from = refl; accepted = refl })
 all_means Second schema at d it =
     select_means (all_is Second) it (draft_of (device_table Second d) (all_query Second d))
-    (None ∷ Some Binary ∷ Some Binary ∷ Some Binary ∷ [])
+    (collations Second)
     (rw (it.there, it.there, it.there, it.there)) (record { from = refl; accepted = refl })

@@ -3,7 +3,6 @@ use Rattle.std.proofs.Common.{true, ◌≡◌, ℕ, List, [], Option, Some, None
 use Rattle.std.proofs.Common.{refl, sym, ap, subst, false}
 use Rattle.std.specs.FinMap.{get, insert, remove}
 use Rattle.sqlite.specs.Command.TheVariants.{InsertOr, Delete}
-use Rattle.sqlite.specs.Source.TheVariants.{Values}
 use Rattle.sqlite_schema.specs.declared.command.Conflict.TheVariants.{Replace}
 use Rattle.sqlite.specs.declared.error.Error.{Error}
 use Rattle.sqlite.specs.Effect.{Database, IsDatabase}
@@ -15,7 +14,7 @@ use Rattle.device_registry.specs.Table.{upsert_sql, delete_sql, device_table}
 use Rattle.learned_devices.specs.Devices.{Devices, DeviceData, DeviceUpdate, apply_update, forget_update, is_full_for}
 use Rattle.device_registry.specs.Stored.{IsVersion2RegistryOf}
 use Rattle.device_registry.specs.Ready.{IsReadyWith, IsReady, CommitsOrMayBeLeft}
-use Rattle.device_registry.proofs.StatementTexts.{put_terms, forget_query}
+use Rattle.device_registry.proofs.StatementTexts.{put_source, forget_query}
 use Rattle.device_registry.proofs.DeviceMeaning.{put_means}
 use Rattle.device_registry.proofs.DeviceMeaning.{forget_means}
 use Rattle.device_registry.proofs.DeviceCodec.{IsShort}
@@ -40,7 +39,7 @@ put_does : (update : DeviceUpdate) (id : ℕ) (it : DeviceData) → IsShort it.e
     (after : Database) (text : List ℕ) (tally : Tally) (devices : Devices) (had : IsVersion2RegistryOf s.now devices)
     → IsDatabase s.now → MakesIt update id it devices
     → Does s.step_limit (mode_of s) (upsert_params id it) s.now text None
-    (InsertOr had.registry.tables.devices_at Replace (Values put_terms 5) []) (Ok (tally, after))
+    (InsertOr had.registry.tables.devices_at Replace put_source []) (Ok (tally, after))
     → IsVersion2RegistryOf after (apply_update devices update)
 put_does update id it short label s after text tally devices had sound room h =
     let r = had.registry in
@@ -48,7 +47,7 @@ put_does update id it short label s after text tally devices had sound room h =
     let stored : cast_row table (device_row id it) ≡ device_row id it = simp casts in
     let put = upserts s.now.schema r.tables.devices_at table r.tables.devices_are_table.there
     (devices_alone s.now.schema r.tables) s.step_limit (mode_of s) (upsert_params id it) (device_row id it) stored
-    (Values put_terms 5) s.now.trees tally after refl
+    put_source s.now.trees tally after refl
     (λ rows given. (device_row id it, given.1, ap (with_rowid Chosen (s.now.trees r.tables.devices)) stored)) h in
     subst (IsVersion2RegistryOf after) (sym room.1)
     (put_registers s.now after devices had sound id it short label room.0 put.0 put.1)
@@ -60,7 +59,7 @@ pub put_turns : (update : DeviceUpdate) (id : ℕ) (it : DeviceData) → IsShort
     → (HasCleanDisk new → Executes upsert_sql (upsert_params id it) old new r) → CommitsOrMayBeLeft old new update r
 put_turns update id it short label =
     turned upsert_sql (upsert_params id it) (λ devices. apply_update devices update) (MakesIt update id it)
-    (λ db devices had. InsertOr had.registry.tables.devices_at Replace (Values put_terms 5) [])
+    (λ db devices had. InsertOr had.registry.tables.devices_at Replace put_source [])
     (λ db devices had. tt)
     (λ db devices had. let t = had.registry.tables in put_means db.schema t.devices_at t.devices t.devices_are_table)
     (put_does update id it short label)

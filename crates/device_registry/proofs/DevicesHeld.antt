@@ -29,7 +29,7 @@ use Rattle.device_registry.specs.Table.Rows.{RowidsDiffer, IsDeviceRow, IsVersio
 use Rattle.device_registry.specs.Table.Rows.{device_row}
 use Rattle.device_registry.specs.Opening.{DevicesAreLimited}
 use Rattle.device_registry.proofs.RewriteVersionEffect.{version_row}
-use Rattle.device_registry.proofs.DeviceChecks.{checked}
+use Rattle.device_registry.proofs.DeviceRows.{checked}
 use Rattle.device_registry.proofs.DeviceCodec.{IsShort, data_in, data_back, keyed}
 use Rattle.device_registry.proofs.StatementTexts.{forget_query}
 use Rattle.device_registry.proofs.TablesAlone.{devices_alone, devices_lone, meta_lone}

@@ -2,7 +2,7 @@ pub mod CacheAgreement
 pub mod CacheSteps
 pub mod CountOthersAnswer
 pub mod CreateTablesMeaning
-pub mod DeviceChecks
+pub mod DeviceRows
 pub mod DeviceCodec
 pub mod DeviceMeaning
 pub mod DevicesHeld

@@ -1,9 +1,9 @@
 -- The rows of the queries that list all devices.
-use Rattle.std.proofs.Common.{◌≡◌, List, [], ◌∷◌, ℕ, map, refl, sym, ap, subst, ◌∙◌}
+use Rattle.std.proofs.Common.{◌≡◌, List, [], ℕ, map, refl, sym, ap, subst, ◌∙◌}
 use Rattle.std.specs.List.{AllByRecursion}
 use Rattle.std.specs.FinMap.{entries}
 use Rattle.std.specs.List.Sorted.{IsPermutation}
-use Rattle.sqlite.specs.Order.{Row, column}
+use Rattle.sqlite.specs.Order.{Row}
 use Rattle.sqlite.specs.Query.{IsAnswer}
 use Rattle.sqlite.specs.Program.{overlay}
 use Rattle.sqlite.specs.State.{State, Shown}
@@ -25,12 +25,9 @@ use Rattle.device_registry.specs.Stored.{IsVersion2RegistryOf}
 use Rattle.device_registry.specs.Table.Rows.{RowidsDiffer, IsDeviceRow, entry_of, shown_device, with_empty_label}
 use Rattle.device_registry.specs.Table.Rows.{upgraded_rows}
 use Rattle.device_registry.specs.Ready.{IsReady}
-use Rattle.device_registry.proofs.StatementTexts.{device_terms, all_query}
+use Rattle.device_registry.proofs.StatementTexts.{device_terms, shown, all_query}
 use Rattle.device_registry.proofs.DeviceCodec.{data_in, keyed, stored_keyed}
 use Rattle.device_registry.proofs.DeviceMeaning.{all_means}
-
-abbrev pub shown : Row → Row
-shown row = column row 0 ∷ column row 2 ∷ column row 3 ∷ column row 4 ∷ []
 
 shown_are : (version : Version) (rows : List Row)
     → map (λ r. eval_all (device_terms version) (env_of [] r)) rows ≡ map shown (upgraded_rows version rows)

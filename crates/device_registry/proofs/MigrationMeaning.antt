@@ -1,16 +1,11 @@
 -- The meaning of the texts that copy the devices of version 1 and drop its table.
-use Rattle.std.proofs.Common.{◌≡◌, ℕ, List, [], ◌∷◌, codes, false, None, Some, Ok, refl}
-use Rattle.sqlite.specs.declared.types.Value.TheVariants as value
-use Rattle.sqlite.specs.Term.{lit, col}
-use Rattle.sqlite.specs.Collation.TheVariants.{Binary}
+use Rattle.std.proofs.Common.{◌≡◌, ℕ, [], false, None, Ok, refl}
 use Rattle.sqlite.specs.Schema.{Schema}
 use Rattle.sqlite.specs.Source.TheVariants as source
 use Rattle.sqlite.specs.Command.TheVariants.{Insert, DropTable}
 use Rattle.sqlite_schema.specs.Names.{view_named, same_name}
 use Rattle.sqlite_ast.specs.declared.Conflict.TheVariants.{Abort}
-use Rattle.sqlite_ast.specs.declared.Expr.TheVariants.{Text}
 use Rattle.sqlite_ast.specs.declared.Rows.TheVariants as rows
-use Rattle.sqlite_ast.specs.declared.Shown.TheVariants.{One}
 use Rattle.sqlite_ast.specs.declared.Statement.TheVariants as written
 use Rattle.sqlite_draft.specs.declared.query.Draft.{Draft}
 use Rattle.sqlite_resolve.specs.Compile.{timed, returning, command, drop_table, insert, insert_or_abort, new_rows}
@@ -19,40 +14,31 @@ use Rattle.sqlite_resolve.specs.Write.{inserted, selected, as_row, places}
 use Rattle.sqlite_tied.specs.Compute.{everything}
 use Rattle.device_registry.specs.declared.table.Version.TheVariants.{First, Second}
 use Rattle.keyed_table.specs.Queries.{program_of, plain_query}
-use Rattle.keyed_table.proofs.SelectMeaning.{column_read}
-use Rattle.device_registry.proofs.StatementTexts.{copy_query}
+use Rattle.device_registry.proofs.StatementTexts.{copy_query, device_terms, columns_read, shown_columns, collations}
+use Rattle.device_registry.proofs.StatementTexts.{filled_places}
 use Rattle.keyed_table.proofs.TextMeaning.{ParsesAs, CompilesTo, means, draft_of, program_is}
 use Rattle.keyed_table.proofs.SelectMeaning.{PlainSelect, plain_select, select_of, asked, query_is}
 use Rattle.keyed_table.proofs.WriteMeaning.{insert_means}
 use Rattle.device_registry.specs.Table.{copy_sql, drop_sql, device_table_name, device_table}
 use Rattle.device_registry.specs.Stored.{IsTableAt}
 
--- the columns that are filled, and their indexes in a row
-abbrev filled : List (List ℕ)
-filled = codes "id" ∷ codes "eep" ∷ codes "maker" ∷ codes "label" ∷ []
-
-abbrev filled_places : List ℕ
-filled_places = 0 ∷ 2 ∷ 3 ∷ 4 ∷ []
-
 -- the devices of version 1, each with the empty label
 abbrev copied : PlainSelect
-copied = plain_select (device_table_name First) (column_read (codes "id") ∷ column_read (codes "eep")
-    ∷ column_read (codes "maker") ∷ One (Text []) None (codes "''") ∷ []) None []
+copied = plain_select (device_table_name First) (columns_read First) None []
 
 copy_read : ParsesAs copy_sql
-    (written.Insert Abort (device_table_name Second) filled (rows.Select (select_of copied)) [] [])
+    (written.Insert Abort (device_table_name Second) (shown_columns Second) (rows.Select (select_of copied)) [] [])
 unfolding everything
 copy_read = record { parsed = _; read = refl; is = refl; needs_no_time = refl }
 
 -- the same as a query, before its output is arranged as rows of version 2
 abbrev copy_draft : ℕ → Draft
-copy_draft d = draft_of (device_table First d)
-    (plain_query d [] (col 1 0 ∷ col 1 2 ∷ col 1 3 ∷ lit (value.Text []) ∷ []))
+copy_draft d = draft_of (device_table First d) (plain_query d [] (device_terms First))
 
 abbrev laid_out : ℕ → Draft
 laid_out d = record (copy_draft d) { project = (copy_query d).project; collations = (copy_query d).collations }
 
-places_are : (e : ℕ) → places (device_table Second e) filled ≡ Ok filled_places
+places_are : (e : ℕ) → places (device_table Second e) (shown_columns Second) ≡ Ok filled_places
 unfolding everything
 places_are e = refl
 
@@ -63,11 +49,7 @@ row_is base d e = refl
 
 module _ (schema : Schema) (at d : ℕ) (it : IsTableAt schema (device_table_name First) (device_table First d) at) where
   asks : asked schema at (device_table First d) copied
-      ≡ Ok (
-        copy_draft d,
-        codes "id" ∷ codes "eep" ∷ codes "maker" ∷ codes "''" ∷ [],
-        None ∷ Some Binary ∷ Some Binary ∷ None ∷ [],
-      )
+      ≡ Ok (copy_draft d, shown_columns First, collations First)
   unfolding everything
   asks = rw (it.there, it.there)
 

@@ -6,7 +6,7 @@ use Rattle.std.specs.FinMap.{empty, get, insert}
 use Rattle.sqlite.specs.Order.{Row}
 use Rattle.std.proofs.Common.{◌≡◌, true, false, inl, inr, ℕ, Bool, Option, Result, Ok, Err, IsTrue, IfOk, OnOk}
 use Rattle.std.proofs.Common.{Some, None, is_some, option_map, MatchBool, MatchResult}
-use Rattle.std.proofs.Common.{List, [], map, refl, sym, ap, subst, ◌∙◌}
+use Rattle.std.proofs.Common.{List, map, refl, sym, ap, subst, ◌∙◌}
 use Rattle.sqlite_trees.specs.Tree.{Trees}
 use Rattle.sqlite.specs.Effect.{Database}
 use Rattle.sqlite.specs.State.{State, HasCleanDisk}
@@ -16,7 +16,7 @@ use Rattle.learned_devices.specs.declared.fault.StoreFault.{StoreFault}
 use Rattle.learned_devices.specs.declared.fault.LearnFault.{LearnFault}
 use Rattle.learned_devices.specs.Devices.{Devices, DeviceData, Operation, Learn, DeviceUpdate}
 use Rattle.learned_devices.specs.Devices.{with_entry, apply_update, data_after, learn_update}
-use Rattle.learned_devices.specs.Devices.{relabel_update, kept_label, device_data, device, device_of}
+use Rattle.learned_devices.specs.Devices.{relabel_update, device_data, device, device_of}
 use Rattle.learned_devices.specs.Devices.{devices_by_ascending_id, is_full_for}
 use Rattle.learned_devices.specs.DeviceStoreState.{Keeps, Commits, LeavesPending}
 use Rattle.learned_devices.specs.StoreCalls.{RefusesToLearn, LooksUp, Updates, Learns, Relabels, ListsAll}
@@ -341,6 +341,11 @@ stays_itself s = record {
 
 -- ---- a look-up first
 
+unknown_as : (id : ℕ) (known : Option DeviceData) → ◌≡◌ {A = Option Device} None (option_map (device id) known)
+    → known ≡ None
+unknown_as id None e = refl
+unknown_as id (Some it) e = absurd (let some = e in cc)
+
 -- a sender that is known as this device
 pub known_as : (id : ℕ) (known : Option DeviceData) (was : Device) → Some was ≡ option_map (device id) known
     → known ≡ Some (device_data was)
@@ -410,12 +415,6 @@ module _ (old mid : State) (id : ℕ) where
         (ap is_some it.0 ∙ known_if_stored (get devices id), it.1);
   }
 
-  -- the label of a device is that of the stored data
-  label_in_device : (id : ℕ) (known : Option DeviceData)
-      → kept_label (option_map device_data (option_map (device id) known)) ≡ kept_label known
-  label_in_device id None = refl
-  label_in_device id (Some it) = refl
-
   module _ (known : Option Device) (looks : LooksUp {E = StoreFault} (registry_state old) (registry_state mid) id
       (Ok known))
       (new : State) where
@@ -458,16 +457,15 @@ module _ (old mid : State) (id : ℕ) where
           → is_some known ≡ is_some (get devices id)
       known_now clean devices has = ap is_some (reported_now clean devices has) ∙ known_if_stored (get devices id)
 
-      -- an unknown sender gets the empty label
-      pub starts_unlabelled : (it : Device) → known ≡ None → it.id ≡ id → it.label ≡ [] → HasCleanDisk mid
+      -- a device that is made of nothing is what an unknown sender gets
+      pub starts_new : (it : Device) → known ≡ None → it.id ≡ id
+          → data_after None (Learn it.eep it.maker) ≡ Some (device_data it) → HasCleanDisk mid
           → (devices : Devices) → HasDevicesIfOpen mid devices
           → data_after (get devices it.id) (Learn it.eep it.maker) ≡ Some (device_data it)
-      starts_unlabelled it none at empty clean devices has =
-          let label : it.label ≡ kept_label (get devices it.id) =
-          empty ∙ sym (ap (λ o. kept_label (option_map device_data o)) none)
-          ∙ ap (λ o. kept_label (option_map device_data o)) (reported_now clean devices has)
-          ∙ label_in_device id (get devices id) ∙ ap (λ n. kept_label (get devices n)) (sym at) in
-          ap (λ l. Some (record { eep = it.eep; maker = it.maker; label = l })) (sym label)
+      starts_new it none at new clean devices has =
+          let is = ap (get devices) at
+          ∙ unknown_as id (get devices id) (sym none ∙ reported_now clean devices has) in
+          ap (λ o. data_after o (Learn it.eep it.maker)) is ∙ new
 
       -- an operation on a known sender
       module _ (was it : Device) (some : known ≡ Some was) (at : it.id ≡ id) where

@@ -1,10 +1,10 @@
 -- The output of the two queries that read a whole table.
 use Rattle.sqlite.specs.declared.error.Error.{Error}
-use Rattle.std.proofs.Common.{◌≡◌, ◌≢◌, ◌+◌, nat_le, ℕ, ℤ, true, ◌≤ℤ◌, negsuc, Less, Result, Ok, Err, IfOk}
+use Rattle.std.proofs.Common.{◌≡◌, ◌≢◌, ◌+◌, ℕ, true, Less, Result, Ok, Err, IfOk}
 use Rattle.std.proofs.Common.{◌≤◌, pos, List, [], ◌∷◌, map, length, refl, sym, ap, subst, ◌∙◌, arith}
 use Rattle.std.specs.List.Sorted.{IsPermutation}
 use Rattle.std.proofs.lemmas.List.Sorted.{length_permutation, IsPermutation-sym, IsPermutation-map}
-use Rattle.sqlite.specs.declared.types.Value.TheVariants.{Null, Int, Real, Text, Blob}
+use Rattle.sqlite.specs.declared.types.Value.TheVariants.{Int}
 use Rattle.sqlite.specs.Order.{Row, column, value_cmp}
 use Rattle.sqlite.specs.Query.{IsAnswer}
 use Rattle.sqlite.specs.Program.{overlay}
@@ -13,30 +13,26 @@ use Rattle.sqlite.specs.Listing.{understood}
 use Rattle.sqlite.specs.Effect.{Database}
 use Rattle.sqlite.specs.State.{State, Shown, IsUnchanged}
 use Rattle.sqlite.proofs.Callers.{IsPlain}
-use Rattle.learned_devices.specs.Labels.{is_label}
 use Rattle.device_registry.specs.declared.table.Version.{Version}
 use Rattle.device_registry.specs.declared.table.Version.TheVariants.{First, Second}
 use Rattle.device_registry.specs.Table.{version_number, find_all_sql, read_version_sql}
-use Rattle.device_registry.specs.Table.{max_sender, max_profile, max_maker}
 use Rattle.device_registry.specs.Stored.{HasTables, HasValidRows}
 use Rattle.device_registry.specs.Table.Rows.{RowidsDiffer, IsDeviceRow, upgraded_rows, with_empty_label}
 use Rattle.learned_devices.specs.Devices.{max_devices}
-use Rattle.device_registry.specs.Table.Rows.{ShowsVersion, natural_in, is_natural_up_to, is_maker, is_label_text}
-use Rattle.device_registry.specs.Table.Rows.{shows_device, are_ascending_devices}
+use Rattle.device_registry.specs.Table.Rows.{ShowsVersion, natural_in}
+use Rattle.device_registry.specs.Table.Rows.{are_ascending_devices}
 use Rattle.keyed_table.proofs.Answers.{shows_one, one_shown}
 use Rattle.keyed_table.proofs.RowsApart.{ranked, ranked_rises, ranked_permutes}
 use Rattle.keyed_table.proofs.RowsAsMap.{differ_from, keyed_turned, key_below}
 use Rattle.keyed_table.proofs.TextMeaning.{answer_of}
 use Rattle.device_registry.proofs.DeviceCodec.{key_of, keyed, stored_keyed}
-use Rattle.device_registry.proofs.ListDevicesAnswer.{shown, shows_devices, shows_ranked}
+use Rattle.device_registry.proofs.DeviceRows.{at_most, passes, device_is, device_shows}
+use Rattle.device_registry.proofs.ListDevicesAnswer.{shows_devices, shows_ranked}
 use Rattle.std.specs.List.{AllByRecursion}
-use Rattle.std.proofs.lemmas.Bool.Decides.{nat_tests}
 use Rattle.std.proofs.lemmas.List.{length-map}
-use Rattle.std.proofs.lemmas.Int.{ints}
-use Rattle.sqlite.specs.declared.types.Value.{Value}
 use Rattle.sqlite_trees.proofs.ListLemmas.{all_weaker, all-permutation, ascending-map, pull_back}
 use Rattle.keyed_table.proofs.Statements.{shown_same}
-use Rattle.device_registry.proofs.StatementTexts.{all_query}
+use Rattle.device_registry.proofs.StatementTexts.{all_query, shown}
 use Rattle.device_registry.proofs.DeviceMeaning.{all_means}
 use Rattle.device_registry.proofs.VersionMeaning.{version_query, version_means}
 use Rattle.std.proofs.lemmas.Bool.{and_parts}
@@ -48,80 +44,6 @@ version_reads old new rows t h =
     answer_of [] old new rows (version_means old.now.schema t.meta_at t.meta t.meta_is_table) refl h
 
 -- ---- ascending rows
-
-at_most : (a b : ℕ) → nat_le a b ≡ true → a ≤ b
-at_most a b h = grind (arith, nat_tests, h)
-
-passes : (a b : ℕ) → a ≤ b → nat_le a b ≡ true
-passes a b h = grind (arith, nat_tests)
-
-numbered : (last : ℕ) (v : Value) → is_natural_up_to last v ≡ true → (n : ℕ) × (v ≡ Int (pos n)) × (n ≤ last)
-numbered last (Int (pos n)) h = (n, refl, at_most n last h)
-numbered last (Int (negsuc n)) h = absurd cc
-numbered last Null h = absurd cc
-numbered last (Real x) h = absurd cc
-numbered last (Text t) h = absurd cc
-numbered last (Blob b) h = absurd cc
-
--- a manufacturer ID, or the number of none
-abbrev IsMaker : ℤ → Type 0
-IsMaker n = (negsuc 0 ≤ℤ n) × (n ≤ℤ pos max_maker)
-
-maker_numbered : (v : Value) → is_maker v ≡ true → (n : ℤ) × (v ≡ Int n) × IsMaker n
-maker_numbered (Int (pos n)) h =
-    let low = at_most n max_maker h in (pos n, refl, (omega (arith, ints), omega (arith, ints, low)))
-maker_numbered (Int (negsuc n)) h =
-    let none : n ≡ 0 = grind (arith, nat_tests, h) in
-    (negsuc n, refl, (omega (arith, ints, none), omega (arith, ints)))
-maker_numbered Null h = absurd cc
-maker_numbered (Real x) h = absurd cc
-maker_numbered (Text t) h = absurd cc
-maker_numbered (Blob b) h = absurd cc
-
-maker_passes : (n : ℤ) → IsMaker n → is_maker (Int n) ≡ true
-maker_passes (pos n) it = passes n max_maker (omega (arith, ints, it.1))
-maker_passes (negsuc n) it = let none : n ≡ 0 = omega (arith, ints, it.0) in rw none refl
-
-labelled : (v : Value) → is_label_text v ≡ true → (label : List ℕ) × (v ≡ Text label) × (is_label label ≡ true)
-labelled (Text label) h = (label, refl, h)
-labelled (Int n) h = absurd cc
-labelled Null h = absurd cc
-labelled (Real x) h = absurd cc
-labelled (Blob b) h = absurd cc
-
--- what is shown as a device is one
-device_is : (row : Row) → shows_device (shown row) ≡ true → IsDeviceRow row
-device_is row h =
-    let all = and_parts _ _ h in
-    let three = and_parts _ _ all.0 in
-    let two = and_parts _ _ three.0 in
-    let id = numbered max_sender (column row 0) two.0 in
-    let eep = numbered max_profile (column row 2) two.1 in
-    let maker = maker_numbered (column row 3) three.1 in
-    let label = labelled (column row 4) all.1 in
-    record {
-      id = id.0;
-      id_is = id.1;
-      is_sender = id.2;
-      eep = eep.0;
-      eep_is = eep.1;
-      is_profile = eep.2;
-      maker = maker.0;
-      maker_is = maker.1;
-      is_maker = maker.2;
-      label = label.0;
-      label_is = label.1;
-      is_label = label.2;
-    }
-
--- and a device is shown as one
-device_shows : (row : Row) → IsDeviceRow row → shows_device (shown row) ≡ true
-device_shows row it =
-    let id = ap (is_natural_up_to max_sender) it.id_is ∙ passes it.id max_sender it.is_sender in
-    let eep = ap (is_natural_up_to max_profile) it.eep_is ∙ passes it.eep max_profile it.is_profile in
-    let maker = ap is_maker it.maker_is ∙ maker_passes it.maker it.is_maker in
-    let label = ap is_label_text it.label_is ∙ it.is_label in
-    rw (id, eep, maker, label) refl
 
 -- the sender of the row is this one or a greater one
 abbrev AtLeast : ℕ → Row → Type 0

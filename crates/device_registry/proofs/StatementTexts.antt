@@ -1,25 +1,69 @@
--- The registry's statements as SQLite reads them.
-use Rattle.std.proofs.Common.{ℕ, pos, List, [], ◌∷◌}
+-- The registry's statements as SQLite reads them. The lists of the columns that proofs about statements use are here.
+use Rattle.std.proofs.Common.{ℕ, pos, List, [], ◌∷◌, codes, Option, None, Some}
 use Rattle.sqlite.specs.declared.types.Value.TheVariants.{Null, Int, Text}
 use Rattle.sqlite.specs.Term.{Term, lit, col}
 use Rattle.sqlite.specs.Query.{Query}
+use Rattle.sqlite.specs.Order.{Row}
+use Rattle.sqlite.specs.Source.{Source}
+use Rattle.sqlite.specs.Source.TheVariants.{Values}
+use Rattle.sqlite.specs.Collation.{Collation}
 use Rattle.sqlite.specs.Collation.TheVariants.{Binary}
+use Rattle.sqlite_sql.specs.Term.{eval_all}
+use Rattle.sqlite_ast.specs.declared.Expr.{Expr}
+use Rattle.sqlite_ast.specs.declared.Expr.TheVariants as written
+use Rattle.sqlite_ast.specs.declared.Shown.{Shown as Column}
+use Rattle.sqlite_ast.specs.declared.Shown.TheVariants.{One}
 use Rattle.keyed_table.specs.Queries.{rows_query, plain_query}
 use Rattle.keyed_table.specs.Queries as keyed
+use Rattle.keyed_table.proofs.Answers.{env_of}
+use Rattle.keyed_table.proofs.SelectMeaning.{column_read}
 use Rattle.device_registry.specs.declared.table.Version.{Version}
 use Rattle.device_registry.specs.declared.table.Version.TheVariants.{First, Second}
 
-abbrev pub put_terms : List Term
-put_terms = col 0 0 ∷ lit Null ∷ col 0 1 ∷ col 0 2 ∷ col 0 3 ∷ []
+-- ---- the columns of the device table
 
--- the label of a device; in version 1 it is the empty one
-abbrev pub label_term : Version → Term
-label_term First = lit (Text [])
-label_term Second = col 1 4
-
--- what is shown of a device
+-- what is shown of a device; in version 1 the label is the empty one
 abbrev pub device_terms : Version → List Term
-device_terms version = col 1 0 ∷ col 1 2 ∷ col 1 3 ∷ label_term version ∷ []
+device_terms First = col 1 0 ∷ col 1 2 ∷ col 1 3 ∷ lit (Text []) ∷ []
+device_terms Second = col 1 0 ∷ col 1 2 ∷ col 1 3 ∷ col 1 4 ∷ []
+
+-- the same as it is written, and the names that SQLite shows
+abbrev pub columns_read : Version → List Column
+columns_read First = column_read (codes "id") ∷ column_read (codes "eep") ∷ column_read (codes "maker")
+    ∷ One (written.Text []) None (codes "''") ∷ []
+columns_read Second = column_read (codes "id") ∷ column_read (codes "eep") ∷ column_read (codes "maker")
+    ∷ column_read (codes "label") ∷ []
+
+abbrev pub shown_columns : Version → List (List ℕ)
+shown_columns First = codes "id" ∷ codes "eep" ∷ codes "maker" ∷ codes "''" ∷ []
+shown_columns Second = codes "id" ∷ codes "eep" ∷ codes "maker" ∷ codes "label" ∷ []
+
+-- the rowid has no collation, and neither has a literal
+abbrev pub collations : Version → List (Option Collation)
+collations First = None ∷ Some Binary ∷ Some Binary ∷ None ∷ []
+collations Second = None ∷ Some Binary ∷ Some Binary ∷ Some Binary ∷ []
+
+-- the indexes in a row of the columns that are filled
+abbrev pub filled_places : List ℕ
+filled_places = 0 ∷ 2 ∷ 3 ∷ 4 ∷ []
+
+-- the parameters of the upsert as they are written, and the row that they give
+abbrev pub parameters : List Expr
+parameters = written.Parameter 1 ∷ written.Parameter 2 ∷ written.Parameter 3 ∷ written.Parameter 4 ∷ []
+
+abbrev pub put_source : Source
+put_source = Values (col 0 0 ∷ lit Null ∷ col 0 1 ∷ col 0 2 ∷ col 0 3 ∷ []) 5
+
+-- the rows of version 1, each with its rowid, as rows of version 2
+abbrev pub copy_query : ℕ → Query
+copy_query d = rows_query d [] (col 1 0 ∷ lit Null ∷ col 1 2 ∷ col 1 3 ∷ lit (Text []) ∷ [])
+    (Binary ∷ Binary ∷ Binary ∷ Binary ∷ Binary ∷ []) []
+
+-- ---- the other statements
+
+-- what is shown of a row of version 2
+abbrev pub shown : Row → Row
+shown row = eval_all (device_terms Second) (env_of [] row)
 
 abbrev pub find_query : ℕ → Query
 find_query d = keyed.find_query d (device_terms Second)
@@ -32,8 +76,3 @@ all_query version d = keyed.all_query d (device_terms version)
 
 abbrev pub renew_query : ℕ → Query
 renew_query d = plain_query d [] (col 1 0 ∷ col 1 0 ∷ lit Null ∷ lit (Int (pos 2)) ∷ [])
-
--- the rows of version 1, each with its rowid, as rows of version 2
-abbrev pub copy_query : ℕ → Query
-copy_query d = rows_query d [] (col 1 0 ∷ lit Null ∷ col 1 2 ∷ col 1 3 ∷ lit (Text []) ∷ [])
-    (Binary ∷ Binary ∷ Binary ∷ Binary ∷ Binary ∷ []) []

@@ -3,7 +3,7 @@
 //! which an earlier query has shown: nothing is known about the writes of a closed one.
 ghost use Rattle.std.specs.Prelude.{◌≡◌, [], ◌∷◌, map, pos, false, is_some, Ok, OnOk, OnErr, IfOk, IfErr};
 ghost use Rattle.std.specs.FinMap.{insert, get};
-ghost use Rattle.sqlite.specs.declared.types.Value.TheVariants.{Int, Text};
+ghost use Rattle.sqlite.specs.declared.types.Value.TheVariants.{Int};
 ghost use Rattle.sqlite.specs.State.{HasCleanDisk, IsUnchanged, Survives, Executes, CommitsBy};
 ghost use Rattle.sqlite.specs.State.{Shown, FailsToQuery, CommitsShowing};
 ghost use Rattle.learned_devices.specs.Devices.{Devices, DeviceUpdate, apply_update, forget_update, device_data};
@@ -17,7 +17,7 @@ ghost use Rattle.device_registry.specs.Ready.{KeepsRows};
 ghost use Rattle.device_registry.specs.Table.Rows.{IsDeviceOrNone, shown_device, upsert_params};
 
 use crate::sql_connection::SqlConnection;
-use crate::table::row_codec::{eep_number, maker_number, shown_count};
+use crate::table::row_codec::{shown_count, upsert_params};
 use crate::table::statements::{COUNT_OTHERS, DELETE, FIND, FIND_ALL, REWRITE_VERSION, UPSERT};
 use learned_devices::{Device, MAX_DEVICES};
 use sqlite::{Error, Row, Statement, params};
@@ -101,21 +101,6 @@ pub(crate) fn list_devices<C: SqlConnection>(conn: &mut C) -> Result<Vec<Row>, E
     conn.query_all_prepared(&all, &[])
 }
 
-fn run_upsert<C: SqlConnection>(
-    conn: &mut C,
-    id: i64,
-    eep: i64,
-    maker: i64,
-    label: &str,
-) -> Result<usize, Error>
-    ensures runs { HasCleanDisk (C.state conn.new) → Executes upsert_sql
-        (Int id ∷ Int eep ∷ Int maker ∷ Text label.now ∷ []) (C.state conn.old) (C.state conn.new) result }
-    ensures survives { Survives (C.state conn.old) (C.state conn.new)
-        (CommitsBy upsert_sql (Int id ∷ Int eep ∷ Int maker ∷ Text label.now ∷ []) (C.state conn.old)) }
-{
-    conn.execute(UPSERT, params![id, eep, maker, label])
-}
-
 /// Upserts a device; implements any update whose result is `device`.
 pub(crate) fn upsert<C: SqlConnection>(conn: &mut C, device: Device) -> Result<usize, Error>
     requires ready { HasCleanDisk (C.state conn.old) → IsReady (C.state conn.old) }
@@ -127,13 +112,7 @@ pub(crate) fn upsert<C: SqlConnection>(conn: &mut C, device: Device) -> Result<u
     ensures written { HasCleanDisk (C.state conn.new) → IfOk result (λ count. Executes upsert_sql
         (upsert_params device.id (device_data device)) (C.state conn.old) (C.state conn.new) (Ok count)) }
 {
-    run_upsert(
-        conn,
-        i64::from(device.id),
-        eep_number(device.eep),
-        maker_number(device.maker),
-        device.label.as_str(),
-    )
+    conn.execute(UPSERT, &upsert_params(&device))
 }
 
 fn run_delete<C: SqlConnection>(conn: &mut C, id: i64) -> Result<usize, Error>

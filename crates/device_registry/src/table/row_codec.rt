@@ -3,14 +3,16 @@ ghost use Rattle.std.specs.Prelude.{◌≡◌, ◌≤◌, ◌<◌, [], ◌∷◌
 ghost use Rattle.std.specs.Prelude.{IfOk, IfErr, MatchOption};
 ghost use Rattle.sqlite.specs.declared.types.Value.TheVariants.{Int};
 ghost use Rattle.sqlite.specs.Order.{Row as SqlRow, column};
+ghost use Rattle.sqlite.specs.Values.{bound};
 ghost use Rattle.learned_devices.specs.declared.Device.{Device};
+ghost use Rattle.learned_devices.specs.Devices.{device_data};
 ghost use Rattle.device_registry.specs.Faults.{IsOutOfMemoryIf};
 ghost use Rattle.device_registry.specs.Table.{version_number};
 ghost use Rattle.device_registry.specs.Table.Rows.{IsDeviceOrNone, ShowsVersion, shown_device, is_natural_up_to};
 ghost use Rattle.device_registry.specs.Table.Rows.{is_maker};
 ghost use Rattle.device_registry.specs.Table.Rows.{is_label_text};
 ghost use Rattle.device_registry.specs.Table.Rows.{shows_device, are_ascending_devices, eep_number, eep_of};
-ghost use Rattle.device_registry.specs.Table.Rows.{maker_number};
+ghost use Rattle.device_registry.specs.Table.Rows.{maker_number, upsert_params};
 ghost use Rattle.device_registry.specs.Table.Rows.{maker_in, label_in};
 
 use super::{NO_MAKER, VERSION_ROW_KEY, Version};
@@ -161,18 +163,30 @@ pub fn shown_count(rows: &[Row]) -> Result<u64, Error>
 }
 
 /// The number of a profile.
-pub fn eep_number(eep: Eep) -> i64
+fn eep_number(eep: Eep) -> i64
     ensures { result ≡ pos (eep_number eep) }
 {
     i64::from(eep.rorg) * 65536 + i64::from(eep.func) * 256 + i64::from(eep.typ)
 }
 
 /// The number of a manufacturer ID, or that of none.
-pub fn maker_number(maker: Option<u16>) -> i64
+fn maker_number(maker: Option<u16>) -> i64
     ensures { result ≡ maker_number maker }
 {
     match maker {
         Some(maker) => i64::from(maker),
         None => NO_MAKER,
     }
+}
+
+/// The parameters of the statement that upserts a device.
+pub fn upsert_params(device: &Device) -> [ValueRef<'_>; 4]
+    ensures { bound result ≡ upsert_params device.now.id (device_data device.now) }
+{
+    [
+        ValueRef::Int(i64::from(device.id)),
+        ValueRef::Int(eep_number(device.eep)),
+        ValueRef::Int(maker_number(device.maker)),
+        ValueRef::Text(device.label.as_str().as_bytes()),
+    ]
 }

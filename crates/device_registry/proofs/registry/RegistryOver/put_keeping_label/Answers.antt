@@ -5,7 +5,7 @@ use Rattle.learned_devices.specs.Devices.{Learn, learn_update}
 use Rattle.learned_devices.specs.StoreCalls.{Learns}
 use Rattle.device_registry.specs.Holding.{registry_state}
 use Rattle.device_registry.proofs.RegistryCalls.{learns_unlooked, makes_known, learns_failed, learns_known}
-use Rattle.device_registry.proofs.RegistryCalls.{starts_unlabelled, learns_after, written_after}
+use Rattle.device_registry.proofs.RegistryCalls.{starts_new, learns_after, written_after}
 use Rattle.device_registry.proofs.registry.RegistryOver.put_keeping_label.Goals as goal
 
 pub returns-in_err-known-clause-learns : goal.returns-in_err-known-clause-learns
@@ -78,8 +78,8 @@ pub store_new_unless_full-requires-clause-learned : goal.store_new_unless_full-r
 store_new_unless_full-requires-clause-learned g c =
     let old = g.C.SqlConnection.state c.args.self.now in
     let mid = g.C.SqlConnection.state c.known.new.self in
-    starts_unlabelled old mid c.args.device.id c.in_ok-known.field-0 c.in_ok-known.ensures.looks_up mid
-    c.in_ok-known.ensures.ready c.args.device c.in-None.is refl c.requires
+    starts_new old mid c.args.device.id c.in_ok-known.field-0 c.in_ok-known.ensures.looks_up mid
+    c.in_ok-known.ensures.ready c.args.device c.in-None.is refl (rw c.requires refl)
 
 pub returns-in-None-clause-learns : goal.returns-in-None-clause-learns
 returns-in-None-clause-learns g c =
