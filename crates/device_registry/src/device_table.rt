@@ -60,8 +60,9 @@ impl<C: SqlConnection> DeviceTable<C> {
     /// connection is open.
     pub fn learn_unless_full(&mut self, device: Device) -> Result<bool, Error>
         requires ready { HasCleanDisk (C.state self.old) → IsReady (C.state self.old) }
-        requires learned { HasCleanDisk (C.state self.old) → (devices : Devices) → HasDevicesIfOpen (C.state self.old) devices →
-            data_after (get devices device.id) (Learn device.eep device.maker) ≡ Some (device_data device) }
+        requires learned { HasCleanDisk (C.state self.old) → (devices : Devices)
+            → HasDevicesIfOpen (C.state self.old) devices
+            → data_after (get devices device.id) (Learn device.eep device.maker) ≡ Some (device_data device) }
         ensures adds { LearnsUnlessFull (registry_state (C.state self.old))
             (registry_state (C.state self.new)) device result }
         ensures written { HasCleanDisk (C.state self.new) → (devices : Devices) →

@@ -84,8 +84,9 @@ impl<C: SqlConnection> RegistryOver<C> {
     // device has the empty label.
     fn store_new_unless_full(&mut self, device: Device) -> Result<(), LearnFault>
         requires ready { HasCleanDisk (C.state self.old) → IsReady (C.state self.old) }
-        requires learned { HasCleanDisk (C.state self.old) → (devices : Devices) → HasDevicesIfOpen (C.state self.old) devices →
-            data_after (get devices device.id) (Learn device.eep device.maker) ≡ Some (device_data device) }
+        requires learned { HasCleanDisk (C.state self.old) → (devices : Devices)
+            → HasDevicesIfOpen (C.state self.old) devices
+            → data_after (get devices device.id) (Learn device.eep device.maker) ≡ Some (device_data device) }
         ensures learns { Learns (registry_state (C.state self.old)) (registry_state (C.state self.new)) device result }
         ensures written { HasCleanDisk (C.state self.new) → (devices : Devices) →
             HasDevicesIfOpen (C.state self.old) devices → OnOk result

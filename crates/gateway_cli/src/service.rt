@@ -7,8 +7,8 @@ pub enum Service<'a> {
     Replay {
         reads: u64,
     },
-    /// The serial line, the desk's file and the file of the answers are served, for 1 to 4294967295 turns. They are
-    /// opened in this order, none after one that cannot be opened; no postcondition says so.
+    /// The serial line, the desk's file and the file of the answers are served, for this many turns; `read` returns 1
+    /// to 4294967295. They are opened in this order, none after one that cannot be opened; no postcondition says so.
     Live {
         serial: FileToOpen<'a>,
         desk: FileToOpen<'a>,

@@ -42,8 +42,9 @@ macro_rules! read_rows {
 }
 
 /// Sets `readings: &mut Readings` to what the rows of the profile's arm read, and returns whether there is such an arm.
-/// If not, `readings` does not change. An arm is written as `pattern => { rows }`. The pattern is that of `(FUNC, TYPE)`
-/// or, if FUNC is known, of the type alone. Example, for `bytes: &[u8; 1]`:
+/// If not, `readings` does not change. An arm is written as `pattern => { rows }`. The pattern is that of the second
+/// argument, in the crates of profiles `(FUNC, TYPE)` or, if FUNC is known, the type alone. Example, for
+/// `bytes: &[u8; 1]`:
 ///
 /// ```text
 /// read_profiles! { readings, (func, typ), bytes, 1;

@@ -16,7 +16,7 @@ use erp1_telegrams::{Contents, Eep, Telegram, lrn_bit, rorg};
 use profile_rows::{Readings, Unreadable};
 
 /// Sets `readings` to what the rows of the profile A5-FUNC-TYPE read in a payload, and returns whether it has rows.
-/// Each of the functions that it calls has the profiles of one FUNC.
+/// Each function called here has the profiles of one FUNC.
 #[tactic(auto, unfolding(crate::specs::Profiles::rows_of))]
 fn read_if_supported(func: u8, typ: u8, bytes: &[u8; 4], readings: &mut Readings) -> bool
     ensures exact { entries_if result readings.new.items
