@@ -10,13 +10,13 @@ again. No line names its order, and a telegram can give the same line as an orde
     ORDER
     status
 
-There are more than two of them before the order if other programs may have written two without an answer (fence.py).
+More than two of them are before the order if another program may have written two that are not answered yet (fence.py).
 
 Some lines only orders give: `ok`, `device`, `list`, and all errors but `memory` and `store`. Teach lines come from
 orders and from packets; the counter `teach` of two status lines says how many came from packets in between. The rule:
 
-1. Nothing counts until as many status lines as are before the order have come without a line of an order between them;
-   if an error `memory` or `store` is between them, more may be needed (fence.py).
+1. Nothing counts until status lines have come without a line of an order between them, as many as there are fences
+   before the order. If an error `memory` or `store` is between them, more may be needed (fence.py).
 2. The lines from there to the next status line are the answer if exactly one answer is among them that this order can
    have: lines that only orders give, or a teach line that no packet gave. If there is neither, it is an error `memory`
    or `store` that does not directly follow the packet line of a packet that failed.
@@ -34,9 +34,9 @@ from typing import Any
 from enogate_mqtt.lines import BadLine, Content, Deleted, EndOfList, Learned, Listed, Status, Strange
 from enogate_mqtt.lines import content_of_members, members_of
 
-# A fence, and the last one of a text, which shows where the text ends. The gateway removes one CR before LF.
+# A fence, and the last fence of a text, which shows where the text ends. The gateway removes one CR before LF.
 FENCE, LAST_FENCE = b"status\n", b"status\r\n"
-# How many fences are before an order, at least.
+# The minimum number of fences before an order.
 LEAST = 2
 # The errors that packets have, too.
 SHARED = frozenset({"memory", "store"})
@@ -131,13 +131,14 @@ def is_of_order(raw: bytes) -> bool:
 
 class AnswerFinder:
     """Finds the answers to orders among the lines that come after they were written. `least` is the number of fences
-    before the first order. With errors among them that packets have, too, `least_with_errors` are needed."""
+    before the first order, and of status lines in a row that are needed. If an error `memory` or `store` is between
+    status lines, `least_with_errors` are needed, or `least` after this error."""
 
     def __init__(self, *orders: str):
         self.orders = [Order(order) for order in orders]
         self.least = self.least_with_errors = LEAST
         # How many status lines have come without a line of an order between them, and how many of them after the last
-        # error that packets have, too.
+        # error `memory` or `store`. An error that the packet line of a failed packet explains does not count.
         self.fences = self.fences_after_error = 0
         self.window: Window | None = None
         # The answers to the first orders, for each place where they may have begun.

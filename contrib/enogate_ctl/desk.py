@@ -19,7 +19,7 @@ PAUSE, LONG_PAUSE = 0.01, 0.1
 # How long that process keeps the lock: in all, and after the gateway answers orders again. The second is for an order
 # whose fence failed, which never gets its answer.
 LONGEST_KEPT, KEPT_AFTER_ANSWER = 3600.0, 10.0
-# So many fences before an order do not come: the process then keeps the lock as long as for an order without an answer.
+# A number of fences that never comes. With it, the process keeps the lock as long as for an order without an answer.
 NEVER = sys.maxsize
 
 
@@ -32,7 +32,7 @@ class TooLate(Exception):
 
 
 class Unrecognizable(Exception):
-    """Another program wrote orders at the same moment, and its answer could be taken for that of the order."""
+    """Another program wrote orders at the same moment, and their answers could be taken for those of the command."""
 
 
 class Lines:
@@ -128,8 +128,9 @@ class Desk:
             lines.close()
 
     def write(self, file: DeskFile, finder: AnswerFinder) -> None:
-        """Writes the orders with the fences that they need. The lines must be open already: then all orders that are
-        unanswered at their place are on the desk. Other programs may write between the two looks at it."""
+        """Writes the orders with the fences that they need. The lines must be open already: then all orders whose
+        answers can still come are on the desk when it is read. Other programs may write before the orders are appended,
+        so the desk is read again afterwards. Raises Unrecognizable if the fences turn out to be too few."""
         finder.least = needed(file.read())
         with held():
             file.append(finder.text)

@@ -40,7 +40,7 @@ class DeskFile:
         return True
 
     def read(self) -> bytes:
-        """What is on the desk; after `append`, what is before the appended text and the end of a line before it."""
+        """The content of the desk. After `append`, only the content before that call."""
         return os.pread(self.file, self.start if self.text else os.fstat(self.file).st_size, 0)
 
     def append(self, text: bytes) -> None:

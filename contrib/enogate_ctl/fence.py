@@ -1,34 +1,35 @@
-"""How many orders `status`, the fences, have to be before an order, so that only its own answer is taken for it.
+"""The number of `status` orders, the fences, that are needed before an order, so that only its own answer is taken.
 
 Another program may have written `status`, `status` and an order without a lock, and the gateway may not have answered
 them when the command opens the lines. Their answers look like those of the command. So the command writes more fences
-in a row than are before any of these orders. A row of `status` orders directly before the fences does not count: the
-order of the command follows it.
+in a row than are before any of these orders. A row of `status` orders directly before the fences does not count,
+because the order of the command follows it.
 
-Each command keeps the desk locked until its order is answered. So only what is after the text of the last command can
-be unanswered. A text ends with an order, LF, and `status` CR LF. A program that ends all of its lines in the same way
-does not write this. A row of MAX_FENCES `status` orders or more counts as answered: a program that asks often writes
-one in a day, and all of it is unanswered only if the program waits for no answer.
+Each command keeps the desk locked until its order is answered. So only orders after the text of the last command can be
+unanswered. A text ends with `status` LF, an order, LF, and `status` CR LF. A program that ends all of its lines in the
+same way does not write this. A row of MAX_FENCES or more `status` orders counts as answered. A program that often asks
+for the status writes such a row in a day, but the whole row is unanswered only if the program waits for no answer.
 
-An order that fails with `memory` or `store` gives the same line as a packet that fails. If such a line is in a row of
-status lines, the row may be two rows on the desk, with this order between them. Then the row must be longer than all
-status orders on the desk since the last order that cannot fail in this way."""
+An order that fails with `memory` or `store` gives the same line as a packet that fails. If such a line is between
+status lines, they may answer two rows of `status` orders, with the failed order between them. Then enough status lines
+must come after this line. Otherwise there must be more of them in all than in the longest row on the desk, and only an
+order that cannot fail in this way ends such a row."""
 from __future__ import annotations
 
 import re
 
 from .answers import LEAST, REFUSALS, SHARED
 
-# The most fences before an order: the gateway reads so many, an order and the last fence at once.
+# The maximum number of fences before an order. With them, one order and its last fence fit in one read of the desk.
 MAX_FENCES = 24
 TEXT_END = re.compile(rb"^status\n(?!status\n)[^\r\n]+\nstatus\r\n", re.MULTILINE)
-# The orders that cannot fail with an error that packets have, too.
+# The orders that cannot fail with `memory` or `store`.
 SURE = frozenset(verb.encode() for verb, errors in REFUSALS.items() if not errors & SHARED)
 
 
 def needed(desk: bytes, with_errors: bool = False) -> int:
-    """How many status lines in a row show that the order is next whose fences follow what is on the desk: without an
-    error that packets have, too, or with such errors between them."""
+    """The number of status lines in a row which shows that the next order that is not `status` is that of the command,
+    if its fences follow what is on the desk. `with_errors`: errors `memory` or `store` are between the status lines."""
     start = max((found.end() for found in TEXT_END.finditer(desk)), default=0)
     row = longest = 0
     for order in desk[start:].removesuffix(b"\n").split(b"\n"):
@@ -42,6 +43,6 @@ def needed(desk: bytes, with_errors: bool = False) -> int:
 
 
 def is_longest(fences: int, desk: bytes, text: bytes) -> bool:
-    """Whether a text with so many fences before its first order has enough of them after what is on the desk, and
-    begins with a line of its own."""
+    """Whether this number of fences is enough for a text that follows what is on the desk, and whether the first fence
+    is a line of its own."""
     return needed(desk) <= fences and (desk[-1:] in (b"", b"\n") or text[:1] == b"\n")

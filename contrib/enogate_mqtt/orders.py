@@ -35,8 +35,9 @@ def orders_of(topics: Topics, topic: str, payload: bytes) -> bytes:
 
 
 def without_end(line: bytes) -> bytes:
-    """A line without the CR of CR LF, which the gateway removes too: `status` CR LF is the end of a text of enogatectl.
-    Of several CR none is removed: with one fewer it would be another order."""
+    """The line without the CR of CR LF, which the gateway would remove too. On the desk, `status` CR LF is the end of a
+    text of enogatectl. If the line ends with several CRs, none is removed: with one fewer it would be another
+    order."""
     return line[:-1] if line.endswith(b"\r") and not line.endswith(b"\r\r") else line
 
 

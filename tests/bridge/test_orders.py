@@ -36,7 +36,7 @@ class Orders(unittest.TestCase):
                 self.assertEqual(self.orders("orders", payload), text)
 
     def test_the_end_of_a_long_line(self):
-        """A line has its length without one CR at its end. The longest one that is valid has 200 bytes."""
+        """One CR at the end does not count for the length of a line. A valid line has at most 200 bytes."""
         for length, end, is_valid in (
             (200, b"\r", True), (201, b"\r", False), (200, b"\r\r", False), (200, b"\r\r\r", False),
             (201, b"\r\r", False), (199, b"\r\r", True), (200, b"\r\rx", False),

@@ -62,7 +62,7 @@ class Rule(unittest.TestCase):
                 self.assertEqual(found and found[0].lines[0].members, wanted)
 
     def test_an_error_in_a_row_of_status_lines(self):
-        """It may be that of an order between two rows. After it a new row begins, which is the second that counts."""
+        """It may answer an order between two rows. So the status lines after it are also counted alone."""
         fence, failed, refused = status(), error("store"), error("unknown_device")
         for with_errors, lines, wanted in (
             (4, (fence, failed, fence, fence, OK, fence, fence, fence, refused, fence), refused),

@@ -210,7 +210,7 @@ class OrdersOfOthers(DeskTest):
                          self.others.encode() + b"status\nstatus\nstatus\nlabel 01800ABD x\nstatus\r\n")
 
     def test_one_of_them_fails(self):
-        """With the line of a packet that fails, two rows of their status lines would look like one."""
+        """The error could be that of a packet, so the status lines before and after it would look like one row."""
         self.desk.write_text("status\nlist\nstatus\nlabel 01800ABC x\n")
         self.clock.acts[1] = lambda: self.write(status(), error("store"), status(), OK, status(), status())
         self.clock.acts[2] = lambda: self.write(self.refused, status())

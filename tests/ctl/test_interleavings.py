@@ -110,9 +110,9 @@ class Case:
 
     @property
     def is_ambiguous(self) -> bool:
-        """Whether the rule cannot decide this case, by the manual page. Another program has given `status` orders, and
-        before the fences are answered one of these or, without packet lines, a packet fails; or a fence has failed, and
-        another program gives `status` orders."""
+        """Whether the rule cannot decide this case, by the manual page. In both cases another program has given
+        `status` orders. Either one of these fails before the fences are answered, or a packet does without packet
+        lines; or a fence has failed."""
         if any(event.who == "own" and event.order == "status" and not event.is_status for event in self.seen):
             return any(event.who == "other" and event.is_status for event in self.seen)
         statuses = own = 0
