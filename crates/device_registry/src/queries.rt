@@ -46,7 +46,7 @@ fn query_with_id<C: SqlConnection>(conn: &mut C, sql: &str, id: u32) -> Result<V
     conn.query_all(sql, params![i64::from(id)])
 }
 
-/// The same for a query that was compiled.
+/// The rows that a compiled query for one sender shows.
 fn query_compiled_with_id<C: SqlConnection>(
     conn: &mut C,
     statement: &Statement,

@@ -90,7 +90,8 @@ pub fn resync(window: &mut Window) -> WindowFront
     }
 }
 
-/// The same for a window that holds all bytes of the packet with this header. The header is not read again.
+/// Does what `resync` does, for a window that begins with this header and holds all bytes of its packet. The header is
+/// not read again.
 pub fn resync_whole(window: &mut Window, header: Header) -> WindowFront
     requires has { HasHeader window.old header }
     requires whole { header.data_len + header.opt_len + 7 ≤ length window.old }

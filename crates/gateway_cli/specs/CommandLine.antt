@@ -106,7 +106,7 @@ pub record AreTurns (rows : List Row) (turns : ℕ) : Type 0 where
   pub least : 1 ≤ turns
   pub most : turns ≤ 4294967295
 
--- the file at the path that the option of this name has, with this access
+-- the file whose path is the value of the option of this name, with this access
 abbrev pub IsGivenFile : List Row → (name : Text) → Access → FileToOpen → Type 0
 IsGivenFile rows name access file = (first_of name rows ≡ Some file.path.now) × (file.access ≡ access)
 

@@ -34,7 +34,7 @@ pub struct Options<'a> {
     pub service: Service<'a>,
 }
 
-/// Why a command line was rejected.
+/// Why a command line gives no options.
 #[derive(Debug, Drop, thiserror::Error)]
 pub enum CommandLineFault {
     /// `clap` rejected it, or was asked for help or for the version, or is out of memory.

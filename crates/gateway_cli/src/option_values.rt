@@ -69,7 +69,7 @@ fn live_service_of<'a>(given: &ArgMatches<'a>) -> Service<'a>
     }
 }
 
-/// The file at the path that the option of this name has, with this access.
+/// The file whose path is the value of the option of this name, with this access.
 fn given_file<'a>(given: &ArgMatches<'a>, name: &str, access: Access) -> FileToOpen<'a>
     requires { is_some (first_of name.now (rows_of (found_of given.now))) ≡ true }
     ensures { IsGivenFile (rows_of (found_of given.now)) name.now access result }

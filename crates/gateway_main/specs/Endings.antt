@@ -22,7 +22,7 @@ abbrev pub ending_if_no_arguments : IoErrorKind → Ending
 ending_if_no_arguments io.OutOfMemory = Failed memory_fault
 ending_if_no_arguments _ = NotText
 
--- for an error of `clap`, by its kind
+-- the ending for an error of `clap`, by its kind
 abbrev pub ending_of_clap_error : ErrorKind → Error → Ending
 ending_of_clap_error OutOfMemory error = Failed memory_fault
 ending_of_clap_error _ error = CommandLine (ClapError error)

@@ -17,8 +17,8 @@ HasHeader w h = (6 ≤ length w) × (header_of (take 6 w) ≡ Ok h)
 abbrev pub packet_at : Header → List ℕ → Packet
 packet_at h w = packet_with h (take (h.data_len + h.opt_len) (drop 6 w))
 
--- The code's result agrees with the beginning of the bytes w. After a header, bytes are missing exactly if the front is
--- Partial.
+-- The code's result agrees with the beginning of the bytes w. For a partial packet, w has its header and fewer bytes
+-- than the packet has, so `front_of w` is Partial.
 abbrev pub IsWindowFront : WindowFront → List ℕ → Type 0
 IsWindowFront found.Empty w = w ≡ []
 IsWindowFront found.PartialHeader w = (front_of w ≡ Partial) × (0 < length w) × (length w < 6)

@@ -26,7 +26,8 @@ invariant_of-self g c =
           c.drop_entry.new.cache.entries c.insert_entry.new.cache.entries adds.clean c.in-Ok-true.ensures.ready
           (λ clean devices has. (adds.devices clean devices has).1)
           (λ clean devices has. ap (λ it. Some it) c.copied-copy.ensures
-          ∙ sym (ap (option_map (device c.args.device.id)) ((rw (← c.self.view_is) at c.requires.learned) clean devices has)))
+          ∙ sym (ap (option_map (device c.args.device.id))
+          ((rw (← c.self.view_is) at c.requires.learned) clean devices has)))
           c.self.invariant.1 c.drop_entry.ensures.kept c.insert_entry.ensures.kept,
     )
 
