@@ -8,8 +8,8 @@ pub enum Service<'a> {
         reads: u64,
     },
     /// The serial line, the desk's file and the file of the answers are served, for this many turns; `read` returns 1
-    /// to 4294967295. They are opened in this order. If one cannot be opened, the
-    /// next ones are not opened. No postcondition says so.
+    /// to 4294967295. They are opened in this order. If one cannot be opened, the next ones are not opened. No
+    /// postcondition says so.
     Live {
         serial: FileToOpen<'a>,
         desk: FileToOpen<'a>,

@@ -25,7 +25,8 @@ returns g c =
       stays = compiled_query_stays find_sql text (lookup_params id) old mid new (λ v. v.items)
           c.query_compiled_with_id.result c.compile.ensures.stays find.text plain rows.survives rows.shown rows.failed;
       same = λ clean. answered_same find_sql text (lookup_params id) old mid new (λ v. v.items)
-          c.query_compiled_with_id.result (find.same (before clean)) (find.text (before clean)) (plain (before clean)) (rows.shown clean);
+          c.query_compiled_with_id.result (find.same (before clean)) (find.text (before clean))
+          (plain (before clean)) (rows.shown clean);
       survives = query_survives find_sql text (lookup_params id) old mid new c.compile.ensures.survives find.text plain
           rows.survives;
       found = λ clean.
