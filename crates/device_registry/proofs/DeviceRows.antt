@@ -1,23 +1,30 @@
--- The rows of the device table, column by column: what the CHECKs say of a row, what its query shows, and the ranges of
--- its numbers.
-use Rattle.std.proofs.Common.{◌≡◌, ◌≤◌, ◌<◌, ◌^◌, nat_le, ℕ, ℤ, ◌≤ℤ◌, pos, negsuc, true, List}
-use Rattle.std.proofs.Common.{refl, sym, ap, subst, ◌∙◌, arith}
+-- The rows of the device table: what the CHECKs say of a row, what its query shows, the ranges of its numbers, and the
+-- devices that the rows encode.
+use Rattle.std.proofs.Common.{◌≡◌, ◌≤◌, ◌<◌, ◌^◌, nat_le, ℕ, ℤ, ◌≤ℤ◌, pos, negsuc, true, List, refl, sym, ap, subst}
+use Rattle.std.proofs.Common.{◌∙◌, arith, ◌/◌, ◌%◌, ◌+◌, ◌*◌, Some, None, Option, ap₂}
 use Rattle.std.proofs.lemmas.Bool.{and_parts}
 use Rattle.std.proofs.lemmas.Bool.Decides.{nat_tests}
 use Rattle.std.proofs.lemmas.Int.{ints}
 use Rattle.sqlite.specs.declared.types.Value.{Value}
-use Rattle.sqlite.specs.declared.types.Value.TheVariants.{Null, Int, Real, Text, Blob}
+use Rattle.sqlite.specs.declared.types.Value.TheVariants.{Int, Text}
 use Rattle.sqlite.specs.Order.{Row, column}
 use Rattle.sqlite_schema.specs.Rules.{passes_checks}
 use Rattle.learned_devices.specs.Labels.{is_label}
 use Rattle.learned_devices.specs.Devices.{DeviceData, device}
 use Rattle.learned_devices.specs.Ranges.{MakerFitsTwoBytes, HasDeviceNumbersInRange}
 use Rattle.keyed_table.proofs.Checks.{is_between, lies_between}
-use Rattle.device_registry.specs.declared.table.Version.TheVariants.{Second}
+use Rattle.device_registry.specs.declared.table.Version.TheVariants.{Second, First}
 use Rattle.device_registry.specs.Table.{device_table, max_sender, max_profile, max_maker}
 use Rattle.device_registry.specs.Table.Rows.{IsDeviceRow, device_row, entry_of, eep_number, maker_number, maker_in}
 use Rattle.device_registry.specs.Table.Rows.{natural_in, is_natural_up_to, is_maker, is_label_text, shows_device}
+use Rattle.device_registry.specs.Table.Rows.{RowidsDiffer, with_empty_label, upgraded_rows, eep_of}
 use Rattle.device_registry.proofs.StatementTexts.{shown}
+use Rattle.std.specs.List.{AllByRecursion}
+use Rattle.sqlite_trees.proofs.ListLemmas.{all_weaker, all_from_map, ascending_from_map}
+use Rattle.erp1_telegrams.specs.declared.eep.Eep.{Eep}
+use Rattle.keyed_table.specs.Rows.{HasKey, AreKeyed}
+use Rattle.keyed_table.proofs.RowsAsMap.{apart_from}
+use Rattle.device_registry.specs.declared.table.Version.{Version}
 
 -- ---- values
 
@@ -29,11 +36,7 @@ passes a b h = grind (arith, nat_tests)
 
 numbered : (last : ℕ) (v : Value) → is_natural_up_to last v ≡ true → (n : ℕ) × (v ≡ Int (pos n)) × (n ≤ last)
 numbered last (Int (pos n)) h = (n, refl, at_most n last h)
-numbered last (Int (negsuc n)) h = absurd cc
-numbered last Null h = absurd cc
-numbered last (Real x) h = absurd cc
-numbered last (Text t) h = absurd cc
-numbered last (Blob b) h = absurd cc
+numbered last _ h = absurd cc
 
 -- a manufacturer ID, or the number of none
 abbrev IsMaker : ℤ → Type 0
@@ -45,10 +48,7 @@ maker_numbered (Int (pos n)) h =
 maker_numbered (Int (negsuc n)) h =
     let none : n ≡ 0 = grind (arith, nat_tests, h) in
     (negsuc n, refl, (omega (arith, ints, none), omega (arith, ints)))
-maker_numbered Null h = absurd cc
-maker_numbered (Real x) h = absurd cc
-maker_numbered (Text t) h = absurd cc
-maker_numbered (Blob b) h = absurd cc
+maker_numbered _ h = absurd cc
 
 maker_passes : (n : ℤ) → IsMaker n → is_maker (Int n) ≡ true
 maker_passes (pos n) it = passes n max_maker (omega (arith, ints, it.1))
@@ -56,36 +56,9 @@ maker_passes (negsuc n) it = let none : n ≡ 0 = omega (arith, ints, it.0) in r
 
 labelled : (v : Value) → is_label_text v ≡ true → (label : List ℕ) × (v ≡ Text label) × (is_label label ≡ true)
 labelled (Text label) h = (label, refl, h)
-labelled (Int n) h = absurd cc
-labelled Null h = absurd cc
-labelled (Real x) h = absurd cc
-labelled (Blob b) h = absurd cc
+labelled _ h = absurd cc
 
 -- ---- rows
-
--- an inserted row passes the CHECKs, so it is that of a device, if its label is valid
-pub checked : (d id : ℕ) (it : DeviceData) → is_label it.label ≡ true
-    → passes_checks (device_table Second d) (device_row id it) ≡ true → IsDeviceRow (device_row id it)
-checked d id it label h =
-    let sender = and_parts (is_between (pos 0) (pos max_sender) (pos id)) _ h in
-    let profile = and_parts (is_between (pos 0) (pos max_profile) (pos (eep_number it.eep))) _ sender.1 in
-    let maker = and_parts (is_between (negsuc 0) (pos max_maker) (maker_number it.maker)) true profile.1 in
-    let id_lies = lies_between (pos 0) (pos max_sender) (pos id) sender.0 in
-    let eep_lies = lies_between (pos 0) (pos max_profile) (pos (eep_number it.eep)) profile.0 in
-    record {
-      id = id;
-      id_is = refl;
-      is_sender = omega (arith, ints, id_lies.1);
-      eep = eep_number it.eep;
-      eep_is = refl;
-      is_profile = omega (arith, ints, eep_lies.1);
-      maker = maker_number it.maker;
-      maker_is = refl;
-      is_maker = lies_between (negsuc 0) (pos max_maker) (maker_number it.maker) maker.0;
-      label = it.label;
-      label_is = refl;
-      is_label = label;
-    }
 
 -- what is shown as a device is one
 pub device_is : (row : Row) → shows_device (shown row) ≡ true → IsDeviceRow row
@@ -112,6 +85,23 @@ device_is row h =
       is_label = label.2;
     }
 
+-- a row that passes the CHECKs and has a valid label is the row of a device
+pub checked : (d id : ℕ) (it : DeviceData) → is_label it.label ≡ true
+    → passes_checks (device_table Second d) (device_row id it) ≡ true → IsDeviceRow (device_row id it)
+checked d id it label h =
+    let sender = and_parts (is_between (pos 0) (pos max_sender) (pos id)) _ h in
+    let profile = and_parts (is_between (pos 0) (pos max_profile) (pos (eep_number it.eep))) _ sender.1 in
+    let maker = and_parts (is_between (negsuc 0) (pos max_maker) (maker_number it.maker)) true profile.1 in
+    let id_lies = lies_between (pos 0) (pos max_sender) (pos id) sender.0 in
+    let eep_lies = lies_between (pos 0) (pos max_profile) (pos (eep_number it.eep)) profile.0 in
+    let maker_lies = lies_between (negsuc 0) (pos max_maker) (maker_number it.maker) maker.0 in
+    device_is (device_row id it) (rw (
+      passes id max_sender (omega (arith, ints, id_lies.1)),
+      passes (eep_number it.eep) max_profile (omega (arith, ints, eep_lies.1)),
+      maker_passes (maker_number it.maker) maker_lies,
+      label,
+    ) refl)
+
 -- and a device is shown as one
 pub device_shows : (row : Row) → IsDeviceRow row → shows_device (shown row) ≡ true
 device_shows row it =
@@ -132,3 +122,52 @@ row-in row is = (
   subst (λ (v : Value). natural_in v < 2 ^ 32) (sym is.id_is) (omega (arith, is.is_sender)),
   subst (λ (v : Value). MakerFitsTwoBytes (maker_in v)) (sym is.maker_is) (maker-in is.maker is.is_maker.1),
 )
+
+-- ---- the devices that rows encode
+
+-- the device that a row encodes, without its sender, which is the key
+abbrev pub data_in : Row → DeviceData
+data_in row = (entry_of row).1
+
+maker_back : (maker : Option ℕ) → maker_in (Int (maker_number maker)) ≡ maker
+maker_back (Some n) = refl
+maker_back None = refl
+
+-- each number of the profile is a byte
+pub record IsShort (eep : Eep) : Type 0 where
+  pub rorg : eep.rorg < 256
+  pub func : eep.func < 256
+  pub typ : eep.typ < 256
+
+eep_back : (eep : Eep) → IsShort eep → eep_of (eep_number eep) ≡ eep
+eep_back eep short =
+    let low = short.rorg in
+    let mid = short.func in
+    let high = short.typ in
+    let rorg : (eep.rorg * 65536 + eep.func * 256 + eep.typ) / 65536 % 256 ≡ eep.rorg = omega arith in
+    let func : (eep.rorg * 65536 + eep.func * 256 + eep.typ) / 256 % 256 ≡ eep.func = omega arith in
+    let typ : (eep.rorg * 65536 + eep.func * 256 + eep.typ) % 256 ≡ eep.typ = omega arith in
+    λ i. record { rorg = rorg i; func = func i; typ = typ i }
+
+pub data_back : (id : ℕ) (it : DeviceData) → IsShort it.eep → data_in (device_row id it) ≡ it
+data_back id it short =
+    ap₂ (λ (e : Eep) (o : Option ℕ). let now : DeviceData = record it { eep = e; maker = o } in now)
+    (eep_back it.eep short) (maker_back it.maker)
+
+pub key_of : (row : Row) → IsDeviceRow row → HasKey row
+key_of row it = record { id = it.id; id_is = it.id_is }
+
+pub keyed : (rows : List Row) → AllByRecursion IsDeviceRow rows → RowidsDiffer rows → AreKeyed rows
+keyed rows all differ =
+    let keys = all_weaker IsDeviceRow HasKey key_of rows all in
+    record { keys = keys; apart = apart_from rows keys differ }
+
+-- in either version, the stored rows have keys, and no two the same
+pub stored_keyed : (version : Version) (rows : List Row) → AllByRecursion IsDeviceRow (upgraded_rows version rows)
+    → RowidsDiffer (upgraded_rows version rows) → AreKeyed rows
+stored_keyed First rows all differ =
+    let keys = all_weaker (λ r. IsDeviceRow (with_empty_label r)) HasKey
+    (λ r it. record { id = it.id; id_is = it.id_is }) rows
+    (all_from_map IsDeviceRow with_empty_label rows all) in
+    record { keys = keys; apart = apart_from rows keys (ascending_from_map _ with_empty_label rows differ) }
+stored_keyed Second rows all differ = keyed rows all differ

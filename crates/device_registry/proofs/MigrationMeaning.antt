@@ -16,9 +16,9 @@ use Rattle.device_registry.specs.declared.table.Version.TheVariants.{First, Seco
 use Rattle.keyed_table.specs.Queries.{program_of, plain_query}
 use Rattle.device_registry.proofs.StatementTexts.{copy_query, device_terms, columns_read, shown_columns, collations}
 use Rattle.device_registry.proofs.StatementTexts.{filled_places}
-use Rattle.keyed_table.proofs.TextMeaning.{ParsesAs, CompilesTo, means, draft_of, program_is}
+use Rattle.keyed_table.proofs.TextMeaning.{means, draft_of, program_is, insert_means}
+use Rattle.keyed_table.specs.Meaning.{ParsesAs, CompilesTo}
 use Rattle.keyed_table.proofs.SelectMeaning.{PlainSelect, plain_select, select_of, asked, query_is}
-use Rattle.keyed_table.proofs.WriteMeaning.{insert_means}
 use Rattle.device_registry.specs.Table.{copy_sql, drop_sql, device_table_name, device_table}
 use Rattle.device_registry.specs.Stored.{IsTableAt}
 

@@ -4,8 +4,6 @@ use Rattle.sqlite.specs.declared.types.Value.TheVariants.{Null, Int, Text}
 use Rattle.sqlite.specs.Term.{Term, lit, col}
 use Rattle.sqlite.specs.Query.{Query}
 use Rattle.sqlite.specs.Order.{Row}
-use Rattle.sqlite.specs.Source.{Source}
-use Rattle.sqlite.specs.Source.TheVariants.{Values}
 use Rattle.sqlite.specs.Collation.{Collation}
 use Rattle.sqlite.specs.Collation.TheVariants.{Binary}
 use Rattle.sqlite_sql.specs.Term.{eval_all}
@@ -51,8 +49,8 @@ filled_places = 0 ∷ 2 ∷ 3 ∷ 4 ∷ []
 abbrev pub parameters : List Expr
 parameters = written.Parameter 1 ∷ written.Parameter 2 ∷ written.Parameter 3 ∷ written.Parameter 4 ∷ []
 
-abbrev pub put_source : Source
-put_source = Values (col 0 0 ∷ lit Null ∷ col 0 1 ∷ col 0 2 ∷ col 0 3 ∷ []) 5
+abbrev pub upsert_terms : List Term
+upsert_terms = col 0 0 ∷ lit Null ∷ col 0 1 ∷ col 0 2 ∷ col 0 3 ∷ []
 
 -- the rows of version 1, each with its rowid, as rows of version 2
 abbrev pub copy_query : ℕ → Query
@@ -65,14 +63,8 @@ copy_query d = rows_query d [] (col 1 0 ∷ lit Null ∷ col 1 2 ∷ col 1 3 ∷
 abbrev pub shown : Row → Row
 shown row = eval_all (device_terms Second) (env_of [] row)
 
-abbrev pub find_query : ℕ → Query
-find_query d = keyed.find_query d (device_terms Second)
-
-abbrev pub forget_query : ℕ → Query
-forget_query d = keyed.find_query d (col 1 0 ∷ [])
-
 abbrev pub all_query : Version → ℕ → Query
 all_query version d = keyed.all_query d (device_terms version)
 
-abbrev pub renew_query : ℕ → Query
-renew_query d = plain_query d [] (col 1 0 ∷ col 1 0 ∷ lit Null ∷ lit (Int (pos 2)) ∷ [])
+abbrev pub rewrite_query : ℕ → Query
+rewrite_query d = plain_query d [] (col 1 0 ∷ col 1 0 ∷ lit Null ∷ lit (Int (pos 2)) ∷ [])

@@ -26,10 +26,6 @@ AreReady old new = IsReady old × IsReady new
 abbrev pub IsReadyIfOpen : State → Type 0
 IsReadyIfOpen = stores.IsReadyIfOpen IsVersion2RegistryOf
 
--- if the connection is still open, it was open before, and has the same devices
-abbrev pub KeepsDevicesIfStillOpen : State → State → Type 0
-KeepsDevicesIfStillOpen = stores.KeepsValueIfStillOpen IsVersion2RegistryOf
-
 -- nothing is written
 abbrev pub WritesNothing : State → State → Type 0
 WritesNothing = stores.WritesNothing IsVersion2RegistryOf

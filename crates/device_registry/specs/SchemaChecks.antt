@@ -1,6 +1,6 @@
 -- The two tables in a schema, and the conditions on the objects beside them, as functions.
-use Rattle.std.specs.Prelude.{codes, ℕ, ◌==◌, List, Bool, true, not, ◌&&◌, ◌||◌, if◌then◌else◌, Option, Some, None}
-use Rattle.std.specs.Prelude.{is_none, slice_get, option_map, option_and_then, count_by}
+use Rattle.std.specs.Prelude.{codes, ℕ, ◌==◌, List, Bool, true, not, ◌&&◌, ◌||◌, Option, is_none, slice_get, option_map}
+use Rattle.std.specs.Prelude.{option_and_then, count_by}
 use Rattle.std.specs.List.{list_any}
 use Rattle.sqlite.specs.Schema.{Schema}
 use Rattle.sqlite.specs.Table.{Table}
@@ -9,7 +9,6 @@ use Rattle.sqlite_catalog.specs.Change.{is_used}
 use Rattle.device_registry.specs.declared.table.Version.{Version}
 use Rattle.device_registry.specs.declared.table.Version.TheVariants.{First, Second}
 use Rattle.device_registry.specs.Table.{meta_name, device_table_name}
-use Rattle.device_registry.specs.Stored.{other}
 
 -- the table has a foreign key that refers to this name
 abbrev pub refers_to : (name : List ℕ) → Table → Bool
@@ -48,24 +47,7 @@ admits_tables schema =
 abbrev pub has_one_table : Schema → (tree : ℕ) → Bool
 has_one_table schema tree = count_by (λ table. table.tree == tree) schema.tables == 1
 
--- no foreign key refers to our tables; no index is on the two of this version; no other table is in their trees; the
--- name of the other version's table is free; tables that count their rowids have the table of the counts
-abbrev pub is_unaffected : Version → Schema → (meta devices : ℕ) → Bool
-is_unaffected version schema meta devices =
-    not (has_foreign_key_to_ours schema) && not (is_indexed schema meta) && not (is_indexed schema devices)
-    && has_one_table schema meta && has_one_table schema devices && not
-    (is_used schema (device_table_name (other version))) && migration_adds_no_sequence version schema
-
 -- the tree of the table with this name
 abbrev pub tree_of_table : Schema → (name : List ℕ) → Option ℕ
 tree_of_table schema name =
     option_map (λ table. table.tree) (option_and_then (slice_get schema.tables) (table_named schema name))
-
-abbrev pub tree_if_unaffected : Version → Schema → (meta devices : ℕ) → Option ℕ
-tree_if_unaffected version schema meta devices =
-    if is_unaffected version schema meta devices then Some devices else None
-
--- the tree of the device table of this version, if other objects do not affect it, nor the version table in this tree
-abbrev pub tree_of_devices : Version → Schema → (meta : ℕ) → Option ℕ
-tree_of_devices version schema meta =
-    option_and_then (tree_if_unaffected version schema meta) (tree_of_table schema (device_table_name version))

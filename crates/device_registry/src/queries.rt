@@ -1,6 +1,6 @@
-//! The registry's calls of the database, one statement each. `look_up` and `list_devices` first compile their statement,
-//! which fails on a closed connection. The count of the others and the writes require an open connection, which an
-//! earlier look-up has shown: nothing is known about the writes of a closed one.
+//! The registry's calls of the database, one statement each. `look_up` and `list_devices` first compile their
+//! statement, which fails on a closed connection. The count of the others and the writes require an open connection,
+//! which an earlier look-up has shown: nothing is known about the writes of a closed one.
 ghost use Rattle.std.specs.Prelude.{◌≡◌, [], ◌∷◌, map, pos, false, is_some, Ok, OnOk, OnErr, IfOk, IfErr};
 ghost use Rattle.std.specs.FinMap.{insert, get};
 ghost use Rattle.sqlite.specs.declared.types.Value.TheVariants.{Int};

@@ -1,6 +1,5 @@
 -- CHECKs that a number is between two others, and what they imply.
-use Rattle.std.proofs.Common.{◌≡◌, ◌≤ℤ◌, ℤ, Bool, true, false, not, ◌&&◌}
-use Rattle.std.proofs.Common.{Some, refl, sym, ap, ◌∙◌, arith}
+use Rattle.std.proofs.Common.{◌≡◌, ◌≤ℤ◌, ℤ, Bool, true, false, not, ◌&&◌, Some, refl, sym, ◌∙◌, arith}
 use Rattle.std.specs.Ordering.{is_le, is_ge}
 use Rattle.std.proofs.lemmas.Int.{ints}
 use Rattle.sqlite.specs.Collation.TheVariants.{Binary}
@@ -25,15 +24,11 @@ truths true false = refl
 truths false true = refl
 truths false false = refl
 
-at_least : (a b : ℤ) → is_ge (value_cmp (Int a) (Int b)) ≡ true → b ≤ℤ a
-at_least a b h = let e = ap is_ge (sym (value_cmp-Int a b)) ∙ h in grind (arith, ints, e)
-
-at_most : (a b : ℤ) → is_le (value_cmp (Int a) (Int b)) ≡ true → a ≤ℤ b
-at_most a b h = let e = ap is_le (sym (value_cmp-Int a b)) ∙ h in grind (arith, ints, e)
-
 pub lies_between : (low high n : ℤ) → is_between low high n ≡ true → (low ≤ℤ n) × (n ≤ℤ high)
 unfolding binary
 lies_between low high n h =
     let two =
-    and_parts _ _ (sym (truths (is_ge (value_cmp (Int n) (Int low))) (is_le (value_cmp (Int n) (Int high)))) ∙ h) in
-    (at_least n low two.0, at_most n high two.1)
+    and_parts (is_ge (value_cmp (Int n) (Int low))) (is_le (value_cmp (Int n) (Int high))) (sym (truths _ _) ∙ h) in
+    let above = rw value_cmp-Int at two.0 in
+    let below = rw value_cmp-Int at two.1 in
+    (grind (arith, ints, above), grind (arith, ints, below))

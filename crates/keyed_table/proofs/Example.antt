@@ -1,31 +1,33 @@
 -- The example's table is a map: its codec, and what its texts mean.
-use Rattle.std.proofs.Common.{◌≡◌, ℕ, ℤ, pos, negsuc, [], ◌∷◌, codes, Some, None, Ok, true, refl, arith}
+use Rattle.std.proofs.Common.{inl, ◌≡◌, ℕ, ℤ, pos, negsuc, [], ◌∷◌, codes, Some, None, true, refl, arith}
 use Rattle.std.proofs.lemmas.Bool.{and_parts}
 use Rattle.std.proofs.lemmas.Int.{ints}
 use Rattle.sqlite.specs.Collation.TheVariants.{Binary}
-use Rattle.sqlite.specs.Compile.{table_defined_by}
+use Rattle.sqlite.specs.Effect.{Database}
+use Rattle.sqlite.specs.Schema.{Schema}
 use Rattle.sqlite.specs.Term.{col}
+use Rattle.std.specs.FinMap.{empty}
+use Rattle.keyed_table.specs.Tables.{AdmitsTable}
 use Rattle.sqlite_schema.specs.Rules.{passes_checks}
 use Rattle.sqlite_tied.specs.Compute.{everything}
 use Rattle.sqlite_ast.specs.declared.Binary.TheVariants.{Eq, Ne}
 use Rattle.sqlite_ast.specs.declared.Conflict.TheVariants as conflict
+use Rattle.sqlite_ast.specs.declared.CreateTable.{CreateTable as Defined}
 use Rattle.sqlite_ast.specs.declared.Expr.TheVariants.{Parameter, CallStar}
 use Rattle.sqlite_ast.specs.declared.Rows.TheVariants as rows
 use Rattle.sqlite_ast.specs.declared.Shown.TheVariants.{One}
 use Rattle.sqlite_ast.specs.declared.Statement.TheVariants as written
 use Rattle.keyed_table.specs.Example.{height_text, heights, IsHeight}
-use Rattle.keyed_table.specs.KeyedMap.{table_of, IsCodec, SqlTextsCompile}
+use Rattle.keyed_table.specs.KeyedMap.{table_of, IsCodec, SqlTextsCompile, HoldsMap}
 use Rattle.keyed_table.specs.Queries.{find_query, all_query}
 use Rattle.keyed_table.proofs.Casts.{casts}
 use Rattle.keyed_table.proofs.Checks.{is_between, lies_between}
+use Rattle.keyed_table.proofs.Creates.{makes}
+use Rattle.keyed_table.proofs.TablesKept.{IsCreateText}
 use Rattle.keyed_table.proofs.SelectMeaning.{IsPlainSelect, plain_select, select_means, column_read, by_column}
 use Rattle.keyed_table.proofs.SelectMeaning.{parameter_test, count_draft}
-use Rattle.keyed_table.proofs.TextMeaning.{ParsesAs, draft_of}
-use Rattle.keyed_table.proofs.WriteMeaning.{insert_means, delete_means}
-
-pub table_is : table_defined_by height_text ≡ Ok (table_of heights 0)
-unfolding everything
-table_is = refl
+use Rattle.keyed_table.proofs.TextMeaning.{draft_of, insert_means, delete_means}
+use Rattle.keyed_table.specs.Meaning.{ParsesAs}
 
 -- the CHECKs say which rows the table holds
 checked : (tree id : ℕ) (metres : ℤ) → passes_checks (table_of heights tree) (heights.row id metres) ≡ true
@@ -81,6 +83,17 @@ delete_read : ParsesAs heights.delete_sql (written.Delete (codes "height") (para
 unfolding everything
 delete_read = record { parsed = _; read = refl; is = refl; needs_no_time = refl }
 
+unfoldable create_read : (def : Defined) × ParsesAs height_text (written.CreateTable def)
+unfolding everything
+create_read = (_, record { parsed = _; read = refl; is = refl; needs_no_time = refl })
+
+pub create_text : IsCreateText (table_of heights 0) height_text
+unfolding everything create_read
+create_text = record {
+  table_is = refl;
+  makes = makes (table_of heights 0) create_read.1 refl refl refl refl refl;
+}
+
 pub meant : SqlTextsCompile heights
 unfolding everything
 meant = record {
@@ -96,4 +109,26 @@ meant = record {
   upsert = λ schema at d it. insert_means it _ upsert_read refl (λ base. rw (it.named, it.there));
   delete = λ schema at d it. delete_means it (draft_of (table_of heights d) (find_query d (col 1 0 ∷ []))) delete_read
       (rw (it.there, it.there)) (record { from = refl; accepted = refl });
+}
+
+-- ---- the premises have instances
+
+abbrev bare : Schema
+bare = record { tables = []; indexes = []; views = [] }
+
+pub admitted : AdmitsTable heights.name bare
+unfolding everything
+admitted = record { unused = refl; unreferenced = tt; sequence_allowed = refl }
+
+abbrev empty_table : Database
+empty_table = record { schema = record bare { tables = table_of heights 4 ∷ [] }; trees = λ tree. [] }
+
+pub held : HoldsMap heights empty_table empty
+unfolding everything
+held = record {
+  tree = 4;
+  at = 0;
+  stands = record { named = refl; there = refl; classes = refl };
+  lone = record { listed = inl refl; named = refl; keeps = ((λ e. refl), tt); unreferenced = (tt, tt); unindexed = tt };
+  rows = record { valid = tt; differ = tt; is = refl };
 }

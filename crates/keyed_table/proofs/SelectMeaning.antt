@@ -1,6 +1,6 @@
 -- The meaning of a plain SELECT from one table, at any index of the schema.
-use Rattle.std.proofs.Common.{◌≡◌, ℕ, pos, negsuc, not, ◌==◌, List, [], ◌∷◌, length, map, true}
-use Rattle.std.proofs.Common.{false, Option, None, Some, Ok, refl, ◌∙◌}
+use Rattle.std.proofs.Common.{◌≡◌, ℕ, pos, negsuc, not, ◌==◌, List, [], ◌∷◌, length, map, true, false, Option, None}
+use Rattle.std.proofs.Common.{Some, Ok, refl}
 use Rattle.sqlite.specs.declared.types.Value.TheVariants.{Int, Null}
 use Rattle.sqlite.specs.Term.{Term, lit}
 use Rattle.sqlite.specs.Collation.{Collation}
@@ -27,20 +27,21 @@ use Rattle.sqlite_resolve.specs.declared.scope.Output.{Output}
 use Rattle.sqlite_resolve.specs.declared.select.Clauses.{Clauses}
 use Rattle.sqlite_resolve.specs.declared.body.Body.{Body}
 use Rattle.sqlite_resolve.specs.declared.body.Joined.{Joined}
-use Rattle.sqlite_resolve.specs.Body.{bounds, bound, table_in, body, result, outputs, matching, joins}
-use Rattle.sqlite_resolve.specs.Body.{join, shared, inner_join, tests, within}
+use Rattle.sqlite_resolve.specs.Body.{bounds, bound, table_in, body, result, outputs, matching, joins, join, shared}
+use Rattle.sqlite_resolve.specs.Body.{inner_join, tests, within}
 use Rattle.sqlite_resolve.specs.Expr.{lower}
-use Rattle.sqlite_resolve.specs.Lowering.{Checked, Lowering, and_then, ◌>>=◌, ◌<$>◌, pure, get}
-use Rattle.sqlite_resolve.specs.Lowering.{fresh, max_budget, take_slot}
+use Rattle.sqlite_resolve.specs.Lowering.{Checked, Lowering, and_then, ◌>>=◌, ◌<$>◌, pure, get, fresh, max_budget}
+use Rattle.sqlite_resolve.specs.Lowering.{take_slot}
 use Rattle.sqlite_resolve.specs.Order.{keys, sorts}
-use Rattle.sqlite_resolve.specs.Program.{Building, Shown, query, query_to, level, with, whole, alone}
-use Rattle.sqlite_resolve.specs.Program.{single, viewing, sources, source}
+use Rattle.sqlite_resolve.specs.Program.{Building, Shown, query, query_to, level, with, whole, alone, single, viewing}
+use Rattle.sqlite_resolve.specs.Program.{sources, source}
 use Rattle.sqlite_resolve.specs.Select.{named, paging, constant_or, outermost, inside, parts, having, assembled}
 use Rattle.sqlite_resolve.specs.Compile.{timed, returning, command, read}
 use Rattle.sqlite_sql.specs.declared.aggregate.AggregateOp.TheVariants.{CountRows}
 use Rattle.sqlite.specs.Collation.TheVariants.{Binary}
 use Rattle.keyed_table.specs.Queries.{program_of, count_others_query}
-use Rattle.keyed_table.proofs.TextMeaning.{ParsesAs, CompilesTo, means, IsTyped, program_is, draft_of}
+use Rattle.keyed_table.proofs.TextMeaning.{means, IsTyped, program_is, draft_of}
+use Rattle.keyed_table.specs.Meaning.{ParsesAs, CompilesTo}
 use Rattle.keyed_table.specs.Tables.{IsTableAt}
 
 -- a column that is shown under its own name, as it is written
@@ -69,16 +70,8 @@ abbrev from_of : PlainSelect → List Source
 from_of it = roll-Source (record { is_left = false; origin = Named it.name; alias = None; on = None; using = [] }) ∷ []
 
 abbrev pub core_of : PlainSelect → Core
-core_of it =
-    let from = from_of it in
-    roll-Core (record {
-      distinct = false;
-      shown = it.columns;
-      from = from;
-      filter = it.test;
-      group = [];
-      having = None;
-    })
+core_of it = roll-Core
+    (record { distinct = false; shown = it.columns; from = from_of it; filter = it.test; group = []; having = None })
 
 abbrev pub select_of : PlainSelect → Select
 select_of it =
@@ -90,17 +83,6 @@ pub record IsPlainSelect (text : List ℕ) (it : PlainSelect) : Type 0 where
 
 abbrev pub no_page : Term × Term
 no_page = (lit (Int (negsuc 0)), lit (Int (pos 0)))
-
--- it is read like its only part
-module _ (schema : Schema) (it : PlainSelect) (part : Shown)
-    (known : named schema (core_of it) it.order no_page ≡ Ok part) where
-  level_as : (sub : Schema → Select → Building Shown) → level sub schema (select_of it) [] ≡ Ok (part, [])
-  unfolding level with whole alone single viewing paging constant_or sources source
-  level_as sub = rw (out-roll-Select, out-roll-Core, out-roll-Source, known)
-
-  query_as : query schema (select_of it) ≡ Ok (part, [])
-  unfolding query query_to
-  query_as = level_as (query_to 15)
 
 -- the meaning of its clauses over its table, which is at this index, in the first slot
 module _ (schema : Schema) (at : ℕ) (table : Table) (it : PlainSelect) where
@@ -130,16 +112,20 @@ module _ (schema : Schema) (at : ℕ) (table : Table) (it : PlainSelect) where
       (λ d. Ok (d, map (λ o. o.name) r.0.body.level.shown, map (λ o. o.carried.collation) r.0.body.level.shown)))
 
 module _ (it : PlainSelect) {schema : Schema} {at : ℕ} {table : Table} (stands : IsTableAt schema it.name table at)
-  where
-    -- its part is the meaning of its clauses
-    named_is : named schema (core_of it) it.order no_page ≡ asked schema at table it
-    unfolding named parts body bounds bound table_in take_slot result matching joins join shared inner_join tests keys
-        having
-    named_is = rw (out-roll-Core, out-roll-Source, stands.named, out-roll-Source, stands.there)
+    (part : Shown) (asks : asked schema at table it ≡ Ok part) where
+  named_is : named schema (core_of it) it.order no_page ≡ Ok part
+  unfolding named parts body bounds bound table_in take_slot result matching joins join shared inner_join tests keys
+      having
+  named_is = rw (out-roll-Core, out-roll-Source, stands.named, out-roll-Source, stands.there) asks
 
-    -- and the query is read accordingly
-    pub query_is : (part : Shown) → asked schema at table it ≡ Ok part → query schema (select_of it) ≡ Ok (part, [])
-    query_is part asks = query_as schema it part (named_is ∙ asks)
+  level_is : (sub : Schema → Select → Building Shown) → level sub schema (select_of it) [] ≡ Ok (part, [])
+  unfolding level with whole alone single viewing paging constant_or sources source
+  level_is sub = rw (out-roll-Select, out-roll-Core, out-roll-Source, named_is)
+
+  -- the SELECT compiles to the meaning of its clauses
+  pub query_is : query schema (select_of it) ≡ Ok (part, [])
+  unfolding query query_to
+  query_is = level_is (query_to 15)
 
 module _ {text : List ℕ} {it : PlainSelect} (is : IsPlainSelect text it) {schema : Schema} {at : ℕ} {table : Table}
     (stands : IsTableAt schema it.name table at) where
@@ -153,11 +139,8 @@ module _ {text : List ℕ} {it : PlainSelect} (is : IsPlainSelect text it) {sche
 
 -- the count of the rows of this table with other keys
 abbrev pub count_draft : Table → Draft
-count_draft table = record (draft_of table (count_others_query table.tree)) {
-  group = Some (record {
-    keys = [];
-    collations = [];
-    aggregates = record { op = CountRows; distinct = false; collation = Binary; argument = lit Null } ∷ [];
-    having = [];
-  });
-}
+count_draft table =
+    let rows = record { op = CountRows; distinct = false; collation = Binary; argument = lit Null } ∷ [] in
+    record (draft_of table (count_others_query table.tree)) {
+      group = Some (record { keys = []; collations = []; aggregates = rows; having = [] });
+    }

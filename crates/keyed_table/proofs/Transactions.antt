@@ -1,10 +1,10 @@
 -- A transaction, from its begin to its end.
-use Rattle.std.proofs.Common.{◌≡◌, inl, inr, ℕ, List, [], ◌∷◌, ◌++◌, Ok, Err, Result, IsTrue, IfErr, OnErr}
-use Rattle.std.proofs.Common.{false, OnOk, true, MatchResult, refl, sym, subst, ◌∙◌, arith}
-use Rattle.std.specs.Result.{IsErr}
+use Rattle.std.proofs.Common.{◌≡◌, inl, inr, ℕ, List, [], ◌∷◌, ◌++◌, Ok, Err, Result, IsTrue, IfErr, OnErr, false, OnOk}
+use Rattle.std.proofs.Common.{true, MatchResult, refl, sym, subst, ◌∙◌, arith, IsErr}
+use Rattle.std.proofs.lemmas.Result.{on_ok_weaker, MatchResult-from_err}
 use Rattle.sqlite.specs.declared.error.Error.{Error}
-use Rattle.sqlite.specs.State.{Shows as IsShowing, KeepsCounts, State, HasCleanDisk, Survives, ExecutesInside}
-use Rattle.sqlite.specs.State.{IsRolledBack}
+use Rattle.sqlite.specs.State.{Shows as IsShowing, KeepsCounts, KeepsCommit, State, HasCleanDisk, Survives}
+use Rattle.sqlite.specs.State.{ExecutesInside, IsRolledBack}
 use Rattle.sqlite.specs.Steps.{FailsToCommit}
 use Rattle.sqlite.specs.Held.{Held, state}
 use Rattle.sqlite.proofs.StateLemmas.{survives_then}
@@ -14,47 +14,41 @@ use Rattle.sqlite_trees.specs.declared.store.Store.{Ghosts}
 use Rattle.sqlite.specs.Effect.{Database, IsDatabase}
 use Rattle.keyed_table.specs.Stores.{KeepsDatabaseIfStillOpen, IsReadyWith}
 use Rattle.keyed_table.specs.Transactions.{IsUncommitted, IsMidTransaction, HasRunStatements}
-use Rattle.keyed_table.proofs.Refusals.{back_at, inside_commit, made_commit, then_commit}
+use Rattle.keyed_table.proofs.Statements.{keeps_database, commits_none, spared_commit, keeps_value, ready_with}
 
 -- ---- what is not committed
 
+commit_then : (a b c : State) → KeepsCommit a b → KeepsCommit b c → KeepsCommit a c
+commit_then a b c first second = record {
+  was_open = λ is_open. first.was_open (second.was_open is_open);
+  committed = λ is_open. second.committed is_open ∙ first.committed (second.was_open is_open);
+}
+
 pub uncommitted_then : (a b c : State) → IsUncommitted a b → IsUncommitted b c → IsUncommitted a c
 uncommitted_then a b c first second = record {
-  crash = survives_then a b c (λ _. ⊥) (λ _. ⊥) (λ _. ⊥) (λ clean trees no. no) (λ clean trees no. no) first.crash
-      second.crash;
-  kept = λ clean. let early : HasCleanDisk b = omega (arith, clean, second.crash.clean) in
-      then_commit a b c (first.kept early) (second.kept clean);
+  crash = commits_none a b c first.crash second.crash;
+  kept = λ clean. commit_then a b c (first.kept (omega (arith, clean, second.crash.clean))) (second.kept clean);
 }
 
 -- running a text commits nothing
-ran_once : (sql : List ℕ) (old new : State) (r : Result ℕ Error) → Survives old new (λ _. ⊥)
-    → (HasCleanDisk new → ExecutesInside 0 sql [] old new r) → IsUncommitted old new
-ran_once sql old new (Ok n) crash ran = record { crash = crash; kept = λ clean. made_commit sql old new n (ran clean) }
-ran_once sql old new (Err e) crash ran =
-    record { crash = crash; kept = λ clean. inside_commit sql old new e (ran clean) }
+inside_commit : (sql : List ℕ) (old new : State) (r : Result ℕ Error) → ExecutesInside 0 sql [] old new r
+    → KeepsCommit old new
+inside_commit sql old new (Ok n) h = record { was_open = λ _. h.1.was_open; committed = λ _. h.1.committed_is }
+inside_commit sql old new (Err e) (inl h) = spared_commit old new h.1
+inside_commit sql old new (Err e) (inr h) = spared_commit old new (inl h.2)
 
 -- ---- the texts
 
 module _ {S : Type 0} (g : Ghosts S) where
-  ran_on : (first more : List (List ℕ)) (a b c : Held S) → HasRunStatements g first a b → HasRunStatements g more b c
-      → HasRunStatements g (first ++ more) a c
-  ran_on [] more a b c same rest = subst (λ h. HasRunStatements g more h c) (sym same) rest
-  ran_on (text ∷ first) more a b c (mid, n, step, on) rest = (mid, n, step, ran_on first more mid b c on rest)
-
-  -- and then others
-  goes_on : (first more : List (List ℕ)) (a b c : Held S) → IsMidTransaction g first a b → IsMidTransaction g more b c
-      → IsMidTransaction g (first ++ more) a c
-  goes_on first more a b c it next = record {
-    uncommitted = uncommitted_then (state g a) (state g b) (state g c) it.uncommitted next.uncommitted;
-    inside = next.inside;
-    ran = λ clean. ran_on first more a b c (it.ran (omega (arith, clean, next.uncommitted.crash.clean)))
-        (next.ran clean);
-  }
+  one_more_run : (texts : List (List ℕ)) (text : List ℕ) (a b c : Held S) (n : ℕ) → HasRunStatements g texts a b
+      → ExecutesInside 0 text [] (state g b) (state g c) (Ok n) → HasRunStatements g (texts ++ text ∷ []) a c
+  one_more_run [] text a b c n same step = (c, n, rw same step, refl)
+  one_more_run (first ∷ texts) text a b c n (mid, count, ran, on) step =
+      (mid, count, ran, one_more_run texts text mid b c n on step)
 
   -- one more text
   module _ (texts : List (List ℕ)) (text : List ℕ) (a b c : Held S) (r : Result ℕ Error)
-      (it : IsMidTransaction g texts a b)
-      (crash : Survives (state g b) (state g c) (λ _. ⊥))
+      (it : IsMidTransaction g texts a b) (crash : Survives (state g b) (state g c) (λ _. ⊥))
       (runs : HasCleanDisk (state g c) → IsTrue (state g b).in_transaction
       → ExecutesInside 0 text [] (state g b) (state g c) r) where
     ran : HasCleanDisk (state g c) → ExecutesInside 0 text [] (state g b) (state g c) r
@@ -62,18 +56,16 @@ module _ {S : Type 0} (g : Ghosts S) where
 
     pub uncommitted : IsUncommitted (state g a) (state g c)
     uncommitted = uncommitted_then (state g a) (state g b) (state g c) it.uncommitted
-        (ran_once text (state g b) (state g c) r crash ran)
+        (record { crash = crash; kept = λ clean. inside_commit text (state g b) (state g c) r (ran clean) })
 
     pub one_more_text : (n : ℕ) → r ≡ Ok n → IsMidTransaction g (texts ++ text ∷ []) a c
     one_more_text n is =
-        let step = λ (clean : HasCleanDisk (state g c)).
-        subst (ExecutesInside 0 text [] (state g b) (state g c)) is (ran clean) in
-        goes_on texts (text ∷ []) a b c it
-        (record {
-          uncommitted = ran_once text (state g b) (state g c) r crash ran;
-          inside = λ clean. (step clean).1.mode;
-          ran = λ clean. (c, n, step clean, refl);
-        })
+        record {
+          uncommitted = uncommitted;
+          inside = λ clean. (rw is at (ran clean)).1.mode;
+          ran = λ clean.
+              one_more_run texts text a b c n (it.ran (omega (arith, clean, crash.clean))) (rw is at (ran clean));
+        }
 
 -- ---- its end
 
@@ -87,33 +79,29 @@ since g old start new is it =
       kept = λ clean. record { was_open = (at.kept clean).was_open; committed = (at.kept clean).committed };
     }
 
-module _ (old last new : State) (it : IsUncommitted old last) where
+-- a commit leaves what the transaction shows
+module _ (old last new : State) (it : IsUncommitted old last)
+    (commits : Survives last new (λ trees. trees ≡ last.now.trees)) where
+  pub leaves : (P : Trees → Type 0) → (HasCleanDisk last → P last.now.trees) → Survives old new P
+  leaves P shows = survives_then old last new (λ _. ⊥) (λ trees. trees ≡ last.now.trees) P
+      (λ clean trees no. absurd no)
+      (λ clean trees is. rw is (shows (omega (arith, clean, commits.clean)))) it.crash commits
+
   -- a rollback restores the state
-  back : HasCleanDisk last → IsRolledBack last new → KeepsDatabaseIfStillOpen old new
-  back clean gone is_open rest =
-      let both = gone.undone is_open in
-      let same : last.committed ≡ old.committed = (it.kept clean).committed (gone.was_open is_open) in
-      back_at old new is_open gone.autocommit (both.0 ∙ same ∙ sym rest.settled) (both.1 ∙ same) rest
+  back : HasCleanDisk new → IsRolledBack last new → KeepsDatabaseIfStillOpen old new
+  back clean gone =
+      let kept = it.kept (omega (arith, clean, commits.clean)) in
+      keeps_database old new (keeps_value old new (commit_then old last new kept (spared_commit last new (inr gone)))
+      (λ is_open idle settled. let both = gone.undone is_open in (gone.autocommit, both.0 ∙ sym both.1)))
 
-  -- a commit leaves what the transaction shows
-  module _ (commits : Survives last new (λ trees. trees ≡ last.now.trees)) where
-    pub leaves : (P : Trees → Type 0) → (HasCleanDisk last → P last.now.trees) → Survives old new P
-    leaves P shows = survives_then old last new (λ _. ⊥) (λ trees. trees ≡ last.now.trees) P
-        (λ clean trees no. absurd no)
-        (λ clean trees is. subst P (sym is) (shows (omega (arith, clean, commits.clean)))) it.crash commits
-
-    pub uncommitted_remains : {V : Type 0} (r : Result V Error) → (HasCleanDisk last → IsTrue last.in_transaction)
-        → (HasCleanDisk new → IfErr r (FailsToCommit last new)) → HasCleanDisk new
-        → OnErr r (KeepsDatabaseIfStillOpen old new)
-    uncommitted_remains (Ok v) inside failed clean = tt
-    uncommitted_remains (Err e) inside failed clean = elim (failed clean) [
-      | inl fails ↦ back (omega (arith, clean, commits.clean)) fails.3
-      | inr late ↦ absurd (let e = sym (inside (omega (arith, clean, commits.clean))) ∙ late.1 in cc)
-    ]
-
-pub if_refused : {T E : Type 0} (r : Result T E) (P : T → Type 0) (Q : Type 0) → IsErr r → Q → MatchResult r P (λ _. Q)
-if_refused (Ok v) P Q is q = absurd cc
-if_refused (Err e) P Q is q = q
+  pub uncommitted_remains : {V : Type 0} (r : Result V Error) → (HasCleanDisk last → IsTrue last.in_transaction)
+      → (HasCleanDisk new → IfErr r (FailsToCommit last new)) → HasCleanDisk new
+      → OnErr r (KeepsDatabaseIfStillOpen old new)
+  uncommitted_remains (Ok v) inside failed clean = tt
+  uncommitted_remains (Err e) inside failed clean = elim (failed clean) [
+    | inl fails ↦ back clean fails.3
+    | inr late ↦ absurd (let e = sym (inside (omega (arith, clean, commits.clean))) ∙ late.1 in cc)
+  ]
 
 -- ---- a commit
 
@@ -123,19 +111,9 @@ Commits d e = IsTrue d.in_transaction × IsShowing d e d.now d.now false × Keep
 
 pub shows_committed : {M : Type 0} {Holds : Database → M → Type 0} (d e : State) (m : M) → Holds d.now m
     → IsDatabase d.now → Commits d e → IsReadyWith Holds e m
-shows_committed {M} {Holds} d e m held sound ends =
+shows_committed d e m held sound ends =
     let shown = ends.1 in
-    record {
-      is_open = shown.is_open;
-      idle = shown.mode;
-      settled = shown.now_is ∙ sym shown.committed_is;
-      sound = subst IsDatabase (sym shown.now_is) sound;
-      holds = subst (λ db. Holds db m) (sym shown.now_is) held;
-    }
-
-pub on_ok : {V E : Type 0} (r : Result V E) (P Q : Type 0) → (P → Q) → OnOk r P → OnOk r Q
-on_ok (Ok v) P Q so p = so p
-on_ok (Err e) P Q so p = tt
+    ready_with e d.now m shown.is_open shown.mode (shown.now_is ∙ sym shown.committed_is) shown.now_is sound held
 
 -- nothing was done
 pub survives_itself : (s : State) (P : Trees → Type 0) → Survives s s P

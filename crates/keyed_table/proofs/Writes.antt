@@ -1,8 +1,9 @@
 -- From what the database reports about a statement that writes rows to its effect on the value that it holds.
-use Rattle.std.proofs.Common.{◌≡◌, inl, inr, ℕ, List, None, Ok, Err, Result, OnOk, OnErr, IfOk, sym, ◌∙◌, arith, refl}
+use Rattle.std.proofs.Common.{inl, inr, ℕ, List, None, Ok, Err, Result, IfOk, sym, subst, ◌∙◌, arith, refl}
+use Rattle.std.proofs.lemmas.Result.{IfOk-weaker, on_err_weaker}
 use Rattle.sqlite.specs.Order.{Row}
 use Rattle.sqlite.specs.declared.error.Error.{Error}
-use Rattle.sqlite.specs.Command.TheVariants.{Insert, InsertOr, Update, Delete, Commit, Release}
+use Rattle.sqlite.specs.Command.TheVariants.{Insert, InsertOr, Update, Delete}
 use Rattle.sqlite.specs.Effect.{Database, IsDatabase}
 use Rattle.sqlite.specs.Listing.{understood}
 use Rattle.sqlite.specs.Does.{Does, Tally}
@@ -10,9 +11,9 @@ use Rattle.sqlite.specs.State.{State, HasCleanDisk, Survives, Executes, CommitsB
 use Rattle.sqlite.proofs.Callers.{runs_as, statement_of}
 use Rattle.sqlite_schema.specs.declared.command.Command.{Command}
 use Rattle.sqlite_trees.specs.Tree.{Trees}
-use Rattle.keyed_table.specs.Stores.{HoldsIn, IsReadyWith, IsReady, KeepsValueIfStillOpen, CommitsOrMayBeLeft}
-use Rattle.keyed_table.proofs.TextMeaning.{CompilesTo}
-use Rattle.keyed_table.proofs.Statements.{commits_as, spared, not_executed}
+use Rattle.keyed_table.specs.Stores.{HoldsIn, IsReadyWith, IsReady, CommitsOrMayBeLeft}
+use Rattle.keyed_table.specs.Meaning.{CompilesTo}
+use Rattle.keyed_table.proofs.Statements.{commits_as, ready_with, spared, spared_if}
 
 -- a command that writes rows
 abbrev pub WritesRows : Command → Type 0
@@ -30,19 +31,11 @@ wrote old new (Update at program) text params count is h = h
 wrote old new (Delete at program) text params count is h = h
 wrote old new _ text params count is h = absurd is
 
-no_commit : (command : Command) → WritesRows command → command ≡ Commit → ⊥
-no_commit (Insert at source) is e = cc
-no_commit (InsertOr at way source clauses) is e = cc
-no_commit (Update at program) is e = cc
-no_commit (Delete at program) is e = cc
-no_commit _ is e = is
-
-no_release : (command : Command) (name : List ℕ) → WritesRows command → command ≡ Release name → ⊥
-no_release (Insert at source) name is e = cc
-no_release (InsertOr at way source clauses) name is e = cc
-no_release (Update at program) name is e = cc
-no_release (Delete at program) name is e = cc
-no_release _ name is e = is
+-- if the result is a count, the statement was executed with this count
+pub executed_ok : (sql : List ℕ) (params : Row) (old new : State) (r : Result ℕ Error) → Executes sql params old new r
+    → IfOk r (λ count. Executes sql params old new (Ok count))
+executed_ok sql params old new (Ok count) h = h
+executed_ok sql params old new (Err e) h = tt
 
 -- A statement that writes rows, and its effect on a value that has room for it.
 module _ {M : Type 0} {Holds : Database → M → Type 0} (sql : List ℕ) (params : Row) (then : M → M)
@@ -53,8 +46,7 @@ module _ {M : Type 0} {Holds : Database → M → Type 0} (sql : List ℕ) (para
     → IsDatabase s.now → HasRoom m
     → Does s.step_limit (mode_of s) params s.now text None (command s.now m had) (Ok (tally, after))
     → Holds after (then m)) where
-  pub wrote_as : (old new : State) (count : ℕ) (m : M) (had : Holds old.now m)
-      → Executes sql params old new (Ok count)
+  pub wrote_as : (old new : State) (count : ℕ) (m : M) (had : Holds old.now m) → Executes sql params old new (Ok count)
       → Writes old new None (command old.now m had) (statement_of sql (understood old.now.schema sql)) params count
   wrote_as old new count m had h =
       let it = means old.now m had in
@@ -65,41 +57,31 @@ module _ {M : Type 0} {Holds : Database → M → Type 0} (sql : List ℕ) (para
       → Executes sql params old new (Ok count) → IsReadyWith Holds new (then m)
   made old new count m room shows h =
       let w = wrote_as old new count m shows.holds h in
-      record {
-        is_open = w.shown.is_open;
-        idle = w.shown.mode ∙ shows.idle;
-        settled = sym (rw shows.idle at w.shown.committed_is);
-        sound = w.sound;
-        holds = does old new.now _ w.tally m shows.holds shows.sound room w.changed;
-      }
+      ready_with new new.now (then m) w.shown.is_open (w.shown.mode ∙ shows.idle)
+      (sym (rw shows.idle at w.shown.committed_is)) refl w.sound
+      (does old new.now _ w.tally m shows.holds shows.sound room w.changed)
 
   pub left : (s : State) (m : M) (trees : Trees) → HasRoom m → IsReadyWith Holds s m → CommitsBy sql params s trees
       → HoldsIn Holds trees (then m)
   left s m trees room shows h =
-      let k = command s.now m shows.holds in
       let it = means s.now m shows.holds in
       let is = is_write s.now m shows.holds in
-      elim (commits_as sql params s k it.is it.is_plain trees h) [
-        | inl named ↦
-            elim named.0 [
-              | inl commit ↦ absurd (no_commit k is commit)
-              | inr release ↦ absurd (no_release k release.0 is release.2)
-            ]
-        | inr may ↦
-            record {
-              db = may.2;
-              same = sym may.5;
-              sound = may.4;
-              holds = does s may.2 _ may.1 m shows.holds shows.sound room may.3;
-            }
+      elim (commits_as sql params s (command s.now m shows.holds) it.is it.is_plain trees h) [
+        | inl (inl commit, _) ↦ absurd (subst WritesRows commit is)
+        | inl (inr release, _) ↦ absurd (subst WritesRows release.2 is)
+        | inr may ↦ record {
+          db = may.2;
+          same = sym may.5;
+          sound = may.4;
+          holds = does s may.2 _ may.1 m shows.holds shows.sound room may.3;
+        }
       ]
 
   pub turned : (old new : State) (r : Result ℕ Error) → (HasCleanDisk old → IsReady Holds old)
-      → (HasCleanDisk old → (m : M) → IsReadyWith Holds old m → HasRoom m)
-      → Survives old new (CommitsBy sql params old) → (HasCleanDisk new → Executes sql params old new r)
-      → CommitsOrMayBeLeft Holds old new then r
+      → (HasCleanDisk old → (m : M) → IsReadyWith Holds old m → HasRoom m) → Survives old new (CommitsBy sql params old)
+      → (HasCleanDisk new → Executes sql params old new r) → CommitsOrMayBeLeft Holds old new then r
   turned old new r ready room survives runs =
-      let early = λ (clean : HasCleanDisk new). let was : HasCleanDisk old = omega (arith, survives.clean) in was in
+      let early : HasCleanDisk new → HasCleanDisk old = λ clean. omega (arith, clean, survives.clean) in
       record {
         clean = early;
         crash = λ clean trees may. elim (survives.crash clean trees may) [
@@ -110,21 +92,7 @@ module _ {M : Type 0} {Holds : Database → M → Type 0} (sql : List ℕ) (para
                 λ m shows. left old m trees (room (early clean) m shows) shows commits,
               )
         ];
-        made = λ clean. ok_of r (early clean) (runs clean);
-        refused = λ clean. err_of r (runs clean);
+        made = λ clean. IfOk-weaker r _ _ (λ count h m shows.
+            made old new count m (room (early clean) m shows) shows h) (executed_ok sql params old new r (runs clean));
+        refused = λ clean. on_err_weaker r (spared old new) (spared_if sql params old new r (runs clean));
       }
-    where
-      ok_of : (r : Result ℕ Error) → HasCleanDisk old → Executes sql params old new r
-          → OnOk r ((m : M) → IsReadyWith Holds old m → IsReadyWith Holds new (then m))
-      ok_of (Ok count) clean h = λ m shows. made old new count m (room clean m shows) shows h
-      ok_of (Err e) clean h = tt
-
-      err_of : (r : Result ℕ Error) → Executes sql params old new r → OnErr r (KeepsValueIfStillOpen Holds old new)
-      err_of (Ok count) h = tt
-      err_of (Err e) h = spared old new (not_executed sql params old new e h)
-
--- a statement that was executed returned a count
-pub executed_if : (sql : List ℕ) (params : Row) (old new : State) (r : Result ℕ Error) → Executes sql params old new r
-    → IfOk r (λ count. Executes sql params old new (Ok count))
-executed_if sql params old new (Ok count) h = h
-executed_if sql params old new (Err e) h = tt

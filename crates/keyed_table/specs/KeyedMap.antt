@@ -78,12 +78,16 @@ module _ {V : Type 0} (c : Codec V) where
     pub delete : (schema : Schema) (at d : ℕ) → IsTableAt schema c.name (table_of c d) at
         → CompilesTo schema c.delete_sql (Delete at (program_of (find_query d (col 1 0 ∷ []))))
 
+  -- each row satisfies `IsRow`, no two have the same key, and the rows encode this map
+  pub record AreMap (rows : List Row) (m : FinMap nat_cmp V) : Type 0 where
+    pub valid : AllByRecursion c.IsRow rows
+    pub differ : RowidsDiffer rows
+    pub is : map_of c.value rows ≡ m
+
   -- the database has the table, no other object affects it, and its rows are this map
   pub record HoldsMap (db : Database) (m : FinMap nat_cmp V) : Type 0 where
     pub tree : ℕ
     pub at : ℕ
     pub stands : IsTableAt db.schema c.name (table_of c tree) at
     pub lone : IsLone db.schema c.name (table_of c tree)
-    pub rows : AllByRecursion c.IsRow (db.trees tree)
-    pub differ : RowidsDiffer (db.trees tree)
-    pub is : map_of c.value (db.trees tree) ≡ m
+    pub rows : AreMap (db.trees tree) m

@@ -5,6 +5,7 @@ use Rattle.sqlite.specs.Collation.TheVariants.{Binary}
 use Rattle.sqlite.specs.declared.types.Value.TheVariants.{Null, Text}
 use Rattle.sqlite.specs.Order.{Row, column}
 use Rattle.sqlite.specs.Listing.{shown}
+use Rattle.sqlite.specs.Does.{lacks_sequence}
 use Rattle.sqlite.specs.Schema.{Schema}
 use Rattle.sqlite.specs.Table.{Table}
 use Rattle.sqlite.specs.Kind.{Kind}
@@ -14,6 +15,7 @@ use Rattle.sqlite_sql.specs.declared.ops.BinaryOp.TheVariants.{Compare, And}
 use Rattle.sqlite_sql.specs.declared.ops.CompareOp.TheVariants.{Le, Ge}
 use Rattle.sqlite_schema.specs.declared.schema.Column.{Column}
 use Rattle.sqlite_schema.specs.Names.{table_named, same_name}
+use Rattle.sqlite_catalog.specs.Change.{is_used}
 use Rattle.sqlite_rules.specs.Edit.{put_all}
 use Rattle.sqlite_rules.specs.Lists.{Has}
 use Rattle.sqlite_trees.specs.Objects.{catalog_tree}
@@ -74,3 +76,9 @@ pub record HasCatalogText (trees : Trees) (name text : List ℕ) : Type 0 where
   pub listed : Has (catalog_rows trees) row
   pub name_is : column row 2 ≡ Text name
   pub sql : column row 5 ≡ Text text
+
+-- The name is free, no foreign key refers to it, and `sqlite_sequence` exists if a table has AUTOINCREMENT.
+pub record AdmitsTable (name : List ℕ) (schema : Schema) : Type 0 where
+  pub unused : is_used schema name ≡ false
+  pub unreferenced : AllByRecursion (HasNoReferenceTo name) schema.tables
+  pub sequence_allowed : lacks_sequence schema ≡ false

@@ -1,30 +1,15 @@
 -- What a schema has under the names of our tables.
 use Rattle.std.specs.Prelude.{ℕ, List, Bool, not, ◌&&◌, ◌||◌, if◌then◌else◌, Option, Some, None, is_some}
-use Rattle.std.specs.Prelude.{option_and_then}
 use Rattle.sqlite.specs.Schema.{Schema}
 use Rattle.sqlite_schema.specs.Names.{index_named, view_named}
 use Rattle.device_registry.specs.declared.schema_check.TablesStatus.{TablesStatus}
 use Rattle.device_registry.specs.declared.schema_check.TablesStatus.TheVariants.{Absent, Present, Unusable}
 use Rattle.device_registry.specs.declared.table.Version.{Version}
 use Rattle.device_registry.specs.declared.table.Version.TheVariants.{First, Second}
-use Rattle.device_registry.specs.SchemaChecks.{admits_tables, has_foreign_key_to_ours, has_one_table, is_indexed}
-use Rattle.device_registry.specs.SchemaChecks.{lacks_needed_sequence_table, migration_adds_no_sequence, tree_of_devices}
-use Rattle.device_registry.specs.SchemaChecks.{tree_of_table}
+use Rattle.device_registry.specs.SchemaChecks.{has_foreign_key_to_ours, has_one_table, is_indexed, tree_of_table}
+use Rattle.device_registry.specs.SchemaChecks.{lacks_needed_sequence_table, migration_adds_no_sequence}
 use Rattle.device_registry.specs.Stored.{other}
 use Rattle.device_registry.specs.Table.{meta_name, device_table_name}
-
--- the tables of this version are there, and other objects do not affect them
-abbrev pub has_tables : Version → Schema → Bool
-has_tables version schema =
-    is_some (option_and_then (tree_of_devices version schema) (tree_of_table schema meta_name))
-
--- the tables can be created, or those of a version are there, or something else
-abbrev pub tables_status : Schema → TablesStatus
-tables_status schema =
-    if admits_tables schema then Absent
-    else if has_tables First schema then Present First
-    else if has_tables Second schema then Present Second
-    else Unusable
 
 -- an index or a view has this name
 abbrev pub is_index_or_view : Schema → (name : List ℕ) → Bool
@@ -44,7 +29,7 @@ are_unaffected version schema meta devices =
     && has_one_table schema meta && has_one_table schema devices && not
     (is_index_or_view schema (device_table_name (other version))) && migration_adds_no_sequence version schema
 
--- the same, if the tables of the three names are in these trees
+-- what the schema has, if the tables of the three names are in these trees
 abbrev pub tables_in_trees : Schema → (meta first second : Option ℕ) → TablesStatus
 tables_in_trees schema None None None = if are_creatable schema then Absent else Unusable
 tables_in_trees schema (Some meta) (Some devices) None =
@@ -55,3 +40,10 @@ tables_in_trees schema None None (Some second) = Unusable
 tables_in_trees schema None (Some first) second = Unusable
 tables_in_trees schema (Some meta) None None = Unusable
 tables_in_trees schema (Some meta) (Some first) (Some second) = Unusable
+
+-- whether the tables can be created, are present in one version, or neither, computed as in the code; `absent_free`,
+-- `is_absent`, `are_in_trees` and `is_present` (`TablesStatusLemmas.antt`) say what it implies
+abbrev pub tables_status : Schema → TablesStatus
+tables_status schema =
+    tables_in_trees schema (tree_of_table schema meta_name) (tree_of_table schema (device_table_name First))
+    (tree_of_table schema (device_table_name Second))

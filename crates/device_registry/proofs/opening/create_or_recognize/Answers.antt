@@ -1,177 +1,115 @@
-use Rattle.std.proofs.Common.{◌≡◌, Bool, rules, subst, arith, IsTrue}
-use Rattle.sqlite.specs.State.{HasCleanDisk, IsUnchanged, State, Survives}
-use Rattle.device_registry.specs.declared.schema_check.TablesStatus.TheVariants.{Absent, Present, Unusable}
-use Rattle.device_registry.specs.declared.table.Version.{Version}
-use Rattle.device_registry.specs.declared.table.Version.TheVariants.{First, Second}
-use Rattle.device_registry.specs.Opening.{IsSettledOpen}
-use Rattle.device_registry.specs.Stored.{IsRegistry}
-use Rattle.device_registry.specs.SchemaChecks.{admits_tables}
+use Rattle.std.proofs.Common.{◌≡◌, rules}
+use Rattle.sqlite.specs.State.{HasCleanDisk}
+use Rattle.device_registry.specs.declared.schema_check.TablesStatus.TheVariants.{Absent}
 use Rattle.device_registry.specs.private.TablesStatus.{tables_status}
-use Rattle.device_registry.proofs.OpenCalls.{Took, begun, begun_bare, begun_stop, took, first_asked, migrated}
-use Rattle.device_registry.proofs.OpenCalls.{migrated_other, migrated_stop, taken, taken_ready, taken_rows}
-use Rattle.device_registry.proofs.OpenCalls.{taken_stop, taken_others, migrated_others, no_registry, unusable}
-use Rattle.device_registry.proofs.OpenRewritesVersion.{renewed_by}
+use Rattle.device_registry.proofs.OpenCalls.{created, creation_crash, no_registry, not_held, one_version, others_from}
+use Rattle.device_registry.proofs.OpenCalls.{prepared, ready_found, recognized, registry_found, recognized_rewritten}
+use Rattle.device_registry.proofs.OpenCalls.{rows_from, rows_keep_others, crash_keeps_found, unusable, is_ready}
 use Rattle.device_registry.proofs.TablesStatusLemmas.{absent_free}
+use Rattle.device_registry.proofs.TablesRecognized.{before}
 use Rattle.device_registry.proofs.opening.create_or_recognize.Goals as goal
-
--- the answer of `is_registry` about the version that the match has found
-accepted : (found version : Version) → found ≡ version → {old mid : State} {yes : Bool} → IsTrue yes
-    → (HasCleanDisk old → IsSettledOpen old) → Survives old mid (λ _. ⊥)
-    → (HasCleanDisk mid → IsUnchanged old mid × (IsTrue yes → IsRegistry found old.now)) → Took version old mid
-accepted found version is {old} {mid} {yes = is_registry} is_true rest survives asked =
-    took version rest survives
-    (subst (λ v. HasCleanDisk mid → IsUnchanged old mid × (IsTrue is_registry → IsRegistry v old.now)) is asked) is_true
 
 -- ---- the tables are created
 
 pub create_tables-requires-clause-clear : goal.create_tables-requires-clause-clear
 create_tables-requires-clause-clear g c clean =
     let old = g.C.SqlConnection.state c.args.conn.now in
-    let absent : tables_status old.now.schema ≡ Absent = search rules in
-    (absent_free old.now.schema absent, (c.requires.rest clean).sound)
+    (absent_free old.now.schema (search rules), (c.requires.rest clean).sound)
 
 pub returns-in_err-create_tables-in-Absent-clause-crash : goal.returns-in_err-create_tables-in-Absent-clause-crash
 returns-in_err-create_tables-in-Absent-clause-crash g c =
-    let old = g.C.SqlConnection.state c.args.conn.now in
-    let absent : tables_status old.now.schema ≡ Absent = search rules in
-    begun_stop c.requires.rest (absent_free old.now.schema absent) c.create_tables.ensures.crash
+    creation_crash c.requires.rest (search rules) c.create_tables.ensures.crash
 
-pub returns-in_ok-create_tables-in-Absent-clause-prepared : goal.returns-in_ok-create_tables-in-Absent-clause-prepared
-returns-in_ok-create_tables-in-Absent-clause-prepared g c =
+pub returns-in_ok-create_tables-in-Absent : goal.returns-in_ok-create_tables-in-Absent
+returns-in_ok-create_tables-in-Absent g c =
     let old = g.C.SqlConnection.state c.args.conn.now in
     let absent : tables_status old.now.schema ≡ Absent = search rules in
-    begun c.requires.rest (absent_free old.now.schema absent) c.create_tables.ensures.crash
-    c.in_ok-create_tables-in-Absent.ensures.made
-
-pub returns-in_ok-create_tables-in-Absent-clause-crash : goal.returns-in_ok-create_tables-in-Absent-clause-crash
-returns-in_ok-create_tables-in-Absent-clause-crash g c =
-    let old = g.C.SqlConnection.state c.args.conn.now in
-    let absent : tables_status old.now.schema ≡ Absent = search rules in
-    begun_stop c.requires.rest (absent_free old.now.schema absent) c.create_tables.ensures.crash
-
-pub returns-in_ok-create_tables-in-Absent-clause-rows : goal.returns-in_ok-create_tables-in-Absent-clause-rows
-returns-in_ok-create_tables-in-Absent-clause-rows g c =
-    let old = g.C.SqlConnection.state c.args.conn.now in
-    let absent : tables_status old.now.schema ≡ Absent = search rules in
-    begun_bare c.requires.rest (absent_free old.now.schema absent) c.create_tables.ensures.crash
-
-pub returns-in_ok-create_tables-in-Absent-clause-written : goal.returns-in_ok-create_tables-in-Absent-clause-written
-returns-in_ok-create_tables-in-Absent-clause-written g c =
-    let old = g.C.SqlConnection.state c.args.conn.now in
-    let absent : tables_status old.now.schema ≡ Absent = search rules in
-    begun_bare c.requires.rest (absent_free old.now.schema absent) c.create_tables.ensures.crash
+    record {
+      prepared = created c.requires.rest absent c.create_tables.ensures.crash
+          c.in_ok-create_tables-in-Absent.ensures.made;
+      refused = search rules;
+      unchanged = search rules;
+      crash = creation_crash c.requires.rest absent c.create_tables.ensures.crash;
+      rows = not_held c.requires.rest absent c.create_tables.ensures.crash;
+      written = not_held c.requires.rest absent c.create_tables.ensures.crash;
+      others = search rules;
+      remains = search rules;
+    }
 
 -- ---- it is something else
 
 pub returns-then-not-branch-clause-refused : goal.returns-then-not-branch-clause-refused
 returns-then-not-branch-clause-refused g c clean why =
-    let old = g.C.SqlConnection.state c.args.conn.now in
-    let early : HasCleanDisk old = omega (arith, clean, c.is_registry.ensures.crash.clean) in
-    let present : tables_status old.now.schema ≡ Present c.in-Present.version = search rules in
-    no_registry c.in-Present.version old (c.requires.rest early) present
+    no_registry _ (c.requires.rest (before c.is_registry.ensures.crash clean)) c.in-Present.version (search rules)
     (c.is_registry.ensures.other clean (search rules))
 
 pub returns-in-Unusable-clause-refused : goal.returns-in-Unusable-clause-refused
-returns-in-Unusable-clause-refused g c clean why =
-    let old = g.C.SqlConnection.state c.args.conn.now in
-    let is : tables_status old.now.schema ≡ Unusable = search rules in
-    unusable old (c.requires.rest clean) is
+returns-in-Unusable-clause-refused g c clean why = unusable _ (c.requires.rest clean) (search rules)
 
 -- ---- it is a registry of version 1
 
 pub migrate_tables-requires-clause-first : goal.migrate_tables-requires-clause-first
-migrate_tables-requires-clause-first g c =
-    let is_true : IsTrue c.in_ok-is_registry-in-Present.field-0 = search rules in
-    let asked = accepted c.in-Present.version First c.in-First.is is_true c.requires.rest c.is_registry.ensures.crash
-    c.in_ok-is_registry-in-Present.ensures.ours in
-    first_asked asked
+migrate_tables-requires-clause-first g c clean =
+    let it = recognized c.in-First.is c.requires.rest c.is_registry.ensures.crash
+    c.in_ok-is_registry-in-Present.ensures.ours (search rules) clean in
+    (it.registry, it.rest.sound)
 
 pub returns-in_err-migrate_tables-in-First-clause-crash : goal.returns-in_err-migrate_tables-in-First-clause-crash
 returns-in_err-migrate_tables-in-First-clause-crash g c =
-    let is_true : IsTrue c.in_ok-is_registry-in-Present.field-0 = search rules in
-    let asked = accepted c.in-Present.version First c.in-First.is is_true c.requires.rest c.is_registry.ensures.crash
-    c.in_ok-is_registry-in-Present.ensures.ours in
-    migrated_stop asked c.is_registry.ensures.crash c.migrate_tables.ensures.crash
+    crash_keeps_found (λ clean. registry_found (recognized c.in-First.is c.requires.rest c.is_registry.ensures.crash
+    c.in_ok-is_registry-in-Present.ensures.ours (search rules) clean)) c.migrate_tables.ensures.crash
+    c.is_registry.ensures.crash
 
-pub returns-in_ok-migrate_tables-in-First-clause-prepared : goal.returns-in_ok-migrate_tables-in-First-clause-prepared
-returns-in_ok-migrate_tables-in-First-clause-prepared g c =
-    let is_true : IsTrue c.in_ok-is_registry-in-Present.field-0 = search rules in
-    let asked = accepted c.in-Present.version First c.in-First.is is_true c.requires.rest c.is_registry.ensures.crash
-    c.in_ok-is_registry-in-Present.ensures.ours in
-    migrated asked c.migrate_tables.ensures.crash c.in_ok-migrate_tables-in-First.ensures.made
-
-pub returns-in_ok-migrate_tables-in-First-clause-crash : goal.returns-in_ok-migrate_tables-in-First-clause-crash
-returns-in_ok-migrate_tables-in-First-clause-crash g c =
-    let is_true : IsTrue c.in_ok-is_registry-in-Present.field-0 = search rules in
-    let asked = accepted c.in-Present.version First c.in-First.is is_true c.requires.rest c.is_registry.ensures.crash
-    c.in_ok-is_registry-in-Present.ensures.ours in
-    migrated_stop asked c.is_registry.ensures.crash c.migrate_tables.ensures.crash
-
-pub returns-in_ok-migrate_tables-in-First-clause-rows : goal.returns-in_ok-migrate_tables-in-First-clause-rows
-returns-in_ok-migrate_tables-in-First-clause-rows g c =
-    let is_true : IsTrue c.in_ok-is_registry-in-Present.field-0 = search rules in
-    let asked = accepted c.in-Present.version First c.in-First.is is_true c.requires.rest c.is_registry.ensures.crash
-    c.in_ok-is_registry-in-Present.ensures.ours in
-    migrated_other asked c.migrate_tables.ensures.crash
-
-pub returns-in_ok-migrate_tables-in-First-clause-written : goal.returns-in_ok-migrate_tables-in-First-clause-written
-returns-in_ok-migrate_tables-in-First-clause-written g c =
-    let is_true : IsTrue c.in_ok-is_registry-in-Present.field-0 = search rules in
-    let asked = accepted c.in-Present.version First c.in-First.is is_true c.requires.rest c.is_registry.ensures.crash
-    c.in_ok-is_registry-in-Present.ensures.ours in
-    migrated_other asked c.migrate_tables.ensures.crash
+pub returns-in_ok-migrate_tables-in-First : goal.returns-in_ok-migrate_tables-in-First
+returns-in_ok-migrate_tables-in-First g c =
+    let it = recognized c.in-First.is c.requires.rest c.is_registry.ensures.crash
+    c.in_ok-is_registry-in-Present.ensures.ours (search rules) in
+    let mid = g.C.SqlConnection.state c.is_registry.new.conn in
+    let new = g.C.SqlConnection.state c.migrate_tables.new.self in
+    let devices = λ (clean : HasCleanDisk mid). registry_found (it clean) in
+    let early = before c.migrate_tables.ensures.crash in
+    record {
+      prepared = prepared devices c.migrate_tables.ensures.crash c.in_ok-migrate_tables-in-First.ensures.made;
+      refused = search rules;
+      unchanged = search rules;
+      crash = crash_keeps_found devices c.migrate_tables.ensures.crash c.is_registry.ensures.crash;
+      rows = λ clean. one_version (it (early clean));
+      written = λ clean. one_version (it (early clean));
+      others = λ clean. others_from (it (early clean)).same new (c.in_ok-migrate_tables-in-First.ensures.others clean);
+      remains = search rules;
+    }
 
 -- ---- it is a registry of version 2
 
 pub rewrite_version-requires : goal.rewrite_version-requires
-rewrite_version-requires g c =
-    let is_true : IsTrue c.in_ok-is_registry-in-Present.field-0 = search rules in
-    let asked = accepted c.in-Present.version Second c.in-Second.is is_true c.requires.rest c.is_registry.ensures.crash
-    c.in_ok-is_registry-in-Present.ensures.ours in
-    taken_ready asked
+rewrite_version-requires g c clean =
+    is_ready (recognized c.in-Second.is c.requires.rest c.is_registry.ensures.crash
+    c.in_ok-is_registry-in-Present.ensures.ours (search rules) clean)
 
 pub returns-in_err-rewrite_version-in-Second-clause-crash : goal.returns-in_err-rewrite_version-in-Second-clause-crash
 returns-in_err-rewrite_version-in-Second-clause-crash g c =
-    let is_true : IsTrue c.in_ok-is_registry-in-Present.field-0 = search rules in
-    let asked = accepted c.in-Present.version Second c.in-Second.is is_true c.requires.rest c.is_registry.ensures.crash
-    c.in_ok-is_registry-in-Present.ensures.ours in
-    taken_stop asked c.is_registry.ensures.crash c.rewrite_version.ensures.crash
+    crash_keeps_found (λ clean. ready_found (recognized c.in-Second.is c.requires.rest c.is_registry.ensures.crash
+    c.in_ok-is_registry-in-Present.ensures.ours (search rules) clean)) c.rewrite_version.ensures.crash
+    c.is_registry.ensures.crash
 
-pub returns-in_ok-rewrite_version-in-Second-clause-prepared :
-    goal.returns-in_ok-rewrite_version-in-Second-clause-prepared
-returns-in_ok-rewrite_version-in-Second-clause-prepared g c =
-    let is_true : IsTrue c.in_ok-is_registry-in-Present.field-0 = search rules in
-    let asked = accepted c.in-Present.version Second c.in-Second.is is_true c.requires.rest c.is_registry.ensures.crash
-    c.in_ok-is_registry-in-Present.ensures.ours in
-    taken asked c.rewrite_version.ensures.crash c.in_ok-rewrite_version-in-Second.ensures.renewed
-
-pub returns-in_ok-rewrite_version-in-Second-clause-crash : goal.returns-in_ok-rewrite_version-in-Second-clause-crash
-returns-in_ok-rewrite_version-in-Second-clause-crash g c =
-    let is_true : IsTrue c.in_ok-is_registry-in-Present.field-0 = search rules in
-    let asked = accepted c.in-Present.version Second c.in-Second.is is_true c.requires.rest c.is_registry.ensures.crash
-    c.in_ok-is_registry-in-Present.ensures.ours in
-    taken_stop asked c.is_registry.ensures.crash c.rewrite_version.ensures.crash
-
-pub returns-in_ok-rewrite_version-in-Second-clause-rows : goal.returns-in_ok-rewrite_version-in-Second-clause-rows
-returns-in_ok-rewrite_version-in-Second-clause-rows g c =
-    let is_true : IsTrue c.in_ok-is_registry-in-Present.field-0 = search rules in
-    let asked = accepted c.in-Present.version Second c.in-Second.is is_true c.requires.rest c.is_registry.ensures.crash
-    c.in_ok-is_registry-in-Present.ensures.ours in
-    taken_rows asked c.rewrite_version.ensures.crash c.in_ok-rewrite_version-in-Second.ensures.rows
-
-pub returns-in_ok-rewrite_version-in-Second-clause-written :
-    goal.returns-in_ok-rewrite_version-in-Second-clause-written
-returns-in_ok-rewrite_version-in-Second-clause-written g c =
-    let is_true : IsTrue c.in_ok-is_registry-in-Present.field-0 = search rules in
-    let asked = accepted c.in-Present.version Second c.in-Second.is is_true c.requires.rest c.is_registry.ensures.crash
-    c.in_ok-is_registry-in-Present.ensures.ours in
-    renewed_by c.in_ok-rewrite_version-in-Second.field-0 asked c.is_registry.ensures.crash
-    c.rewrite_version.ensures.crash
-    c.in_ok-rewrite_version-in-Second.ensures.runs
-
-pub returns-in_ok-rewrite_version-in-Second-clause-others : goal.returns-in_ok-rewrite_version-in-Second-clause-others
-returns-in_ok-rewrite_version-in-Second-clause-others g c =
-    let is_true : IsTrue c.in_ok-is_registry-in-Present.field-0 = search rules in
-    let asked = accepted c.in-Present.version Second c.in-Second.is is_true c.requires.rest c.is_registry.ensures.crash
-    c.in_ok-is_registry-in-Present.ensures.ours in
-    taken_others asked c.rewrite_version.ensures.crash c.in_ok-rewrite_version-in-Second.ensures.rows
+pub returns-in_ok-rewrite_version-in-Second : goal.returns-in_ok-rewrite_version-in-Second
+returns-in_ok-rewrite_version-in-Second g c =
+    let it = recognized c.in-Second.is c.requires.rest c.is_registry.ensures.crash
+    c.in_ok-is_registry-in-Present.ensures.ours (search rules) in
+    let mid = g.C.SqlConnection.state c.is_registry.new.conn in
+    let new = g.C.SqlConnection.state c.rewrite_version.new.conn in
+    let devices = λ (clean : HasCleanDisk mid). ready_found (it clean) in
+    let early = before c.rewrite_version.ensures.crash in
+    let rows = λ (clean : HasCleanDisk new).
+    c.in_ok-rewrite_version-in-Second.ensures.rows clean (is_ready (it (early clean))) in
+    record {
+      prepared = prepared devices c.rewrite_version.ensures.crash c.in_ok-rewrite_version-in-Second.ensures.renewed;
+      refused = search rules;
+      unchanged = search rules;
+      crash = crash_keeps_found devices c.rewrite_version.ensures.crash c.is_registry.ensures.crash;
+      rows = λ clean held. rows_from (it (early clean)).same (rows clean);
+      written = λ clean held. recognized_rewritten new _ (it (early clean)) c.is_registry.ensures.crash
+          (c.in_ok-rewrite_version-in-Second.ensures.runs clean);
+      others = λ clean. others_from (it (early clean)).same new (rows_keep_others (rows clean));
+      remains = search rules;
+    }

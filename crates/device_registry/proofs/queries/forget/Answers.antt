@@ -1,5 +1,5 @@
 use Rattle.std.proofs.Common.{rules, SFits, w64, to_z-of_z}
-use Rattle.device_registry.proofs.DeviceWrites.{forget_turns}
+use Rattle.device_registry.proofs.DeviceStatements.{forget_turns}
 use Rattle.device_registry.proofs.queries.forget.Goals as goal
 
 pub returns : goal.returns

@@ -1,8 +1,7 @@
-use Rattle.std.proofs.Common.{rules, arith, ◌≡◌, true}
-use Rattle.sqlite.specs.State.{HasCleanDisk}
+use Rattle.std.proofs.Common.{rules, ◌≡◌, true}
 use Rattle.device_registry.specs.private.CatalogRows.{are_our_tables}
 use Rattle.keyed_table.proofs.ObjectsAnswer.{listing_plain}
-use Rattle.device_registry.proofs.TablesRecognized.{ours_reported, ours_shown}
+use Rattle.device_registry.proofs.TablesRecognized.{before, ours}
 use Rattle.device_registry.proofs.recognize.lists_our_tables.Goals as goal
 
 pub query_rows-requires : goal.query_rows-requires
@@ -10,24 +9,18 @@ query_rows-requires g c clean = listing_plain (g.C.SqlConnection.state c.args.co
 
 pub returns-clause-ours : goal.returns-clause-ours
 returns-clause-ours g c clean =
-    let old = g.C.SqlConnection.state c.args.conn.now in
-    let early : HasCleanDisk old = omega (arith, clean, c.query_rows.ensures.crash.clean) in
+    let sound = c.requires (before c.query_rows.ensures.crash clean) in
     let show = c.in_ok-rows.ensures.shown clean in (
       show.1,
       λ yes.
           let are : are_our_tables c.args.version c.in_ok-rows.rows.items ≡ true = search rules in
-          ours_reported c.args.version old (g.C.SqlConnection.state c.query_rows.new.conn) c.in_ok-rows.rows.items
-          (c.requires early) show.0
-          are,
+          (ours c.args.version _ _ _ sound show.0).0 are,
     )
 
 pub returns-clause-other : goal.returns-clause-other
 returns-clause-other g c clean none listed =
-    let old = g.C.SqlConnection.state c.args.conn.now in
-    let early : HasCleanDisk old = omega (arith, clean, c.query_rows.ensures.crash.clean) in
-    let show = c.in_ok-rows.ensures.shown clean in
+    let sound = c.requires (before c.query_rows.ensures.crash clean) in
     let are : are_our_tables c.args.version c.in_ok-rows.rows.items ≡ true =
-    ours_shown c.args.version old (g.C.SqlConnection.state c.query_rows.new.conn) c.in_ok-rows.rows.items
-    (c.requires early) show.0 listed in
+    (ours c.args.version _ _ _ sound (c.in_ok-rows.ensures.shown clean).0).1 listed in
     let yes : c.are_our_tables.result ≡ true = search rules in
     absurd (let e = none in cc)

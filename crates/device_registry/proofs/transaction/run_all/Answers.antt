@@ -1,7 +1,8 @@
 use Rattle.std.proofs.Common.{rules, ◌∙◌, ◌<◌, map, take, length, subst, sym}
 use Rattle.std.proofs.lemmas.List.{map_more}
 use Rattle.device_registry.specs.private.Transaction.{IsMidTransaction}
-use Rattle.keyed_table.proofs.Transactions.{uncommitted, one_more_text, if_refused}
+use Rattle.keyed_table.proofs.Transactions.{uncommitted, one_more_text}
+use Rattle.std.proofs.lemmas.Result.{MatchResult-from_err}
 use Rattle.device_registry.proofs.transaction.run_all.Goals as goal
 
 pub loop-text-preserved : goal.loop-text-preserved
@@ -19,7 +20,7 @@ loop-text-preserved g c =
 
 pub returns-in_err-execute-clause-inside : goal.returns-in_err-execute-clause-inside
 returns-in_err-execute-clause-inside g c =
-    if_refused c.from_residual.result _ _ c.from_residual.ensures.0
-    (uncommitted g.S.Store (map (λ text. text.now) (take c.loop-text.text-index c.args.texts.now)) _
+    MatchResult-from_err c.from_residual.result _ _ c.from_residual.ensures.0
+    (λ _. uncommitted g.S.Store (map (λ text. text.now) (take c.loop-text.text-index c.args.texts.now)) _
     c.args.ours.now.conn.now c.loop-text.ours.conn.now c.execute.new.self.conn.now c.execute.result
     c.loop-text.invariant.1 c.execute.ensures.survives c.execute.ensures.runs)

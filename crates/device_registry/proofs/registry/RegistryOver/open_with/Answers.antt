@@ -1,6 +1,4 @@
-use Rattle.std.proofs.Common.{rules, sym, subst}
 use Rattle.std.proofs.lemmas.Result.{err_from_is_err_and}
-use Rattle.device_registry.specs.Opening.{FailsToOpen}
 use Rattle.device_registry.proofs.OpenCalls.{not_asked}
 use Rattle.device_registry.proofs.CacheAgreement.{none_recalled}
 use Rattle.device_registry.proofs.registry.RegistryOver.open_with.Goals as goal
@@ -8,18 +6,12 @@ use Rattle.device_registry.proofs.registry.RegistryOver.open_with.Goals as goal
 pub returns-in_err-cache-clause-refused : goal.returns-in_err-cache-clause-refused
 returns-in_err-cache-clause-refused g c =
     let why = err_from_is_err_and c.from_residual.result c.from_residual.ensures.1 in
-    let old = g.C.SqlConnection.state c.args.conn in
-    rw why.1 (λ is. (c.args.conn, subst (FailsToOpen old old) (sym why.2) (not_asked old _)))
+    rw (why.1, why.2) (λ is. (c.args.conn, not_asked _ _))
 
 pub returns-in_err-prepare-clause-refused : goal.returns-in_err-prepare-clause-refused
 returns-in_err-prepare-clause-refused g c =
     let why = err_from_is_err_and c.from_residual-in_err-prepare.result c.from_residual-in_err-prepare.ensures.1 in
-    let last = c.prepare.new.conn in
-    rw why.1 (λ is. (
-      last,
-      subst (FailsToOpen (g.C.SqlConnection.state c.args.conn) (g.C.SqlConnection.state last))
-          (sym why.2) c.in_err-prepare.ensures.refused,
-    ))
+    rw (why.1, why.2) (λ is. (c.prepare.new.conn, c.in_err-prepare.ensures.refused))
 
 pub invariant_of-result : goal.invariant_of-result
 invariant_of-result g c = (
@@ -30,8 +22,5 @@ invariant_of-result g c = (
 pub invariant_of-result-2 : goal.invariant_of-result-2
 invariant_of-result-2 g c = (
   λ clean. (c.in_ok-prepare.ensures.opened clean).registries,
-  none_recalled (g.C.SqlConnection.state c.prepare.new.conn) c.in_ok-cache.cache.entries c.in_ok-cache.ensures,
+  none_recalled c.in_ok-cache.cache.entries c.in_ok-cache.ensures,
 )
-
-pub new_cache-requires : goal.new_cache-requires
-new_cache-requires g c = search rules

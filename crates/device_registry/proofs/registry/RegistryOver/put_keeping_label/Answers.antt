@@ -1,20 +1,21 @@
-use Rattle.std.proofs.Common.{◌∙◌, Ok, Err, ap, sym, subst, refl}
+use Rattle.std.proofs.Common.{refl}
 use Rattle.std.proofs.lemmas.Result.{err_from_is_err_and}
-use Rattle.learned_devices.specs.declared.fault.LearnFault.{LearnFault}
-use Rattle.learned_devices.specs.Devices.{Learn, learn_update}
-use Rattle.learned_devices.specs.StoreCalls.{Learns}
-use Rattle.device_registry.specs.Holding.{registry_state}
-use Rattle.device_registry.proofs.RegistryCalls.{learns_unlooked, makes_known, learns_failed, learns_known}
-use Rattle.device_registry.proofs.RegistryCalls.{starts_new, learns_after, written_after}
+use Rattle.learned_devices.specs.Devices.{Learn, is_full_for}
+use Rattle.device_registry.proofs.RegistryCalls.{either, still_pending, updates_after, learns_after, stored_now}
+use Rattle.device_registry.proofs.RegistryCalls.{makes_known, room_after}
 use Rattle.device_registry.proofs.registry.RegistryOver.put_keeping_label.Goals as goal
 
 pub returns-in_err-known-clause-learns : goal.returns-in_err-known-clause-learns
 returns-in_err-known-clause-learns g c =
-    let old = g.C.SqlConnection.state c.args.self.now in
-    let mid = g.C.SqlConnection.state c.known.new.self in
     let why = err_from_is_err_and c.from_residual.result c.from_residual.ensures.1 in
-    subst (Learns (registry_state old) (registry_state mid) c.args.device) (sym (why.1 ∙ ap Err why.2))
-    (learns_unlooked old mid c.args.device.id c.args.device _ c.in_err-known.ensures.looks_up)
+    let looks = c.in_err-known.ensures.looks_up in
+    rw (why.1, why.2) (record {
+      clean = looks.clean;
+      reopenable = looks.reopenable;
+      devices = λ clean devices has.
+          let same = looks.devices clean devices has in
+          either (is_full_for devices c.args.device.id) same (still_pending same);
+    })
 
 -- ---- the sender is known
 
@@ -23,50 +24,46 @@ store_known-requires-clause-ready g c clean = (c.in_ok-known.ensures.ready clean
 
 pub store_known-requires-clause-known : goal.store_known-requires-clause-known
 store_known-requires-clause-known g c =
-    let old = g.C.SqlConnection.state c.args.self.now in
-    let mid = g.C.SqlConnection.state c.known.new.self in (
-      Learn c.args.device.eep c.args.device.maker,
-      makes_known old mid c.args.device.id c.in_ok-known.field-0 c.in_ok-known.ensures.looks_up mid
-          c.in_ok-known.ensures.ready c.in-Some.known _ c.in-Some.is refl
-          (Learn c.args.device.eep c.args.device.maker) refl,
-    )
+    let known = c.in_ok-known.ensures in
+    let learn = Learn c.args.device.eep c.args.device.maker in
+    (learn, makes_known known.looks_up known.ready c.in-Some.is learn refl refl)
 
 pub returns-in_err-store_known-in-Some-clause-learns : goal.returns-in_err-store_known-in-Some-clause-learns
 returns-in_err-store_known-in-Some-clause-learns g c =
-    let old = g.C.SqlConnection.state c.args.self.now in
-    let mid = g.C.SqlConnection.state c.known.new.self in
-    let new = g.C.SqlConnection.state c.store_known.new.self in
+    let known = c.in_ok-known.ensures in
+    let learn = Learn c.args.device.eep c.args.device.maker in
+    let makes = makes_known known.looks_up known.ready c.in-Some.is learn refl refl in
+    let stored = c.in_err-store_known-in-Some.ensures.updates learn makes in
+    let updates = updates_after known.looks_up _ stored in
     let why = err_from_is_err_and c.from_residual-in_err-store_known-in-Some.result
     c.from_residual-in_err-store_known-in-Some.ensures.1 in
-    let makes = makes_known old mid c.args.device.id c.in_ok-known.field-0 c.in_ok-known.ensures.looks_up mid
-    c.in_ok-known.ensures.ready c.in-Some.known _ c.in-Some.is refl
-    (Learn c.args.device.eep c.args.device.maker) refl in
-    subst (Learns (registry_state old) (registry_state new) c.args.device) (sym (why.1 ∙ ap Err why.2))
-    (learns_failed old mid c.args.device.id c.in_ok-known.field-0 c.in_ok-known.ensures.looks_up new
-    c.in_ok-known.ensures.ready c.in-Some.known c.args.device c.in-Some.is refl _
-    (c.in_err-store_known-in-Some.ensures.updates (Learn c.args.device.eep c.args.device.maker) makes))
+    rw (why.1, why.2) (record {
+      clean = updates.clean;
+      reopenable = updates.reopenable;
+      devices = λ clean devices has.
+          rw (room_after known.looks_up known.ready _ learn makes (stored.clean clean) devices has)
+          (updates.devices clean devices has);
+    })
 
 pub returns-in_ok-store_known-in-Some : goal.returns-in_ok-store_known-in-Some
 returns-in_ok-store_known-in-Some g c =
-    let old = g.C.SqlConnection.state c.args.self.now in
-    let mid = g.C.SqlConnection.state c.known.new.self in
-    let last = c.store_known.new.self in
-    let new = g.C.SqlConnection.state last in
-    let known = c.in_ok-known.field-0 in
-    let looks = c.in_ok-known.ensures.looks_up in
-    let ready = c.in_ok-known.ensures.ready in
-    let operation = Learn c.args.device.eep c.args.device.maker in
-    let makes = makes_known old mid c.args.device.id known looks mid ready c.in-Some.known _ c.in-Some.is refl operation
-    refl in
+    let known = c.in_ok-known.ensures in
+    let learn = Learn c.args.device.eep c.args.device.maker in
+    let makes = makes_known known.looks_up known.ready c.in-Some.is learn refl refl in
     let done = c.in_ok-store_known-in-Some.ensures in
-    let updates = done.updates operation makes in
+    let stored = done.updates learn makes in
+    let updates = updates_after known.looks_up _ stored in
     record {
-      learns = learns_known old mid c.args.device.id known looks new ready c.in-Some.known c.args.device c.in-Some.is
-          refl _ _ updates;
-      written = λ clean.
-          written_after old mid c.args.device.id known looks new g.C.SqlConnection.state last
-          (learn_update c.args.device) {E = LearnFault} (Ok c.in_ok-store_known-in-Some.field-0)
-          (λ _. done.written operation makes clean) (updates.clean clean);
+      learns = record {
+        clean = updates.clean;
+        reopenable = updates.reopenable;
+        devices = λ clean devices has. (
+          room_after known.looks_up known.ready _ learn makes (stored.clean clean) devices has,
+          updates.devices clean devices has,
+        );
+      };
+      written = λ clean devices has. done.written learn makes clean devices
+          (known.looks_up.devices (stored.clean clean) devices has).1.now;
     }
 
 -- ---- the sender is unknown
@@ -75,26 +72,16 @@ pub store_new_unless_full-requires-clause-ready : goal.store_new_unless_full-req
 store_new_unless_full-requires-clause-ready g c clean = (c.in_ok-known.ensures.ready clean).1
 
 pub store_new_unless_full-requires-clause-learned : goal.store_new_unless_full-requires-clause-learned
-store_new_unless_full-requires-clause-learned g c =
-    let old = g.C.SqlConnection.state c.args.self.now in
-    let mid = g.C.SqlConnection.state c.known.new.self in
-    starts_new old mid c.args.device.id c.in_ok-known.field-0 c.in_ok-known.ensures.looks_up mid
-    c.in_ok-known.ensures.ready c.args.device c.in-None.is refl (rw c.requires refl)
+store_new_unless_full-requires-clause-learned g c clean devices has =
+    let known = c.in_ok-known.ensures in
+    rw (stored_now known.looks_up known.ready c.in-None.is clean devices has, c.requires) refl
 
-pub returns-in-None-clause-learns : goal.returns-in-None-clause-learns
-returns-in-None-clause-learns g c =
-    let old = g.C.SqlConnection.state c.args.self.now in
-    let mid = g.C.SqlConnection.state c.known.new.self in
-    let new = g.C.SqlConnection.state c.store_new_unless_full.new.self in
-    learns_after old mid c.args.device.id c.in_ok-known.field-0 c.in_ok-known.ensures.looks_up new c.args.device
-    c.store_new_unless_full.result c.store_new_unless_full.ensures.learns
-
-pub returns-in-None-clause-written : goal.returns-in-None-clause-written
-returns-in-None-clause-written g c clean =
-    let old = g.C.SqlConnection.state c.args.self.now in
-    let mid = g.C.SqlConnection.state c.known.new.self in
-    let last = c.store_new_unless_full.new.self in
-    let new = g.C.SqlConnection.state last in
-    written_after old mid c.args.device.id c.in_ok-known.field-0 c.in_ok-known.ensures.looks_up new
-    g.C.SqlConnection.state last (learn_update c.args.device) c.store_new_unless_full.result
-    (λ _. c.store_new_unless_full.ensures.written clean) (c.store_new_unless_full.ensures.learns.clean clean)
+pub returns-in-None : goal.returns-in-None
+returns-in-None g c =
+    let looks = c.in_ok-known.ensures.looks_up in
+    let stored = c.store_new_unless_full.ensures in
+    record {
+      learns = learns_after looks c.store_new_unless_full.result stored.learns;
+      written = λ clean devices has. stored.written clean devices
+          (looks.devices (stored.learns.clean clean) devices has).1.now;
+    }

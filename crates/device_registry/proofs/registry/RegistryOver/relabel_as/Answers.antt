@@ -1,76 +1,84 @@
-use Rattle.std.proofs.Common.{◌∙◌, Ok, Err, ap, sym, subst, refl}
+use Rattle.std.proofs.Common.{◌∙◌, is_some, ap, sym, refl}
 use Rattle.std.proofs.lemmas.Result.{err_from_is_err_and}
-use Rattle.learned_devices.specs.declared.fault.StoreFault.{StoreFault}
-use Rattle.learned_devices.specs.Devices.{Relabel, relabel_update}
-use Rattle.learned_devices.specs.StoreCalls.{LooksUp, Relabels}
-use Rattle.device_registry.specs.Holding.{registry_state}
-use Rattle.device_registry.proofs.RegistryCalls.{relabels_unlooked, relabels_unknown, makes_known}
-use Rattle.device_registry.proofs.RegistryCalls.{relabels_failed, relabels_known, written_after}
+use Rattle.std.specs.FinMap.{get}
+use Rattle.sqlite_keyed.proofs.SliceLemmas.{is_some-map}
+use Rattle.learned_devices.specs.Devices.{Relabel, device}
+use Rattle.device_registry.proofs.RegistryCalls.{either, still_pending, updates_after, makes_known}
 use Rattle.device_registry.proofs.registry.RegistryOver.relabel_as.Goals as goal
 
 pub returns-in_err-known-clause-relabels : goal.returns-in_err-known-clause-relabels
 returns-in_err-known-clause-relabels g c =
-    let old = g.C.SqlConnection.state c.args.self.now in
-    let mid = g.C.SqlConnection.state c.known.new.self in
     let why = err_from_is_err_and c.from_residual.result c.from_residual.ensures.1 in
-    subst (Relabels (registry_state old) (registry_state mid) c.args.id c.args.label) (sym (why.1 ∙ ap Err why.2))
-    (relabels_unlooked old mid c.args.id c.args.label _ c.in_err-known.ensures.looks_up)
+    let looks = c.in_err-known.ensures.looks_up in
+    rw (why.1, why.2) (record {
+      clean = looks.clean;
+      reopenable = looks.reopenable;
+      devices = λ clean devices has.
+          let same = looks.devices clean devices has in
+          either (is_some (get devices c.args.id)) (still_pending same) same;
+    })
 
 pub store_known-requires-clause-ready : goal.store_known-requires-clause-ready
 store_known-requires-clause-ready g c clean = (c.in_ok-known.ensures.ready clean).1
 
 pub store_known-requires-clause-known : goal.store_known-requires-clause-known
 store_known-requires-clause-known g c =
-    let old = g.C.SqlConnection.state c.args.self.now in
-    let mid = g.C.SqlConnection.state c.known.new.self in (
-      Relabel c.args.label,
-      makes_known old mid c.args.id c.in_ok-known.field-0 c.in_ok-known.ensures.looks_up mid
-          c.in_ok-known.ensures.ready c.in-Some.known _ c.in-Some.is refl (Relabel c.args.label) refl,
-    )
+    let known = c.in_ok-known.ensures in
+    let relabel = Relabel c.args.label in
+    (relabel, makes_known known.looks_up known.ready c.in-Some.is relabel refl refl)
 
 pub returns-in_err-store_known-in-Some-clause-relabels : goal.returns-in_err-store_known-in-Some-clause-relabels
 returns-in_err-store_known-in-Some-clause-relabels g c =
-    let old = g.C.SqlConnection.state c.args.self.now in
-    let mid = g.C.SqlConnection.state c.known.new.self in
-    let new = g.C.SqlConnection.state c.store_known.new.self in
+    let known = c.in_ok-known.ensures in
+    let relabel = Relabel c.args.label in
+    let makes = makes_known known.looks_up known.ready c.in-Some.is relabel refl refl in
+    let stored = c.in_err-store_known-in-Some.ensures.updates relabel makes in
+    let updates = updates_after known.looks_up _ stored in
     let why = err_from_is_err_and c.from_residual-in_err-store_known-in-Some.result
     c.from_residual-in_err-store_known-in-Some.ensures.1 in
-    let makes = makes_known old mid c.args.id c.in_ok-known.field-0 c.in_ok-known.ensures.looks_up mid
-    c.in_ok-known.ensures.ready c.in-Some.known _ c.in-Some.is refl (Relabel c.args.label) refl in
-    subst (Relabels (registry_state old) (registry_state new) c.args.id c.args.label) (sym (why.1 ∙ ap Err why.2))
-    (relabels_failed old mid c.args.id c.in_ok-known.field-0 c.in_ok-known.ensures.looks_up new c.args.label _ _
-    (λ clean devices has. (makes clean devices has).0)
-    (c.in_err-store_known-in-Some.ensures.updates (Relabel c.args.label) makes))
+    rw (why.1, why.2) (record {
+      clean = updates.clean;
+      reopenable = updates.reopenable;
+      devices = λ clean devices has.
+          let early = stored.clean clean in
+          rw (makes early devices (known.looks_up.devices early devices has).1.now).0
+          (updates.devices clean devices has);
+    })
 
 pub returns-in_ok-store_known-in-Some : goal.returns-in_ok-store_known-in-Some
 returns-in_ok-store_known-in-Some g c =
-    let old = g.C.SqlConnection.state c.args.self.now in
-    let mid = g.C.SqlConnection.state c.known.new.self in
-    let last = c.store_known.new.self in
-    let new = g.C.SqlConnection.state last in
-    let known = c.in_ok-known.field-0 in
-    let looks = c.in_ok-known.ensures.looks_up in
-    let makes = makes_known old mid c.args.id known looks mid c.in_ok-known.ensures.ready c.in-Some.known _
-    c.in-Some.is refl (Relabel c.args.label) refl in
+    let known = c.in_ok-known.ensures in
+    let relabel = Relabel c.args.label in
+    let makes = makes_known known.looks_up known.ready c.in-Some.is relabel refl refl in
     let done = c.in_ok-store_known-in-Some.ensures in
-    let updates = done.updates (Relabel c.args.label) makes in
+    let stored = done.updates relabel makes in
+    let updates = updates_after known.looks_up _ stored in
     record {
-      relabels = relabels_known old mid c.args.id known looks new c.args.label _
-          (λ clean devices has. (makes clean devices has).0) updates;
-      written = λ clean devices has _.
-          written_after old mid c.args.id known looks new g.C.SqlConnection.state last
-          (relabel_update c.args.id c.args.label)
-          {E = StoreFault} (Ok c.in_ok-store_known-in-Some.field-0)
-          (λ _. done.written (Relabel c.args.label) makes clean) (updates.clean clean) devices has;
+      relabels = record {
+        clean = updates.clean;
+        reopenable = updates.reopenable;
+        devices = λ clean devices has.
+            let early = stored.clean clean in (
+              sym (makes early devices (known.looks_up.devices early devices has).1.now).0,
+              updates.devices clean devices has,
+            );
+      };
+      written = λ clean devices has _. done.written relabel makes clean devices
+          (known.looks_up.devices (stored.clean clean) devices has).1.now;
     }
 
-pub returns-in-None-clause-relabels : goal.returns-in-None-clause-relabels
-returns-in-None-clause-relabels g c =
-    let old = g.C.SqlConnection.state c.args.self.now in
-    let mid = g.C.SqlConnection.state c.known.new.self in
-    relabels_unknown old mid c.args.id c.args.label
-    (subst (λ o. LooksUp (registry_state old) (registry_state mid) c.args.id (Ok o)) c.in-None.is
-    c.in_ok-known.ensures.looks_up)
-
-pub returns-in-None-clause-written : goal.returns-in-None-clause-written
-returns-in-None-clause-written g c clean devices has known = absurd (let e = known in cc)
+pub returns-in-None : goal.returns-in-None
+returns-in-None g c =
+    let looks = c.in_ok-known.ensures.looks_up in
+    record {
+      relabels = record {
+        clean = looks.clean;
+        reopenable = looks.reopenable;
+        devices = λ clean devices has.
+            let found = looks.devices clean devices has in (
+              ap is_some (sym c.in-None.is ∙ found.0) ∙ is_some-map (device c.args.id) (get devices c.args.id),
+              found.1,
+            );
+      };
+      written = λ clean devices has known. absurd (let e = known in cc);
+    }

@@ -1,9 +1,22 @@
-use Rattle.std.proofs.Common.{rules, ◌≡◌, ◌∙◌, sym, ap, subst, MatchOption, IsTrue, false}
+use Rattle.std.proofs.Common.{IsUtf8, rules, ◌≡◌, ◌∙◌, sym, ap, false, inl, inr, List, ℕ, None, Result, Ok, Err}
+use Rattle.std.proofs.Common.{MatchResult}
+use Rattle.std.specs.Result.{result_ok}
+use Rattle.std.proofs.lemmas.Bool.{and_parts, cases_Bool}
+use Rattle.learned_devices.specs.Labels.{is_label}
+use Rattle.learned_devices.proofs.LabelLemmas.{name-utf8}
 use Rattle.sqlite.specs.declared.types.Value.TheVariants.{Text}
 use Rattle.sqlite.specs.Order.{column}
-use Rattle.device_registry.specs.Table.Rows.{is_label_text, label_in}
-use Rattle.device_registry.proofs.LabelTexts.{unread}
+use Rattle.device_registry.specs.Table.Rows.{is_label_text}
 use Rattle.device_registry.proofs.table.row_codec.read_label.Goals as goal
+
+-- a text that is not UTF-8 is no label
+unread : {A E : Type 0} (P : A → Type 0) (Bad : E → Type 0) (text : List ℕ) (r : Result A E)
+    → MatchResult r P Bad → ((e : E) → Bad e → ¬ (IsUtf8 text)) → result_ok r ≡ None → is_label text ≡ false
+unread P Bad text (Ok s) cases bad none = absurd (let e = none in cc)
+unread P Bad text (Err e) cases bad none = elim (cases_Bool (is_label text)) [
+  | inl is ↦ absurd (bad e cases (name-utf8 text (and_parts _ _ is).0))
+  | inr other ↦ other
+]
 
 -- a label is UTF-8, so a text that is not UTF-8 is no label
 pub returns-in_err-ok-in-Ok-Text : goal.returns-in_err-ok-in-Ok-Text
@@ -12,6 +25,4 @@ returns-in_err-ok-in-Ok-Text c =
     let is : value ≡ Text c.in-Ok-Text.found.now = search rules in
     let none = unread _ _ c.in-Ok-Text.found.now c.from_utf8.result c.from_utf8.ensures.cases (λ e h. h.0)
     (sym c.ok.ensures.value ∙ c.in_err-ok-in-Ok-Text.was) in
-    subst (λ o. MatchOption o (is_label_text value ≡ false)
-    (λ label. (label ≡ label_in value) × IsTrue (is_label_text value))) (sym c.from_residual.ensures)
-    (ap is_label_text is ∙ none)
+    rw c.from_residual.ensures (ap is_label_text is ∙ none)
