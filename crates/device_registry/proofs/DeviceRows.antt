@@ -1,30 +1,23 @@
 -- The rows of the device table: what the CHECKs say of a row, what its query shows, the ranges of its numbers, and the
--- devices that the rows encode.
-use Rattle.std.proofs.Common.{◌≡◌, ◌≤◌, ◌<◌, ◌^◌, nat_le, ℕ, ℤ, ◌≤ℤ◌, pos, negsuc, true, List, refl, sym, ap, subst}
-use Rattle.std.proofs.Common.{◌∙◌, arith, ◌/◌, ◌%◌, ◌+◌, ◌*◌, Some, None, Option, ap₂}
-use Rattle.std.proofs.lemmas.Bool.{and_parts}
-use Rattle.std.proofs.lemmas.Bool.Decides.{nat_tests}
-use Rattle.std.proofs.lemmas.Int.{ints}
-use Rattle.sqlite.specs.declared.types.Value.{Value}
-use Rattle.sqlite.specs.declared.types.Value.TheVariants.{Int, Text}
-use Rattle.sqlite.specs.Order.{Row, column}
-use Rattle.sqlite_schema.specs.Rules.{passes_checks}
-use Rattle.learned_devices.specs.Labels.{is_label}
-use Rattle.learned_devices.specs.Devices.{DeviceData, device}
+-- devices that the rows encode; and the table as a keyed table.
+use Rattle.keyed_table.proofs.Common.{◌≡◌, ◌≤◌, ◌<◌, ◌^◌, nat_le, ℕ, ℤ, ◌≤ℤ◌, pos, negsuc, true, List, refl, sym, ap}
+use Rattle.keyed_table.proofs.Common.{subst, ◌∙◌, arith, ◌+◌, Some, None, Option, length, and_parts, nat_tests, ints}
+use Rattle.keyed_table.proofs.Common.{Value, Int, Text, Row, column, passes_checks, Codec, IsCodec, AllByRecursion}
+use Rattle.keyed_table.proofs.Common.{all_weaker, HasKey, AreKeyed}
+use Rattle.device_registry.proofs.Common.{is_label, DeviceData, device, Second, First, device_table, device_table_name}
+use Rattle.device_registry.proofs.Common.{find_sql, find_all_sql, count_others_sql, upsert_sql, delete_sql}
+use Rattle.device_registry.proofs.Common.{IsDeviceRow, entry_of, natural_in, is_label_text, RowidsDiffer}
+use Rattle.device_registry.proofs.Common.{with_empty_label, upgraded_rows, upsert_params, Version}
+use Rattle.std.proofs.Common.{◌/◌, ◌%◌, ◌*◌}
 use Rattle.learned_devices.specs.Ranges.{MakerFitsTwoBytes, HasDeviceNumbersInRange}
-use Rattle.keyed_table.proofs.Checks.{is_between, lies_between}
-use Rattle.device_registry.specs.declared.table.Version.TheVariants.{Second, First}
-use Rattle.device_registry.specs.Table.{device_table, max_sender, max_profile, max_maker}
-use Rattle.device_registry.specs.Table.Rows.{IsDeviceRow, device_row, entry_of, eep_number, maker_number, maker_in}
-use Rattle.device_registry.specs.Table.Rows.{natural_in, is_natural_up_to, is_maker, is_label_text, shows_device}
-use Rattle.device_registry.specs.Table.Rows.{RowidsDiffer, with_empty_label, upgraded_rows, eep_of}
-use Rattle.device_registry.proofs.StatementTexts.{shown}
-use Rattle.std.specs.List.{AllByRecursion}
-use Rattle.sqlite_trees.proofs.ListLemmas.{all_weaker, all_from_map, ascending_from_map}
-use Rattle.erp1_telegrams.specs.declared.eep.Eep.{Eep}
-use Rattle.keyed_table.specs.Rows.{HasKey, AreKeyed}
+use Rattle.keyed_table.proofs.Columns.{casts, is_between, lies_between}
+use Rattle.device_registry.proofs.StatementTexts.{shown, device_terms, upsert_terms}
 use Rattle.keyed_table.proofs.RowsAsMap.{apart_from}
-use Rattle.device_registry.specs.declared.table.Version.{Version}
+use Rattle.device_registry.specs.Table.{max_sender, max_profile, max_maker, device_columns}
+use Rattle.device_registry.specs.Table.Rows.{device_row, eep_number, maker_number, maker_in, is_natural_up_to}
+use Rattle.device_registry.specs.Table.Rows.{is_maker, shows_device, eep_of}
+use Rattle.sqlite_trees.proofs.ListLemmas.{all_from_map, ascending_from_map}
+use Rattle.erp1_telegrams.specs.declared.eep.Eep.{Eep}
 
 -- ---- values
 
@@ -92,13 +85,11 @@ checked d id it label h =
     let sender = and_parts (is_between (pos 0) (pos max_sender) (pos id)) _ h in
     let profile = and_parts (is_between (pos 0) (pos max_profile) (pos (eep_number it.eep))) _ sender.1 in
     let maker = and_parts (is_between (negsuc 0) (pos max_maker) (maker_number it.maker)) true profile.1 in
-    let id_lies = lies_between (pos 0) (pos max_sender) (pos id) sender.0 in
     let eep_lies = lies_between (pos 0) (pos max_profile) (pos (eep_number it.eep)) profile.0 in
-    let maker_lies = lies_between (negsuc 0) (pos max_maker) (maker_number it.maker) maker.0 in
     device_is (device_row id it) (rw (
-      passes id max_sender (omega (arith, ints, id_lies.1)),
+      passes id max_sender (omega (arith, ints, (lies_between (pos 0) (pos max_sender) (pos id) sender.0).1)),
       passes (eep_number it.eep) max_profile (omega (arith, ints, eep_lies.1)),
-      maker_passes (maker_number it.maker) maker_lies,
+      maker_passes (maker_number it.maker) (lies_between (negsuc 0) (pos max_maker) (maker_number it.maker) maker.0),
       label,
     ) refl)
 
@@ -141,18 +132,10 @@ pub record IsShort (eep : Eep) : Type 0 where
 
 eep_back : (eep : Eep) → IsShort eep → eep_of (eep_number eep) ≡ eep
 eep_back eep short =
-    let low = short.rorg in
-    let mid = short.func in
-    let high = short.typ in
     let rorg : (eep.rorg * 65536 + eep.func * 256 + eep.typ) / 65536 % 256 ≡ eep.rorg = omega arith in
     let func : (eep.rorg * 65536 + eep.func * 256 + eep.typ) / 256 % 256 ≡ eep.func = omega arith in
     let typ : (eep.rorg * 65536 + eep.func * 256 + eep.typ) % 256 ≡ eep.typ = omega arith in
     λ i. record { rorg = rorg i; func = func i; typ = typ i }
-
-pub data_back : (id : ℕ) (it : DeviceData) → IsShort it.eep → data_in (device_row id it) ≡ it
-data_back id it short =
-    ap₂ (λ (e : Eep) (o : Option ℕ). let now : DeviceData = record it { eep = e; maker = o } in now)
-    (eep_back it.eep short) (maker_back it.maker)
 
 pub key_of : (row : Row) → IsDeviceRow row → HasKey row
 key_of row it = record { id = it.id; id_is = it.id_is }
@@ -167,7 +150,40 @@ pub stored_keyed : (version : Version) (rows : List Row) → AllByRecursion IsDe
     → RowidsDiffer (upgraded_rows version rows) → AreKeyed rows
 stored_keyed First rows all differ =
     let keys = all_weaker (λ r. IsDeviceRow (with_empty_label r)) HasKey
-    (λ r it. record { id = it.id; id_is = it.id_is }) rows
-    (all_from_map IsDeviceRow with_empty_label rows all) in
+    (λ r it. record { id = it.id; id_is = it.id_is }) rows (all_from_map IsDeviceRow with_empty_label rows all) in
     record { keys = keys; apart = apart_from rows keys (ascending_from_map _ with_empty_label rows differ) }
 stored_keyed Second rows all differ = keyed rows all differ
+
+-- ---- the device table of version 2 as a keyed table
+
+abbrev pub devices : Codec DeviceData
+devices = record {
+  name = device_table_name Second;
+  columns = device_columns Second;
+  checks = (device_table Second 0).checks;
+  IsRow = IsDeviceRow;
+  Fits = λ id it. IsShort it.eep × (is_label it.label ≡ true);
+  value = data_in;
+  row = device_row;
+  select_terms = device_terms Second;
+  params = upsert_params;
+  upsert_terms = upsert_terms;
+  upsert_width = length upsert_terms;
+  find_sql = find_sql;
+  all_sql = find_all_sql Second;
+  count_others_sql = count_others_sql;
+  upsert_sql = upsert_sql;
+  delete_sql = delete_sql;
+}
+
+pub codec : IsCodec devices
+codec = record {
+  key_of = key_of;
+  key_is = λ id it. record { id = id; id_is = refl };
+  key_back = λ id it. refl;
+  back = λ id it fits i. record it { eep = eep_back it.eep fits.0 i; maker = maker_back it.maker i };
+  stored = λ tree id it. simp casts;
+  mends = λ tree id it. refl;
+  upsert_row_is = λ db tree id it rows given. given.1;
+  passing_is_row = λ tree id it fits judged. checked tree id it fits.1 judged.3;
+}

@@ -1,46 +1,25 @@
 -- From the postconditions of the calls of an open to the registry.
-use Rattle.std.proofs.Common.{◌≡◌, ◌≢◌, inl, inr, ℕ, [], Bool, Ok, Err, Result, IfErr, refl, sym, ap, subst, ◌∙◌}
-use Rattle.std.proofs.Common.{IsTrue}
-use Rattle.sqlite.specs.Effect.{Database, IsDatabase}
-use Rattle.sqlite.specs.State.{State, IsUnchanged, HasCleanDisk, Survives, Executes}
-use Rattle.sqlite.specs.Files.{file_state}
-use Rattle.sqlite.proofs.Callers.{unchanged_then, finds_again}
+use Rattle.keyed_table.proofs.Common.{◌≡◌, ◌≢◌, inl, inr, ℕ, [], Bool, Ok, Err, Result, IfErr, refl, sym, ap, subst}
+use Rattle.keyed_table.proofs.Common.{◌∙◌, IsTrue, Database, IsDatabase, State, IsUnchanged, HasCleanDisk, Survives}
+use Rattle.keyed_table.proofs.Common.{Executes, unchanged_then, survives_weaker, survives_then, Trees, empty}
+use Rattle.device_registry.proofs.Common.{StoreFault, TablesStatus, Absent, Present, Version, First, Second, Devices}
+use Rattle.device_registry.proofs.Common.{HasTables, IsRegistry, IsRegistryOfVersion, HoldsInVersion, HoldsVersion2}
+use Rattle.device_registry.proofs.Common.{rewrite_version_sql, devices_in, upgraded_rows, OpenFinds, IsReadyWith}
+use Rattle.device_registry.proofs.Common.{IsReady, KeepsOtherTables, KeepsRows, IsSettledOpen, IsRegistryIn}
+use Rattle.device_registry.proofs.Common.{tables_status}
+use Rattle.sqlite.proofs.Callers.{finds_again}
 use Rattle.sqlite_disk.specs.declared.Disk.{Ghosts}
-use Rattle.sqlite.proofs.StateLemmas.{survives_weaker, survives_then}
-use Rattle.sqlite.proofs.Theorems.{next_run}
-use Rattle.std.proofs.Math.Logic.{∥∥₁_map}
-use Rattle.sqlite_trees.specs.Tree.{Trees}
-use Rattle.std.specs.FinMap.{empty}
 use Rattle.device_registry.specs.declared.fault.OpenFault.{OpenFault}
 use Rattle.device_registry.specs.declared.fault.OpenFault.TheVariants.{NotARegistry, Failed}
-use Rattle.learned_devices.specs.declared.fault.StoreFault.{StoreFault}
-use Rattle.device_registry.specs.declared.schema_check.TablesStatus.TheVariants.{Absent, Present, Unusable}
-use Rattle.device_registry.specs.declared.table.Version.{Version}
-use Rattle.device_registry.specs.declared.table.Version.TheVariants.{First, Second}
-use Rattle.learned_devices.specs.Devices.{Devices}
-use Rattle.device_registry.specs.Stored.{HasTables, IsRegistry, IsRegistryOfVersion, HoldsInVersion, HoldsVersion2}
 use Rattle.device_registry.specs.Stored.{AreVersion2Trees, AdmitsRegistry}
-use Rattle.device_registry.specs.Table.{rewrite_version_sql}
-use Rattle.device_registry.specs.Table.Rows.{devices_in, upgraded_rows}
-use Rattle.device_registry.specs.Holding.{OpenFinds, RewritesVersion}
-use Rattle.device_registry.specs.Ready.{IsReadyWith, IsReady, KeepsOtherTables, KeepsRows}
-use Rattle.device_registry.specs.Opening.{IsSettledOpen, IsPrepared, IsRegistryIn, KeepsFoundDevices, IsForeignDatabase}
-use Rattle.device_registry.specs.Opening.{RegistriesAreRecognized, IsOpened, OnlyNonRegistriesAreRefused}
-use Rattle.device_registry.specs.Opening.{CrashedFilesAreFound, FailsToOpen, FoundDevicesAreUnique, ReturnedIsFound}
-use Rattle.device_registry.specs.Opening.{FailedOpensKeep, ClosedFilesAreFound}
-use Rattle.sqlite_catalog.specs.Listing.{IsSound}
-use Rattle.keyed_table.proofs.Statements.{keeps_database, unchanged}
-use Rattle.keyed_table.proofs.Transactions.{survives_itself}
-use Rattle.device_registry.proofs.TablesRecognized.{before}
+use Rattle.device_registry.specs.Holding.{RewritesVersion}
+use Rattle.device_registry.specs.Opening.{IsPrepared, KeepsFoundDevices, IsForeignDatabase, IsOpened, FailsToOpen}
+use Rattle.device_registry.specs.Opening.{FoundDevicesAreUnique, ReturnedIsFound, FailedOpensKeep, ClosedFilesAreFound}
+use Rattle.keyed_table.proofs.Statements.{spared_remains, ready_with, survives_itself, updates_from}
 use Rattle.keyed_table.proofs.ListedTables.{one_database}
-use Rattle.device_registry.specs.private.TablesStatus.{tables_status}
-use Rattle.device_registry.proofs.TablesStatusLemmas.{is_absent, is_present, absent_free}
-use Rattle.device_registry.proofs.SchemaCheckLemmas.{admits}
+use Rattle.device_registry.proofs.TablesRecognized.{admits, before, is_absent, is_present, status_implies}
 use Rattle.device_registry.proofs.DevicesHeld.{held_by, held_once}
-use Rattle.keyed_table.specs.Queries.{program_of}
-use Rattle.keyed_table.proofs.Between.{updates_from}
-use Rattle.device_registry.proofs.StatementTexts.{rewrite_query}
-use Rattle.device_registry.proofs.VersionRow.{rewrite_means, changes_one}
+use Rattle.device_registry.proofs.VersionRow.{rewrite_means, rewritten_once}
 
 -- ---- the status of the tables in the database with these trees
 
@@ -48,201 +27,159 @@ module _ {trees : Trees} (db : Database) (same : db.trees ≡ trees) (sound : Is
   holds_present : {version : Version} {devices : Devices} → HoldsInVersion version trees devices
       → tables_status db.schema ≡ Present version
   holds_present {version} it =
-      is_present version db sound (rw (one_database (it.same ∙ sym same) it.sound sound) at it.holds.registry.tables)
+      is_present db sound (rw (one_database (it.same ∙ sym same) it.sound sound) at it.holds.registry.tables)
 
   admits_absent : AdmitsRegistry trees → tables_status db.schema ≡ Absent
   admits_absent free =
       is_absent db.schema (rw (one_database (free.same ∙ sym same) free.sound sound) at free.admits_tables)
 
--- the trees of a registry are not those of a database in which the tables can be created
-not_both : {trees : Trees} {version : Version} {devices : Devices} → HoldsInVersion version trees devices
-    → AdmitsRegistry trees → ⊥
-not_both it free =
-    let e = sym (holds_present it.db it.same it.sound it) ∙ admits_absent it.db it.same it.sound free in cc
-
--- a database is foreign if it is no registry and the tables cannot be created in it
-module _ (s : State) (rest : IsSettledOpen s) where
-  foreign : ((version : Version) → tables_status s.now.schema ≡ Present version → ¬ IsRegistryIn version s.now.trees)
-      → tables_status s.now.schema ≢ Absent → IsForeignDatabase s.now.trees
-  foreign none there devices (inl (version, it)) = none version (holds_present s.now refl rest.sound it)
-      (record { db = it.db; same = it.same; sound = it.sound; registry = it.holds.registry })
-  foreign none there devices (inr (free, is)) = there (admits_absent s.now refl rest.sound free)
-
-  -- a database with the tables of a version that is no registry of this version is foreign
-  pub no_registry : (version : Version) → tables_status s.now.schema ≡ Present version
-      → ¬ IsRegistryIn version s.now.trees → IsForeignDatabase s.now.trees
-  no_registry version is none = foreign (λ other other_is own.
-      let same : other ≡ version = (let e = sym other_is ∙ is in cc) in
-      none (subst (λ v. IsRegistryIn v s.now.trees) same own)) (λ absent. let e = sym absent ∙ is in cc)
-
-  -- a database whose tables have the status `Unusable` is foreign
-  pub unusable : tables_status s.now.schema ≡ Unusable → IsForeignDatabase s.now.trees
-  unusable is = foreign (λ version present own. let e = sym present ∙ is in cc)
-      (λ absent. let e = sym absent ∙ is in cc)
-
--- ---- what the database was queried for
-
--- the queries changed nothing and recognized a registry of this version
-pub record IsRecognized (version : Version) (old mid : State) : Type 0 where
-  pub same : IsUnchanged old mid
-  pub rest : IsSettledOpen mid
-  pub registry : IsRegistry version mid.now
-
-pub recognized : {found version : Version} {old mid : State} {accepted : Bool} → found ≡ version
-    → (HasCleanDisk old → IsSettledOpen old) → Survives old mid (λ _. ⊥)
-    → (HasCleanDisk mid → IsUnchanged old mid × (IsTrue accepted → IsRegistry found old.now)) → IsTrue accepted
-    → HasCleanDisk mid → IsRecognized version old mid
-recognized {old = old} {mid = mid} is settled survives asked is_true clean =
-    let it = asked clean in
-    record {
-      same = it.0;
-      rest = (keeps_database old mid (unchanged old mid it.0) it.0.0.is_open (settled (before survives clean))).0;
-      registry = subst (λ v. IsRegistry v mid.now) is (subst (IsRegistry _) (sym it.0.0.now_is) (it.1 is_true));
-    }
+-- a database is foreign if the tables cannot be created in it, and it is no registry of the version whose tables it has
+pub foreign : (s : State) {status : TablesStatus} → IsSettledOpen s → tables_status s.now.schema ≡ status
+    → status ≢ Absent → ((version : Version) → status ≡ Present version → ¬ IsRegistryIn version s.now.trees)
+    → IsForeignDatabase s.now.trees
+foreign s rest is other none devices (inl (version, it)) =
+    none version (sym is ∙ holds_present s.now refl rest.sound it)
+    (record { db = it.db; same = it.same; sound = it.sound; registry = it.holds.registry })
+foreign s rest is other none devices (inr (free, _)) = other (sym is ∙ admits_absent s.now refl rest.sound free)
 
 -- ---- the devices that are found
 
 -- some devices are found in the database, and they have this property
-abbrev Finds : Database → (Devices → Type 0) → Type 0
+abbrev pub Finds : Database → (Devices → Type 0) → Type 0
 Finds db Are = (devices : Devices) × OpenFinds db.trees devices × Are devices
 
-pub registry_found : {version : Version} {old mid : State} → IsRecognized version old mid
-    → Finds old.now (IsRegistryOfVersion version mid.now)
-registry_found {version} {old} {mid} it =
-    let devices = devices_in (upgraded_rows version (mid.now.trees it.registry.tables.devices)) in
-    let holds : IsRegistryOfVersion version mid.now devices = record { registry = it.registry; is = refl } in (
-      devices,
-      subst (λ (db : Database). OpenFinds db.trees devices) it.same.0.now_is
-          (inl (version, record { db = mid.now; same = refl; sound = it.rest.sound; holds = holds })),
-      holds,
-    )
-
--- a registry of version 1 is not one of version 2
-pub one_version : {A : Type 0} {old mid : State} → IsRecognized First old mid → AreVersion2Trees old.now.trees → A
-one_version {old = old} {mid = mid} it held =
-    let trees = ap (λ (db : Database). db.trees) it.same.0.now_is in
-    absurd (let e = sym (is_present First mid.now it.rest.sound it.registry.tables)
-    ∙ holds_present mid.now trees it.rest.sound held.holds in cc)
-
--- a registry of version 2 is ready
-pub ready_found : {old mid : State} → IsRecognized Second old mid → Finds old.now (IsReadyWith mid)
-ready_found it =
-    let found = registry_found it in (
-      found.0,
-      found.1,
-      record {
-        is_open = it.rest.is_open;
-        idle = it.rest.idle;
-        settled = it.rest.settled;
-        sound = it.rest.sound;
-        holds = found.2;
-      },
-    )
-
-pub is_ready : {old mid : State} → IsRecognized Second old mid → IsReady mid
-is_ready it = let found = ready_found it in record { held = found.0; shows = found.2 }
+-- the database was accepted: what `create_or_recognize` ensures
+pub record IsAccepted (old new : State) : Type 0 where
+  pub prepared : HasCleanDisk new → (devices : Devices) × IsPrepared old new devices
+  pub crash : Survives old new (KeepsFoundDevices old.now.trees)
+  pub rows : HasCleanDisk new → AreVersion2Trees old.now.trees → KeepsRows old new
+  pub written : HasCleanDisk new → AreVersion2Trees old.now.trees → RewritesVersion old new
+  pub others : HasCleanDisk new → KeepsOtherTables old.now new.now
 
 -- the step that follows makes a registry of the devices that are found
 module _ {old mid new : State} {Are : Devices → Type 0} (found : HasCleanDisk mid → Finds old.now Are)
+    (first : Survives old mid (λ _. ⊥))
     (survives : Survives mid new (λ trees. (devices : Devices) → Are devices → HoldsVersion2 trees devices)) where
-  pub prepared : (HasCleanDisk new → (devices : Devices) → Are devices → IsReadyWith new devices) → HasCleanDisk new
-      → (devices : Devices) × IsPrepared old new devices
-  prepared made clean =
-      let it = found (before survives clean) in
-      (it.0, record { found = it.1; shows = made clean it.0 it.2 })
-
-  pub crash_keeps_found : Survives old mid (λ _. ⊥) → Survives old new (KeepsFoundDevices old.now.trees)
-  crash_keeps_found first = survives_then old mid new (λ _. ⊥) _ (KeepsFoundDevices old.now.trees)
+  pub crash_keeps_found : Survives old new (KeepsFoundDevices old.now.trees)
+  crash_keeps_found = survives_then old mid new (λ _. ⊥) _ (KeepsFoundDevices old.now.trees)
       (λ clean trees no. absurd no)
       (λ clean trees left.
       let it = found (before survives clean) in
       record { devices = it.0; finds = it.1; holds = left it.0 it.2 }) first survives
 
+  pub accepted : (HasCleanDisk new → (devices : Devices) → Are devices → IsReadyWith new devices)
+      → (HasCleanDisk new → AreVersion2Trees old.now.trees → KeepsRows old new × RewritesVersion old new)
+      → (HasCleanDisk new → KeepsOtherTables old.now new.now) → IsAccepted old new
+  accepted made writes others = record {
+    prepared = λ clean.
+        let it = found (before survives clean) in
+        (it.0, record { found = it.1; shows = made clean it.0 it.2 });
+    crash = crash_keeps_found;
+    rows = λ clean held. (writes clean held).0;
+    written = λ clean held. (writes clean held).1;
+    others = others;
+  }
+
 -- the tables are created in a database that has none
 module _ {old new : State} (rest : HasCleanDisk old → IsSettledOpen old)
     (absent : tables_status old.now.schema ≡ Absent)
     (crash : Survives old new (λ trees. HoldsVersion2 trees empty)) where
-  bare : HasCleanDisk old → AdmitsRegistry old.now.trees
-  bare clean = record {
-    db = old.now;
-    same = refl;
-    sound = (rest clean).sound;
-    admits_tables = (admits old.now.schema).0 (absent_free old.now.schema absent);
-  }
-
   bare_found : HasCleanDisk old → Finds old.now (λ devices. empty ≡ devices)
-  bare_found clean = (empty, inr (bare clean, refl), refl)
+  bare_found clean =
+      let admitted = (admits old.now.schema).0 (status_implies old.now.schema absent) in (
+        empty,
+        inr (record { db = old.now; same = refl; sound = (rest clean).sound; admits_tables = admitted }, refl),
+        refl,
+      )
 
   bare_crash : Survives old new (λ trees. (devices : Devices) → empty ≡ devices → HoldsVersion2 trees devices)
   bare_crash = survives_weaker old new (λ trees. HoldsVersion2 trees empty) _
       (λ clean trees holds devices is. subst (HoldsVersion2 trees) is holds) crash
 
-  pub created : (HasCleanDisk new → IsReadyWith new empty) → HasCleanDisk new
-      → (devices : Devices) × IsPrepared old new devices
-  created made = prepared bare_found bare_crash (λ clean devices is. subst (IsReadyWith new) is (made clean))
-
   pub creation_crash : Survives old new (KeepsFoundDevices old.now.trees)
-  creation_crash = crash_keeps_found bare_found bare_crash (survives_itself old (λ _. ⊥))
+  creation_crash = crash_keeps_found bare_found (survives_itself old (λ _. ⊥)) bare_crash
 
-  pub not_held : {A : Type 0} → HasCleanDisk new → AreVersion2Trees old.now.trees → A
-  not_held clean held = absurd (not_both held.holds (bare (before crash clean)))
+  pub created : (HasCleanDisk new → IsReadyWith new empty) → (HasCleanDisk new → KeepsOtherTables old.now new.now)
+      → IsAccepted old new
+  created made = accepted bare_found (survives_itself old (λ _. ⊥)) bare_crash
+      (λ clean devices is. subst (IsReadyWith new) is (made clean))
+      (λ clean held. absurd (let e = sym (holds_present old.now refl (rest (before crash clean)).sound held.holds)
+      ∙ absent in cc))
 
--- ---- what follows queries that changed nothing
+-- ---- a registry is recognized
 
-module _ {old mid : State} (same : IsUnchanged old mid) where
-  pub rows_from : {new : State} → KeepsRows mid new → KeepsRows old new
-  rows_from {new} kept = subst (λ (db : Database). KeepsRows (record old { now = db }) new) same.0.now_is
-      (record { schema = kept.schema; rows = kept.rows })
+-- the queries changed nothing and recognized a registry of this version
+pub record IsRecognized (version : Version) (old mid : State) : Type 0 where
+  pub same : IsUnchanged old mid
+  pub rest : IsSettledOpen mid
+  pub found : Finds old.now (IsRegistryOfVersion version mid.now)
 
-  pub others_from : (new : State) → KeepsOtherTables mid.now new.now → KeepsOtherTables old.now new.now
-  others_from new = subst (λ db. KeepsOtherTables db new.now) same.0.now_is
+pub recognized : {found version : Version} {old mid : State} {accepted : Bool} → found ≡ version
+    → (HasCleanDisk old → IsSettledOpen old) → Survives old mid (λ _. ⊥)
+    → (HasCleanDisk mid → IsUnchanged old mid × (IsTrue accepted → IsRegistry found old.now)) → IsTrue accepted
+    → HasCleanDisk mid → IsRecognized version old mid
+recognized {version = version} {old} {mid} is settled survives asked ok clean =
+    let it = asked clean in
+    let rest = (spared_remains old mid (inl it.0) it.0.0.is_open (settled (before survives clean))).0 in
+    let registry : IsRegistry version mid.now = rw it.0.0.now_is (subst (λ v. IsRegistry v old.now) is (it.1 ok)) in
+    let devices = devices_in (upgraded_rows version (mid.now.trees registry.tables.devices)) in
+    let holds : IsRegistryOfVersion version mid.now devices = record { registry = registry; is = refl } in
+    let finds = subst (λ (db : Database). OpenFinds db.trees devices) it.0.0.now_is
+    (inl (version, record { db = mid.now; same = refl; sound = rest.sound; holds = holds })) in
+    record { same = it.0; rest = rest; found = (devices, finds, holds) }
 
-pub rows_keep_others : {old new : State} → KeepsRows old new → KeepsOtherTables old.now new.now
-rows_keep_others kept table has _ _ = (rw kept.schema has, kept.rows table has)
+-- a registry of version 1 is not one of version 2
+pub one_version : {old mid : State} → IsRecognized First old mid → ¬ AreVersion2Trees old.now.trees
+one_version {mid = mid} it held =
+    let e = sym (is_present mid.now it.rest.sound it.found.2.registry.tables)
+    ∙ holds_present mid.now (ap (λ (db : Database). db.trees) it.same.0.now_is) it.rest.sound held.holds in cc
 
--- ---- the version row is rewritten unchanged
+-- a registry of version 2 is ready
+pub ready_found : {old mid : State} → IsRecognized Second old mid → Finds old.now (IsReadyWith mid)
+ready_found {mid = mid} it =
+    let are = ready_with mid mid.now it.found.0 it.rest.is_open it.rest.idle it.rest.settled refl it.rest.sound
+    it.found.2 in
+    (it.found.0, it.found.1, are)
+
+pub is_ready : {old mid : State} → IsRecognized Second old mid → IsReady mid
+is_ready it = let found = ready_found it in record { held = found.0; shows = found.2 }
+
+-- on a registry, the statement that rewrites the version row reports one changed row
+pub counts_one : (old new : State) (count : ℕ) → IsReady old → Executes rewrite_version_sql [] old new (Ok count)
+    → RewritesVersion old new
+counts_one old new count ready runs = rw ((rewritten_once old new count ready runs).3) at runs
 
 -- a rewrite of the version row after queries that changed nothing is a rewrite from the state before them
 pub rewritten_between : (old mid new : State) → HasTables Second old.now.schema → IsUnchanged old mid
     → Survives old mid (λ _. ⊥) → RewritesVersion mid new → RewritesVersion old new
-rewritten_between old mid new tables same survives recognized_rewritten =
+rewritten_between old mid new tables same survives rewritten =
     let it = rewrite_means old.now.schema tables.meta_at tables.meta tables.meta_is_table in
-    updates_from old mid new same survives.limit rewrite_version_sql [] tables.meta_at
-    (program_of (rewrite_query tables.meta)) 1 it.is recognized_rewritten
+    updates_from old mid new same survives.limit rewrite_version_sql [] tables.meta_at _ 1 it.is rewritten
 
--- on a registry, the statement reports one changed row
-pub counts_one : (old new : State) (count : ℕ) → IsReady old → Executes rewrite_version_sql [] old new (Ok count)
-    → RewritesVersion old new
-counts_one old new count ready runs = rw (changes_one old new count ready runs) at runs
-
-pub recognized_rewritten : {old mid : State} (new : State) (count : ℕ) → IsRecognized Second old mid
-    → Survives old mid (λ _. ⊥)
-    → Executes rewrite_version_sql [] mid new (Ok count) → RewritesVersion old new
-recognized_rewritten {old} {mid} new count it survives runs =
-    rewritten_between old mid new (rw it.same.0.now_is at it.registry.tables) it.same survives
-    (counts_one mid new count (is_ready it) runs)
+pub rows_from : {old mid new : State} → IsUnchanged old mid → KeepsRows mid new → KeepsRows old new
+rows_from {old} {new = new} same kept = subst (λ (db : Database). KeepsRows (record old { now = db }) new)
+    same.0.now_is (record { schema = kept.schema; rows = kept.rows })
 
 -- ---- a successful open
 
 -- the first query showed that the connection is open
 module _ {old mid : State} (was : IsUnchanged old mid × IsSettledOpen old) where
-  last : mid.now.trees ≡ old.committed.trees
+  pub last : mid.now.trees ≡ old.committed.trees
   last = ap (λ (db : Database). db.trees) (was.0.0.now_is ∙ was.1.settled)
 
   -- a prepared registry is opened, if a crash while it is open leaves the last commit
   pub opened : {new : State}
       → ((trees : Trees) → IsTrue new.is_open → new.may_leave trees → trees ≡ new.committed.trees)
-      → (devices : Devices) × IsPrepared mid new devices
-      → (AreVersion2Trees old.committed.trees → RewritesVersion old new) → IsOpened old new
-  opened {new} law it written =
+      → Survives old mid (λ _. ⊥) → (devices : Devices) × IsPrepared mid new devices
+      → (AreVersion2Trees mid.now.trees → RewritesVersion mid new) → IsOpened old new
+  opened {new} law survives it written =
       let shows = it.1.shows in
-      let left = λ (trees : Trees) (may : new.may_leave trees).
-      let holds : HoldsVersion2 trees it.0 = record {
+      let left : (trees : Trees) → new.may_leave trees → HoldsVersion2 trees it.0 = λ trees may. record {
         db = new.now;
         same = ap (λ (db : Database). db.trees) shows.settled ∙ sym (law trees shows.is_open may);
         sound = shows.sound;
         holds = shows.holds;
-      } in holds in
+      } in
       record {
         registries = λ trees may. record { devices = it.0; holds = left trees may };
         opens = (
@@ -255,45 +192,31 @@ module _ {old mid : State} (was : IsUnchanged old mid × IsSettledOpen old) wher
           },
         );
         ready = record { held = it.0; shows = shows };
-        written = written;
+        written = λ held.
+            let trees = held.holds.same ∙ ap (λ (db : Database). db.trees) (sym was.1.settled) in
+            let tables = rw (one_database trees held.holds.sound was.1.sound) at held.holds.holds.registry.tables in
+            rewritten_between old mid new tables was.0 survives (written (subst AreVersion2Trees (sym last) held));
       }
-
-  pub kept_rows : {new : State} → (AreVersion2Trees mid.now.trees → KeepsRows mid new)
-      → AreVersion2Trees old.committed.trees → KeepsRows old new
-  kept_rows kept held = rows_from was.0 (kept (subst AreVersion2Trees (sym last) held))
-
-  pub written_again : (new : State) → Survives old mid (λ _. ⊥)
-      → (AreVersion2Trees mid.now.trees → RewritesVersion mid new) → AreVersion2Trees old.committed.trees
-      → RewritesVersion old new
-  written_again new survives written held =
-      let trees = held.holds.same ∙ ap (λ (db : Database). db.trees) (sym was.1.settled) in
-      let tables = rw (one_database trees held.holds.sound was.1.sound) at held.holds.holds.registry.tables in
-      rewritten_between old mid new tables was.0 survives (written (subst AreVersion2Trees (sym last) held))
 
 -- ---- a failure
 
 -- after the connection was shown to be open, a crash may leave the devices that were found
-module _ {old new : State} {P : Trees → Type 0} (fault : OpenFault) (survives : Survives old new P)
-    (keeps : HasCleanDisk new → (trees : Trees) → P trees → IsTrue old.is_open
-    × KeepsFoundDevices old.committed.trees trees) where
-  fails : (HasCleanDisk new → fault ≡ NotARegistry → IsForeignDatabase old.committed.trees × IsUnchanged old new
-      × ((trees : Trees) → new.may_leave trees → old.may_leave trees)) → FailsToOpen old new fault
-  fails not_a_registry = record {
-    survives = survives_weaker old new P (KeepsFoundDevices old.committed.trees)
-        (λ clean trees left. (keeps clean trees left).1) survives;
-    clean = before survives;
-    not_a_registry = not_a_registry;
-    crash = λ clean trees may. elim (survives.crash clean trees may) [
-      | inl early ↦ inl early
-      | inr left ↦ inr (keeps clean trees left)
-    ];
-  }
+fails : {old new : State} (fault : OpenFault)
+    → Survives old new (λ trees. IsTrue old.is_open × KeepsFoundDevices old.committed.trees trees)
+    → (HasCleanDisk new → fault ≡ NotARegistry → IsForeignDatabase old.committed.trees × IsUnchanged old new
+    × ((trees : Trees) → new.may_leave trees → old.may_leave trees)) → FailsToOpen old new fault
+fails {old} {new} fault survives not_a_registry = record {
+  survives = survives_weaker old new _ (KeepsFoundDevices old.committed.trees) (λ clean trees left. left.1) survives;
+  clean = before survives;
+  not_a_registry = not_a_registry;
+  crash = survives.crash;
+}
 
 -- the connection is closed, or the call fails
 pub refused_first : (old new : State) (fault : OpenFault) → fault ≢ NotARegistry → Survives old new (λ _. ⊥)
     → FailsToOpen old new fault
-refused_first old new fault other survives =
-    fails fault survives (λ clean trees no. absurd no) (λ clean is. absurd (other is))
+refused_first old new fault other survives = fails fault
+    (survives_weaker old new (λ _. ⊥) _ (λ clean trees no. absurd no) survives) (λ clean is. absurd (other is))
 
 -- the database failed before anything was queried
 pub not_asked : (s : State) (fault : StoreFault) → FailsToOpen s s (Failed fault)
@@ -309,12 +232,10 @@ pub refused_then : {T : Type 0} (r : Result T OpenFault) (old mid new : State)
     → IfErr r (FailsToOpen old new)
 refused_then (Ok v) old mid new was first second other same = tt
 refused_then (Err fault) old mid new was first second other same =
-    fails fault (survives_then old mid new (λ _. ⊥) (KeepsFoundDevices mid.now.trees)
-    (λ trees. IsTrue old.is_open × KeepsFoundDevices old.committed.trees trees) (λ clean trees no. absurd no)
+    fails fault (survives_then old mid new (λ _. ⊥) (KeepsFoundDevices mid.now.trees) _ (λ clean trees no. absurd no)
     (λ clean trees kept.
     let it = was (before second clean) in
     (it.0.0.was_open, subst (λ found. KeepsFoundDevices found trees) (last it) kept)) first second)
-    (λ clean trees kept. kept)
     (λ clean is.
     let between = before second clean in
     let it = was between in
@@ -332,8 +253,10 @@ found_devices_are_unique trees left found (inl (v, one)) (inl (w, two)) =
     let e = sym (holds_present one.db one.same one.sound one) ∙ holds_present one.db one.same one.sound two in
     let versions : v ≡ w = cc in
     held_by w trees left found (subst (λ u. HoldsInVersion u trees left) versions one) two
-found_devices_are_unique trees left found (inl (v, one)) (inr (free, is)) = absurd (not_both one free)
-found_devices_are_unique trees left found (inr (free, is)) (inl (w, two)) = absurd (not_both two free)
+found_devices_are_unique trees left found (inl (v, one)) (inr (free, is)) = absurd (let e =
+    sym (holds_present one.db one.same one.sound one) ∙ admits_absent one.db one.same one.sound free in cc)
+found_devices_are_unique trees left found (inr (free, is)) (inl (w, two)) = absurd (let e =
+    sym (holds_present two.db two.same two.sound two) ∙ admits_absent two.db two.same two.sound free in cc)
 found_devices_are_unique trees left found (inr (free, is)) (inr (again, too)) = is ∙ sym too
 
 pub failed_opens_keep : {C : Type 0} (state : C → State) → FailedOpensKeep state
@@ -344,44 +267,21 @@ failed_opens_keep state old new fault clean refused = (
   ],
   λ devices next. elim (refused.crash clean next.0 next.1) [
     | inl early ↦ inl (next.0, early, next.2)
-    | inr kept ↦
-        let same = found_devices_are_unique next.0 kept.1.devices devices (inl (Second, kept.1.holds)) next.2 in
-        inr (kept.0, subst (OpenFinds (state old).committed.trees) same kept.1.finds)
+    | inr kept ↦ inr (
+      kept.0,
+      subst (OpenFinds (state old).committed.trees)
+          (found_devices_are_unique _ kept.1.devices devices (inl (Second, kept.1.holds)) next.2) kept.1.finds,
+    )
   ],
 )
 
-pub registries_are_recognized : {C : Type 0} (state : C → State) → RegistriesAreRecognized state
-registries_are_recognized state = (
-  λ trees it. (it.devices, inl (Second, it.holds)),
-  λ old new fault devices clean refused finds is. (refused.not_a_registry clean is).0 devices finds,
-)
-
-pub only_non_registries_are_refused : {C : Type 0} (state : C → State) → OnlyNonRegistriesAreRefused state
-only_non_registries_are_refused state conn last clean refused = (refused.not_a_registry clean refl).0
-
 pub returned_is_found : {C : Type 0} (state : C → State) → ReturnedIsFound state
 returned_is_found state closed opened devices found clean committed has opens =
-    let last = state closed in
     let holds = committed clean opens.was_open devices has in
-    sym (found_devices_are_unique last.committed.trees devices found (inl (Second, holds)) opens.found)
+    sym (found_devices_are_unique _ devices found (inl (Second, holds)) opens.found)
 
 pub closed_files_are_found : {D : Type 0} (g : Ghosts D) → ClosedFilesAreFound g
 closed_files_are_found g closed opened files devices copied finds committed has =
-    let trees = (file_state opened).committed.trees in
-    let same : trees ≡ (file_state closed).committed.trees = finds_again closed opened files (λ _. copied) finds in
-    let last = committed copied.was_clean copied.was_open devices has in
-    let holds : HoldsVersion2 trees devices = subst (λ t. HoldsVersion2 t devices) (sym same) last in (
-      inl (Second, holds),
-      λ found other. sym (found_devices_are_unique trees devices found (inl (Second, holds)) other),
-    )
-
-pub crashed_files_are_found : {D : Type 0} (g : Ghosts D) → CrashedFilesAreFound g
-crashed_files_are_found g crash_keeps_found opened image numbered registries may found =
-    ∥∥₁_map
-    (next_run crash_keeps_found.store numbered
-    (λ trees leaves. let held = registries trees leaves in
-    (held.holds.db.schema, subst (IsSound held.holds.db.schema) held.holds.same held.holds.sound)) image may
-    (file_state opened) found)
-    (λ left.
-    let held = registries (file_state opened).committed.trees left in
-    (held.devices, ((file_state opened).committed.trees, left, held.holds), inl (Second, held.holds)))
+    let holds = subst (λ trees. HoldsVersion2 trees devices) (sym (finds_again closed opened files (λ _. copied) finds))
+    (committed copied.was_clean copied.was_open devices has) in
+    (inl (Second, holds), λ found other. sym (found_devices_are_unique _ devices found (inl (Second, holds)) other))

@@ -1,22 +1,21 @@
 -- From the effects of the statements to the postconditions of the calls of the device table and of the registry.
-use Rattle.std.proofs.Common.{Global, Vec, ◌≡◌, false, inl, inr, ℕ, Bool, Option, Result, Ok, Err, IsTrue, IfOk, OnOk}
-use Rattle.std.proofs.Common.{MatchResult, Some, None, is_some, option_map, refl, sym, ap, subst, ◌∙◌, true, MatchBool}
-use Rattle.std.proofs.lemmas.Result.{on_ok_weaker, on_err_weaker, MatchResult-weaker}
-use Rattle.std.specs.FinMap.{get, insert}
-use Rattle.sqlite_trees.specs.Tree.{Trees}
-use Rattle.sqlite.specs.Effect.{Database}
-use Rattle.sqlite.specs.State.{State, HasCleanDisk}
-use Rattle.learned_devices.specs.declared.Device.{Device}
-use Rattle.learned_devices.specs.Devices.{Devices, DeviceData, Operation, DeviceUpdate, device, device_data, with_entry}
-use Rattle.learned_devices.specs.Devices.{apply_update, data_after, is_full_for, device_of, devices_by_ascending_id}
-use Rattle.learned_devices.specs.DeviceStoreState.{Keeps, DeviceStoreState, LeavesPending}
-use Rattle.learned_devices.specs.StoreCalls.{LooksUp, Updates, ListsAll, RefusesToLearn, Learns}
-use Rattle.device_registry.specs.Holding.{HasDevicesIfOpen, AreVersion2Registries, registry_state}
-use Rattle.device_registry.specs.private.TableCalls.{OperationMakesDevice}
-use Rattle.device_registry.specs.Ready.{IsReadyWith, IsReady, IsReadyIfOpen, WritesNothing, CommitsOrMayBeLeft}
-use Rattle.device_registry.specs.Ready.{AreReady}
-use Rattle.device_registry.proofs.DevicesHeld.{held_once, registers_once, room_for_known}
-use Rattle.keyed_table.proofs.Statements.{ready_on}
+use Rattle.keyed_table.proofs.Common.{◌≡◌, false, inl, inr, ℕ, Bool, Option, Result, Ok, Err, IsTrue, Some, None}
+use Rattle.keyed_table.proofs.Common.{is_some, option_map, refl, sym, ap, subst, ◌∙◌, true, MatchBool, IfOk, get}
+use Rattle.keyed_table.proofs.Common.{insert, Trees, Database, State, HasCleanDisk, Error}
+use Rattle.device_registry.proofs.Common.{Device, Devices, DeviceData, Operation, DeviceUpdate, device, device_data}
+use Rattle.device_registry.proofs.Common.{with_entry, apply_update, data_after, is_full_for, device_of}
+use Rattle.device_registry.proofs.Common.{devices_by_ascending_id, Learn, learn_update, Keeps, Updates}
+use Rattle.device_registry.proofs.Common.{HasDevicesIfOpen, registry_state, OperationMakesDevice, IsReadyWith, IsReady}
+use Rattle.device_registry.proofs.Common.{AreReady, StoreFault}
+use Rattle.std.proofs.Common.{Global, Vec, IsErrAnd}
+use Rattle.std.proofs.lemmas.Result.{MatchResult-weaker}
+use Rattle.learned_devices.specs.DeviceStoreState.{DeviceStoreState, LeavesPending}
+use Rattle.learned_devices.specs.StoreCalls.{LooksUp, ListsAll, RefusesToLearn, Learns}
+use Rattle.device_registry.specs.Faults.{fault_of}
+use Rattle.device_registry.specs.Holding.{AreVersion2Registries}
+use Rattle.device_registry.specs.Ready.{IsReadyIfOpen, WritesNothing, CommitsOrMayBeLeft}
+use Rattle.device_registry.proofs.DevicesHeld.{held_once, registers_once, room_if_known}
+use Rattle.keyed_table.proofs.Statements.{ready_on, ready_with}
 use Rattle.learned_devices.specs.declared.fault.LearnFault.{LearnFault}
 use Rattle.learned_devices.specs.declared.fault.LearnFault.TheVariants.{Full, Failed}
 
@@ -26,15 +25,14 @@ IsWell s = (HasCleanDisk s → AreVersion2Registries s.may_leave) × IsReadyIfOp
 
 pub shows_them : {s : State} {devices : Devices} → HasCleanDisk s → IsReady s → HasDevicesIfOpen s devices
     → IsReadyWith s devices
-shows_them clean ready has =
+shows_them {s} {devices} clean ready has =
     let it = ready.shows in
-    record {
-      is_open = it.is_open;
-      idle = it.idle;
-      settled = it.settled;
-      sound = it.sound;
-      holds = has clean it.is_open;
-    }
+    ready_with s s.now devices it.is_open it.idle it.settled refl it.sound (has clean it.is_open)
+
+-- the result at the exit of a `?`
+pub err_is : {T E : Type 0} {e : E} (r : Result T E) → IsErrAnd r (λ other. other ≡ e) → r ≡ Err e
+err_is (Ok x) h = absurd h
+err_is (Err other) h = ap Err h
 
 pub either : {A B : Type 0} (b : Bool) → A → B → MatchBool b A B
 either true a b = a
@@ -57,15 +55,20 @@ module _ {old new : State} (stays : WritesNothing old new) (well : IsWell old) w
   pub both_ready : HasCleanDisk new → IsReady new → AreReady old new
   both_ready clean ready = (ready_before clean ready.shows.is_open, ready)
 
-  -- the registry was ready with these devices before the call
-  pub had : HasCleanDisk new → IsTrue new.is_open → {devices : Devices} → HasDevicesIfOpen old devices
-      → IsReadyWith old devices
-  had clean is_open has = shows_them (stays.clean clean) (ready_before clean is_open) has
+  -- what a query showed of the devices that were ready is true of those that the registry had
+  pub reports : {Q : Devices → Type 0}
+      → (HasCleanDisk new → IsReady new × ((devices : Devices) → IsReadyWith old devices → Q devices))
+      → HasCleanDisk new → (devices : Devices) → HasDevicesIfOpen old devices → Q devices
+  reports shown clean devices has =
+      let it = shown clean in
+      it.1 devices (shows_them (stays.clean clean) (ready_before clean it.0.shows.is_open) has)
 
   pub keeps : HasCleanDisk new → (devices : Devices) → HasDevicesIfOpen old devices
       → Keeps (registry_state old) (registry_state new) devices
   keeps clean devices has = record {
-    now = λ _ is_open. ((stays.goes_on clean is_open).1 devices (had clean is_open has)).holds;
+    now = λ _ is_open.
+        let was = shows_them (stays.clean clean) (ready_before clean is_open) has in
+        ((stays.goes_on clean is_open).1 devices was).holds;
     crash = λ left (trees, may, holds). (trees, stays.crash clean trees may, holds);
   }
 
@@ -82,66 +85,34 @@ module _ {old new : State} (stays : WritesNothing old new) (well : IsWell old) w
     λ clean is_open. ready_on old new (stays.goes_on clean) is_open (ready_before clean is_open),
   )
 
-with_kept : {T E K : Type 0} (P : T → Type 0) (r : Result T E) → IfOk r P → K → MatchResult r (λ x. P x × K) (λ _. K)
-with_kept P (Ok x) p kept = (p, kept)
-with_kept P (Err e) p kept = kept
-
-pub ok_has : {T E : Type 0} {P : Type 0} (r : Result T E) → P → OnOk r P
-ok_has (Ok v) p = p
-ok_has (Err e) p = tt
-
-module _ {old new : State} (stays : WritesNothing old new) (well : IsWell old) {E : Type 0} where
-  pub looks_up : {id : ℕ} (r : Result (Option Device) E)
+  pub looks_up : {E : Type 0} {id : ℕ} (r : Result (Option Device) E)
       → (HasCleanDisk new → (devices : Devices) → HasDevicesIfOpen old devices
       → IfOk r (λ found. found ≡ device_of devices id)) → LooksUp (registry_state old) (registry_state new) id r
   looks_up r reported = record {
     clean = stays.clean;
-    reopenable = (keeps_well stays well).0;
-    devices = λ clean devices has. with_kept _ r (reported clean devices has) (keeps stays well clean devices has);
+    reopenable = keeps_well.0;
+    devices = λ clean devices has.
+        let kept = keeps clean devices has in
+        MatchResult-weaker r (reported clean devices has) (λ found is. (is, kept)) (λ e none. kept);
   }
 
-  pub lists_all : (r : Result (Vec Device Global) E)
+  pub lists_all : {E : Type 0} (r : Result (Vec Device Global) E)
       → (HasCleanDisk new → (devices : Devices) → HasDevicesIfOpen old devices
       → IfOk r (λ all. all.items ≡ devices_by_ascending_id devices))
       → ListsAll (registry_state old) (registry_state new) r
   lists_all r reported = record {
     clean = stays.clean;
-    reopenable = (keeps_well stays well).0;
-    devices = λ clean devices has. with_kept _ r (reported clean devices has) (keeps stays well clean devices has);
+    reopenable = keeps_well.0;
+    devices = λ clean devices has.
+        let kept = keeps clean devices has in
+        MatchResult-weaker r (reported clean devices has) (λ found is. (is, kept)) (λ e none. kept);
   }
-
--- the counted result says whether the registry was full for the sender before the call
-pub counted : {old new : State} (id : ℕ) {is_full : Bool} → WritesNothing old new → IsWell old
-    → (HasCleanDisk new → IsReady new
-    × ((devices : Devices) → IsReadyWith old devices → is_full ≡ is_full_for devices id))
-    → HasCleanDisk new → (devices : Devices) → HasDevicesIfOpen old devices → is_full_for devices id ≡ is_full
-counted id stays well number clean devices has =
-    sym ((number clean).1 devices (had stays well clean (number clean).0.shows.is_open has))
 
 -- ---- a write
 
--- a write after a query that wrote nothing is a write of the state before the query
-pub write_after : {T E : Type 0} {old mid new : State} (update : DeviceUpdate) {r : Result T E}
-    → WritesNothing old mid → (HasCleanDisk mid → IsReady mid) → CommitsOrMayBeLeft mid new update r
-    → CommitsOrMayBeLeft old new update r
-write_after update {r} stays ready turns = record {
-  clean = λ clean. stays.clean (turns.clean clean);
-  crash = λ clean trees may.
-      let mid_clean = turns.clean clean in
-      elim (turns.crash clean trees may) [
-        | inl before ↦ inl (stays.crash mid_clean trees before)
-        | inr left ↦
-            let on = stays.goes_on mid_clean left.0 in
-            inr (on.0, λ devices shows. left.1 devices (on.1 devices shows))
-      ];
-  made = λ clean.
-      let on = stays.goes_on (turns.clean clean) (ready (turns.clean clean)).shows.is_open in
-      on_ok_weaker r (λ made devices shows. made devices (on.1 devices shows)) (turns.made clean);
-  refused = λ clean. on_err_weaker r (λ refused is_open.
-      let late = refused is_open in
-      let on = stays.goes_on (turns.clean clean) late.0 in
-      (on.0, λ devices shows. late.1 devices (on.1 devices shows))) (turns.refused clean);
-}
+abbrev without_value : {T E : Type 0} → Result T E → Result (Unit {0}) E
+without_value (Ok v) = Ok tt
+without_value (Err e) = Err e
 
 module _ {old new : State} (update : DeviceUpdate) (well : IsWell old) (ready : HasCleanDisk old → IsReady old) where
   registries : {T E : Type 0} {r : Result T E} → CommitsOrMayBeLeft old new update r → HasCleanDisk new
@@ -165,29 +136,26 @@ module _ {old new : State} (update : DeviceUpdate) (well : IsWell old) (ready : 
       (registries turns, λ clean is_open. ready_on old new (turns.refused clean) is_open (ready (turns.clean clean)))
 
   -- while the connection is open, a crash leaves what is committed
-  module _ (settled : (trees : Trees) → IsTrue new.is_open → new.may_leave trees → trees ≡ new.committed.trees) where
-    pub updates_made : {T A E F : Type 0} {done : T} {other : A} → CommitsOrMayBeLeft {E = E} old new update (Ok done)
-        → Updates {E = F} (registry_state old) (registry_state new) update (Ok other)
-    updates_made turns = record {
-      clean = turns.clean;
-      reopenable = registries turns;
-      devices = λ clean devices has.
-          let early = turns.clean clean in
-          let shows = turns.made clean devices (shows_them early (ready early) has) in
-          record {
-            now = λ _ _. shows.holds;
-            crash = λ left (trees, may, holds). held_once trees left (apply_update devices update) holds (record {
-              db = new.now;
-              same = ap (λ (db : Database). db.trees) shows.settled ∙ sym (settled trees shows.is_open may);
-              sound = shows.sound;
-              holds = shows.holds;
-            });
-          };
-    }
-
-  pub updates_failed : {T A E F : Type 0} {e : E} {fault : F} → CommitsOrMayBeLeft {T = T} old new update (Err e)
-      → Updates {A = A} (registry_state old) (registry_state new) update (Err fault)
-  updates_failed turns = record {
+  pub updates : {T E : Type 0} (r : Result T E) → CommitsOrMayBeLeft old new update r
+      → ((trees : Trees) → IsTrue new.is_open → new.may_leave trees → trees ≡ new.committed.trees)
+      → Updates (registry_state old) (registry_state new) update (without_value r)
+  updates (Ok done) turns settled = record {
+    clean = turns.clean;
+    reopenable = registries turns;
+    devices = λ clean devices has.
+        let early = turns.clean clean in
+        let shows = turns.made clean devices (shows_them early (ready early) has) in
+        record {
+          now = λ _ _. shows.holds;
+          crash = λ left (trees, may, holds). held_once trees left (apply_update devices update) holds (record {
+            db = new.now;
+            same = ap (λ (db : Database). db.trees) shows.settled ∙ sym (settled trees shows.is_open may);
+            sound = shows.sound;
+            holds = shows.holds;
+          });
+        };
+  }
+  updates (Err e) turns settled = record {
     clean = turns.clean;
     reopenable = registries turns;
     devices = λ clean devices has.
@@ -202,24 +170,40 @@ module _ {old new : State} (update : DeviceUpdate) (well : IsWell old) (ready : 
         };
   }
 
--- ---- what is upserted
+-- ---- a device is learned
 
--- an update whose result is this device upserts it
-pub upserts : {s : State} (it : Device) (operation : Operation)
-    → (HasCleanDisk s → (devices : Devices) → HasDevicesIfOpen s devices
-    → data_after (get devices it.id) operation ≡ Some (device_data it))
-    → HasCleanDisk s → (devices : Devices) → IsReadyWith s devices
-    → with_entry devices it.id (data_after (get devices it.id) operation) ≡ insert devices it.id (device_data it)
-upserts it operation makes clean devices shows =
-    ap (with_entry devices it.id) (makes clean devices (λ _ _. shows.holds))
+abbrev learned : {A E : Type 0} → (E → StoreFault) → Result A E → Result (Unit {0}) LearnFault
+learned fault (Ok v) = Ok tt
+learned fault (Err e) = Err (Failed (fault e))
 
--- the registry is not full for a known sender
-pub room_if_known : {s : State} (it : Device) (operation : Operation) → OperationMakesDevice s it operation
-    → HasCleanDisk s → (devices : Devices) → IsReadyWith s devices → is_full_for devices it.id ≡ false
-room_if_known {s} it operation makes clean devices shows =
-    room_for_known s.now devices it.id shows.holds (makes clean devices (λ _ _. shows.holds)).0
+module _ {A E : Type 0} {old new : DeviceStoreState} (it : Device) where
+  -- an update learns the device, if the registry was not full for it
+  pub learns : (fault : E → StoreFault) (r : Result A E) → Updates old new (learn_update it) r
+      → (new.honest → (devices : Devices) → old.holds devices → is_full_for devices it.id ≡ false)
+      → Learns old new it (learned fault r)
+  learns fault (Ok v) updates room = record {
+    clean = updates.clean;
+    reopenable = updates.reopenable;
+    devices = λ clean devices has. (room clean devices has, updates.devices clean devices has);
+  }
+  learns fault (Err e) updates room = record {
+    clean = updates.clean;
+    reopenable = updates.reopenable;
+    devices = λ clean devices has. rw (room clean devices has) (updates.devices clean devices has);
+  }
 
--- ---- a call after a look-up
+  -- a query before it failed
+  pub unlearned : {e : E} {fault : StoreFault} → LooksUp old new it.id (Err e)
+      → Learns {A = A} old new it (Err (Failed fault))
+  unlearned looks = record {
+    clean = looks.clean;
+    reopenable = looks.reopenable;
+    devices = λ clean devices has.
+        let same = looks.devices clean devices has in
+        either (is_full_for devices it.id) same (still_pending same);
+  }
+
+-- ---- a call after a query
 
 module _ {a b : DeviceStoreState} {devices : Devices} (first : Keeps a b devices) where
   keeps_then : {c : DeviceStoreState} → Keeps b c devices → Keeps a c devices
@@ -238,26 +222,62 @@ module _ {a b : DeviceStoreState} {devices : Devices} (first : Keeps a b devices
   refuses_then c it Full (full, second) = (full, keeps_then second)
   refuses_then c it (Failed fault) second = either_weaker (is_full_for devices it.id) second keeps_then pends_then
 
-module _ {E : Type 0} {old mid new : DeviceStoreState} {id : ℕ} {known : Option Device}
-    (looks : LooksUp {E = E} old mid id (Ok known)) where
-  pub updates_after : {A F : Type 0} {update : DeviceUpdate} (r : Result A F) → Updates mid new update r
+module _ {old mid new : DeviceStoreState} (early : mid.honest → old.honest)
+    (kept : mid.honest → (devices : Devices) → old.holds devices → Keeps old mid devices) where
+  pub updates_then : {A F : Type 0} {update : DeviceUpdate} (r : Result A F) → Updates mid new update r
       → Updates old new update r
-  updates_after r updates = record {
-    clean = λ clean. looks.clean (updates.clean clean);
+  updates_then r updates = record {
+    clean = λ clean. early (updates.clean clean);
     reopenable = updates.reopenable;
     devices = λ clean devices has.
-        let keeps = (looks.devices (updates.clean clean) devices has).1 in
+        let keeps = kept (updates.clean clean) devices has in
         MatchResult-weaker r (updates.devices clean devices keeps.now) (λ _ done. done) (λ _. pends_then keeps);
   }
 
-  pub learns_after : {A : Type 0} {it : Device} (r : Result A LearnFault) → Learns mid new it r → Learns old new it r
-  learns_after {it} r learns = record {
-    clean = λ clean. looks.clean (learns.clean clean);
+  pub learns_then : {A : Type 0} {it : Device} (r : Result A LearnFault) → Learns mid new it r → Learns old new it r
+  learns_then {it} r learns = record {
+    clean = λ clean. early (learns.clean clean);
     reopenable = learns.reopenable;
     devices = λ clean devices has.
-        let keeps = (looks.devices (learns.clean clean) devices has).1 in
+        let keeps = kept (learns.clean clean) devices has in
         MatchResult-weaker r (learns.devices clean devices keeps.now) (λ _ done. done) (refuses_then keeps new it);
   }
+
+pub updates_after : {E A F : Type 0} {old mid new : DeviceStoreState} {id : ℕ} {known : Option Device}
+    {update : DeviceUpdate} → LooksUp {E = E} old mid id (Ok known) → (r : Result A F) → Updates mid new update r
+    → Updates old new update r
+updates_after looks = updates_then looks.clean (λ clean devices has. (looks.devices clean devices has).1)
+
+-- ---- an upsert of this device
+
+module _ {T : Type 0} {mid new : State} {r : Result T Error} (it : Device) (turns : (update : DeviceUpdate)
+    → (HasCleanDisk mid → (devices : Devices) → IsReadyWith mid devices
+    → apply_update devices update ≡ insert devices it.id (device_data it)) → CommitsOrMayBeLeft mid new update r) where
+  -- it makes the update of each operation that makes the device
+  pub makes_update : (operation : Operation) → OperationMakesDevice mid it operation
+      → CommitsOrMayBeLeft mid new (record { sender = it.id; operation = operation }) r
+  makes_update operation makes = turns (record { sender = it.id; operation = operation })
+      (λ clean devices shows. ap (with_entry devices it.id) (makes clean devices (λ _ _. shows.holds)).1)
+
+  -- after a count of the other senders, which wrote nothing, it learns the device
+  module _ {old : State} {is_full : Bool} (stays : WritesNothing old mid) (well : IsWell old)
+      (made : HasCleanDisk old → (devices : Devices) → HasDevicesIfOpen old devices
+      → data_after (get devices it.id) (Learn it.eep it.maker) ≡ Some (device_data it))
+      (full : HasCleanDisk mid → IsReady mid
+      × ((devices : Devices) → IsReadyWith old devices → is_full ≡ is_full_for devices it.id)) where
+    pub upserted : CommitsOrMayBeLeft mid new (learn_update it) r
+    upserted = turns (learn_update it) (λ clean devices shows. ap (with_entry devices it.id)
+        (made (stays.clean clean) devices (λ _ _. (shown_before stays well clean shows).holds)))
+
+    pub upserted_well : IsWell new
+    upserted_well = turned_well (learn_update it) (keeps_well stays well) (λ clean. (full clean).0) r upserted
+
+    pub upserted_learns : is_full ≡ false
+        → ((trees : Trees) → IsTrue new.is_open → new.may_leave trees → trees ≡ new.committed.trees)
+        → Learns (registry_state old) (registry_state new) it (learned fault_of (without_value r))
+    upserted_learns room settled = learns it fault_of (without_value r) (updates_then stays.clean (keeps stays well) _
+        (updates (learn_update it) (keeps_well stays well) (λ clean. (full clean).0) r upserted settled))
+        (λ clean devices has. sym (reports stays well full (upserted.clean clean) devices has) ∙ room)
 
 -- ---- a sender that was looked up
 

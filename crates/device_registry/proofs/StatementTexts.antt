@@ -1,22 +1,12 @@
 -- The registry's statements as SQLite reads them. The lists of the columns that proofs about statements use are here.
-use Rattle.std.proofs.Common.{ℕ, pos, List, [], ◌∷◌, codes, Option, None, Some}
-use Rattle.sqlite.specs.declared.types.Value.TheVariants.{Null, Int, Text}
-use Rattle.sqlite.specs.Term.{Term, lit, col}
-use Rattle.sqlite.specs.Query.{Query}
-use Rattle.sqlite.specs.Order.{Row}
-use Rattle.sqlite.specs.Collation.{Collation}
-use Rattle.sqlite.specs.Collation.TheVariants.{Binary}
-use Rattle.sqlite_sql.specs.Term.{eval_all}
-use Rattle.sqlite_ast.specs.declared.Expr.{Expr}
-use Rattle.sqlite_ast.specs.declared.Expr.TheVariants as written
+use Rattle.keyed_table.proofs.Common.{ℕ, pos, List, [], ◌∷◌, codes, Option, None, Some, Null, Int, Text, Term, lit}
+use Rattle.keyed_table.proofs.Common.{col, Query, Row, Collation, Binary, eval_all, Expr, One, rows_query, plain_query}
+use Rattle.device_registry.proofs.Common.{Version, First, Second}
+use Rattle.keyed_table.proofs.RowsAsMap.{env_of}
+use Rattle.keyed_table.proofs.TextMeaning.{column_read}
 use Rattle.sqlite_ast.specs.declared.Shown.{Shown as Column}
-use Rattle.sqlite_ast.specs.declared.Shown.TheVariants.{One}
-use Rattle.keyed_table.specs.Queries.{rows_query, plain_query}
+use Rattle.sqlite_ast.specs.declared.Expr.TheVariants as written
 use Rattle.keyed_table.specs.Queries as keyed
-use Rattle.keyed_table.proofs.Answers.{env_of}
-use Rattle.keyed_table.proofs.SelectMeaning.{column_read}
-use Rattle.device_registry.specs.declared.table.Version.{Version}
-use Rattle.device_registry.specs.declared.table.Version.TheVariants.{First, Second}
 
 -- ---- the columns of the device table
 

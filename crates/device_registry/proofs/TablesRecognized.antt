@@ -1,65 +1,294 @@
--- What the list of objects shows about the tables of a registry, inside and outside a transaction.
-use Rattle.std.proofs.Common.{◌≡◌, ℕ, true, List, [], Some, Ok, sym, ap, subst, ◌∙◌, not, ◌⊎◌, inl, inr, Err, Result}
-use Rattle.std.proofs.Common.{IfOk, IfErr, arith, Decides}
-use Rattle.std.specs.List.{AllByRecursion}
-use Rattle.sqlite.specs.Order.{Row}
-use Rattle.sqlite.specs.State.{State, Shown, HasCleanDisk, Survives, KeepsCommit, FailsToQuery, IsTooLate}
-use Rattle.sqlite.specs.Effect.{Database, IsDatabase}
-use Rattle.sqlite_trees.specs.Tree.{Trees}
-use Rattle.sqlite.specs.Compile.{table_defined_by}
-use Rattle.sqlite.specs.Table.{Table}
-use Rattle.sqlite_rules.proofs.ListLemmas.{has_got}
-use Rattle.device_registry.specs.declared.table.Version.{Version}
-use Rattle.device_registry.specs.Table.{list_objects_sql, meta_name, device_table_name, create_meta_sql}
-use Rattle.device_registry.specs.Table.{create_device_sql}
-use Rattle.device_registry.specs.Stored.{HasTables, IsRegistry, AreTablesListed, HasNoReferenceTo, HasCatalogText}
-use Rattle.device_registry.specs.Opening.{IsRegistryIn, IsSettledOpen}
-use Rattle.device_registry.specs.SchemaChecks.{has_one_table, is_indexed, tree_of_table}
-use Rattle.std.proofs.lemmas.Bool.Decides.{Decides-and}
+-- The tables of a registry in a schema and in its list of objects, and what the tests for them imply.
+use Rattle.keyed_table.proofs.Common.{inl, inr, ◌≡◌, ◌≢◌, ℕ, ◌==◌, List, [], ◌∷◌, true, false, length, filter, Some}
+use Rattle.keyed_table.proofs.Common.{rules, None, Option, refl, sym, ap, ◌∙◌, arith, not, codes, subst, IsTrue, Ok}
+use Rattle.keyed_table.proofs.Common.{both_ways, cond_both, eqb-false, ne_eqb, not-true, or_from, AllByRecursion}
+use Rattle.keyed_table.proofs.Common.{table_defined_by, lacks_sequence, Database, IsDatabase, Row, Schema, State}
+use Rattle.keyed_table.proofs.Common.{Shown, HasCleanDisk, Survives, Table, table_named, any_from_none, none_from_any}
+use Rattle.keyed_table.proofs.Common.{is_used, same_itself, Has, all_has, all_from, has_got, has_kept, has_filtered}
+use Rattle.keyed_table.proofs.Common.{all_weaker, all_both, Trees, IsLone}
+use Rattle.device_registry.proofs.Common.{TablesStatus, Absent, Present, Unusable, Version, First, Second}
+use Rattle.device_registry.proofs.Common.{IsRegistryIn, IsSettledOpen, list_objects_sql, device_table_name, meta_table}
+use Rattle.device_registry.proofs.Common.{device_table, NoneRefersToOurs, HasNoReferenceToOurs, HasTables, IsRegistry}
+use Rattle.device_registry.proofs.Common.{AreTablesListed, HasCatalogText, admits_tables, tables_status}
+use Rattle.std.proofs.Common.{◌↔◌, Decides}
+use Rattle.std.proofs.lemmas.Bool.Decides.{Decides-and, Decides-eqb}
+use Rattle.std.proofs.lemmas.Bool.{not_from_false}
+use Rattle.std.proofs.lemmas.List.Sums.{length-filter}
+use Rattle.sqlite_schema.specs.Names.{same_name}
+use Rattle.sqlite_trees.proofs.ListLemmas.{ascending-filter}
+use Rattle.sqlite_trees.specs.Tree.{IsAscending}
+use Rattle.keyed_table.proofs.TablesKept.{unused, lone_stands}
+use Rattle.keyed_table.proofs.ListedTables.{IsNamed, defined, found_at, has_name, one_database, one_table, reported}
+use Rattle.keyed_table.proofs.ListedTables.{none_or_some, shows_line}
+use Rattle.keyed_table.proofs.KeyedMap.{StandsAlone, lone_alone}
+use Rattle.device_registry.proofs.TableTexts.{device_is, meta_text}
+use Rattle.device_registry.specs.Table.{meta_name}
+use Rattle.device_registry.specs.Stored.{HasNoReferenceTo, TreeHasName, MigrationAddsNoSequence, AdmitsTables, other}
+use Rattle.device_registry.specs.SchemaChecks.{is_referenced, has_foreign_key_to_ours, is_indexed, has_one_table}
+use Rattle.device_registry.specs.SchemaChecks.{lacks_needed_sequence_table, migration_adds_no_sequence, tree_of_table}
 use Rattle.device_registry.specs.private.CatalogRows.{are_our_tables}
-use Rattle.device_registry.specs.private.TablesStatus.{tables_status}
-use Rattle.device_registry.specs.declared.schema_check.TablesStatus.TheVariants.{Present}
-use Rattle.device_registry.proofs.TableTexts.{meta_is, device_is}
-use Rattle.keyed_table.proofs.ListedTables.{one_database, defined, has_name}
-use Rattle.keyed_table.specs.Lone.{IsLone}
-use Rattle.device_registry.proofs.TablesStatusLemmas.{are_in_trees}
-use Rattle.device_registry.proofs.SchemaCheckLemmas.{lone, named_at, none_named, sequence_allowed, unindexed}
-use Rattle.device_registry.proofs.SchemaCheckLemmas.{unreferenced}
-use Rattle.device_registry.proofs.TablesAlone.{spares_meta, spares_devices, stand_in}
-use Rattle.std.proofs.lemmas.Bool.{and_parts, not-true}
-use Rattle.keyed_table.proofs.ObjectsAnswer.{reported, shows_line, listing_plain}
-use Rattle.sqlite.specs.declared.error.Error.{Error}
-use Rattle.sqlite.specs.Held.{Held, state}
-use Rattle.sqlite_trees.specs.declared.store.Store.{Ghosts}
-use Rattle.device_registry.specs.private.Transaction.{IsUncommitted, IsMidTransaction, IsMidTransactionWithTables}
-use Rattle.keyed_table.proofs.Statements.{spared_commit, not_shown, shown_same}
-use Rattle.keyed_table.proofs.Transactions.{uncommitted_then}
+use Rattle.device_registry.specs.private.TablesStatus.{are_creatable, are_unaffected, tables_in_trees}
 
 -- the disk was clean before
 pub before : {old new : State} {P : Trees → Type 0} → Survives old new P → HasCleanDisk new → HasCleanDisk old
 before survives clean = omega (arith, clean, survives.clean)
 
-module _ (version : Version) (old new : State) (rows : List Row) (sound : IsDatabase old.now)
-    (shows : Shown list_objects_sql [] old new rows) where
-  pub ours : Decides (are_our_tables version rows) (AreTablesListed version old.now.trees)
-  ours =
-      let name = device_table_name version in
-      let text = create_device_sql version in
-      Decides-and _ _ (
-        reported old new rows sound shows meta_name create_meta_sql,
-        shows_line old new rows sound shows meta_name create_meta_sql,
-      ) (reported old new rows sound shows name text, shows_line old new rows sound shows name text)
+-- ---- the tables are independent of the other objects
 
--- ---- the tables
+module _ (schema : Schema) where
+  -- nothing refers to our names
+  pub spares_meta : NoneRefersToOurs schema → AllByRecursion (HasNoReferenceTo meta_name) schema.tables
+  spares_meta = all_weaker _ _ (λ t ours. ours.meta) schema.tables
+
+  pub spares_devices : (version : Version) → NoneRefersToOurs schema
+      → AllByRecursion (HasNoReferenceTo (device_table_name version)) schema.tables
+  spares_devices version = all_weaker _ _ (λ t ours. ours.devices version) schema.tables
+
+  pub meta_lone : {version : Version} (t : HasTables version schema) → IsLone schema meta_name (meta_table t.meta)
+  meta_lone t = record {
+    listed = has_got schema.tables t.meta_at (meta_table t.meta) t.meta_is_table.there;
+    named = same_itself meta_name;
+    keeps = all_weaker _ _ (λ t both. both.0) schema.tables t.alone;
+    unreferenced = spares_meta t.unreferenced;
+    unindexed = all_weaker _ _ (λ index both. both.0) schema.indexes t.unindexed;
+  }
+
+  pub devices_lone : {version : Version} (t : HasTables version schema)
+      → IsLone schema (device_table_name version) (device_table version t.devices)
+  devices_lone {version} t = record {
+    listed = has_got schema.tables t.devices_at (device_table version t.devices) t.devices_are_table.there;
+    named = same_itself (device_table_name version);
+    keeps = all_weaker _ _ (λ t both. both.1) schema.tables t.alone;
+    unreferenced = spares_devices version t.unreferenced;
+    unindexed = all_weaker _ _ (λ index both. both.1) schema.indexes t.unindexed;
+  }
+
+  pub meta_alone : {version : Version} (t : HasTables version schema) → StandsAlone schema t.meta
+  meta_alone t = lone_alone (meta_lone t)
+
+-- the two tables have different names
+pub other_name : (version : Version) → same_name meta_name (device_table_name version) ≡ false
+unfolding same_name
+other_name First = refl
+other_name Second = refl
+
+-- two such tables are those of a registry
+abbrev pub stand_in : (version : Version) (db : Database) → IsDatabase db → {meta devices : ℕ}
+    → IsLone db.schema meta_name (meta_table meta)
+    → IsLone db.schema (device_table_name version) (device_table version devices)
+    → NoneRefersToOurs db.schema → is_used db.schema (device_table_name (other version)) ≡ false
+    → MigrationAddsNoSequence version db.schema → HasTables version db.schema
+stand_in version db sound {meta} {devices} one two spared free counted =
+    let at = lone_stands db sound one in
+    let to = lone_stands db sound two in
+    record {
+      meta = meta;
+      devices = devices;
+      meta_at = at.0;
+      devices_at = to.0;
+      meta_is_table = at.1;
+      devices_are_table = to.1;
+      apart = λ e. both_ways _ (other_name version) (all_has _ _ _ two.keeps one.listed e);
+      unreferenced = spared;
+      alone = all_both _ _ _ (λ x p q. (p, q)) db.schema.tables one.keeps two.keeps;
+      unindexed = all_both _ _ _ (λ x p q. (p, q)) db.schema.indexes one.unindexed two.unindexed;
+      other_version_unused = free;
+      sequence_allowed = counted;
+    }
+
+-- ---- references and indexes
+
+unreferenced : (schema : Schema) → (has_foreign_key_to_ours schema ≡ false) ↔ NoneRefersToOurs schema
+unreferenced schema = (
+  λ none.
+      all_from HasNoReferenceToOurs schema.tables (λ t has. record {
+        meta = all_has _ schema.tables t ((spares meta_name).0 (search (rules, none))) has;
+        devices = λ version. all_has _ schema.tables t ((spares (device_table_name version)).0 (elim version
+            as (λ v. is_referenced schema (device_table_name v) ≡ false)
+            [ First ↦ search (rules, none) | Second ↦ search (rules, none) ])) has;
+      }),
+  λ all.
+      or_from _ _ (or_from _ _ ((spares _).1 (spares_meta schema all)) ((spares _).1 (spares_devices schema First all)))
+      ((spares _).1 (spares_devices schema Second all)),
+)
+  where
+    spares : (name : List ℕ)
+        → (is_referenced schema name ≡ false) ↔ AllByRecursion (HasNoReferenceTo name) schema.tables
+    spares name = (
+      λ none. all_weaker _ _ (λ t. none_from_any _ t.references) schema.tables (none_from_any _ schema.tables none),
+      λ all. any_from_none _ schema.tables (all_weaker _ _ (λ t. any_from_none _ t.references) schema.tables all),
+    )
+
+unindexed : (schema : Schema) (tree : ℕ)
+    → (is_indexed schema tree ≡ false) ↔ AllByRecursion (λ index. index.table ≢ tree) schema.indexes
+unindexed schema tree = (
+  λ none. all_weaker _ _ (λ index. eqb-false _ _) schema.indexes (none_from_any _ schema.indexes none),
+  λ all. any_from_none _ schema.indexes (all_weaker _ _ (λ index. ne_eqb _ _) schema.indexes all),
+)
+
+-- ---- names
+
+module _ (schema : Schema) (name : List ℕ) where
+  -- without a tree, no table has the name; otherwise the table with the name is in this tree
+  abbrev IsTreeOf : Option ℕ → Type 0
+  IsTreeOf None = table_named schema name ≡ None
+  IsTreeOf (Some tree) = IsNamed schema name tree
+
+  is_tree : IsTreeOf (tree_of_table schema name)
+  is_tree = elim (none_or_some (table_named schema name)) [
+    | inl none ↦ rw none none
+    | inr found ↦
+        let it = found_at (λ t. same_name t.name name) found.0 schema.tables found.1 in
+        rw (found.1, it.1) (record { at = found.0; table = it.0; named = found.1; there = it.1; is = refl })
+  ]
+
+-- ---- `sqlite_sequence`
+
+-- the definition of `sqlite` is the same as ours
+counted : (schema : Schema) → lacks_sequence schema ≡ lacks_needed_sequence_table schema
+counted schema =
+    elim (tree_of_table schema (codes "sqlite_sequence")) as (λ o. IsTreeOf schema (codes "sqlite_sequence") o
+    → lacks_sequence schema ≡ lacks_needed_sequence_table schema) [
+      | None ↦ λ none. rw none refl
+      | Some tree ↦ λ it. rw (it.named, it.there) refl
+    ] (is_tree schema (codes "sqlite_sequence"))
+
+sequence_allowed : (version : Version) (schema : Schema)
+    → Decides (migration_adds_no_sequence version schema) (MigrationAddsNoSequence version schema)
+sequence_allowed First schema = rw (counted schema) (not-true _, not_from_false _)
+sequence_allowed Second schema = ((λ e. tt), (λ e. refl))
+
+-- ---- one table in a tree
+
+-- all elements of a list of length 1 are equal
+one_element : {X : Type 0} (xs : List X) (a b : X) → length xs ≡ 1 → Has xs a → Has xs b → a ≡ b
+one_element [] a b one has too = absurd has
+one_element (x ∷ []) a b one has too = grind (arith, has, too)
+one_element (x ∷ y ∷ xs) a b one has too = absurd (omega arith)
+
+-- a list of tables with different names, each of which is this table, has length 1
+alone : (tables : List Table) → IsAscending (λ a b. same_name a.name b.name ≡ false) tables → (t : Table)
+    → Has tables t → ((u : Table) → Has tables u → u ≡ t) → length tables ≡ 1
+alone [] apart t has same = absurd has
+alone (u ∷ []) apart t has same = refl
+alone (u ∷ v ∷ tables) apart t has same =
+    absurd (both_ways _ (rw (same u (inl refl), same v (inr (inl refl))) at apart.0.0) (same_itself t.name))
+
+-- if a tree has one table, each table in it has its name
+lone : {schema : Schema} {name : List ℕ} {tree : ℕ} → IsNamed schema name tree → has_one_table schema tree ≡ true
+    → AllByRecursion (TreeHasName name tree) schema.tables
+lone {schema} {name} {tree} n one = all_from (TreeHasName name tree) schema.tables (λ t has is.
+    let in_tree = λ (u : Table). u.tree == tree in
+    let same = one_element (filter in_tree schema.tables) n.table t
+    (length-filter in_tree schema.tables ∙ (Decides-eqb _ 1).0 one)
+    (has_kept in_tree _ n.table (has_got schema.tables n.at n.table n.there) ((Decides-eqb _ tree).1 n.is))
+    (has_kept in_tree _ t has ((Decides-eqb _ tree).1 is)) in
+    subst (λ u. same_name u.name name ≡ true) same (has_name schema name n.at n.table n.named n.there))
+
+-- in a sound database, the tree of a table that no other object affects has one table
+has_one : (db : Database) → IsDatabase db → {name : List ℕ} {table : Table} → IsLone db.schema name table
+    → has_one_table db.schema table.tree ≡ true
+has_one db sound {name} {table} it =
+    let tables = db.schema.tables in
+    let in_tree = λ (t : Table). t.tree == table.tree in
+    let kept = has_kept in_tree tables table it.listed ((Decides-eqb table.tree _).1 refl) in
+    (Decides-eqb _ 1).1 (sym (length-filter in_tree tables) ∙ alone (filter in_tree tables)
+    (ascending-filter _ in_tree tables sound.lists.listed.named) table kept (λ t has.
+    let was = has_filtered in_tree tables t has in
+    one_table db sound table it.listed name it.named t was.0
+    (all_has _ tables t it.keeps was.0 ((Decides-eqb t.tree _).0 was.1))))
+
+-- ---- all conditions
+
+-- for the creation of the tables
+pub admits : (schema : Schema) → Decides (admits_tables schema) (AdmitsTables schema)
+admits schema = (
+  λ ok.
+      record {
+        meta_name_unused = search (rules, ok);
+        device_names_unused = λ version. elim version as (λ v. is_used schema (device_table_name v) ≡ false)
+            [ First ↦ search (rules, ok) | Second ↦ search (rules, ok) ];
+        unreferenced = (unreferenced schema).0 (search (rules, ok));
+        sequence_allowed = counted schema ∙ search (rules, ok);
+      },
+  λ it. rw (
+    it.meta_name_unused,
+    it.device_names_unused First,
+    it.device_names_unused Second,
+    (unreferenced schema).1 it.unreferenced,
+    ← counted schema,
+    it.sequence_allowed,
+  ) refl,
+)
+
+-- ---- the status of the tables, from the trees of the three names
+
+in_trees : (version : Version) (schema : Schema) (meta devices : ℕ) → tree_of_table schema meta_name ≡ Some meta
+    → tree_of_table schema (device_table_name version) ≡ Some devices
+    → tree_of_table schema (device_table_name (other version)) ≡ None
+    → are_unaffected version schema meta devices ≡ true → tables_status schema ≡ Present version
+in_trees First schema m d meta devices none all = rw (meta, devices, none, all) refl
+in_trees Second schema m d meta devices none all = rw (meta, none, devices, all) refl
+
+module _ (schema : Schema) where
+  -- what a status implies
+  abbrev pub Implies : TablesStatus → Type 0
+  Implies Absent = IsTrue (admits_tables schema)
+  -- the tables of this version are in two trees, and other objects do not affect them
+  Implies (Present version) = (meta : ℕ) × (devices : ℕ) × IsNamed schema meta_name meta
+      × IsNamed schema (device_table_name version) devices
+      × (table_named schema (device_table_name (other version)) ≡ None)
+      × (are_unaffected version schema meta devices ≡ true)
+  Implies Unusable = Unit {0}
+
+  implies : (meta first second : Option ℕ) → IsTreeOf schema meta_name meta
+      → IsTreeOf schema (device_table_name First) first → IsTreeOf schema (device_table_name Second) second
+      → Implies (tables_in_trees schema meta first second)
+  implies None None None m f s = cond_both (are_creatable schema) Absent Unusable Implies
+      (λ ok. rw (m, f, s) ok) (λ no. tt)
+  implies (Some meta) (Some devices) None m f s =
+      cond_both (are_unaffected First schema meta devices) (Present First) Unusable Implies
+      (λ ok. (meta, devices, m, f, s, ok)) (λ no. tt)
+  implies (Some meta) None (Some devices) m f s =
+      cond_both (are_unaffected Second schema meta devices) (Present Second) Unusable Implies
+      (λ ok. (meta, devices, m, s, f, ok)) (λ no. tt)
+  implies meta first second m f s = tt
+
+  pub status_implies : {status : TablesStatus} → tables_status schema ≡ status → Implies status
+  status_implies is = subst Implies is (implies _ _ _ (is_tree schema _) (is_tree schema _) (is_tree schema _))
+
+  pub is_absent : AdmitsTables schema → tables_status schema ≡ Absent
+  is_absent it =
+      let meta = (unused schema meta_name it.meta_name_unused).0 in
+      let devices = λ (version : Version). (unused schema _ (it.device_names_unused version)).0 in
+      let free = (admits schema).1 it in
+      rw (meta, devices First, devices Second, rw (meta, devices First, devices Second) at free) refl
 
 module _ (db : Database) (sound : IsDatabase db) where
+  -- those of a registry are there
+  pub is_present : {version : Version} → HasTables version db.schema → tables_status db.schema ≡ Present version
+  is_present {version} t = in_trees version db.schema t.meta t.devices
+      (rw (t.meta_is_table.named, t.meta_is_table.there) refl)
+      (rw (t.devices_are_table.named, t.devices_are_table.there) refl)
+      (rw (unused db.schema _ t.other_version_unused).0 refl)
+      (rw (
+        (unreferenced db.schema).1 t.unreferenced,
+        (unindexed db.schema t.meta).1 (meta_lone db.schema t).unindexed,
+        (unindexed db.schema t.devices).1 (devices_lone db.schema t).unindexed,
+        has_one db sound (meta_lone db.schema t),
+        has_one db sound (devices_lone db.schema t),
+        rw (unused db.schema _ t.other_version_unused).0 at t.other_version_unused,
+        (sequence_allowed version db.schema).1 t.sequence_allowed,
+      ) refl)
+
+  -- ---- the list of objects
+
   -- a table that is listed with a text, and is alone in its tree, is the table that the text defines
-  listed_lone : {name text : List ℕ} {made : Table} {tree : ℕ} → tree_of_table db.schema name ≡ Some tree
+  listed_lone : {name text : List ℕ} {made : Table} {tree : ℕ} → IsNamed db.schema name tree
       → HasCatalogText db.trees name text → table_defined_by text ≡ Ok made → has_one_table db.schema tree ≡ true
       → not (is_indexed db.schema tree) ≡ true → AllByRecursion (HasNoReferenceTo name) db.schema.tables
       → IsLone db.schema name (record made { tree = tree })
-  listed_lone {name} {text} {made} {tree} is listed defines one free unreferenced =
-      let n = named_at db.schema name is in
+  listed_lone {name} {text} {made} {tree} n listed defines one free unreferenced =
       let there = n.there ∙ ap Some (defined db sound name tree n text made listed defines).0 in
       record {
         listed = has_got db.schema.tables n.at _ there;
@@ -73,69 +302,23 @@ module _ (db : Database) (sound : IsDatabase db) where
   pub tables_listed : (version : Version) → tables_status db.schema ≡ Present version
       → AreTablesListed version db.trees → HasTables version db.schema
   tables_listed version is listed =
-      let it = are_in_trees db.schema is in
-      let sequence = and_parts _ _ it.unaffected in
-      let unused = and_parts _ _ sequence.0 in
-      let one_device = and_parts _ _ unused.0 in
-      let one_meta = and_parts _ _ one_device.0 in
-      let free_device = and_parts _ _ one_meta.0 in
-      let free_meta = and_parts _ _ free_device.0 in
-      let spared = (unreferenced db.schema).0 (not-true _ free_meta.0) in
-      let meta = listed_lone it.meta_is listed.0 meta_is one_meta.1 free_meta.1 (spares_meta db.schema spared) in
-      let devices = listed_lone it.devices_are listed.1 (device_is version) one_device.1 free_device.1
-      (spares_devices version db.schema spared) in
-      (stand_in version db sound meta devices spared (rw (none_named db.schema _ it.no_other)
-      (not-true _ unused.1)) ((sequence_allowed version db.schema).0 sequence.1)).tables
+      let (_, _, meta, devices, none, unaffected) = status_implies db.schema is in
+      let spared = (unreferenced db.schema).0 (grind (arith, unaffected)) in
+      let one = listed_lone meta listed.0 meta_text.table_is (grind (arith, unaffected)) (grind (arith, unaffected))
+      (spares_meta db.schema spared) in
+      let two = listed_lone devices listed.1 (device_is version) (grind (arith, unaffected))
+      (grind (arith, unaffected)) (spares_devices db.schema version spared) in
+      stand_in version db sound one two spared (rw none (grind (arith, unaffected)))
+      ((sequence_allowed version db.schema).0 (grind (arith, unaffected)))
 
--- so a registry as this program leaves it is recognized
-pub own_found : (version : Version) (s : State) → IsSettledOpen s → IsRegistryIn version s.now.trees
-    → IsRegistry version s.now
-own_found version s rest own = subst (IsRegistry version) (one_database own.same own.sound rest.sound) own.registry
+module _ (version : Version) (s : State) where
+  -- so a registry as this program leaves it is recognized
+  pub own_found : IsSettledOpen s → IsRegistryIn version s.now.trees → IsRegistry version s.now
+  own_found rest own = subst (IsRegistry version) (one_database own.same own.sound rest.sound) own.registry
 
--- ---- the list of objects, queried inside a transaction of the registry
-
--- the query commits nothing
-seen_commit : {V : Type 0} (items : V → List Row) (old new : State) (r : Result V Error) → IsDatabase old.now
-    → IfOk r (λ v. Shown list_objects_sql [] old new (items v))
-    → IfErr r (λ e. FailsToQuery list_objects_sql [] old new e ⊎ IsTooLate list_objects_sql [] old new e)
-    → KeepsCommit old new
-seen_commit items old new (Ok v) sound ok err =
-    spared_commit old new (inl (shown_same list_objects_sql [] old new (listing_plain old.now sound) (items v) ok))
-seen_commit items old new (Err e) sound ok (inl fails) =
-    spared_commit old new (not_shown list_objects_sql [] old new (listing_plain old.now sound) e fails)
-seen_commit items old new (Err e) sound ok (inr late) = spared_commit old new (inl late.5)
-
-module _ {S : Type 0} (g : Ghosts S) {texts : List (List ℕ)} {a b : Held S} (c : Held S)
-    (made : IsMidTransaction g texts a b)
-    (sound : (mid : Held S) → HasCleanDisk (state g mid) → IsMidTransaction g texts a mid
-    → IsDatabase (state g mid).now)
-    (crash : Survives (state g b) (state g c) (λ _. ⊥)) where
-  pub seen_uncommitted : {V : Type 0} (items : V → List Row) (r : Result V Error)
-      → (HasCleanDisk (state g c) → IfOk r (λ v. Shown list_objects_sql [] (state g b) (state g c) (items v)))
-      → (HasCleanDisk (state g c) → IfErr r (λ e. FailsToQuery list_objects_sql [] (state g b) (state g c) e
-      ⊎ IsTooLate list_objects_sql [] (state g b) (state g c) e))
-      → IsUncommitted (state g a) (state g c)
-  seen_uncommitted items r ok err = uncommitted_then (state g a) (state g b) (state g c) made.uncommitted (record {
-    crash = crash;
-    kept = λ clean.
-        seen_commit items (state g b) (state g c) r (sound b (before crash clean) made) (ok clean) (err clean);
-  })
-
-  -- if the query shows the lines of our tables, the tables are listed
-  pub listed_inside : (version : Version) (rows : List Row) → IsUncommitted (state g a) (state g c)
-      → (HasCleanDisk (state g c) → Shown list_objects_sql [] (state g b) (state g c) rows)
-      → are_our_tables version rows ≡ true → IsMidTransactionWithTables g version texts a c
-  listed_inside version rows uncommitted shown are_ours =
-      let same = λ (clean : HasCleanDisk (state g c)). shown_same list_objects_sql [] (state g b) (state g c)
-      (listing_plain (state g b).now (sound b (before crash clean) made)) rows (shown clean) in
-      record {
-        mid = b;
-        made = made;
-        uncommitted = uncommitted;
-        inside = λ clean. (same clean).0.mode ∙ made.inside (before crash clean);
-        clean = before crash;
-        same = λ clean. (same clean).0.now_is;
-        tables_listed = λ clean _. subst (λ (db : Database). AreTablesListed version db.trees)
-            (sym (same clean).0.now_is)
-            ((ours version (state g b) (state g c) rows (sound b (before crash clean) made) (shown clean)).0 are_ours);
-      }
+  -- the test of the listed rows decides whether the tables are listed
+  pub ours : (new : State) (rows : List Row) → IsDatabase s.now → Shown list_objects_sql [] s new rows
+      → Decides (are_our_tables version rows) (AreTablesListed version s.now.trees)
+  ours new rows sound shows =
+      Decides-and _ _ (reported s new rows sound shows _ _, shows_line s new rows sound shows _ _)
+      (reported s new rows sound shows _ _, shows_line s new rows sound shows _ _)

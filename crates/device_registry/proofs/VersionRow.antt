@@ -1,61 +1,33 @@
 -- The version row: the meaning of the texts that insert, rewrite and read it, and the effect of the first two.
-use Rattle.std.proofs.Common.{◌≡◌, true, false, inl, inr, ℕ, pos, drop, List, [], ◌∷◌, Option, Some, None, Ok, Err}
-use Rattle.std.proofs.Common.{Result, OnOk, length, refl, sym, ap, subst, ◌∙◌, slice_get, unwrap_or, codes}
-use Rattle.std.specs.List.{AllByRecursion}
-use Rattle.std.proofs.lemmas.Bool.{and_parts}
+use Rattle.keyed_table.proofs.Common.{◌≡◌, true, false, inl, inr, ℕ, pos, drop, List, [], ◌∷◌, Option, Some, None, Ok}
+use Rattle.keyed_table.proofs.Common.{Err, Result, OnOk, length, refl, sym, ap, subst, ◌∙◌, slice_get, unwrap_or}
+use Rattle.keyed_table.proofs.Common.{codes, and_parts, Row, column, Schema, Insert, Update, Select, Values, Mode}
+use Rattle.keyed_table.proofs.Common.{Error, Value, Null, Int, Database, IsDatabase, Tally, Does, State, Survives}
+use Rattle.keyed_table.proofs.Common.{Executes, mode_of, survives_weaker, ids_of, edit_of, edited, Chosen, Given}
+use Rattle.keyed_table.proofs.Common.{all_has, Command, Trees, value_cmp-Int, program_of, plain_query, CompilesTo}
+use Rattle.keyed_table.proofs.Common.{ParsesAs, Term, lit, col, Query, Binary, Abort}
+use Rattle.device_registry.proofs.Common.{Devices, Second, rewrite_version_sql, meta_table, device_table}
+use Rattle.device_registry.proofs.Common.{write_version_sql, read_version_sql, devices_in, IsVersion2RegistryOf}
+use Rattle.device_registry.proofs.Common.{HoldsVersion2, IsTableAt, IsReadyWith, IsReady, KeepsRows}
 use Rattle.std.proofs.lemmas.Bool.Decides.{eqb_tells}
-use Rattle.sqlite.specs.Order.{Row, column}
-use Rattle.sqlite.specs.Schema.{Schema}
-use Rattle.sqlite.specs.Command.TheVariants.{Insert, Update, Select}
-use Rattle.sqlite.specs.Source.TheVariants.{Values}
-use Rattle.sqlite.specs.declared.run.Mode.{Mode}
-use Rattle.sqlite.specs.declared.error.Error.{Error}
-use Rattle.sqlite.specs.declared.types.Value.{Value}
-use Rattle.sqlite.specs.declared.types.Value.TheVariants.{Null, Int}
-use Rattle.sqlite.specs.Effect.{Database, IsDatabase}
-use Rattle.sqlite.specs.Does.{Tally, Does}
-use Rattle.sqlite.specs.State.{State, HasCleanDisk, Survives, Executes, CommitsBy, mode_of}
-use Rattle.sqlite.proofs.StateLemmas.{survives_weaker}
-use Rattle.sqlite_keyed.proofs.RuleLemmas.{first_of_both}
-use Rattle.sqlite_rules.specs.Calls.{ids_of}
-use Rattle.sqlite_rules.specs.Cast.{cast_row}
-use Rattle.sqlite_rules.specs.Edit.{edit_of, edited, with_rowid}
-use Rattle.sqlite_rules.specs.declared.error.Rowids.TheVariants.{Chosen, Given}
-use Rattle.sqlite_rules.proofs.ListLemmas.{has_got, all_has}
-use Rattle.sqlite_schema.specs.Rules.{passes, are_typed, has_computed}
-use Rattle.sqlite_schema.specs.declared.command.Command.{Command}
+use Rattle.sqlite.specs.State.{CommitsBy}
+use Rattle.sqlite_schema.specs.Rules.{are_typed}
 use Rattle.sqlite_schema.specs.declared.schema.Constraint.TheVariants.{Datatype}
 use Rattle.sqlite_sql.specs.Ops.{is_null}
-use Rattle.sqlite_trees.specs.Tree.{Trees}
-use Rattle.sqlite_value.proofs.OrderLemmas.{value_cmp-Int}
-use Rattle.keyed_table.specs.Queries.{program_of, plain_query}
-use Rattle.keyed_table.specs.Stores as stores
-use Rattle.keyed_table.proofs.Answers.{shows_one}
-use Rattle.keyed_table.proofs.Casts.{casts}
-use Rattle.keyed_table.proofs.TablesAlone.{StandsAlone}
-use Rattle.keyed_table.proofs.TableWrites.{SparesOthers, Did, inserts, updates, objects_spared}
-use Rattle.keyed_table.proofs.TextMeaning.{draft_of, insert_means, update_means}
-use Rattle.keyed_table.specs.Meaning.{CompilesTo, ParsesAs}
-use Rattle.keyed_table.proofs.Writes.{wrote_as, left, turned}
-use Rattle.learned_devices.specs.Devices.{Devices}
-use Rattle.device_registry.specs.declared.table.Version.TheVariants.{Second}
-use Rattle.device_registry.specs.Table.{rewrite_version_sql, meta_table, device_table, write_version_sql}
-use Rattle.device_registry.specs.Table.{read_version_sql}
-use Rattle.device_registry.specs.Table.Rows.{IsVersionRow, devices_in}
-use Rattle.device_registry.specs.Stored.{IsVersion2RegistryOf, HoldsVersion2, IsTableAt}
-use Rattle.device_registry.specs.Ready.{IsReadyWith, IsReady, KeepsRows}
+use Rattle.keyed_table.proofs.RowsAsMap.{shows_one}
+use Rattle.keyed_table.proofs.Columns.{casts}
+use Rattle.keyed_table.proofs.KeyedMap.{StandsAlone, SparesOthers, Did, inserts, updates, objects_spared}
+use Rattle.keyed_table.proofs.TextMeaning.{draft_of, insert_means, update_means, column_read, IsPlainSelect}
+use Rattle.keyed_table.proofs.TextMeaning.{plain_select, select_means}
+use Rattle.keyed_table.proofs.Statements.{CommitsWithRoom, wrote_as, left, turned}
+use Rattle.device_registry.specs.Table.Rows.{IsVersionRow}
 use Rattle.device_registry.proofs.StatementTexts.{rewrite_query}
-use Rattle.device_registry.proofs.TablesAlone.{meta_alone, meta_lone, devices_lone}
+use Rattle.device_registry.proofs.TablesRecognized.{meta_alone, meta_lone, devices_lone}
 use Rattle.device_registry.proofs.DevicesHeld.{registers_after}
-use Rattle.sqlite.specs.Term.{Term, lit, col}
-use Rattle.sqlite.specs.Query.{Query}
-use Rattle.sqlite.specs.Collation.TheVariants.{Binary}
-use Rattle.sqlite_ast.specs.declared.Conflict.TheVariants.{Abort}
 use Rattle.sqlite_ast.specs.declared.Expr.TheVariants.{Integer}
+use Rattle.sqlite_tied.specs.Compute.{everything}
 use Rattle.sqlite_ast.specs.declared.Rows.TheVariants as inserted
 use Rattle.sqlite_ast.specs.declared.Statement.TheVariants as written
-use Rattle.sqlite_tied.specs.Compute.{everything}
-use Rattle.keyed_table.proofs.SelectMeaning.{column_read, IsPlainSelect, plain_select, select_means}
 
 -- ---- the texts
 
@@ -66,43 +38,39 @@ version_row = Int (pos 1) ∷ Null ∷ Int (pos 2) ∷ []
 abbrev pub version_terms : List Term
 version_terms = lit (Int (pos 1)) ∷ lit Null ∷ lit (Int (pos 2)) ∷ []
 
-pub insert_version_means : (schema : Schema) (at d : ℕ) → IsTableAt schema (codes "enogate_meta") (meta_table d) at
-    → CompilesTo schema write_version_sql (Insert at (Values version_terms 3))
-unfolding everything
-insert_version_means schema at d it =
-    let read : ParsesAs write_version_sql (written.Insert Abort (codes "enogate_meta")
-    (codes "k" ∷ codes "version" ∷ [])
-    (inserted.Values ((Integer (codes "1") ∷ Integer (codes "2") ∷ []) ∷ [])) [] []) =
-    record { parsed = _; read = refl; is = refl; needs_no_time = refl } in
-    insert_means it _ read refl (λ base. rw (it.named, it.there))
-
-pub rewrite_means : (schema : Schema) (at d : ℕ) → IsTableAt schema (codes "enogate_meta") (meta_table d) at
-    → CompilesTo schema rewrite_version_sql (Update at (program_of (rewrite_query d)))
-unfolding everything
-rewrite_means schema at d it =
-    let read : ParsesAs rewrite_version_sql
-    (written.Update (codes "enogate_meta") ((codes "version", Integer (codes "2")) ∷ []) None []) =
-    record { parsed = _; read = refl; is = refl; needs_no_time = refl } in
-    update_means it (draft_of (meta_table d) (rewrite_query d)) read refl (record { from = refl; accepted = refl })
-
 abbrev pub version_query : ℕ → Query
 version_query d = plain_query d [] (col 1 0 ∷ col 1 2 ∷ [])
 
--- The key has no collation.
-pub version_means : (schema : Schema) (at d : ℕ) → IsTableAt schema (codes "enogate_meta") (meta_table d) at
-    → CompilesTo schema read_version_sql (Select (program_of (version_query d)) (codes "k" ∷ codes "version" ∷ []))
-unfolding everything
-version_means schema at d it =
-    let read : IsPlainSelect read_version_sql
-    (plain_select (codes "enogate_meta") (column_read (codes "k") ∷ column_read (codes "version") ∷ []) None []) =
-    record { read = record { parsed = _; read = refl; is = refl; needs_no_time = refl } } in
-    select_means read it (draft_of (meta_table d) (version_query d)) (None ∷ Some Binary ∷ [])
-    (rw (it.there, it.there)) (record { from = refl; accepted = refl })
+module _ (schema : Schema) (at d : ℕ) (it : IsTableAt schema (codes "enogate_meta") (meta_table d) at) where
+  pub insert_version_means : CompilesTo schema write_version_sql (Insert at (Values version_terms 3))
+  unfolding everything
+  insert_version_means =
+      let read : ParsesAs write_version_sql (written.Insert Abort (codes "enogate_meta")
+      (codes "k" ∷ codes "version" ∷ [])
+      (inserted.Values ((Integer (codes "1") ∷ Integer (codes "2") ∷ []) ∷ [])) [] []) =
+      record { parsed = _; read = refl; is = refl; needs_no_time = refl } in
+      insert_means it _ read refl (λ base. rw (it.named, it.there))
+
+  pub rewrite_means : CompilesTo schema rewrite_version_sql (Update at (program_of (rewrite_query d)))
+  unfolding everything
+  rewrite_means =
+      let read : ParsesAs rewrite_version_sql
+      (written.Update (codes "enogate_meta") ((codes "version", Integer (codes "2")) ∷ []) None []) =
+      record { parsed = _; read = refl; is = refl; needs_no_time = refl } in
+      update_means it (draft_of (meta_table d) (rewrite_query d)) read refl (record { from = refl; accepted = refl })
+
+  -- The key has no collation.
+  pub version_means : CompilesTo schema read_version_sql
+      (Select (program_of (version_query d)) (codes "k" ∷ codes "version" ∷ []))
+  unfolding everything
+  version_means =
+      let read : IsPlainSelect read_version_sql
+      (plain_select (codes "enogate_meta") (column_read (codes "k") ∷ column_read (codes "version") ∷ []) None []) =
+      record { read = record { parsed = _; read = refl; is = refl; needs_no_time = refl } } in
+      select_means read it (draft_of (meta_table d) (version_query d)) (None ∷ Some Binary ∷ [])
+      (rw (it.there, it.there)) (record { from = refl; accepted = refl })
 
 -- ---- the row as the texts leave it
-
-cast_version : (m : ℕ) → cast_row (meta_table m) version_row ≡ version_row
-cast_version m = simp casts
 
 module _ (schema : Schema) (at m : ℕ) (limit : Option ℕ) (mode : Mode) (db : Trees) (tally : Tally) (after : Database)
   where
@@ -115,19 +83,11 @@ module _ (schema : Schema) (at m : ℕ) (limit : Option ℕ) (mode : Mode) (db :
         refl did in (
           it.2.schema_is,
           it.2.rows ∙ ap (λ rs. edited db (edit_of db (meta_table m) [] Chosen 0 rs)) it.1.1
-              ∙ rw none (ap (λ r. with_rowid Chosen [] r ∷ []) (cast_version m)),
+              ∙ rw none (simp casts),
           it.2.others,
         )
 
-    abbrev rewritten : Row → Row
-    rewritten row = column row 0 ∷ column row 0 ∷ Null ∷ Int (pos 2) ∷ []
-
     -- the only row is replaced
-    replaced : (row : Row) → column row 0 ≡ Int (pos 1) → db m ≡ row ∷ []
-        → edited db (edit_of db (meta_table m) (ids_of (rewritten row ∷ [])) Given 1 (rewritten row ∷ []))
-        ≡ version_row ∷ []
-    replaced row key one = rw (key, cast_version m, one, key, value_cmp-Int (pos 1) (pos 1)) refl
-
     pub rewrites : (row : Row) → slice_get schema.tables at ≡ Some (meta_table m) → StandsAlone schema m
         → db m ≡ row ∷ [] → column row 0 ≡ Int (pos 1)
         → Did schema limit mode [] db at (Update at (program_of (rewrite_query m))) tally after
@@ -135,10 +95,10 @@ module _ (schema : Schema) (at m : ℕ) (limit : Option ℕ) (mode : Mode) (db :
         × (tally.rows ≡ Some 1)
     rewrites row there stands one key did =
         let it = updates schema at (meta_table m) there stands limit mode [] db tally after (rewrite_query m) did in
-        let are : it.0 ≡ rewritten row ∷ [] = shows_one db row one it.1 in (
+        let are = shows_one db row one it.1 in (
           it.2.schema_is,
           it.2.rows ∙ ap (λ rs. edited db (edit_of db (meta_table m) (ids_of rs) Given 1 rs)) are
-              ∙ replaced row key one,
+              ∙ rw (key, one, key, value_cmp-Int (pos 1) (pos 1)) (simp casts),
           it.2.others,
           it.3 ∙ ap (λ rs. Some (length (edit_of db (meta_table m) (ids_of rs) Given 1 rs).news)) are,
         )
@@ -164,8 +124,7 @@ rewrite_did s after tally devices had did =
     let t = had.registry.tables in
     let rows = had.registry.valid_rows in
     rewrites s.now.schema t.meta_at t.meta s.step_limit (mode_of s) s.now.trees tally after rows.row
-    t.meta_is_table.there
-    (meta_alone s.now.schema t) rows.one_version_row rows.version_row_valid.key did
+    t.meta_is_table.there (meta_alone s.now.schema t) rows.one_version_row rows.version_row_valid.key did
 
 -- after the rewrite, the database is a registry of the same devices
 rewrite_does : (then : Devices → Devices) (s : State) (after : Database) (text : List ℕ) (tally : Tally)
@@ -176,11 +135,9 @@ rewrite_does then s after text tally devices had sound same did =
     let kept = rewrite_did s after tally devices had did in
     let r = had.registry in
     let rows : after.trees r.tables.devices ≡ s.now.trees r.tables.devices = kept.2.tables
-    (device_table Second r.tables.devices) (devices_lone s.now.schema r.tables).listed
-    (λ e. r.tables.apart (sym e)) in
+    (device_table Second r.tables.devices) (devices_lone s.now.schema r.tables).listed (λ e. r.tables.apart (sym e)) in
     subst (IsVersion2RegistryOf after) (sym same) (registers_after s.now after r devices kept.0
-    (objects_spared s.now sound _ (meta_lone s.now.schema r.tables).listed after.trees kept.2)
-    (record {
+    (objects_spared s.now sound _ (meta_lone s.now.schema r.tables).listed after.trees kept.2) (record {
       row = version_row;
       one_version_row = kept.1;
       version_row_valid = record { key = refl; number = refl };
@@ -190,25 +147,20 @@ rewrite_does then s after text tally devices had sound same did =
     }) (ap devices_in rows ∙ had.is))
 
 -- the rewrite commits every update that leaves the devices as they are
-pub rewrite_turns : (then : Devices → Devices) {old new : State} (r : Result ℕ Error) → (HasCleanDisk old → IsReady old)
-    → (HasCleanDisk old → (devices : Devices) → IsReadyWith old devices → then devices ≡ devices)
-    → Survives old new (CommitsBy rewrite_version_sql [] old)
-    → (HasCleanDisk new → Executes rewrite_version_sql [] old new r)
-    → stores.CommitsOrMayBeLeft IsVersion2RegistryOf old new then r
-rewrite_turns then {old} {new} = turned rewrite_version_sql [] then (λ devices. then devices ≡ devices) rewrite_command
-    (λ db devices had. tt) rewrite_known (rewrite_does then) old new
+pub rewrite_turns : (then : Devices → Devices)
+    → CommitsWithRoom IsVersion2RegistryOf rewrite_version_sql [] then (λ devices. then devices ≡ devices)
+rewrite_turns then = turned rewrite_version_sql [] then (λ devices. then devices ≡ devices) rewrite_command
+    (λ db devices had. tt) rewrite_known (rewrite_does then)
 
 pub rewrite_crash : {old new : State} → Survives old new (CommitsBy rewrite_version_sql [] old)
     → Survives old new (λ trees. (devices : Devices) → IsReadyWith old devices → HoldsVersion2 trees devices)
 rewrite_crash {old} {new} = survives_weaker old new _ _ (λ clean trees commits devices shows. left rewrite_version_sql
-    []
-    (λ devices. devices) (λ devices. devices ≡ devices) rewrite_command (λ db devices had. tt) rewrite_known
+    [] (λ devices. devices) (λ devices. devices ≡ devices) rewrite_command (λ db devices had. tt) rewrite_known
     (rewrite_does (λ devices. devices)) old devices trees refl shows commits)
 
 -- the rewrite changes exactly one row
-rewritten_once : (old new : State) (count : ℕ) (ready : IsReady old) → Executes rewrite_version_sql [] old new
-    (Ok count)
-    → (new.now.schema ≡ old.now.schema)
+pub rewritten_once : (old new : State) (count : ℕ) (ready : IsReady old) → Executes rewrite_version_sql [] old new
+    (Ok count) → (new.now.schema ≡ old.now.schema)
     × (new.now.trees ready.shows.holds.registry.tables.meta ≡ version_row ∷ [])
     × SparesOthers old.now.schema ready.shows.holds.registry.tables.meta old.now.trees new.now.trees × (count ≡ 1)
 rewritten_once old new count ready runs =
@@ -218,10 +170,6 @@ rewritten_once old new count ready runs =
     let kept = rewrite_did old new.now wrote.tally ready.held had wrote.changed in
     (kept.0, kept.1, kept.2, wrote.counted ∙ ap (λ rows. unwrap_or rows 0) kept.3)
 
-pub changes_one : (old new : State) (count : ℕ) → IsReady old → Executes rewrite_version_sql [] old new (Ok count)
-    → count ≡ 1
-changes_one old new count ready runs = (rewritten_once old new count ready runs).3
-
 -- ---- the rewritten row is the old row
 
 null_is : (v : Value) → is_null v ≡ true → v ≡ Null
@@ -230,12 +178,10 @@ null_is _ h = absurd cc
 
 version_is : (m : ℕ) (row : Row) → IsVersionRow Second row
     → are_typed (meta_table m).key 0 (meta_table m).columns (drop 1 row) ≡ true → row ≡ version_row
-version_is m [] it h = absurd (let e : ◌≡◌ {A = Value} Null (Int (pos 1)) = it.key in cc)
-version_is m (a ∷ []) it h = absurd (let e : ◌≡◌ {A = Value} Null (Int (pos 2)) = it.number in cc)
-version_is m (a ∷ b ∷ []) it h = absurd (let e : ◌≡◌ {A = Value} Null (Int (pos 2)) = it.number in cc)
 version_is m (a ∷ b ∷ c ∷ []) it h =
     let null = null_is b (and_parts _ _ h).0 in λ i. it.key i ∷ null i ∷ it.number i ∷ []
 version_is m (a ∷ b ∷ c ∷ d ∷ more) it h = absurd (let e : false ≡ true = (and_parts _ _ (and_parts _ _ h).1).1 in cc)
+version_is m _ it h = absurd (let e : ◌≡◌ {A = Value} Null (Int (pos 2)) = it.number in cc)
 
 -- after the rewrite, each table has the rows that it had
 pub rows_if : (old new : State) (r : Result ℕ Error) → Executes rewrite_version_sql [] old new r
@@ -244,15 +190,9 @@ rows_if old new (Err e) runs = tt
 rows_if old new (Ok count) runs = λ ready.
     let kept = rewritten_once old new count ready runs in
     let r = ready.shows.holds.registry in
-    let schema = old.now.schema in
-    let table = meta_table r.tables.meta in
-    let typed = all_has _ schema.tables table (ready.shows.sound.obeys.rules Datatype)
-    (has_got schema.tables r.tables.meta_at table r.tables.meta_is_table.there) in
-    let row_typed = subst (AllByRecursion (λ row. passes Datatype schema old.now.trees table row ≡ true))
-    r.valid_rows.one_version_row typed in
-    let same = version_is r.tables.meta r.valid_rows.row r.valid_rows.version_row_valid
-    (first_of_both (are_typed table.key 0 table.columns (drop 1 r.valid_rows.row))
-    (has_computed table r.valid_rows.row) row_typed.0) in
+    let typed = rw r.valid_rows.one_version_row at (all_has _ old.now.schema.tables (meta_table r.tables.meta)
+    (ready.shows.sound.obeys.rules Datatype) (meta_lone old.now.schema r.tables).listed) in
+    let same = version_is r.tables.meta r.valid_rows.row r.valid_rows.version_row_valid (and_parts _ _ typed.0).0 in
     record {
       schema = kept.0;
       rows = λ t has. elim (eqb_tells t.tree r.tables.meta) [

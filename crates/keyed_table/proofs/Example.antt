@@ -1,33 +1,19 @@
 -- The example's table is a map: its codec, and what its texts mean.
-use Rattle.std.proofs.Common.{inl, ◌≡◌, ℕ, ℤ, pos, negsuc, [], ◌∷◌, codes, Some, None, true, refl, arith}
-use Rattle.std.proofs.lemmas.Bool.{and_parts}
-use Rattle.std.proofs.lemmas.Int.{ints}
-use Rattle.sqlite.specs.Collation.TheVariants.{Binary}
-use Rattle.sqlite.specs.Effect.{Database}
-use Rattle.sqlite.specs.Schema.{Schema}
-use Rattle.sqlite.specs.Term.{col}
-use Rattle.std.specs.FinMap.{empty}
-use Rattle.keyed_table.specs.Tables.{AdmitsTable}
-use Rattle.sqlite_schema.specs.Rules.{passes_checks}
+use Rattle.keyed_table.proofs.Common.{inl, ◌≡◌, ℕ, ℤ, pos, negsuc, [], ◌∷◌, codes, Some, None, true, refl, arith}
+use Rattle.keyed_table.proofs.Common.{and_parts, ints, Binary, Database, Schema, col, empty, AdmitsTable}
+use Rattle.keyed_table.proofs.Common.{passes_checks, Eq, Ne, CallStar, One, table_of, IsCodec, SqlTextsCompile}
+use Rattle.keyed_table.proofs.Common.{HoldsMap, find_query, all_query, ParsesAs}
 use Rattle.sqlite_tied.specs.Compute.{everything}
-use Rattle.sqlite_ast.specs.declared.Binary.TheVariants.{Eq, Ne}
-use Rattle.sqlite_ast.specs.declared.Conflict.TheVariants as conflict
-use Rattle.sqlite_ast.specs.declared.CreateTable.{CreateTable as Defined}
-use Rattle.sqlite_ast.specs.declared.Expr.TheVariants.{Parameter, CallStar}
-use Rattle.sqlite_ast.specs.declared.Rows.TheVariants as rows
-use Rattle.sqlite_ast.specs.declared.Shown.TheVariants.{One}
-use Rattle.sqlite_ast.specs.declared.Statement.TheVariants as written
+use Rattle.sqlite_ast.specs.declared.Expr.TheVariants.{Parameter}
 use Rattle.keyed_table.specs.Example.{height_text, heights, IsHeight}
-use Rattle.keyed_table.specs.KeyedMap.{table_of, IsCodec, SqlTextsCompile, HoldsMap}
-use Rattle.keyed_table.specs.Queries.{find_query, all_query}
-use Rattle.keyed_table.proofs.Casts.{casts}
-use Rattle.keyed_table.proofs.Checks.{is_between, lies_between}
-use Rattle.keyed_table.proofs.Creates.{makes}
-use Rattle.keyed_table.proofs.TablesKept.{IsCreateText}
-use Rattle.keyed_table.proofs.SelectMeaning.{IsPlainSelect, plain_select, select_means, column_read, by_column}
-use Rattle.keyed_table.proofs.SelectMeaning.{parameter_test, count_draft}
-use Rattle.keyed_table.proofs.TextMeaning.{draft_of, insert_means, delete_means}
-use Rattle.keyed_table.specs.Meaning.{ParsesAs}
+use Rattle.keyed_table.proofs.Columns.{casts, is_between, lies_between}
+use Rattle.keyed_table.proofs.TablesKept.{makes, IsCreateText}
+use Rattle.keyed_table.proofs.TextMeaning.{IsPlainSelect, plain_select, select_means, column_read, by_column}
+use Rattle.keyed_table.proofs.TextMeaning.{parameter_test, count_draft, draft_of, insert_means, delete_means}
+use Rattle.sqlite_ast.specs.declared.CreateTable.{CreateTable as Defined}
+use Rattle.sqlite_ast.specs.declared.Conflict.TheVariants as conflict
+use Rattle.sqlite_ast.specs.declared.Rows.TheVariants as rows
+use Rattle.sqlite_ast.specs.declared.Statement.TheVariants as written
 
 -- the CHECKs say which rows the table holds
 checked : (tree id : ℕ) (metres : ℤ) → passes_checks (table_of heights tree) (heights.row id metres) ≡ true

@@ -1,43 +1,44 @@
--- The tables of a sound database, as its list of objects shows them: no two objects have the same name.
--- The trees determine the schema, and the value that the database holds.
-use Rattle.sqlite.specs.Compile.{table_defined_by}
-use Rattle.sqlite.specs.Effect.{Database, IsDatabase}
-use Rattle.sqlite.specs.Listing.{shown}
-use Rattle.sqlite.specs.Order.{Row, column, value_cmp}
-use Rattle.sqlite.specs.Schema.{Schema}
-use Rattle.sqlite.specs.Table.{Table}
-use Rattle.sqlite.specs.declared.types.Value.TheVariants.{Text}
-use Rattle.sqlite_catalog.proofs.LayoutLemmas.{zipped_left}
+-- The list of the objects of a sound database. No two objects have the same name, and a table is the one that its
+-- text defines. The query for the objects reads this list, since no table or view has the name that the query reads.
+use Rattle.keyed_table.proofs.Common.{Database, IsDatabase, value_cmp, Schema, Table, Text, Null, zipped_left}
+use Rattle.keyed_table.proofs.Common.{same_itself, IsSound, IsTableRow, IsIndexRow, all_from, all_has, has_got}
+use Rattle.keyed_table.proofs.Common.{has_filtered, has_left, has_right, some_from, Has, same_name, table_named}
+use Rattle.keyed_table.proofs.Common.{view_named, catalog_tree, Trees, subst, is_some, None, Option, filter, List, []}
+use Rattle.keyed_table.proofs.Common.{◌∷◌, ◌++◌, map, codes, ◌≡◌, ◌⊎◌, inl, inr, ℕ, ◌<◌, Bool, true, false, ◌+◌}
+use Rattle.keyed_table.proofs.Common.{slice_get, Some, refl, sym, ap, ◌∙◌, arith, Ok, is_eq, length, both_ways}
+use Rattle.keyed_table.proofs.Common.{false_from_ne_true, or_from, not-true, and_parts, none_from_any, AllZip}
+use Rattle.keyed_table.proofs.Common.{AllByRecursion, position_from, list_any, HoldsIn, col, IsPlain, command_of}
+use Rattle.keyed_table.proofs.Common.{all_query, program_of, State, Value}
+use Rattle.sqlite_resolve.specs.Compile.{table_defined_by, compiled}
+use Rattle.sqlite.specs.Effect.{Reads}
+use Rattle.sqlite.specs.Listing.{shown, understood, reads_listing, listing_schema, if_select, IsSourceOf}
+use Rattle.sqlite_value.specs.Order.{Row, column, bytes}
 use Rattle.sqlite_catalog.proofs.SoundLemmas.{names_agree, lowered, list_parts}
-use Rattle.sqlite_catalog.proofs.StepLemmas.{named_once, same_itself}
-use Rattle.sqlite_catalog.specs.Listing.{IsSound, IsTableRow, IsViewRow, IsIndexRow, is_table_row, is_view_row}
-use Rattle.sqlite_catalog.specs.Listing.{is_index_row}
-use Rattle.sqlite_rules.proofs.ListLemmas.{all_from, all_has, has_got, has_filtered, has_left, has_right, has_found}
-use Rattle.sqlite_rules.proofs.ListLemmas.{some_from}
-use Rattle.sqlite_rules.proofs.ProbeLemmas.{has_mapped}
+use Rattle.sqlite_catalog.proofs.StepLemmas.{named_once}
+use Rattle.sqlite_catalog.specs.Listing.{IsViewRow, is_table_row, is_view_row}
+use Rattle.sqlite_rules.proofs.ListLemmas.{has_found, test_has, some_has}
+use Rattle.sqlite_rules.proofs.ProbeLemmas.{has_mapped, mapped_has}
 use Rattle.sqlite_rules.proofs.TableLemmas.{put_all_has}
-use Rattle.sqlite_rules.specs.Lists.{Has}
-use Rattle.sqlite_schema.specs.Names.{same_name, table_named}
-use Rattle.sqlite_trees.specs.Objects.{catalog_tree}
-use Rattle.sqlite_trees.specs.Sound as sound
-use Rattle.sqlite_trees.specs.Sound.{Head, head_at, may_follow, are_in_order}
-use Rattle.sqlite_trees.specs.Tree.{Trees}
-use Rattle.sqlite_typing.specs.Types.{row_classes}
+use Rattle.sqlite_trees.specs.Sound.{Head, head_at, may_follow, are_in_order, is_sound_object, fits_kind, is_free_name}
 use Rattle.sqlite_value.proofs.OrderLemmas.{value_cmp-Text}
-use Rattle.sqlite_value.specs.Order.{bytes}
-use Rattle.sqlite_catalog.proofs.ListFacts.{none_placed}
 use Rattle.sqlite_keyed.proofs.SliceLemmas.{any_is_found}
-use Rattle.std.proofs.Common.{subst, is_some, None, Option, filter, List, [], ◌∷◌, ◌++◌, map, codes, ◌≡◌, inl, inr, ℕ}
-use Rattle.std.proofs.Common.{◌<◌, ◌==◌, ◌^◌, nat_le, Bool, true, false, suc, ◌+◌, slice_get, option_map, Some, refl}
-use Rattle.std.proofs.Common.{sym, ap, ◌∙◌, arith, Ok, is_eq}
-use Rattle.std.proofs.lemmas.Bool.{both_ways, eq-eqb, eqb-true, false_from_ne_true, or_from, or_parts, cases_Bool}
-use Rattle.std.proofs.lemmas.Bool.{not-true, and_parts}
-use Rattle.sqlite_keyed.proofs.ListLemmas.{none_from_any}
-use Rattle.std.specs.List.{AllZip, AllByRecursion, find, position_from}
-use Rattle.std.proofs.lemmas.Bool.Decides.{nat_tests}
+use Rattle.std.proofs.lemmas.Bool.{or_parts, ltb-true, lt-ltb}
+use Rattle.std.specs.List.{find, position_or_len}
+use Rattle.std.proofs.lemmas.Option.{cond_some, slice_get_cases, slice_get_within}
+use Rattle.std.proofs.lemmas.Iterator.Adapters.{position_from-zero}
+use Rattle.std.proofs.lemmas.List.Folds.{find_at}
 use Rattle.sqlite_catalog.proofs.ReadLemmas.{lists_once}
-use Rattle.keyed_table.specs.Stores.{HoldsIn}
-use Rattle.keyed_table.specs.Tables.{IsTableAt, TreeHasName, HasCatalogText}
+use Rattle.keyed_table.specs.Tables.{HasCatalogText, catalog_rows}
+use Rattle.sqlite_resolve.specs.Select.{named}
+use Rattle.sqlite_tied.specs.Compute.{everything}
+use Rattle.keyed_table.proofs.TextMeaning.{by_column, column_read, IsPlainSelect, plain_select, select_misses}
+use Rattle.keyed_table.specs.Objects.{list_objects_sql, has_text, is_catalog_row}
+use Rattle.sqlite.specs.State.{Shown}
+use Rattle.keyed_table.proofs.RowsAsMap.{shows_all}
+use Rattle.std.proofs.lemmas.Slice.Eq.{bytes_eq-Decides}
+use Rattle.std.proofs.lemmas.List.Sorted.{list_any-IsPermutation}
+use Rattle.sqlite_trees.specs.Sound.{same_name as spelled_same, Head, head_at, may_follow, are_in_order}
+use Rattle.sqlite.specs.Command.TheVariants.{Select as Selects}
 
 pub same_name_symmetric : (a b : List ℕ) → same_name a b ≡ true → same_name b a ≡ true
 same_name_symmetric a b same = (lowered b a).1 (sym ((lowered a b).0 same))
@@ -55,37 +56,24 @@ pub record IsNamed (schema : Schema) (name : List ℕ) (tree : ℕ) : Type 0 whe
   pub is : table.tree ≡ tree
 
 -- what is found at an index is there, and passes the test
-pub record IsFoundAt {X : Type 0} (test : X → Bool) (i at : ℕ) (xs : List X) : Type 0 where
-  pub k : ℕ
-  pub at_is : at ≡ i + k
-  pub it : X
-  pub there : slice_get xs k ≡ Some it
-  pub passes : test it ≡ true
-
-placed : {X : Type 0} (test : X → Bool) (i at : ℕ) (xs : List X) → position_from test i xs ≡ Some at
-    → IsFoundAt test i at xs
-placed test i at [] h = absurd (let e = h in cc)
-placed test i at (x ∷ xs) h = elim (cases_Bool (test x)) [
-  | inl here ↦ let e : i ≡ at = (let f = rw here at h in cc) in
-      record { k = 0; at_is = omega (arith, e); it = x; there = refl; passes = here }
-  | inr passed ↦ let it = placed test (i + 1) at xs (rw passed at h) in
-      record { k = suc it.k; at_is = omega (arith, it.at_is); it = it.it; there = it.there; passes = it.passes }
-]
-
 pub found_at : {X : Type 0} (test : X → Bool) (at : ℕ) (xs : List X) → position_from test 0 xs ≡ Some at
     → (it : X) × (slice_get xs at ≡ Some it) × (test it ≡ true)
 found_at test at xs found =
-    let it = placed test 0 at xs found in
-    (it.it, ap (slice_get xs) (omega (arith, it.at_is)) ∙ it.there, it.passes)
+    let it = cond_some _ (position_or_len test xs) at (position_from-zero test xs ∙ found) in
+    let within : at < length xs = omega (arith, ltb-true _ _ it.0, it.1) in
+    elim (slice_get_cases xs at).1 [
+      | inl (x, below, is, read) ↦ (x, is, (has_found test xs x (rw it.1 at (find_at test xs) ∙ is)).1)
+      | inr (past, none) ↦ absurd (omega arith)
+    ]
 
--- an element that passes is found at an index
-pub some_placed : {X : Type 0} (test : X → Bool) (xs : List X) (x : X) → Has xs x → test x ≡ true
-    → (at : ℕ) × (position_from test 0 xs ≡ Some at)
-some_placed test xs x has passes = go (position_from test 0 xs) refl
-  where
-    go : (found : Option ℕ) → position_from test 0 xs ≡ found → (at : ℕ) × (position_from test 0 xs ≡ Some at)
-    go None none = absurd (let fails = none_placed test xs 0 x none has in cc)
-    go (Some at) is = (at, is)
+pub none_or_some : {X : Type 0} (o : Option X) → (o ≡ None) ⊎ ((x : X) × (o ≡ Some x))
+none_or_some None = inl refl
+none_or_some (Some x) = inr (x, refl)
+
+pub none_at : {X : Type 0} (test : X → Bool) (i : ℕ) (xs : List X) → AllByRecursion (λ x. test x ≡ false) xs
+    → position_from test i xs ≡ None
+none_at test i [] none = refl
+none_at test i (x ∷ xs) none = rw none.0 (none_at test (i + 1) xs none.1)
 
 -- the table that a name finds has it
 pub has_name : (schema : Schema) (name : List ℕ) (at : ℕ) (table : Table) → table_named schema name ≡ Some at
@@ -105,7 +93,7 @@ IsInOrder earlier rows = are_in_order earlier (map (head_at 1) rows) ≡ true
 
 -- no row has the name of an earlier head
 is_new : (earlier : List Head) (rows : List Row) (e : Head) (row : Row) → IsInOrder earlier rows → Has earlier e
-    → Has rows row → sound.same_name (bytes e.1) (name_in row) ≡ false
+    → Has rows row → spelled_same (bytes e.1) (name_in row) ≡ false
 unfolding may_follow
 is_new earlier [] e row up before there = absurd there
 is_new earlier (r ∷ rows) e row up before (inl same) =
@@ -150,17 +138,11 @@ object trees name text it = elim (put_all_has (map shown (trees catalog_tree)) [
   | inr none ↦ absurd none
 ]
 
--- the row of a table is not that of a view
-no_view_row : (row : Row) → is_table_row row ≡ true → column row 1 ≡ Text (codes "table") → is_view_row row ≡ false
-no_view_row row table kind = or_from _ _ (ap (λ v. is_eq (value_cmp v (Text (codes "view")))) kind
-    ∙ ap is_eq (value_cmp-Text (codes "table") (codes "view"))) (not-true _ (and_parts _ _ table).1)
-
 module _ (db : Database) (sound : IsDatabase db) where
   abbrev objects : List Row
   objects = db.trees catalog_tree
 
-  -- ---- the object with the name of a table is that table
-
+  -- the object with the name of a table is that table
   module _ (table : Table) (has : Has db.schema.tables table) (name : List ℕ)
       (named : same_name table.name name ≡ true) where
     table_row : (row : Row) × Has objects row × (is_table_row row ≡ true) × IsTableRow row table
@@ -177,11 +159,13 @@ module _ (db : Database) (sound : IsDatabase db) where
     no_view = all_from _ db.schema.views (λ w there. false_from_ne_true _ (λ same.
         let it = listed_row IsViewRow is_view_row objects db.schema.views sound.lists.listed.views w there in
         let one = one_object it.0 w.name it.1 it.3.described.name_is same in
-        both_ways _ (no_view_row table_row.0 table_row.2 table_row.3.described.kind_is) (rw one at it.2)))
+        both_ways _ (or_from _ _ (ap (λ v. is_eq (value_cmp v (Text (codes "view")))) table_row.3.described.kind_is
+        ∙ ap is_eq (value_cmp-Text (codes "table") (codes "view"))) (not-true _ (and_parts _ _ table_row.2).1))
+        (rw one at it.2)))
 
     pub no_index : AllByRecursion (λ i. same_name i.name name ≡ false) db.schema.indexes
     no_index = all_from _ db.schema.indexes (λ i there. false_from_ne_true _ (λ same.
-        let it = listed_row (IsIndexRow db.schema.tables) is_index_row objects db.schema.indexes
+        let it = listed_row (IsIndexRow db.schema.tables) _ objects db.schema.indexes
         sound.lists.listed.indexes i there in
         let one = one_object it.0 i.name it.1 it.3.described.name_is same in
         both_ways _ (or_parts _ _ (not-true _ (rw one at it.2))).0 table_row.2))
@@ -205,40 +189,26 @@ module _ (db : Database) (sound : IsDatabase db) where
       let is_made = rw one at row.3.defined.2 in
       (is_made ∙ ap (λ t. record made { tree = t }) n.is, rw n.is at row.3.described.low)
 
--- `find` finds the only element that passes
-find_only : {X : Type 0} (test : X → Bool) (xs : List X) (x : X) → Has xs x → test x ≡ true
-    → ((y : X) → Has xs y → test y ≡ true → y ≡ x) → find test xs ≡ Some x
-find_only test xs x has passes only = go (find test xs) refl
-  where
-    go : (found : Option _) → find test xs ≡ found → find test xs ≡ Some x
-    go None none =
+-- the only element that passes is the one that is found, at some index
+module _ {X : Type 0} (test : X → Bool) (xs : List X) (x : X) (has : Has xs x) (passes : test x ≡ true)
+    (only : (y : X) → Has xs y → test y ≡ true → y ≡ x) where
+  pub find_only : find test xs ≡ Some x
+  find_only = elim (none_or_some (find test xs)) [
+    | inl none ↦
         absurd (let any = sym (some_from test xs x has passes) ∙ any_is_found test xs ∙ ap is_some none in cc)
-    go (Some y) is = let own = has_found test xs y is in is ∙ ap Some (only y own.0 own.1)
+    | inr some ↦ let own = has_found test xs some.0 some.1 in some.1 ∙ ap Some (only some.0 own.0 own.1)
+  ]
 
-pub stands_in : (db : Database) (name : List ℕ) (tree : ℕ) (n : IsNamed db.schema name tree) (table : Table)
-    → IsDatabase db → AllByRecursion (TreeHasName name tree) db.schema.tables → n.table ≡ table → table.tree ≡ tree
-    → tree < 65536 → IsTableAt db.schema name table n.at
-stands_in db name tree n table sound keeps is at low =
-    let there = n.there ∙ ap Some is in
-    let has = has_got db.schema.tables n.at table there in
-    let named = has_name db.schema name n.at table n.named there in
-    let stored : nat_le (2 ^ 31) table.tree ≡ false = grind (arith, nat_tests, at, low) in
-    record {
-      named = n.named;
-      there = there;
-      classes = rw stored (ap (option_map row_classes) (find_only (λ t. t.tree == table.tree) db.schema.tables table
-          has (eq-eqb _ _ refl) (λ t there same. one_table db sound table has name named t there
-          (all_has (TreeHasName name tree) db.schema.tables t keeps there (eqb-true _ _ same ∙ at)))));
-    }
-
--- the trees of a sound database determine its schema
-pub same_schema : (db : Trees) (s t : Schema) → IsSound s db → IsSound t db → s ≡ t
-same_schema db s t a b = lists_once (db catalog_tree) s t a.lists b.lists
+  pub only_at : (at : ℕ) × (position_from test 0 xs ≡ Some at) × (slice_get xs at ≡ Some x)
+  only_at =
+      let at = position_or_len test xs in
+      let there = sym (find_at test xs) ∙ find_only in
+      (at, sym (position_from-zero test xs) ∙ rw (lt-ltb _ _ (slice_get_within xs at x there)), there)
 
 -- the trees of a sound database determine it
 pub one_database : {a b : Database} → a.trees ≡ b.trees → IsDatabase a → IsDatabase b → a ≡ b
 one_database {a} {b} trees sound_a sound_b =
-    let schema = same_schema b.trees a.schema b.schema (subst (IsSound a.schema) trees sound_a) sound_b in
+    let schema = lists_once (b.trees catalog_tree) a.schema b.schema (rw trees at sound_a).lists sound_b.lists in
     λ i. record { schema = schema i; trees = trees i }
 
 -- so they determine the value that it holds, if the database does
@@ -247,3 +217,88 @@ pub held_once : {M : Type 0} (Holds : Database → M → Type 0) → ((db : Data
 held_once Holds once trees a b one other =
     let db = one_database (one.same ∙ sym other.same) one.sound other.sound in
     once other.db a b (rw db at one.holds) other.holds
+
+-- ---- the query for the objects
+
+list_is : IsPlainSelect list_objects_sql (plain_select (codes "sqlite_schema") (column_read (codes "name")
+    ∷ column_read (codes "type") ∷ column_read (codes "sql") ∷ []) None (by_column (codes "rowid") ∷ []))
+unfolding everything
+list_is = record { read = record { parsed = _; read = refl; is = refl; needs_no_time = refl } }
+
+module _ (schema : Schema) (db : Trees) (it : IsSound schema db) where
+  free : (row : Row) (name : List ℕ) → Has (db catalog_tree) row → column row 2 ≡ Text name
+      → same_name name (codes "sqlite_schema") ≡ false
+  unfolding fits_kind is_free_name
+  free row name has is =
+      let fine = test_has is_sound_object (db catalog_tree) row (list_parts _ it.lists.listed.loads).0 has in
+      let fits = (and_parts _ _ (and_parts _ _ fine).0).1 in
+      let own : is_free_name (bytes (column row 2)) ≡ true =
+      (and_parts _ _ (and_parts _ _ (and_parts _ _ fits).1).0).0 in
+      names_agree name (codes "sqlite_schema") ∙ not-true _ (and_parts _ _ (rw is at own)).1
+
+  no_such_table : table_named schema (codes "sqlite_schema") ≡ None
+  no_such_table = none_at _ 0 schema.tables (all_from _ schema.tables (λ t has.
+      let row = listed_row IsTableRow is_table_row _ schema.tables it.lists.listed.tables t has in
+      free row.0 t.name row.1 row.3.described.name_is))
+
+  no_such_view : view_named schema (codes "sqlite_schema") ≡ None
+  no_such_view = none_at _ 0 schema.views (all_from _ schema.views (λ w has.
+      let row = listed_row IsViewRow is_view_row _ schema.views it.lists.listed.views w has in
+      free row.0 w.name row.1 row.3.described.name_is))
+
+  -- SQLite reads the list of objects for this text
+  lists : (reads_listing schema list_objects_sql ≡ true)
+      × (understood schema list_objects_sql ≡ if_select (compiled listing_schema list_objects_sql))
+  unfolding understood
+  lists = let misses = select_misses list_is schema no_such_table no_such_view in (rw misses, rw misses)
+
+list_means : (command_of (if_select (compiled listing_schema list_objects_sql))
+    ≡ Selects (program_of (all_query 0 (col 1 2 ∷ col 1 1 ∷ col 1 5 ∷ [])))
+    (codes "name" ∷ codes "type" ∷ codes "sql" ∷ [])) × IsPlain (if_select (compiled listing_schema list_objects_sql))
+unfolding everything listing_schema
+list_means = (refl, (refl, refl))
+
+text_is : (v : Value) (text : List ℕ) → has_text v text ≡ true → v ≡ Text text
+text_is (Text t) text h = ap Text ((bytes_eq-Decides t text).0 h)
+text_is _ text h = absurd cc
+
+abbrev line : Row → Row
+line r = column r 2 ∷ column r 1 ∷ column r 5 ∷ []
+
+module _ (old new : State) (rows : List Row) (sound : IsDatabase old.now)
+    (h : Shown list_objects_sql [] old new rows) where
+  -- some shown line passes a test exactly when some line of the list of objects passes it
+  lists_as : (test : Row → Bool) → list_any test (map line (catalog_rows old.now.trees)) ≡ list_any test rows
+  unfolding Shown
+  lists_as test =
+      let means = lists old.now.schema old.now.trees sound in
+      let known : if_select (compiled listing_schema list_objects_sql) ≡ Ok h.0 = sym means.1 ∙ h.1.is in
+      let bare = subst IsPlain known list_means.1 in
+      let it = rw (bare.0, bare.1) at h.2 in
+      let source = subst (λ b. IsSourceOf b old.now it.0) means.0 it.1 in
+      let reads = subst (λ k. Reads k it.0 [] rows) (ap command_of (sym known) ∙ list_means.0) it.2 in
+      list_any-IsPermutation test (map line (catalog_rows old.now.trees)) rows
+      (rw source.1 at (shows_all it.0.trees (reads.answer Null)))
+
+  module _ (name text : List ℕ) where
+    -- what the query shows is listed
+    pub reported : list_any (is_catalog_row name text) rows ≡ true → HasCatalogText old.now.trees name text
+    reported h =
+        let hit = some_has _ (map line (catalog_rows old.now.trees)) (lists_as (is_catalog_row name text) ∙ h) in
+        let was = has_mapped line (catalog_rows old.now.trees) hit.0 hit.1 in
+        let passes = and_parts _ _ (rw was.2 at hit.2) in record {
+          row = was.0;
+          listed = was.1;
+          name_is = text_is (column was.0 2) name passes.0;
+          sql = text_is (column was.0 5) text passes.1;
+        }
+
+    -- what is listed is shown by the query
+    pub shows_line : HasCatalogText old.now.trees name text → list_any (is_catalog_row name text) rows ≡ true
+    shows_line it = sym (lists_as (is_catalog_row name text))
+        ∙ some_from _ _ (line it.row) (mapped_has line (catalog_rows old.now.trees) it.row it.listed)
+        (rw (it.name_is, it.sql, (bytes_eq-Decides name name).1 refl, (bytes_eq-Decides text text).1 refl) refl)
+
+-- the query is plain under any sound database
+pub listing_plain : (db : Database) → IsDatabase db → IsPlain (understood db.schema list_objects_sql)
+listing_plain db sound = subst IsPlain (sym (lists db.schema db.trees sound).1) list_means.1

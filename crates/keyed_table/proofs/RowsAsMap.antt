@@ -1,39 +1,49 @@
--- Rows with different rowids, and the operations on them as those of a map.
-use Rattle.std.proofs.Common.{append-nil, ◌++◌, ◌≡◌, ◌≢◌, ℕ, pos, true, false, not, List, [], ◌∷◌, map, length, Some}
-use Rattle.std.proofs.Common.{None, Option, refl, sym, ap, ◌∙◌, ◌⊎◌, inl, inr, ◌<◌, ℤ, filter, arith, Less, nat_cmp}
-use Rattle.std.proofs.Common.{int_cmp, is_eq, Equal, Greater, IsPermutation}
-use Rattle.std.specs.FinMap.{get-empty, put, entries, empty, len, len-entries, len-empty, entries-insert, get, insert}
-use Rattle.std.specs.FinMap.{remove, FinMap, same_map, nat_cmp-IsAntisymmetric, get-insert, get-remove}
-use Rattle.std.proofs.lemmas.Bool.{false_from_ne_true, cases_Bool}
-use Rattle.std.proofs.lemmas.List.Sorted.{IsPermutation-sym, IsPermutation-append_right, IsPermutation-refl}
-use Rattle.std.proofs.lemmas.List.Sorted.{IsPermutation-cons, IsPermutation-trans, IsPermutation-middle}
-use Rattle.std.proofs.lemmas.List.Sorted.{length_permutation}
-use Rattle.sqlite_catalog.proofs.LayoutLemmas.{same_rowid, ascending_filter}
+-- The rows of a table with an integer key as a map: the operations on the rows, and the rows that the queries show.
+use Rattle.keyed_table.proofs.Common.{append-nil, ◌++◌, ◌≡◌, ◌≢◌, ℕ, pos, true, false, not, List, [], ◌∷◌, map, length}
+use Rattle.keyed_table.proofs.Common.{Some, None, Option, refl, sym, ap, ◌∙◌, ◌⊎◌, inl, inr, ◌<◌, ℤ, filter, arith}
+use Rattle.keyed_table.proofs.Common.{nat_cmp, is_eq, IsPermutation, Bool, ◌&&◌, entries, empty, len, get, insert}
+use Rattle.keyed_table.proofs.Common.{remove, FinMap, false_from_ne_true, cases_Bool, IsPermutation-sym}
+use Rattle.keyed_table.proofs.Common.{IsPermutation-trans, length_permutation, IsPermutation-map, same_rowid, all_from}
+use Rattle.keyed_table.proofs.Common.{all_has, has_right, without_all, AllByRecursion, flat_map, AllZip, nat_cmp_total}
+use Rattle.keyed_table.proofs.Common.{ints, nat_tests, length-map, Int, Null, Row, value_cmp-Int, IsTable, put_row}
+use Rattle.keyed_table.proofs.Common.{rowid, Trees, all-permutation, all-filter, all_both, all_weaker, map-map}
+use Rattle.keyed_table.proofs.Common.{ascending-map, HasKey, are_tied, AreKeyed, map_of, Collation, Binary, IsAnswer}
+use Rattle.keyed_table.proofs.Common.{overlay, eval_all, from_truth, count, Compare, rows_query, lookup_params}
+use Rattle.keyed_table.proofs.Common.{find_query, all_query, count_others_query}
+use Rattle.std.proofs.Common.{Less, int_cmp, Equal, Greater, cond, Ordering}
+use Rattle.std.specs.FinMap.{get-empty, put, len-entries, len-empty, entries-insert, same_map, nat_cmp-IsAntisymmetric}
+use Rattle.std.specs.FinMap.{get-insert, get-remove}
+use Rattle.std.proofs.lemmas.List.Sorted.{IsPermutation-append_right, IsPermutation-refl, IsPermutation-cons}
+use Rattle.std.proofs.lemmas.List.Sorted.{IsPermutation-middle}
+use Rattle.sqlite_catalog.proofs.LayoutLemmas.{ascending_filter}
 use Rattle.sqlite_rules.proofs.ActionLemmas.{nil_from_length}
-use Rattle.sqlite_rules.proofs.ListLemmas.{all_from, all_has, has_right}
-use Rattle.sqlite_rules.specs.Edit.{put_all, without_all}
-use Rattle.std.specs.List.{AllByRecursion}
-use Rattle.std.specs.Ordering.{eq_by_cmp, match_ordering}
-use Rattle.std.proofs.lemmas.Cmp.{nat_cmp_total, tied_itself}
-use Rattle.std.proofs.lemmas.Int.{ints}
-use Rattle.std.proofs.lemmas.Bool.Decides.{nat_tests}
-use Rattle.std.proofs.lemmas.List.{length-map}
-use Rattle.sqlite.specs.declared.types.Value.TheVariants.{Int}
-use Rattle.sqlite.specs.Order.{Row, value_cmp}
-use Rattle.sqlite_value.proofs.OrderLemmas.{value_cmp-Int, value_cmp_total}
-use Rattle.sqlite_trees.specs.Tree.{IsTable, put_row, without_rowid, has_rowid, rowid}
-use Rattle.sqlite_trees.proofs.ListLemmas.{all-permutation, all-filter, all_both, filter_none, along_permutation}
-use Rattle.sqlite_trees.proofs.ListLemmas.{ascending_weaker, all_weaker}
-use Rattle.keyed_table.specs.Rows.{natural_in, key_in, HasKey, are_tied, HasNewKey, RowidsAreUntied, AreKeyed, entry_of}
-use Rattle.keyed_table.specs.Rows.{map_of, RowidsDiffer}
+use Rattle.sqlite_rules.specs.Edit.{put_all}
+use Rattle.std.specs.List.{list_all}
+use Rattle.std.specs.Ordering.{eq_by_cmp, match_ordering, is_ne, ordering_then}
+use Rattle.std.proofs.lemmas.Cmp.{tied_itself}
+use Rattle.std.proofs.lemmas.List.Folds.{fold_along}
+use Rattle.sqlite.specs.Order.{value_cmp}
+use Rattle.sqlite_value.proofs.OrderLemmas.{value_cmp_total}
+use Rattle.sqlite_trees.specs.Tree.{without_rowid, has_rowid}
+use Rattle.sqlite_trees.proofs.ListLemmas.{filter_none, along_permutation, ascending_weaker, filter_all, all_of}
+use Rattle.keyed_table.specs.Rows.{natural_in, key_in, HasNewKey, RowidsAreUntied, entry_of, RowidsDiffer}
 use Rattle.std.specs.Cmp.{eq_by_cmp_equiv}
 use Rattle.sqlite_trees.proofs.TreeLemmas.{IsTable-put_row}
+use Rattle.sqlite_exec.proofs.RunLemmas.{none_given}
+use Rattle.sqlite.specs.Query.{output, output_cmp, Output}
+use Rattle.sqlite_value.specs.declared.keys.Key.{Key}
+use Rattle.sqlite_sql.specs.Term.{Term, Env, eval, holds, lit, col, op2}
+use Rattle.sqlite_sql.specs.Ops.{binary, is_true, test}
+use Rattle.sqlite_sql.specs.Group.{IsSummary}
+use Rattle.sqlite_sql.specs.declared.ops.CompareOp.{CompareOp}
+use Rattle.sqlite_sql.specs.declared.ops.CompareOp.TheVariants.{Eq, Ne}
+use Rattle.sqlite_sql.proofs.QueryLemmas.{output_cmp_total}
+use Rattle.sqlite_keyed.proofs.SortLemmas.{sorted_unique}
+use Rattle.sqlite.proofs.Callers.{one_permutation}
+use Rattle.keyed_table.specs.Queries.{key_differs_from_param, count_rows}
 
 untied : (a b : Row) → are_tied a b ≡ false → are_tied b a ≡ false
 untied a b h = sym ((eq_by_cmp_equiv value_cmp_total).symm (rowid a) (rowid b)) ∙ h
-
-back : (new : Row) (rows : List Row) → AllByRecursion (λ r. are_tied new r ≡ false) rows → HasNewKey new rows
-back new rows = all_weaker (λ r. are_tied new r ≡ false) (λ r. are_tied r new ≡ false) (λ r. untied new r) rows
 
 -- inserting a row with a new key adds it to the rows, in some order
 put_permutes : (new : Row) (rows : List Row) → HasNewKey new rows → IsPermutation (new ∷ rows) (put_row new rows)
@@ -47,32 +57,8 @@ put_permutes new (r ∷ rows) free =
       | Greater ↦ λ other. IsPermutation-refl (new ∷ r ∷ rows)
     ] free.0
 
--- ---- the rows in ascending order of rowid
-
-pub ranked : List Row → List Row
-ranked [] = []
-ranked (r ∷ rows) = put_row r (ranked rows)
-
-pub ranked_rises : (rows : List Row) → IsTable (ranked rows)
-unfolding ranked
-ranked_rises [] = tt
-ranked_rises (r ∷ rows) = IsTable-put_row r (ranked rows) (ranked_rises rows)
-
-pub ranked_permutes : (rows : List Row) → RowidsAreUntied rows → IsPermutation rows (ranked rows)
-unfolding ranked
-ranked_permutes [] apart = IsPermutation-refl []
-ranked_permutes (r ∷ rows) apart =
-    let rest = ranked_permutes rows apart.1 in
-    IsPermutation-trans _ _ _ (IsPermutation-cons r _ _ rest) (put_permutes r (ranked rows)
-    (back r (ranked rows) (all-permutation (λ b. are_tied r b ≡ false) rows (ranked rows) rest apart.0)))
-
--- ---- keys
-
 pub key_is : (row : Row) (it : HasKey row) → key_in row ≡ it.id
 key_is row it = ap natural_in it.id_is
-
-rowid_is : (row : Row) → HasKey row → rowid row ≡ Int (pos (key_in row))
-rowid_is row it = rw (key_is row it) it.id_is
 
 -- the test of a rowid is that of the key
 is_at : (id : ℕ) (row : Row) (it : HasKey row) → has_rowid (pos id) row ≡ eq_by_cmp nat_cmp id (key_in row)
@@ -93,18 +79,13 @@ pub differ_from : (rows : List Row) → RowidsAreUntied rows → RowidsDiffer ro
 differ_from = ascending_weaker (λ a b. are_tied a b ≡ false) (λ a b. rowid a ≢ rowid b) (λ a b other same.
     absurd (let tie : are_tied a b ≡ true = rw (same, tied_itself value_cmp_total (rowid b)) refl in cc))
 
--- the rows with this key
-abbrev pub with_key : ℕ → List Row → List Row
-with_key id = filter (has_rowid (pos id))
-
 pub key_below : (a b : Row) → HasKey a → HasKey b → value_cmp (rowid a) (rowid b) ≡ Less → key_in a < key_in b
 key_below a b x y h =
     let e : int_cmp (pos x.id) (pos y.id) ≡ Less =
     sym (value_cmp-Int (pos x.id) (pos y.id)) ∙ rw (x.id_is, y.id_is) at h in
     rw (key_is a x, key_is b y) (grind (arith, ints, nat_tests))
 
--- ---- rows that stay keyed when others are deleted
-
+-- deletions leave the rows keyed
 pub keyed_without : (rows : List Row) (id : ℤ) → AreKeyed rows → AreKeyed (without_rowid id rows)
 keyed_without rows id keyed = record {
   keys = all-filter HasKey (λ r. not (has_rowid id r)) rows keyed.keys;
@@ -115,36 +96,18 @@ pub keyed_without_all : (rows : List Row) (gone : List ℤ) → AreKeyed rows �
 keyed_without_all rows [] keyed = keyed
 keyed_without_all rows (id ∷ gone) keyed = keyed_without_all (without_rowid id rows) gone (keyed_without rows id keyed)
 
--- ---- lemmas about maps
-
 module _ {V : Type 0} where
   same : (m n : FinMap nat_cmp V) → ((q : ℕ) → get m q ≡ get n q) → m ≡ n
   same = same_map nat_cmp_total nat_cmp-IsAntisymmetric
 
   ruleset looks = (get-insert, get-remove, nat_cmp_total)
 
-  insert_swap : (m : FinMap nat_cmp V) (a b : ℕ) (x y : V) → eq_by_cmp nat_cmp b a ≡ false
-      → insert (insert m b y) a x ≡ insert (insert m a x) b y
-  insert_swap m a b x y apart = same _ _ (λ q. simp looks (grind (arith, nat_tests)))
-
-  insert_removed : (m : FinMap nat_cmp V) (id : ℕ) (v : V) → insert (remove m id) id v ≡ insert m id v
-  insert_removed m id v = same _ _ (λ q. simp looks (grind (arith, nat_tests)))
-
-  remove_inserted : (m : FinMap nat_cmp V) (id k : ℕ) (v : V) → eq_by_cmp nat_cmp id k ≡ true
-      → remove m id ≡ remove (insert m k v) id
-  remove_inserted m id k v tie = same _ _ (λ q. simp looks (grind (arith, nat_tests)))
-
-  remove_swap : (m : FinMap nat_cmp V) (id k : ℕ) (v : V) → eq_by_cmp nat_cmp id k ≡ false
-      → insert (remove m id) k v ≡ remove (insert m k v) id
-  remove_swap m id k v apart = same _ _ (λ q. simp looks (grind (arith, nat_tests)))
-
   -- removing a key that the map does not have changes nothing
   pub remove_absent : (m : FinMap nat_cmp V) (id : ℕ) → get m id ≡ None → remove m id ≡ m
   remove_absent m id none = same _ _ (λ q. simp looks (grind (arith, nat_tests)))
 
 module _ {V : Type 0} (value : Row → V) where
-  -- ---- the same rows in another order
-
+  -- the same rows in another order
   abbrev Alike : List Row → List Row → Type 0
   Alike xs ys = IsPermutation xs ys × (AreKeyed xs → AreKeyed ys × (map_of value xs ≡ map_of value ys))
 
@@ -164,10 +127,11 @@ module _ {V : Type 0} (value : Row → V) where
         λ keyed.
             let apart = keyed.apart in
             let keys = keyed.keys in
-            let turned : RowidsAreUntied (y ∷ x ∷ xs) = ((untied x y apart.0.0, apart.1.0), (apart.0.1, apart.1.1)) in (
+            let turned : RowidsAreUntied (y ∷ x ∷ xs) = ((untied x y apart.0.0, apart.1.0), (apart.0.1, apart.1.1)) in
+            let own : rowid y ≡ Int (pos (key_in y)) = rw (key_is y keys.1.0) keys.1.0.id_is in
+            let other = sym (is_at (key_in y) x keys.0) ∙ rw own at apart.0.0 in (
               record { keys = (keys.1.0, (keys.0, keys.1.1)); apart = turned },
-              insert_swap (map_of value xs) (key_in x) (key_in y) (value x) (value y)
-                  (sym (is_at (key_in y) x keys.0) ∙ rw (rowid_is y keys.1.0) at apart.0.0),
+              same _ _ (λ q. simp looks (grind (arith, nat_tests))),
             ),
       ))
       (λ xs ys zs p q. (
@@ -175,18 +139,38 @@ module _ {V : Type 0} (value : Row → V) where
         λ keyed. let mid = p.1 keyed in let last = q.1 mid.0 in (last.0, mid.1 ∙ last.1),
       ))
 
-  pub same_map_of : (xs ys : List Row) → IsPermutation xs ys → AreKeyed xs → map_of value xs ≡ map_of value ys
-  same_map_of xs ys turn keyed = ((alike xs ys turn).1 keyed).1
+pub keyed_turned : (xs ys : List Row) → IsPermutation xs ys → AreKeyed xs → AreKeyed ys
+keyed_turned xs ys turn keyed = ((alike key_in xs ys turn).1 keyed).0
 
-  -- ---- inserted rows
+-- the rows by rising rowid
+abbrev pub ranked : List Row → List Row
+ranked = put_all []
+
+pub ranked_rises : (rows : List Row) → IsTable (ranked rows)
+ranked_rises rows = fold_along (λ rows r. put_row r rows) (λ c r. c) (λ there (c : Unit {0}). IsTable there)
+    (λ there c row. IsTable-put_row row there) [] tt rows tt
+
+pub ranked_permutes : (rows : List Row) → AreKeyed rows → IsPermutation rows (ranked rows)
+ranked_permutes rows keyed = rw append-nil at (puts rows [] (rw append-nil keyed))
+  where
+    puts : (rows there : List Row) → AreKeyed (rows ++ there) → IsPermutation (rows ++ there) (put_all there rows)
+    puts [] there keyed = IsPermutation-refl there
+    puts (new ∷ rows) there keyed =
+        let free : HasNewKey new there = all_from _ there (λ r has.
+        untied new r (all_has _ (rows ++ there) r keyed.apart.0 (has_right rows there r has))) in
+        let turn = IsPermutation-trans _ _ _ (IsPermutation-sym _ _ (IsPermutation-middle rows new there))
+        (IsPermutation-append_right rows _ _ (put_permutes new there free)) in
+        IsPermutation-trans _ _ _ turn (puts rows (put_row new there) (keyed_turned _ _ turn keyed))
+
+module _ {V : Type 0} (value : Row → V) where
+  pub same_map_of : (xs ys : List Row) → IsPermutation xs ys → AreKeyed xs → map_of value xs ≡ map_of value ys
+  same_map_of xs ys turn keyed = ((alike value xs ys turn).1 keyed).1
 
   pub put_alike : (new : Row) (rows : List Row) → HasKey new → HasNewKey new rows → AreKeyed rows
       → AreKeyed (put_row new rows)
       × (insert (map_of value rows) (key_in new) (value new) ≡ map_of value (put_row new rows))
-  put_alike new rows key free keyed = (alike (new ∷ rows) (put_row new rows) (put_permutes new rows free)).1
+  put_alike new rows key free keyed = (alike value (new ∷ rows) (put_row new rows) (put_permutes new rows free)).1
       (record { keys = (key, keyed.keys); apart = (all_weaker _ _ (λ r. untied r new) rows free, keyed.apart) })
-
-  -- ---- deleted rows
 
   pub map_without : (rows : List Row) (id : ℕ) → AllByRecursion HasKey rows
       → map_of value (without_rowid (pos id) rows) ≡ remove (map_of value rows) id
@@ -194,9 +178,9 @@ module _ {V : Type 0} (value : Row → V) where
   map_without (row ∷ rows) id all =
       let rest = map_without rows id all.1 in
       rw (is_at id row all.0) (elim (cases_Bool (eq_by_cmp nat_cmp id (key_in row))) [
-        | inl tie ↦ rw tie (rest ∙ remove_inserted (map_of value rows) id (key_in row) (value row) tie)
+        | inl tie ↦ rw tie (rest ∙ same _ _ (λ q. simp looks (grind (arith, nat_tests))))
         | inr apart ↦ rw apart (ap (λ m. insert m (key_in row) (value row)) rest
-            ∙ remove_swap (map_of value rows) id (key_in row) (value row) apart)
+            ∙ same _ _ (λ q. simp looks (grind (arith, nat_tests))))
       ])
 
   -- the replaced rows are deleted first
@@ -206,16 +190,15 @@ module _ {V : Type 0} (value : Row → V) where
   insert_without rows [] id v all none = refl
   insert_without rows (i ∷ gone) id v all these =
       insert_without (without_rowid i rows) gone id v (all-filter HasKey (λ r. not (has_rowid i r)) rows all) these.1
-      ∙ rw (these.0, map_without rows id all) (insert_removed (map_of value rows) id v)
+      ∙ rw (these.0, map_without rows id all) (same _ _ (λ q. simp looks (grind (arith, nat_tests))))
 
-  -- ---- the row of a key
+  -- a look-up of the key gives None, and there is no line; or it gives the value of the row that is the only line
+  abbrev pub IsFound : Option V → (id : ℕ) (line : Row → Row) (lines : List Row) → Type 0
+  IsFound found id line lines = ((found ≡ None) × (lines ≡ []))
+      ⊎ ((r : Row) × (found ≡ Some (value r)) × (lines ≡ line r ∷ []) × (rowid r ≡ Int (pos id)))
 
-  -- a look-up gives None, and there is no row; or it gives the value of the only row
-  abbrev IsFound : Option V → ℕ → List Row → Type 0
-  IsFound found id rows = ((found ≡ None) × (with_key id rows ≡ []))
-      ⊎ ((r : Row) × (found ≡ Some (value r)) × (with_key id rows ≡ r ∷ []) × (rowid r ≡ Int (pos id)))
-
-  pub found : (id : ℕ) (rows : List Row) → AreKeyed rows → IsFound (get (map_of value rows) id) id rows
+  pub found : (id : ℕ) (rows : List Row) → AreKeyed rows
+      → IsFound (get (map_of value rows) id) id (λ r. r) (filter (has_rowid (pos id)) rows)
   found id [] keyed = inl (get-empty nat_cmp id, refl)
   found id (row ∷ rows) keyed =
       let at = get-insert nat_cmp_total (map_of value rows) (key_in row) (value row) id in
@@ -224,8 +207,8 @@ module _ {V : Type 0} (value : Row → V) where
         | inl here ↦
             let is : rowid row ≡ Int (pos id) =
             rw (same_rowid row keyed.keys.0.id id keyed.keys.0.id_is (own ∙ here)) at keyed.keys.0.id_is in
-            let none : with_key id rows ≡ [] = filter_none (has_rowid (pos id)) rows
-            (rw is at (back row rows keyed.apart.0)) in
+            let none : filter (has_rowid (pos id)) rows ≡ [] = filter_none (has_rowid (pos id)) rows
+            (rw is at (all_weaker _ (λ r. are_tied r row ≡ false) (λ r. untied row r) rows keyed.apart.0)) in
             inr (row, rw here at at, rw (own ∙ here, none), is)
         | inr other ↦
             elim (found id rows (record { keys = keyed.keys.1; apart = keyed.apart.1 })) [
@@ -233,8 +216,6 @@ module _ {V : Type 0} (value : Row → V) where
               | inr some ↦ inr (some.0, rw other at at ∙ some.1, rw (own ∙ other) some.2, some.3)
             ]
       ]
-
-  -- ---- all rows
 
   put_first : (row : Row) (rows : List Row) → HasKey row → AllByRecursion HasKey rows
       → AllByRecursion (λ b. value_cmp (rowid row) (rowid b) ≡ Less) rows
@@ -255,7 +236,7 @@ module _ {V : Type 0} (value : Row → V) where
   pub entries_ranked : (rows : List Row) → AreKeyed rows
       → entries (map_of value rows) ≡ map (entry_of value) (ranked rows)
   entries_ranked rows keyed =
-      let up = (alike rows (ranked rows) (ranked_permutes rows keyed.apart)).1 keyed in
+      let up = (alike value rows (ranked rows) (ranked_permutes rows keyed)).1 keyed in
       ap entries up.1 ∙ entries_are (ranked rows) up.0.keys (ranked_rises rows)
 
   -- there are as many entries as rows
@@ -263,22 +244,141 @@ module _ {V : Type 0} (value : Row → V) where
   len_is rows keyed =
       len-entries (map_of value rows) ∙ ap length (entries_ranked rows keyed)
       ∙ length-map (ranked rows) (entry_of value)
-      ∙ length_permutation rows (ranked rows) (ranked_permutes rows keyed.apart)
+      ∙ length_permutation rows (ranked rows) (ranked_permutes rows keyed)
 
--- ---- rows that stay keyed
+-- the row beside the parameters
+abbrev pub env_of : Row → Row → Env
+env_of params row = params ∷ row ∷ []
 
-pub keyed_turned : (xs ys : List Row) → IsPermutation xs ys → AreKeyed xs → AreKeyed ys
-keyed_turned xs ys turn keyed = ((alike key_in xs ys turn).1 keyed).0
+abbrev passes : List Term → Row → Row → Bool
+passes tests params row = list_all (holds (env_of params row)) tests
 
--- inserting keyed rows one after another into an empty table gives these rows, in some order
-pub put_in_empty : (rows : List Row) → AreKeyed rows → IsPermutation rows (put_all [] rows)
-put_in_empty rows keyed = rw append-nil at (puts rows [] (rw append-nil keyed))
-  where
-    puts : (rows there : List Row) → AreKeyed (rows ++ there) → IsPermutation (rows ++ there) (put_all there rows)
-    puts [] there keyed = IsPermutation-refl there
-    puts (new ∷ rows) there keyed =
-        let free : HasNewKey new there = all_from _ there (λ r has.
-        untied new r (all_has _ (rows ++ there) r keyed.apart.0 (has_right rows there r has))) in
-        let turn = IsPermutation-trans _ _ _ (IsPermutation-sym _ _ (IsPermutation-middle rows new there))
-        (IsPermutation-append_right rows _ _ (put_permutes new there free)) in
-        IsPermutation-trans _ _ _ turn (puts rows (put_row new there) (keyed_turned _ _ turn keyed))
+-- the rows that pass the tests
+passing : (tests : List Term) (params : Row) (test : Row → Bool) (rows : List Row)
+    → AllByRecursion (λ r. passes tests params r ≡ test r) rows
+    → flat_map (λ r. cond (passes tests params r) (env_of params r ∷ []) []) rows
+    ≡ map (env_of params) (filter test rows)
+passing tests params test [] all = refl
+passing tests params test (r ∷ rows) all = elim (cases_Bool (test r)) [
+  | inl is ↦ rw (all.0, is) (ap (λ es. env_of params r ∷ es) (passing tests params test rows all.1))
+  | inr not ↦ rw (all.0, not) (passing tests params test rows all.1)
+]
+
+-- what a row is sorted by, and what it shows
+abbrev out : List Term → List (Term × Key) → Row → Row → Output
+out shown order params row = (eval_all (map (λ k. k.0) order) (env_of params row), eval_all shown (env_of params row))
+
+module _ {d : ℕ} {tests shown : List Term} {collations : List Collation} {order : List (Term × Key)} (db : Trees)
+    {params : Row} {rows : List Row}
+    (a : IsAnswer (rows_query d tests shown collations order) (overlay db []) params rows) where
+  kept_are : (test : Row → Bool) → AllByRecursion (λ r. passes tests params r ≡ test r) (db d)
+      → a.kept ≡ map (out shown order params) (filter test (db d))
+  kept_are test asks = a.distinct ∙ ap (map (output (rows_query d tests shown collations order)))
+      (a.grouped ∙ ap (λ (trees : Trees). flat_map (λ r. cond (passes tests params r) (env_of params r ∷ []) [])
+      (trees d)) (none_given db) ∙ passing tests params test (db d) asks) ∙ map-map _ _ (filter test (db d))
+
+  -- the query shows the rows that it keeps, in some order
+  shows_kept : (kept : List Row) → a.kept ≡ map (out shown order params) kept
+      → IsPermutation (map (λ r. eval_all shown (env_of params r)) kept) rows
+  shows_kept kept is = rw a.shown (rw (map-map (λ (o : Output). o.1) (out shown order params) kept) at
+      (IsPermutation-map (λ (o : Output). o.1) _ a.ordered (rw is at a.same)))
+
+module _ {d : ℕ} {shown : List Term} {collations : List Collation} {order : List (Term × Key)} (db : Trees)
+    {params : Row} {rows : List Row} where
+  -- a query without a test keeps every row
+  kept_all : (a : IsAnswer (rows_query d [] shown collations order) (overlay db []) params rows)
+      → a.kept ≡ map (out shown order params) (db d)
+  kept_all a =
+      let each : AllByRecursion (λ r. true ≡ true) (db d) = all_of _ (λ r. refl) (db d) in
+      kept_are db a (λ r. true) each ∙ ap (map (out shown order params)) (filter_all (λ r. true) (db d) each)
+
+  pub shows_all : IsAnswer (rows_query d [] shown collations order) (overlay db []) params rows
+      → IsPermutation (map (λ r. eval_all shown (env_of params r)) (db d)) rows
+  shows_all a = shows_kept db a (db d) (kept_all a)
+
+  -- a query without a test shows the only row of a table
+  pub shows_one : (row : Row) → db d ≡ row ∷ []
+      → IsAnswer (rows_query d [] shown collations order) (overlay db []) params rows
+      → rows ≡ eval_all shown (env_of params row) ∷ []
+  shows_one row one a = one_permutation _ rows (rw one at (shows_all a))
+
+  -- the table has one row, if one is shown
+  pub one_shown : (row : Row) → rows ≡ row ∷ []
+      → IsAnswer (rows_query d [] shown collations order) (overlay db []) params rows
+      → (r : Row) × (db d ≡ r ∷ []) × (row ≡ eval_all shown (env_of params r))
+  one_shown row are a = single (db d) (one_permutation row _ (IsPermutation-sym _ _ (rw are at (shows_all a))))
+    where
+      single : (rs : List Row) → map (λ r. eval_all shown (env_of params r)) rs ≡ row ∷ []
+          → (r : Row) × (rs ≡ r ∷ []) × (row ≡ eval_all shown (env_of params r))
+      single [] e = absurd (cc)
+      single (r ∷ []) e = (r, refl, cc)
+      single (r ∷ s ∷ more) e = absurd (cc)
+
+-- a summary that counts
+one_row : (order : List Env) (rows : List Row) → AllZip (IsSummary count_rows) (order ∷ []) rows
+    → rows ≡ (count (length order) ∷ []) ∷ []
+one_row order [] z = absurd z
+one_row order (r ∷ []) (([], values, is), _) = absurd values
+one_row order (r ∷ []) ((v ∷ [], values, is), _) =
+    let e : count (length (map (eval (lit Null)) order)) ≡ v = (let f = values.0 in cc) in
+    rw (is, ← e, length-map order (eval (lit Null)))
+one_row order (r ∷ []) ((v ∷ w ∷ more, values, is), _) = absurd values.1
+one_row order (r ∷ s ∷ more) z = absurd z.1
+
+pub truth_alone : (b : Bool) → (is_true (from_truth (Some b)) && true) ≡ b
+truth_alone true = refl
+truth_alone false = refl
+
+compared : (op : CompareOp) (row : Row) (id : ℕ) (it : HasKey row)
+    → list_all (holds (env_of (lookup_params id) row)) (op2 (Compare op Binary) (col 1 0) (col 0 0) ∷ [])
+    ≡ test op (value_cmp (rowid row) (Int (pos id)))
+unfolding binary
+compared op row id it = rw it.id_is (truth_alone (test op (value_cmp (Int (pos it.id)) (Int (pos id)))))
+
+differs : (o : Ordering) → is_ne o ≡ not (is_eq o)
+differs o = elim o as (λ o. is_ne o ≡ not (is_eq o)) [ Less ↦ refl | Equal ↦ refl | Greater ↦ refl ]
+
+module _ {V : Type 0} (value : Row → V) (d : ℕ) (db : Trees) (keyed : AreKeyed (db d)) where
+  -- the row of the key, or none
+  pub finds : {shown : List Term} (id : ℕ) (rows : List Row)
+      → IsAnswer (find_query d shown) (overlay db []) (lookup_params id) rows
+      → IsFound value (get (map_of value (db d)) id) id (λ r. eval_all shown (env_of (lookup_params id) r)) rows
+  finds {shown} id rows a =
+      let turned = shows_kept db a (filter (has_rowid (pos id)) (db d)) (kept_are db a (has_rowid (pos id))
+      (all_weaker HasKey _ (λ r it. compared Eq r id it) (db d) keyed.keys)) in
+      elim (found value id (db d) keyed) [
+        | inl none ↦ inl (none.0, nil_from_length rows (length_permutation [] rows (rw none.1 at turned)))
+        | inr some ↦ inr (some.0, some.1, one_permutation _ rows (rw some.2 at turned), some.3)
+      ]
+
+  -- the rows by rising key
+  pub lists : {shown : List Term} (rows : List Row) → IsAnswer (all_query d shown) (overlay db []) [] rows
+      → rows ≡ map (λ r. eval_all shown (env_of [] r)) (ranked (db d))
+  lists {shown} rows a =
+      let q = all_query d shown in
+      let o = out shown q.order [] in
+      let up = ranked (db d) in
+      let same : IsPermutation (map o up) a.ordered = IsPermutation-trans _ _ _ (IsPermutation-map o up (db d)
+      (IsPermutation-sym (db d) up (ranked_permutes (db d) keyed))) (rw (kept_all db a) at a.same) in
+      let ordered : a.ordered ≡ map o up = sorted_unique (output_cmp q) (output_cmp_total q) (map o up) a.ordered
+      (ascending-map _ o up (ascending_weaker (λ a b. value_cmp (rowid a) (rowid b) ≡ Less) _
+      (λ a b low. ap (λ o. ordering_then o Equal) low) up (ranked_rises (db d)))) same a.sorted in
+      a.shown ∙ ap (map (λ (p : Output). p.1)) ordered ∙ map-map _ _ up
+
+  -- the number of rows with other keys
+  pub counts : (id : ℕ) (rows : List Row) → IsAnswer (count_others_query d) (overlay db []) (lookup_params id) rows
+      → rows ≡ (count (len (remove (map_of value (db d)) id)) ∷ []) ∷ []
+  counts id rows a =
+      let others = without_rowid (pos id) (db d) in
+      let g = a.grouped in
+      let order = g.grouping.0 in
+      let passed = passing (key_differs_from_param ∷ []) (lookup_params id) (λ r. not (has_rowid (pos id) r)) (db d)
+      (all_weaker HasKey _ (λ r it. compared Ne r id it ∙ differs _) (db d) keyed.keys) in
+      let all_read = ap (λ (trees : Trees). trees d) (none_given db) in
+      let n : length order ≡ length others = length_permutation _ order (rw (all_read, passed) at g.grouping.1)
+      ∙ length-map others (env_of (lookup_params id)) in
+      let kept : a.kept ≡ ([], count (length order) ∷ []) ∷ [] =
+      rw (g.having, one_row order g.rows (rw g.grouping.2 at g.summaries)) at a.distinct in
+      let len_others = len_is value others (keyed_without (db d) (pos id) keyed) in
+      let shown = one_permutation _ a.ordered (rw kept at a.same) in
+      rw (a.shown, shown, n, ← len_others, map_without value (db d) id keyed.keys)

@@ -1,34 +1,94 @@
--- What tables hold, while they or other tables are created, written and dropped.
-use Rattle.std.proofs.Common.{◌≡◌, ◌≢◌, ◌==◌, ℕ, not, List, [], ◌∷◌, false, None, Ok, refl, sym, subst, ◌∙◌, arith}
-use Rattle.std.specs.List.{AllByRecursion}
-use Rattle.sqlite.specs.Command.TheVariants.{CreateTable, DropTable}
-use Rattle.sqlite.specs.Compile.{table_defined_by}
-use Rattle.sqlite.specs.Does.{Does, lacks_sequence}
-use Rattle.sqlite.specs.Effect.{Database, IsDatabase}
-use Rattle.sqlite.specs.Listing.{understood}
-use Rattle.sqlite.specs.Order.{Row}
-use Rattle.sqlite.specs.Schema.{Schema}
-use Rattle.sqlite.specs.Table.{Table}
-use Rattle.sqlite.specs.Term.{Term}
-use Rattle.sqlite.specs.State.{State, Executes, mode_of}
-use Rattle.sqlite.proofs.Callers.{runs_as, statement_of}
+-- What tables hold, while they or other tables are created, written and dropped; and the first map of a table.
+use Rattle.keyed_table.proofs.Common.{and_left, and_right, or_from, false_from_ne_true, both_ways, ne_eqb, not-true}
+use Rattle.keyed_table.proofs.Common.{same_itself, ParsesAs, CompilesTo, statement_of, runs_as, DropTable, Tally}
+use Rattle.keyed_table.proofs.Common.{lacks_sequence, Database, IsDatabase, understood, Schema, Table, Term}
+use Rattle.keyed_table.proofs.Common.{zipped_left, next_tree, is_used, IsIndexRow, all_from, has_got, has_left}
+use Rattle.keyed_table.proofs.Common.{some_from, has_filtered, has_kept, has_right, all_has, same_name, table_named}
+use Rattle.keyed_table.proofs.Common.{view_named, all_weaker, all-filter, codes, List, [], ◌∷◌, length, true, arith}
+use Rattle.keyed_table.proofs.Common.{refl, sym, ap, ◌∙◌, is_some, false, None, Some, Ok, not, ◌&&◌, ◌≡◌, ℕ, ◌==◌, inl}
+use Rattle.keyed_table.proofs.Common.{inr, Bool, if◌then◌else◌, subst, ◌≢◌, nat_le, ◌^◌, option_map, Err, Result, OnOk}
+use Rattle.keyed_table.proofs.Common.{nat_cmp, nat_tests, row_classes, Index, AllByRecursion, position_from, list_any}
+use Rattle.keyed_table.proofs.Common.{HasNoReferenceTo, TreeHasName, AdmitsTable, Keys, any_from_none, Has, IsLone}
+use Rattle.keyed_table.proofs.Common.{Row, State, Executes, mode_of, Error, FinMap, empty, Codec, table_of, AreMap}
+use Rattle.keyed_table.proofs.Common.{HoldsMap}
+use Rattle.std.proofs.lemmas.Bool.{MatchBool-at_false, and_cases, not-false, not_from_true, eq-eqb, eqb-true}
+use Rattle.sqlite_catalog.proofs.StepLemmas.{no_table, table_below}
+use Rattle.keyed_table.proofs.KeyedMap.{went, same_value, task_of, table_low, SparesOthers}
+use Rattle.keyed_table.proofs.Statements.{ready_with}
+use Rattle.keyed_table.proofs.TextMeaning.{means, understood_as}
+use Rattle.sqlite.specs.Command.TheVariants.{CreateTable}
+use Rattle.sqlite_resolve.specs.Compile.{table_defined_by, timed, returning, command, create_table, creates}
+use Rattle.sqlite_resolve.specs.Compile.{is_attached, is_reserved}
+use Rattle.sqlite.specs.Does.{MakesTable, sequence_text, UncountsIn, is_acted_on}
+use Rattle.sqlite.specs.Rows.{sequence}
+use Rattle.sqlite_catalog.proofs.LayoutLemmas.{index_owner}
+use Rattle.sqlite_catalog.proofs.ListFacts.{none_placed}
+use Rattle.sqlite_catalog.specs.Change.{created, KeepsRows, without_table}
+use Rattle.sqlite_schema.specs.Names.{index_named}
 use Rattle.sqlite_schema.specs.declared.schema.Column.{Column}
-use Rattle.sqlite_schema.specs.Names.{same_name, view_named}
-use Rattle.sqlite_catalog.specs.Change.{created, next_tree, without_table, is_used, KeepsRows}
-use Rattle.sqlite_catalog.proofs.SoundLemmas.{lowered}
-use Rattle.sqlite_rules.specs.Lists.{Has}
-use Rattle.sqlite_rules.proofs.ListLemmas.{all_has, has_kept}
-use Rattle.sqlite_trees.proofs.ListLemmas.{all-append, all-filter}
-use Rattle.sqlite_catalog.proofs.StepLemmas.{table_below}
-use Rattle.keyed_table.specs.Lone.{IsLone}
-use Rattle.keyed_table.specs.Meaning.{CompilesTo}
-use Rattle.keyed_table.specs.Tables.{HasNoReferenceTo, IsTableAt, keyed_table}
-use Rattle.keyed_table.proofs.Creates.{Makes, creates_table, still_counted, still_free, owners_below, none_at}
-use Rattle.keyed_table.proofs.Drops.{drops}
-use Rattle.keyed_table.proofs.ListedTables.{no_view}
-use Rattle.keyed_table.proofs.LoneTables.{lone_stands, lone_still, lone_new, lone_left, still_there, name_freed}
-use Rattle.keyed_table.proofs.LoneTables.{apart_trees}
-use Rattle.keyed_table.proofs.TableWrites.{SparesOthers}
+use Rattle.sqlite_trees.proofs.ListLemmas.{all-append}
+use Rattle.keyed_table.proofs.ListedTables.{found_at, has_name, only_at, none_at, same_name_symmetric, find_only}
+use Rattle.keyed_table.proofs.ListedTables.{none_or_some, no_view, no_index, one_table, IsNamed, defined}
+use Rattle.std.proofs.Common.{slice_range}
+use Rattle.std.proofs.lemmas.List.Folds.{list_any-append}
+use Rattle.keyed_table.specs.Tables.{keyed_table, IsTableAt, HasCatalogText}
+use Rattle.keyed_table.specs.Stores.{IsReadyWith}
+use Rattle.sqlite_catalog.proofs.StepLemmas.{no_table, no_index as no_index_of, no_view as no_view_of, table_below}
+use Rattle.sqlite_ast.specs.declared.CreateTable.{CreateTable as Defined}
+use Rattle.sqlite_ast.specs.declared.Statement.TheVariants as written
+use Rattle.sqlite_resolve.specs.Define as define
+
+-- nothing in the schema has the name
+pub unused : (schema : Schema) (name : List ℕ) → is_used schema name ≡ false
+    → (table_named schema name ≡ None) × (index_named schema name ≡ None) × (view_named schema name ≡ None)
+unused schema name free = (no_table schema name free, no_index_of schema name free, no_view_of schema name free)
+
+-- the text creates this table, and does nothing else; computation proves it
+pub record IsCreateText (table : Table) (sql : List ℕ) : Type 0 where
+  pub table_is : table_defined_by sql ≡ Ok table
+  pub makes : (schema : Schema) → is_used schema table.name ≡ false
+      → CompilesTo schema sql CreateTable × (statement_of sql (understood schema sql) ≡ sql)
+
+-- the text only defines this table, which has no other value that SQLite computes
+module _ {text : List ℕ} (table : Table) {def : Defined} (it : ParsesAs text (written.CreateTable def))
+    (whole : slice_range text it.parsed.start it.parsed.end ≡ text) (named : def.name ≡ table.name)
+    (own : is_reserved def.name ≡ false) (is : define.table [] def ≡ Ok table)
+    (computed : (length table.computed == length table.stamps.places && not def.resolves) ≡ true)
+    (schema : Schema) (free : is_used schema table.name ≡ false) where
+  meant : create_table schema [] def ≡ Ok CreateTable
+  unfolding create_table is_attached creates
+  meant = let none = unused schema def.name (rw named free) in rw (none.2, none.0, none.1, own, is, computed)
+
+  pub makes : CompilesTo schema text CreateTable × (statement_of text (understood schema text) ≡ text)
+  unfolding timed returning command
+  makes =
+      let alone = ap (statement_of text) (understood_as schema _ it refl (λ base. refl) (λ base. meant)) ∙ whole in
+      (means schema _ it refl (λ base. refl) (λ base. meant), alone)
+
+none_in : {X : Type 0} (test : X → Bool) (xs : List X) → position_from test 0 xs ≡ None
+    → AllByRecursion (λ x. test x ≡ false) xs
+none_in test xs none = all_from _ xs (λ x. none_placed test xs 0 x none)
+
+-- no list of the schema has the name
+unnamed : (schema : Schema) (name : List ℕ) → AllByRecursion (λ t. same_name t.name name ≡ false) schema.tables
+    → AllByRecursion (λ i. same_name i.name name ≡ false) schema.indexes
+    → AllByRecursion (λ w. same_name w.name name ≡ false) schema.views → is_used schema name ≡ false
+unnamed schema name tables indexes views = or_from _ _
+    (or_from _ _ (ap is_some (none_at _ 0 schema.tables tables)) (ap is_some (none_at _ 0 schema.indexes indexes)))
+    (ap is_some (none_at _ 0 schema.views views))
+
+-- in a sound database the name of a table that no other object affects finds it, at some index of the list of tables
+pub lone_stands : (db : Database) → IsDatabase db → {name : List ℕ} {table : Table} → IsLone db.schema name table
+    → (at : ℕ) × IsTableAt db.schema name table at
+lone_stands db sound {name} {table} it =
+    let only = one_table db sound table it.listed name it.named in
+    let at = only_at (λ t. same_name t.name name) db.schema.tables table it.listed it.named only in
+    let low = table_low db sound table it.listed in
+    let stored : nat_le (2 ^ 31) table.tree ≡ false = grind (arith, nat_tests, low) in
+    let classes = ap (option_map row_classes) (find_only (λ t. t.tree == table.tree) db.schema.tables table it.listed
+    (eq-eqb _ _ refl) (λ t there same. only t there
+    (all_has (TreeHasName name table.tree) db.schema.tables t it.keeps there (eqb-true _ _ same)))) in
+    (at.0, record { named = at.1; there = at.2; classes = rw stored classes })
 
 -- the table is there, no other object affects it, and it has these rows
 pub record HoldsRows (table : Table) (rows : List Row) (db : Database) : Type 0 where
@@ -40,28 +100,36 @@ pub record IsKept (old new : Database) (table : Table) : Type 0 where
   pub listed : Has new.schema.tables table
   pub same : new.trees table.tree ≡ old.trees table.tree
 
--- ---- a table is written
-
-module _ {before : Database} (after : Database) (schema : after.schema ≡ before.schema) {table : Table} {rows : List
-    Row}
-    (h : HoldsRows table rows before) where
-  still_lone : IsLone after.schema table.name table
-  still_lone = subst (λ s. IsLone s table.name table) (sym schema) h.lone
-
+-- a table is written
+module _ {before : Database} (after : Database) (schema : after.schema ≡ before.schema) {table : Table}
+    {rows : List Row} (h : HoldsRows table rows before) where
   pub written_holds : (now : List Row) → after.trees table.tree ≡ now → HoldsRows table now after
-  written_holds now are = record { lone = still_lone; rows_are = are }
+  written_holds now are = record { lone = rw schema h.lone; rows_are = are }
 
   pub written_keeps : {tree : ℕ} → SparesOthers before.schema tree before.trees after.trees → table.tree ≢ tree
       → HoldsRows table rows after
-  written_keeps others apart =
-      record { lone = still_lone; rows_are = others.tables table h.lone.listed apart ∙ h.rows_are }
+  written_keeps others apart = written_holds rows (others.tables table h.lone.listed apart ∙ h.rows_are)
 
 -- ---- a table is created
 
--- the text creates this table; computation proves it
-pub record IsCreateText (table : Table) (sql : List ℕ) : Type 0 where
-  pub table_is : table_defined_by sql ≡ Ok table
-  pub makes : (schema : Schema) → is_used schema table.name ≡ false → Makes schema sql
+sequence_is : (schema : Schema) → is_some (sequence schema)
+    ≡ list_any (λ t. same_name t.name (codes "sqlite_sequence")) schema.tables
+sequence_is schema = elim (none_or_some (table_named schema (codes "sqlite_sequence"))) [
+  | inl none ↦ rw none (sym (any_from_none _ schema.tables (none_in _ schema.tables none)))
+  | inr (at, is) ↦ let found = found_at _ at schema.tables is in
+      rw (is, found.1, some_from _ schema.tables found.0 (has_got schema.tables at found.0 found.1) found.2)
+]
+
+-- a table that counts no rowids does not need the table of the counts
+still_counted : (schema : Schema) (table : Table) → table.is_counted ≡ false → lacks_sequence schema ≡ false
+    → lacks_sequence (created schema table) ≡ false
+still_counted schema table plain lacks = elim (and_cases _ _ lacks) [
+  | inl none ↦ and_left _ _ (list_any-append (λ (t : Table). t.is_counted) schema.tables
+      (record table { tree = next_tree schema } ∷ []) ∙ or_from _ _ none (or_from _ _ plain refl))
+  | inr has ↦ and_right _ _ (not_from_true _ (sequence_is (created schema table) ∙ list_any-append (λ (t : Table).
+      same_name t.name (codes "sqlite_sequence")) schema.tables (record table { tree = next_tree schema } ∷ [])
+      ∙ rw (sym (sequence_is schema) ∙ not-false _ has)))
+]
 
 -- the table is empty, and the others have the rows that they had
 pub record IsCreated (table : Table) (old new : Database) : Type 0 where
@@ -71,63 +139,86 @@ pub record IsCreated (table : Table) (old new : Database) : Type 0 where
   pub sound : IsDatabase new
 
 pub executed_creates : {table : Table} {sql : List ℕ} → IsCreateText table sql → table.is_counted ≡ false
-    → (old new : State)
-    (count : ℕ) → is_used old.now.schema table.name ≡ false → lacks_sequence old.now.schema ≡ false
+    → (old new : State) (count : ℕ) → is_used old.now.schema table.name ≡ false → lacks_sequence old.now.schema ≡ false
     → Executes sql [] old new (Ok count) → IsCreated table old.now new.now
 executed_creates {table} {sql} text uncounted old new count unused sequenced ran =
     let makes = text.makes old.now.schema unused in
-    let it = runs_as sql [] old new old.now.schema refl CreateTable makes.means.is makes.means.is_plain count ran in
-    let made = creates_table old.step_limit (mode_of old) old.now new.now sql it.tally table text.table_is
-    (still_counted old.now.schema table uncounted sequenced)
-    (subst (λ t. Does old.step_limit (mode_of old) [] old.now t None CreateTable (Ok (it.tally, new.now))) makes.alone
-    it.changed) in
-    record { schema_is = made.0; empty = made.1; others = made.2; sound = it.sound }
+    let it = runs_as sql [] old new old.now.schema refl CreateTable makes.0.is makes.0.is_plain count ran in
+    let made = went it.changed in
+    let both = went made.1 in
+    let defined = subst (λ t. table_defined_by t ≡ Ok both.1.table) makes.1 both.1.defined in
+    let is : both.0.schema ≡ created old.now.schema table =
+    both.1.is ∙ ap (created old.now.schema) (same_value (sym defined ∙ text.table_is)) in
+    let same : made.0 ≡ both.0 =
+    same_value (MatchBool-at_false (MakesTable sequence_text both.0 (Ok made.0)) _ (ap lacks_sequence is
+    ∙ still_counted old.now.schema table uncounted sequenced) both.2) in
+    let now = ap (λ (p : Tally × Database). p.1) (same_value made.2) ∙ same in
+    record { schema_is = rw now is; empty = rw now both.1.empty; others = rw now both.1.others; sound = it.sound }
 
 module _ {name : List ℕ} {columns : List Column} {checks : List Term} {old new : Database}
     (it : IsCreated (keyed_table name 0 columns checks) old new) where
   abbrev pub new_table : Table
   new_table = keyed_table name (next_tree old.schema) columns checks
 
-  pub created_holds : IsDatabase old → AllByRecursion (HasNoReferenceTo name) old.schema.tables
-      → HoldsRows new_table [] new
-  created_holds sound unreferenced = record {
-    lone = subst (λ s. IsLone s name new_table) (sym it.schema_is)
-        (lone_new old.schema name columns checks ((lowered name name).1 refl) unreferenced
-        (owners_below old.schema old.trees sound));
-    rows_are = it.empty;
-  }
-
-  pub created_keeps : {table : Table} {rows : List Row} → HoldsRows table rows old → HoldsRows table rows new
-  created_keeps {table} h = record {
-    lone = subst (λ s. IsLone s table.name table) (sym it.schema_is) (lone_still old.schema name columns checks h.lone);
-    rows_are = all_has (λ t. new.trees t.tree ≡ old.trees t.tree) old.schema.tables table it.others h.lone.listed
-        ∙ h.rows_are;
-  }
-
-  pub created_is_kept : (table : Table) → Has old.schema.tables table → IsKept old new table
-  created_is_kept table has = record {
-    listed = subst (λ (s : Schema). Has s.tables table) (sym it.schema_is)
-        (still_there old.schema name columns checks table has);
-    same = all_has (λ (t : Table). new.trees t.tree ≡ old.trees t.tree) old.schema.tables table it.others has;
-  }
-
   pub created_all : (P : Table → Type 0) → AllByRecursion P old.schema.tables → P new_table
       → AllByRecursion P new.schema.tables
-  created_all P all one = subst (λ (s : Schema). AllByRecursion P s.tables) (sym it.schema_is)
-      (all-append P old.schema.tables (new_table ∷ []) all (one, tt))
+  created_all P all one = rw it.schema_is (all-append P old.schema.tables (new_table ∷ []) all (one, tt))
 
-  pub created_unused : (other : List ℕ) → same_name name other ≡ false → is_used old.schema other ≡ false
-      → is_used new.schema other ≡ false
-  created_unused other apart free = subst (λ s. is_used s other ≡ false) (sym it.schema_is)
-      (still_free old.schema name other columns checks apart free)
-
-  pub created_sequence : lacks_sequence old.schema ≡ false → lacks_sequence new.schema ≡ false
-  created_sequence sequenced = subst (λ s. lacks_sequence s ≡ false) (sym it.schema_is)
-      (still_counted old.schema (keyed_table name 0 columns checks) refl sequenced)
+  -- no index is new
+  same_indexes : (P : Index → Type 0) → AllByRecursion P old.schema.indexes → AllByRecursion P new.schema.indexes
+  same_indexes P all = rw it.schema_is (all-append P old.schema.indexes [] all tt)
 
   -- no other table has the tree of the new table
   pub created_apart : (table : Table) → Has old.schema.tables table → table.tree ≢ next_tree old.schema
   created_apart table has e = let low = table_below old.schema table has in omega (arith, low, e)
+
+  pub created_is_kept : (table : Table) → Has old.schema.tables table → IsKept old new table
+  created_is_kept table has = record {
+    listed = rw it.schema_is (has_left old.schema.tables (new_table ∷ []) table has);
+    same = all_has (λ (t : Table). new.trees t.tree ≡ old.trees t.tree) old.schema.tables table it.others has;
+  }
+
+  pub created_keeps : {table : Table} {rows : List Row} → HoldsRows table rows old → HoldsRows table rows new
+  created_keeps {table} h =
+      let lone = h.lone in
+      let kept = created_is_kept table lone.listed in record {
+        lone = record {
+          listed = kept.listed;
+          named = lone.named;
+          keeps = created_all (TreeHasName table.name table.tree) lone.keeps (λ e. absurd (created_apart table
+              lone.listed (sym e)));
+          unreferenced = created_all (HasNoReferenceTo table.name) lone.unreferenced tt;
+          unindexed = same_indexes _ lone.unindexed;
+        };
+        rows_are = kept.same ∙ h.rows_are;
+      }
+
+  pub created_holds : IsDatabase old → AllByRecursion (HasNoReferenceTo name) old.schema.tables
+      → HoldsRows new_table [] new
+  created_holds sound unreferenced = record {
+    lone = record {
+      listed = rw it.schema_is (has_right old.schema.tables (new_table ∷ []) new_table (inl refl));
+      named = same_itself name;
+      keeps = created_all (TreeHasName name (next_tree old.schema)) (all_from _ old.schema.tables (λ table has e.
+          absurd (created_apart table has e))) (λ e. same_itself name);
+      unreferenced = created_all (HasNoReferenceTo name) unreferenced tt;
+      unindexed = same_indexes _ (all_from _ old.schema.indexes (λ i has e.
+          let row = (zipped_left (IsIndexRow old.schema.tables) _ old.schema.indexes i sound.lists.listed.indexes has).2
+          in created_apart row.table row.listed (sym (index_owner row.table i _ row.defined) ∙ e)));
+    };
+    rows_are = it.empty;
+  }
+
+  pub created_unused : (other : List ℕ) → same_name name other ≡ false → is_used old.schema other ≡ false
+      → is_used new.schema other ≡ false
+  created_unused other apart free =
+      let none = unused old.schema other free in
+      unnamed new.schema other (created_all _ (none_in _ old.schema.tables none.0) apart)
+      (same_indexes _ (none_in _ old.schema.indexes none.1)) (rw it.schema_is (none_in _ old.schema.views none.2))
+
+  pub created_sequence : lacks_sequence old.schema ≡ false → lacks_sequence new.schema ≡ false
+  created_sequence sequenced =
+      rw it.schema_is (still_counted old.schema (keyed_table name 0 columns checks) refl sequenced)
 
 -- ---- a table is dropped
 
@@ -137,48 +228,130 @@ pub record IsDropped (tree : ℕ) (old new : Database) : Type 0 where
   pub others : KeepsRows new.schema.tables old.trees new.trees
   pub sound : IsDatabase new
 
+-- no foreign key acts when rows of a table are deleted that no key refers to
+unacted : (schema : Schema) (keys : Keys) (table : Table) → AllByRecursion (HasNoReferenceTo table.name) schema.tables
+    → is_acted_on schema keys table ≡ false
+unacted schema keys table spares = any_from_none _ schema.tables (all_weaker (HasNoReferenceTo table.name) _
+    (λ t none. any_from_none _ t.references (all_weaker (λ reference. same_name reference.parent table.name ≡ false) _
+    (λ reference other. and_left _ _ (false_from_ne_true _ (λ same.
+    let back = same_name_symmetric table.name reference.parent same in cc)))
+    t.references none)) schema.tables spares)
+
 pub executed_drops : {table : Table} {rows : List Row} {sql : List ℕ} → table.is_counted ≡ false → (old new : State)
     (count : ℕ) → IsDatabase old.now → HoldsRows table rows old.now
     → ((at : ℕ) → IsTableAt old.now.schema table.name table at → view_named old.now.schema table.name ≡ None
     → CompilesTo old.now.schema sql (DropTable at))
     → Executes sql [] old new (Ok count) → IsDropped table.tree old.now new.now
 executed_drops {table} {sql = sql} uncounted old new count sound h means ran =
+    let schema = old.now.schema in
     let at = lone_stands old.now sound h.lone in
-    let unviewed = none_at (λ w. same_name w.name table.name) 0 old.now.schema.views
-    (no_view old.now sound table h.lone.listed table.name h.lone.named) in
-    let meant = means at.0 at.1 unviewed in
-    let it = runs_as sql [] old new old.now.schema refl (DropTable at.0) meant.is meant.is_plain count ran in
-    let gone = drops old.now.schema at.0 table old.step_limit (mode_of old) old.now.trees
-    (statement_of sql (understood old.now.schema sql)) it.tally new.now at.1.there uncounted h.lone.unreferenced
-    it.changed in
-    record {
-      schema_is = gone.0;
-      others = subst (λ (s : Schema). KeepsRows s.tables old.now.trees new.now.trees) (sym gone.0) gone.1;
+    let meant = means at.0 at.1 (none_at (λ w. same_name w.name table.name) 0 schema.views
+    (no_view old.now sound table h.lone.listed table.name h.lone.named)) in
+    let it = runs_as sql [] old new schema refl (DropTable at.0) meant.is meant.is_plain count ran in
+    let emptied = went (rw at.1.there at it.changed) in
+    let counts = went emptied.2 in
+    let left = went (went counts.2).2 in
+    let same : counts.0 ≡ old.now.trees =
+    same_value (subst (λ b. UncountsIn (task_of schema old.step_limit (mode_of old) [] table) emptied.0 (if b then
+    sequence schema else None) (Ok counts.0)) uncounted counts.1)
+    ∙ same_value (MatchBool-at_false _ _ (unacted schema (mode_of old).keys table h.lone.unreferenced) emptied.1) in
+    let is : new.now ≡ left.0 = ap (λ (p : Tally × Database). p.1) (same_value left.2) in record {
+      schema_is = rw is left.1.0;
+      others = rw (is, left.1.0) (subst (λ was. KeepsRows (without_table schema table.tree).tables was left.0.trees)
+          same left.1.1);
       sound = it.sound;
     }
 
 module _ {tree : ℕ} {old new : Database} (it : IsDropped tree old new) where
+  pub dropped_all : (P : Table → Type 0) → AllByRecursion P old.schema.tables → AllByRecursion P new.schema.tables
+  dropped_all P all = rw it.schema_is (all-filter P (λ t. not (t.tree == tree)) old.schema.tables all)
+
   pub dropped_is_kept : (table : Table) → Has old.schema.tables table → table.tree ≢ tree → IsKept old new table
   dropped_is_kept table has apart =
-      let listed = subst (λ (s : Schema). Has s.tables table) (sym it.schema_is)
-      (has_kept (λ t. not (t.tree == tree)) old.schema.tables table has (apart_trees table.tree tree apart)) in
-      record {
+      let listed : Has new.schema.tables table = rw it.schema_is (has_kept (λ t. not (t.tree == tree))
+      old.schema.tables table has (ap not (ne_eqb table.tree tree apart))) in record {
         listed = listed;
         same = all_has (λ (t : Table). new.trees t.tree ≡ old.trees t.tree) new.schema.tables table it.others listed;
       }
 
   pub dropped_keeps : {table : Table} {rows : List Row} → HoldsRows table rows old → table.tree ≢ tree
       → HoldsRows table rows new
-  dropped_keeps {table} h apart = record {
-    lone = subst (λ s. IsLone s table.name table) (sym it.schema_is) (lone_left old.schema tree apart h.lone);
-    rows_are = (dropped_is_kept table h.lone.listed apart).same ∙ h.rows_are;
-  }
+  dropped_keeps {table} h apart =
+      let kept = dropped_is_kept table h.lone.listed apart in record {
+        lone = record {
+          listed = kept.listed;
+          named = h.lone.named;
+          keeps = dropped_all _ h.lone.keeps;
+          unreferenced = dropped_all _ h.lone.unreferenced;
+          unindexed = rw it.schema_is (all-filter _ _ old.schema.indexes h.lone.unindexed);
+        };
+        rows_are = kept.same ∙ h.rows_are;
+      }
 
-  pub dropped_all : (P : Table → Type 0) → AllByRecursion P old.schema.tables → AllByRecursion P new.schema.tables
-  dropped_all P all = subst (λ (s : Schema). AllByRecursion P s.tables) (sym it.schema_is)
-      (all-filter P (λ t. not (t.tree == tree)) old.schema.tables all)
-
+-- the name of the dropped table is free
 pub dropped_unused : {table : Table} {rows : List Row} {old new : Database} → IsDropped table.tree old new
     → IsDatabase old → HoldsRows table rows old → is_used new.schema table.name ≡ false
 dropped_unused {table} {old = old} it sound h =
-    subst (λ s. is_used s table.name ≡ false) (sym it.schema_is) (name_freed old sound h.lone)
+    let lone = h.lone in
+    rw it.schema_is (unnamed (without_table old.schema table.tree) table.name
+    (all_from _ _ (λ t has. false_from_ne_true _ (λ same.
+    let was = has_filtered (λ t. not (t.tree == table.tree)) old.schema.tables t has in
+    let one = one_table old sound table lone.listed table.name lone.named t was.0 same in
+    both_ways _ (not-true _ was.1) (eq-eqb _ _ (ap (λ (t : Table). t.tree) one)))))
+    (all-filter _ _ old.schema.indexes (no_index old sound table lone.listed table.name lone.named))
+    (no_view old sound table lone.listed table.name lone.named))
+
+-- ---- the first map: the empty one after CREATE, or that of its rows if the table is found in a database
+
+-- if a table that no other object affects has the rows of a map, the database holds the map
+pub holds_map : {V : Type 0} (c : Codec V) {db : Database} → IsDatabase db → {tree : ℕ} {rows : List Row}
+    → HoldsRows (table_of c tree) rows db → {m : FinMap nat_cmp V} → AreMap c rows m → HoldsMap c db m
+holds_map c {db} sound {tree} h {m} are =
+    let stands = lone_stands db sound h.lone in
+    record { tree = tree; at = stands.0; stands = stands.1; lone = h.lone; rows = rw h.rows_are are }
+
+module _ {V : Type 0} (c : Codec V) {sql : List ℕ} (text : IsCreateText (table_of c 0) sql) (old new : State)
+    (count : ℕ) (admits : AdmitsTable c.name old.now.schema) (sound : IsDatabase old.now)
+    (ran : Executes sql [] old new (Ok count)) where
+  pub created_state : IsCreated (table_of c 0) old.now new.now
+  created_state = executed_creates text refl old new count admits.unused admits.sequence_allowed ran
+
+  pub created_map_is_empty : HoldsMap c new.now empty
+  created_map_is_empty = holds_map c created_state.sound (created_holds created_state sound admits.unreferenced)
+      (record { valid = tt; differ = tt; is = refl })
+
+  pub creation_keeps_others : {W : Type 0} (d : Codec W) {m : FinMap nat_cmp W} → HoldsMap d old.now m
+      → HoldsMap d new.now m
+  creation_keeps_others d h =
+      holds_map d created_state.sound (created_keeps created_state {table = table_of d h.tree}
+      (record { lone = h.lone; rows_are = refl })) h.rows
+
+-- if no transaction was open, CREATE leaves the connection ready with the empty map
+pub created_is_ready : {V : Type 0} (c : Codec V) {sql : List ℕ} → IsCreateText (table_of c 0) sql → (old new : State)
+    (r : Result ℕ Error) → old.in_transaction ≡ false → AdmitsTable c.name old.now.schema → IsDatabase old.now
+    → Executes sql [] old new r → OnOk r (IsReadyWith (HoldsMap c) new empty)
+created_is_ready c text old new (Err e) idle admits sound ran = tt
+created_is_ready c {sql} text old new (Ok count) idle admits sound ran =
+    let makes = text.makes old.now.schema admits.unused in
+    let it = runs_as sql [] old new old.now.schema refl CreateTable makes.0.is makes.0.is_plain count ran in
+    ready_with new new.now empty it.shown.is_open (it.shown.mode ∙ idle) (sym (rw idle at it.shown.committed_is)) refl
+    it.sound (created_map_is_empty c text old new count admits sound ran)
+
+-- a table that is listed with the text, and that no other object affects, holds the map of its rows
+pub found_map : {V : Type 0} (c : Codec V) {sql : List ℕ} → IsCreateText (table_of c 0) sql → (db : Database)
+    → IsDatabase db → {tree : ℕ} (n : IsNamed db.schema c.name tree) → HasCatalogText db.trees c.name sql
+    → AllByRecursion (TreeHasName c.name tree) db.schema.tables
+    → AllByRecursion (HasNoReferenceTo c.name) db.schema.tables
+    → AllByRecursion (λ index. index.table ≢ tree) db.schema.indexes → {m : FinMap nat_cmp V}
+    → AreMap c (db.trees tree) m → HoldsMap c db m
+found_map c {sql} text db sound {tree} n listed keeps unreferenced unindexed rows =
+    let is = defined db sound c.name tree n sql (table_of c 0) listed text.table_is in
+    let there = n.there ∙ ap Some is.0 in
+    let lone : IsLone db.schema c.name (table_of c tree) = record {
+      listed = has_got db.schema.tables n.at (table_of c tree) there;
+      named = has_name db.schema c.name n.at (table_of c tree) n.named there;
+      keeps = keeps;
+      unreferenced = unreferenced;
+      unindexed = unindexed;
+    } in
+    holds_map c sound (record { lone = lone; rows_are = refl }) rows

@@ -1,22 +1,26 @@
 -- The calls of the device table, without its cache.
-use Rattle.std.specs.Prelude.{◌≡◌, Bool, not, is_some, IsTrue, Some, MatchBool, MatchResult, Result}
+use Rattle.std.specs.Prelude.{◌≡◌, Bool, true, false, is_some, IsTrue, Some, Result, Ok, Err}
 use Rattle.std.specs.FinMap.{get}
 use Rattle.sqlite.specs.State.{State, HasCleanDisk}
+use Rattle.sqlite.specs.declared.error.Error.{Error}
 use Rattle.learned_devices.specs.declared.Device.{Device}
-use Rattle.learned_devices.specs.Devices.{Devices, Operation, data_after, device_data, is_full_for, learn_update}
-use Rattle.learned_devices.specs.DeviceStoreState.{DeviceStoreState, Keeps, Commits, LeavesPending}
+use Rattle.learned_devices.specs.declared.fault.LearnFault.{LearnFault}
+use Rattle.learned_devices.specs.declared.fault.LearnFault.TheVariants.{Full, Failed}
+use Rattle.learned_devices.specs.Devices.{Devices, Operation, data_after, device_data}
+use Rattle.learned_devices.specs.DeviceStoreState.{DeviceStoreState}
+use Rattle.learned_devices.specs.StoreCalls.{Learns}
+use Rattle.device_registry.specs.Faults.{fault_of}
 use Rattle.device_registry.specs.Holding.{HasDevicesIfOpen}
 
+-- whether a device was learned, as the result of `learn`
+abbrev pub learn_result : Result Bool Error → Result (Unit {0}) LearnFault
+learn_result (Ok true) = Ok tt
+learn_result (Ok false) = Err Full
+learn_result (Err e) = Err (Failed (fault_of e))
+
 -- a device is learned if the registry is not full; the result is whether it is learned
-pub record LearnsUnlessFull {E : Type 0} (old new : DeviceStoreState) (it : Device)
-    (result : Result Bool E) : Type 0 where
-  pub clean : new.honest → old.honest
-  pub reopenable : new.honest → new.reopenable
-  pub devices : new.honest → (devices : Devices) → old.holds devices
-      → MatchResult result (λ room. (is_full_for devices it.id ≡ not room)
-      × MatchBool room (Commits new (learn_update it) devices) (Keeps old new devices))
-      (λ _. MatchBool (is_full_for devices it.id) (Keeps old new devices)
-      (LeavesPending old new (learn_update it) devices))
+abbrev pub LearnsUnlessFull : (old new : DeviceStoreState) → Device → Result Bool Error → Type 0
+LearnsUnlessFull old new it result = Learns old new it (learn_result result)
 
 -- the sender of the device is learned, and the operation makes this device of what is stored
 abbrev pub OperationMakesDevice : State → Device → Operation → Type 0

@@ -1,5 +1,4 @@
-use Rattle.std.proofs.Common.{◌∙◌, eqb, sym}
-use Rattle.std.proofs.lemmas.Bool.{eqb-false}
+use Rattle.keyed_table.proofs.Common.{◌∙◌, eqb, sym, eqb-false}
 use Rattle.std.proofs.lemmas.Map.{lookup-remove_entry, none_passes_from_lookup}
 use Rattle.std.specs.Cmp.{nat_eq_equiv}
 use Rattle.std.specs.Map.{remove_entry}

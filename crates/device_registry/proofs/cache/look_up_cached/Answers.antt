@@ -1,4 +1,4 @@
-use Rattle.std.proofs.Common.{eqb-true, rules, ◌≡◌, ◌∙◌, None, eqb, ap, is_some}
+use Rattle.keyed_table.proofs.Common.{eqb-true, rules, ◌≡◌, ◌∙◌, None, eqb, ap, is_some}
 use Rattle.std.proofs.lemmas.Map.Views.{Contains-from_lookup}
 use Rattle.std.specs.Map.{lookup}
 use Rattle.lru.specs.LruCache.{promoted}

@@ -1,19 +1,21 @@
-use Rattle.std.proofs.Common.{rules, ◌≡◌}
-use Rattle.std.specs.FinMap.{empty}
-use Rattle.device_registry.proofs.CreateEffect.{creation, CanCreate, creation_makes}
-use Rattle.device_registry.proofs.TransactionEnd.{sound_inside, ends, made_empty, crash_empty}
+use Rattle.keyed_table.proofs.Common.{rules, ◌≡◌, refl, on_ok_weaker, survives_weaker}
+use Rattle.device_registry.proofs.RegistryMade.{creation_makes, ends, ran}
 use Rattle.device_registry.proofs.create.create_registry.Goals as goal
 
 pub run_and_check_catalog-requires-clause-sound : goal.run_and_check_catalog-requires-clause-sound
-run_and_check_catalog-requires-clause-sound g c =
-    sound_inside g.S.Store creation CanCreate (λ old devices. devices ≡ empty) (creation_makes g.S.Store)
-    c.args.conn.now c.transaction-making.result.conn.now c.transaction-making.ensures.begun c.requires.clear
+run_and_check_catalog-requires-clause-sound g c mid clean it =
+    (ran g.S.Store c.args.conn.now c.transaction-making.ensures.begun
+    (λ clean. creation_makes g.S.Store c.args.conn.now (c.requires.clear clean)) mid clean it).sound
 
 pub returns : goal.returns
 returns g c =
     let same : c.commit.new.self.0 ≡ c.conn-2-1.given.0 = search rules in
-    let it = ends g.S.Store creation CanCreate (λ old devices. devices ≡ empty) (creation_makes g.S.Store)
-    c.args.conn.now c.transaction-making.result.conn.now c.transaction-making.ensures.begun c.requires.clear
-    c.run_and_check_catalog.new.ours.conn.now c.in_ok-run_and_check_catalog.ensures.inside c.commit.result
-    c.commit.new.self.0 c.conn-2-1.given.0 same c.commit.ensures.survives c.commit.ensures.ok c.commit.ensures.err in
-    record { made = made_empty it; others = it.others; crash = crash_empty it; remains = it.remains }
+    let it = ends g.S.Store c.args.conn.now c.transaction-making.ensures.begun
+    (λ clean. creation_makes g.S.Store c.args.conn.now (c.requires.clear clean)) _ c.commit.result
+    c.in_ok-run_and_check_catalog.ensures.inside c.commit.ensures.survives c.commit.ensures.ok c.commit.ensures.err in
+    rw (← same) (record {
+      made = λ clean. on_ok_weaker c.commit.result (λ shows. shows _ refl) (it.made clean);
+      others = it.others;
+      crash = survives_weaker _ _ _ _ (λ clean trees holds. holds _ refl) it.crash;
+      remains = it.remains;
+    })

@@ -1,5 +1,5 @@
-use Rattle.device_registry.proofs.OpenCalls.{only_non_registries_are_refused}
+use Rattle.keyed_table.proofs.Common.{refl}
 use Rattle.device_registry.proofs.laws.only_non_registries_are_refused.Goals as goal
 
 pub returns : goal.returns
-returns g c = only_non_registries_are_refused g.C.SqlConnection.state
+returns g c conn last clean refused = (refused.not_a_registry clean refl).0

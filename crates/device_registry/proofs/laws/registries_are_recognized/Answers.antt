@@ -1,5 +1,9 @@
-use Rattle.device_registry.proofs.OpenCalls.{registries_are_recognized}
+use Rattle.keyed_table.proofs.Common.{inl}
+use Rattle.device_registry.proofs.Common.{Second}
 use Rattle.device_registry.proofs.laws.registries_are_recognized.Goals as goal
 
 pub returns : goal.returns
-returns g c = registries_are_recognized g.C.SqlConnection.state
+returns g c = (
+  λ trees it. (it.devices, inl (Second, it.holds)),
+  λ old new fault devices clean refused finds is. (refused.not_a_registry clean is).0 devices finds,
+)

@@ -1,20 +1,20 @@
-use Rattle.std.proofs.Common.{◌≡◌, rules}
-use Rattle.sqlite.specs.State.{HasCleanDisk}
-use Rattle.device_registry.specs.declared.schema_check.TablesStatus.TheVariants.{Absent}
-use Rattle.device_registry.specs.private.TablesStatus.{tables_status}
-use Rattle.device_registry.proofs.OpenCalls.{created, creation_crash, no_registry, not_held, one_version, others_from}
-use Rattle.device_registry.proofs.OpenCalls.{prepared, ready_found, recognized, registry_found, recognized_rewritten}
-use Rattle.device_registry.proofs.OpenCalls.{rows_from, rows_keep_others, crash_keeps_found, unusable, is_ready}
-use Rattle.device_registry.proofs.TablesStatusLemmas.{absent_free}
-use Rattle.device_registry.proofs.TablesRecognized.{before}
+use Rattle.keyed_table.proofs.Common.{◌≡◌, rules, Ok, Err, Result, HasCleanDisk}
+use Rattle.device_registry.proofs.Common.{Absent, Present, Unusable}
+use Rattle.device_registry.proofs.OpenCalls.{accepted, counts_one, crash_keeps_found, created, creation_crash}
+use Rattle.device_registry.proofs.OpenCalls.{is_ready, foreign, one_version, ready_found, recognized}
+use Rattle.device_registry.proofs.OpenCalls.{rewritten_between, rows_from}
+use Rattle.device_registry.proofs.TablesRecognized.{before, status_implies}
 use Rattle.device_registry.proofs.opening.create_or_recognize.Goals as goal
 
--- ---- the tables are created
+no_error : {A T E : Type 0} {v : T} {e : E} → ◌≡◌ {A = Result T E} (Ok v) (Err e) → A
+no_error is = absurd (let e = is in cc)
+
+ok_no_error : {T E : Type 0} {v : T} {e : E} → ◌≡◌ {A = Result T E} (Ok v) (Err e) → ⊥
+ok_no_error = no_error
 
 pub create_tables-requires-clause-clear : goal.create_tables-requires-clause-clear
 create_tables-requires-clause-clear g c clean =
-    let old = g.C.SqlConnection.state c.args.conn.now in
-    (absent_free old.now.schema (search rules), (c.requires.rest clean).sound)
+    (status_implies _ {status = Absent} (search rules), (c.requires.rest clean).sound)
 
 pub returns-in_err-create_tables-in-Absent-clause-crash : goal.returns-in_err-create_tables-in-Absent-clause-crash
 returns-in_err-create_tables-in-Absent-clause-crash g c =
@@ -22,64 +22,42 @@ returns-in_err-create_tables-in-Absent-clause-crash g c =
 
 pub returns-in_ok-create_tables-in-Absent : goal.returns-in_ok-create_tables-in-Absent
 returns-in_ok-create_tables-in-Absent g c =
-    let old = g.C.SqlConnection.state c.args.conn.now in
-    let absent : tables_status old.now.schema ≡ Absent = search rules in
-    record {
-      prepared = created c.requires.rest absent c.create_tables.ensures.crash
-          c.in_ok-create_tables-in-Absent.ensures.made;
-      refused = search rules;
-      unchanged = search rules;
-      crash = creation_crash c.requires.rest absent c.create_tables.ensures.crash;
-      rows = not_held c.requires.rest absent c.create_tables.ensures.crash;
-      written = not_held c.requires.rest absent c.create_tables.ensures.crash;
-      others = search rules;
-      remains = search rules;
-    }
-
--- ---- it is something else
+    let it = created c.requires.rest (search rules) c.create_tables.ensures.crash
+    c.in_ok-create_tables-in-Absent.ensures.made c.in_ok-create_tables-in-Absent.ensures.others in
+    search (rules, it, no_error, ok_no_error)
 
 pub returns-then-not-branch-clause-refused : goal.returns-then-not-branch-clause-refused
 returns-then-not-branch-clause-refused g c clean why =
-    no_registry _ (c.requires.rest (before c.is_registry.ensures.crash clean)) c.in-Present.version (search rules)
-    (c.is_registry.ensures.other clean (search rules))
+    foreign _ {status = Present c.in-Present.version} (c.requires.rest (before c.is_registry.ensures.crash clean))
+    (search rules) (λ is. let e = is in cc) (λ version is. let same : c.in-Present.version ≡ version = cc in
+    rw same at (c.is_registry.ensures.other clean (search rules)))
 
 pub returns-in-Unusable-clause-refused : goal.returns-in-Unusable-clause-refused
-returns-in-Unusable-clause-refused g c clean why = unusable _ (c.requires.rest clean) (search rules)
-
--- ---- it is a registry of version 1
+returns-in-Unusable-clause-refused g c clean why =
+    foreign _ {status = Unusable} (c.requires.rest clean) (search rules) (λ is. let e = is in cc)
+    (λ _ is. let e = is in cc)
 
 pub migrate_tables-requires-clause-first : goal.migrate_tables-requires-clause-first
 migrate_tables-requires-clause-first g c clean =
     let it = recognized c.in-First.is c.requires.rest c.is_registry.ensures.crash
     c.in_ok-is_registry-in-Present.ensures.ours (search rules) clean in
-    (it.registry, it.rest.sound)
+    (it.found.2.registry, it.rest.sound)
 
 pub returns-in_err-migrate_tables-in-First-clause-crash : goal.returns-in_err-migrate_tables-in-First-clause-crash
 returns-in_err-migrate_tables-in-First-clause-crash g c =
-    crash_keeps_found (λ clean. registry_found (recognized c.in-First.is c.requires.rest c.is_registry.ensures.crash
-    c.in_ok-is_registry-in-Present.ensures.ours (search rules) clean)) c.migrate_tables.ensures.crash
-    c.is_registry.ensures.crash
+    crash_keeps_found (λ clean. (recognized c.in-First.is c.requires.rest c.is_registry.ensures.crash
+    c.in_ok-is_registry-in-Present.ensures.ours (search rules) clean).found) c.is_registry.ensures.crash
+    c.migrate_tables.ensures.crash
 
 pub returns-in_ok-migrate_tables-in-First : goal.returns-in_ok-migrate_tables-in-First
 returns-in_ok-migrate_tables-in-First g c =
-    let it = recognized c.in-First.is c.requires.rest c.is_registry.ensures.crash
+    let known = recognized c.in-First.is c.requires.rest c.is_registry.ensures.crash
     c.in_ok-is_registry-in-Present.ensures.ours (search rules) in
-    let mid = g.C.SqlConnection.state c.is_registry.new.conn in
-    let new = g.C.SqlConnection.state c.migrate_tables.new.self in
-    let devices = λ (clean : HasCleanDisk mid). registry_found (it clean) in
-    let early = before c.migrate_tables.ensures.crash in
-    record {
-      prepared = prepared devices c.migrate_tables.ensures.crash c.in_ok-migrate_tables-in-First.ensures.made;
-      refused = search rules;
-      unchanged = search rules;
-      crash = crash_keeps_found devices c.migrate_tables.ensures.crash c.is_registry.ensures.crash;
-      rows = λ clean. one_version (it (early clean));
-      written = λ clean. one_version (it (early clean));
-      others = λ clean. others_from (it (early clean)).same new (c.in_ok-migrate_tables-in-First.ensures.others clean);
-      remains = search rules;
-    }
-
--- ---- it is a registry of version 2
+    let it = accepted (λ clean. (known clean).found) c.is_registry.ensures.crash
+    c.migrate_tables.ensures.crash c.in_ok-migrate_tables-in-First.ensures.made
+    (λ clean held. absurd (one_version (known (before c.migrate_tables.ensures.crash clean)) held))
+    (λ clean. rw (known (before c.migrate_tables.ensures.crash clean)).same.0.now_is at
+    (c.in_ok-migrate_tables-in-First.ensures.others clean)) in search (rules, it, no_error, ok_no_error)
 
 pub rewrite_version-requires : goal.rewrite_version-requires
 rewrite_version-requires g c clean =
@@ -89,27 +67,22 @@ rewrite_version-requires g c clean =
 pub returns-in_err-rewrite_version-in-Second-clause-crash : goal.returns-in_err-rewrite_version-in-Second-clause-crash
 returns-in_err-rewrite_version-in-Second-clause-crash g c =
     crash_keeps_found (λ clean. ready_found (recognized c.in-Second.is c.requires.rest c.is_registry.ensures.crash
-    c.in_ok-is_registry-in-Present.ensures.ours (search rules) clean)) c.rewrite_version.ensures.crash
-    c.is_registry.ensures.crash
+    c.in_ok-is_registry-in-Present.ensures.ours (search rules) clean)) c.is_registry.ensures.crash
+    c.rewrite_version.ensures.crash
 
 pub returns-in_ok-rewrite_version-in-Second : goal.returns-in_ok-rewrite_version-in-Second
 returns-in_ok-rewrite_version-in-Second g c =
-    let it = recognized c.in-Second.is c.requires.rest c.is_registry.ensures.crash
+    let known = recognized c.in-Second.is c.requires.rest c.is_registry.ensures.crash
     c.in_ok-is_registry-in-Present.ensures.ours (search rules) in
-    let mid = g.C.SqlConnection.state c.is_registry.new.conn in
     let new = g.C.SqlConnection.state c.rewrite_version.new.conn in
-    let devices = λ (clean : HasCleanDisk mid). ready_found (it clean) in
-    let early = before c.rewrite_version.ensures.crash in
-    let rows = λ (clean : HasCleanDisk new).
-    c.in_ok-rewrite_version-in-Second.ensures.rows clean (is_ready (it (early clean))) in
-    record {
-      prepared = prepared devices c.rewrite_version.ensures.crash c.in_ok-rewrite_version-in-Second.ensures.renewed;
-      refused = search rules;
-      unchanged = search rules;
-      crash = crash_keeps_found devices c.rewrite_version.ensures.crash c.is_registry.ensures.crash;
-      rows = λ clean held. rows_from (it (early clean)).same (rows clean);
-      written = λ clean held. recognized_rewritten new _ (it (early clean)) c.is_registry.ensures.crash
-          (c.in_ok-rewrite_version-in-Second.ensures.runs clean);
-      others = λ clean. others_from (it (early clean)).same new (rows_keep_others (rows clean));
-      remains = search rules;
-    }
+    let was = λ (clean : HasCleanDisk new). known (before c.rewrite_version.ensures.crash clean) in
+    let kept = λ (clean : HasCleanDisk new).
+    rows_from (was clean).same (c.in_ok-rewrite_version-in-Second.ensures.rows clean (is_ready (was clean))) in
+    let it = accepted (λ clean. ready_found (known clean)) c.is_registry.ensures.crash
+    c.rewrite_version.ensures.crash c.in_ok-rewrite_version-in-Second.ensures.renewed (λ clean held. (
+      kept clean,
+      rewritten_between _ _ _ (rw (was clean).same.0.now_is at (was clean).found.2.registry.tables) (was clean).same
+          c.is_registry.ensures.crash
+          (counts_one _ _ _ (is_ready (was clean)) (c.in_ok-rewrite_version-in-Second.ensures.runs clean)),
+    )) (λ clean table has _ _. (rw (kept clean).schema has, (kept clean).rows table has)) in
+    search (rules, it, no_error, ok_no_error)

@@ -1,5 +1,4 @@
-use Rattle.std.proofs.Common.{◌≡◌, arith}
-use Rattle.sqlite.specs.State.{HasCleanDisk}
+use Rattle.keyed_table.proofs.Common.{◌≡◌, arith}
 use Rattle.keyed_table.proofs.Statements.{compiled_stays, compiled_ready}
 use Rattle.device_registry.proofs.queries.compile.Goals as goal
 
@@ -10,7 +9,5 @@ returns-clause-stays g c =
 
 pub returns-clause-ready : goal.returns-clause-ready
 returns-clause-ready g c clean =
-    let early : HasCleanDisk (g.C.SqlConnection.state c.args.conn.now) =
-    omega (arith, clean, c.prepare.ensures.survives.clean) in
     compiled_ready (λ s. s.text ≡ c.args.sql.now) c.args.sql.now _ _ c.prepare.result (c.prepare.ensures.ok clean)
-    (c.requires early)
+    (c.requires (omega (arith, clean, c.prepare.ensures.survives.clean)))

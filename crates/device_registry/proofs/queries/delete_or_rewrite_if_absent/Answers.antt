@@ -1,6 +1,6 @@
-use Rattle.std.proofs.Common.{◌∙◌, sym}
-use Rattle.device_registry.proofs.DeviceStatements.{unknown_is_removed}
-use Rattle.learned_devices.specs.Devices.{forget_update}
+use Rattle.keyed_table.proofs.Common.{◌∙◌, sym}
+use Rattle.device_registry.proofs.Common.{forget_update}
+use Rattle.device_registry.proofs.DevicesHeld.{unknown_is_removed}
 use Rattle.device_registry.proofs.queries.delete_or_rewrite_if_absent.Goals as goal
 
 pub returns-clause-turns : goal.returns-clause-turns

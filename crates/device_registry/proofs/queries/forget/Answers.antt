@@ -1,5 +1,6 @@
-use Rattle.std.proofs.Common.{rules, SFits, w64, to_z-of_z}
-use Rattle.device_registry.proofs.DeviceStatements.{forget_turns}
+use Rattle.keyed_table.proofs.Common.{rules}
+use Rattle.std.proofs.Common.{SFits, w64, to_z-of_z}
+use Rattle.device_registry.proofs.DevicesHeld.{forget_turns}
 use Rattle.device_registry.proofs.queries.forget.Goals as goal
 
 pub returns : goal.returns

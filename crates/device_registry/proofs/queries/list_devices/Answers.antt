@@ -1,10 +1,7 @@
-use Rattle.std.proofs.Common.{arith, [], subst}
-use Rattle.std.proofs.lemmas.Result.{IfOk-weaker}
-use Rattle.sqlite.specs.State.{HasCleanDisk, Shown}
-use Rattle.device_registry.specs.declared.table.Version.TheVariants.{Second}
-use Rattle.device_registry.specs.Table.{find_all_sql}
+use Rattle.keyed_table.proofs.Common.{arith, [], subst, IfOk-weaker, HasCleanDisk, Shown}
+use Rattle.device_registry.proofs.Common.{Second, find_all_sql}
 use Rattle.keyed_table.proofs.Statements.{compiled_query_stays, query_ready}
-use Rattle.device_registry.proofs.DeviceStatements.{all_plain, lists}
+use Rattle.device_registry.proofs.DevicesHeld.{are_plain, lists}
 use Rattle.device_registry.proofs.queries.list_devices.Goals as goal
 
 pub returns : goal.returns
@@ -14,16 +11,15 @@ returns g c =
     let compiled = c.in_ok-all.ensures in
     let query = c.query_all_prepared.ensures in
     record {
-      stays = compiled_query_stays (find_all_sql Second) _ [] _ mid _ (λ v. v.items) c.query_all_prepared.result
-          c.compile.ensures.stays compiled.text (λ clean. all_plain (compiled.ready clean)) query.survives query.ok
-          query.err;
+      stays = compiled_query_stays (find_all_sql Second) _ _ _ _ _ _ _ c.compile.ensures.stays compiled.text
+          (λ clean. (are_plain (compiled.ready clean)).2) query.survives query.ok query.err;
       all = λ clean.
           let early : HasCleanDisk mid = omega (arith, clean, query.survives.clean) in
           let ready = compiled.ready early in
           let shown_before = (c.compile.ensures.stays.goes_on early ready.shows.is_open).1 in
           IfOk-weaker c.query_all_prepared.result _ _ (λ rows shown.
           let all = subst (λ text. Shown text [] mid new rows.items) (compiled.text early) shown in (
-            query_ready (find_all_sql Second) [] mid new rows.items (all_plain ready) ready all,
+            query_ready (find_all_sql Second) [] mid new rows.items (are_plain ready).2 ready all,
             λ devices shows. lists new rows.items devices (shown_before devices shows) all,
           )) (query.ok clean);
     }

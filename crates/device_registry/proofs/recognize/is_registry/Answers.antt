@@ -1,7 +1,5 @@
-use Rattle.std.proofs.Common.{rules}
-use Rattle.std.proofs.lemmas.Result.{IfOk-weaker}
-use Rattle.sqlite.proofs.Callers.{unchanged_then}
-use Rattle.device_registry.proofs.TablesRecognized.{before, tables_listed, own_found}
+use Rattle.keyed_table.proofs.Common.{rules, IfOk-weaker, unchanged_then}
+use Rattle.device_registry.proofs.TablesRecognized.{before, own_found, tables_listed}
 use Rattle.device_registry.proofs.recognize.is_registry.Goals as goal
 
 pub returns-then-not-branch-clause-other : goal.returns-then-not-branch-clause-other
@@ -25,11 +23,7 @@ returns-clause-ours g c clean =
     let tables = tables_listed _ (c.requires.rest early).sound c.args.version (c.requires.tables early) listed in
     IfOk-weaker c.has_valid_rows.result _ _ (λ valid h. (
       unchanged_then _ _ _ got.0 h.0,
-      λ is. record {
-        tables = tables;
-        valid_rows = (rw got.0.0.now_is at (h.1 is)) tables;
-        tables_listed = listed;
-      },
+      λ is. record { tables = tables; valid_rows = (rw got.0.0.now_is at (h.1 is)) tables; tables_listed = listed },
     )) (c.has_valid_rows.ensures.whole clean)
 
 pub returns-clause-other : goal.returns-clause-other

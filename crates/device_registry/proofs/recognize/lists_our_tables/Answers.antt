@@ -1,6 +1,5 @@
-use Rattle.std.proofs.Common.{rules, ◌≡◌, true}
-use Rattle.device_registry.specs.private.CatalogRows.{are_our_tables}
-use Rattle.keyed_table.proofs.ObjectsAnswer.{listing_plain}
+use Rattle.keyed_table.proofs.Common.{rules, ◌≡◌, true}
+use Rattle.keyed_table.proofs.ListedTables.{listing_plain}
 use Rattle.device_registry.proofs.TablesRecognized.{before, ours}
 use Rattle.device_registry.proofs.recognize.lists_our_tables.Goals as goal
 
@@ -10,17 +9,12 @@ query_rows-requires g c clean = listing_plain (g.C.SqlConnection.state c.args.co
 pub returns-clause-ours : goal.returns-clause-ours
 returns-clause-ours g c clean =
     let sound = c.requires (before c.query_rows.ensures.crash clean) in
-    let show = c.in_ok-rows.ensures.shown clean in (
-      show.1,
-      λ yes.
-          let are : are_our_tables c.args.version c.in_ok-rows.rows.items ≡ true = search rules in
-          (ours c.args.version _ _ _ sound show.0).0 are,
-    )
+    let show = c.in_ok-rows.ensures.shown clean in
+    (show.1, λ yes. (ours c.args.version _ _ _ sound show.0).0 (search rules))
 
 pub returns-clause-other : goal.returns-clause-other
 returns-clause-other g c clean none listed =
     let sound = c.requires (before c.query_rows.ensures.crash clean) in
-    let are : are_our_tables c.args.version c.in_ok-rows.rows.items ≡ true =
-    (ours c.args.version _ _ _ sound (c.in_ok-rows.ensures.shown clean).0).1 listed in
-    let yes : c.are_our_tables.result ≡ true = search rules in
+    let are = (ours c.args.version _ _ _ sound (c.in_ok-rows.ensures.shown clean).0).1 listed in
+    let yes : c.are_our_tables.result ≡ true = search (rules, are) in
     absurd (let e = none in cc)

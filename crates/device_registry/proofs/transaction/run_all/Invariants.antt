@@ -1,5 +1,5 @@
-use Rattle.std.proofs.Common.{◌≡◌, map, take}
-use Rattle.device_registry.specs.private.Transaction.{IsMidTransaction}
+use Rattle.keyed_table.proofs.Common.{◌≡◌, map, take}
+use Rattle.device_registry.proofs.Common.{IsMidTransaction}
 use Rattle.device_registry.proofs.transaction.run_all.Given as goal
 
 abbrev pub invariant-loop-text : goal.invariant-loop-text

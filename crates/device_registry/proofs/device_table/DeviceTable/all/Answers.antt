@@ -1,7 +1,7 @@
-use Rattle.std.proofs.Common.{map, ap, ◌∙◌}
-use Rattle.std.proofs.lemmas.Result.{IfOk-from_err, IfOk-weaker}
-use Rattle.device_registry.specs.Table.Rows.{shown_device}
-use Rattle.device_registry.proofs.RegistryCalls.{had, keeps_well, lists_all, ok_has, both_ready}
+use Rattle.keyed_table.proofs.Common.{map, ap, ◌∙◌, IfOk-weaker}
+use Rattle.device_registry.proofs.Common.{shown_device}
+use Rattle.std.proofs.lemmas.Result.{IfOk-from_err}
+use Rattle.device_registry.proofs.RegistryCalls.{reports, keeps_well, lists_all}
 use Rattle.device_registry.proofs.device_table.DeviceTable.all.Goals as goal
 
 pub invariant_of-self : goal.invariant_of-self
@@ -15,17 +15,10 @@ returns-in_err-rows-clause-lists g c =
 pub invariant_of-self-2 : goal.invariant_of-self-2
 invariant_of-self-2 g c = keeps_well c.list_devices.ensures.stays c.self.invariant
 
-pub returns : goal.returns
-returns g c =
+pub returns-clause-lists : goal.returns-clause-lists
+returns-clause-lists g c =
     let stays = c.list_devices.ensures.stays in
-    let well = c.self.invariant in
     let listed = c.in_ok-rows.ensures.all in
-    rw (← c.self.view_is) (record {
-      lists = lists_all stays well c.decode_all.result (λ clean devices has.
-          let shown = listed clean in
-          let all = shown.1 devices (had stays well clean shown.0.shows.is_open has) in
-          IfOk-weaker c.decode_all.result _ _
-          (λ all_items read. read ∙ ap (map shown_device) c.deref.ensures.value ∙ all)
-          c.decode_all.ensures.listed);
-      ready = λ clean. ok_has c.decode_all.result (both_ready stays well clean (listed clean).0);
-    })
+    rw (← c.self.view_is) (lists_all stays c.self.invariant c.decode_all.result (λ clean devices has.
+    IfOk-weaker c.decode_all.result _ _ (λ all read. read ∙ ap (map shown_device) c.deref.ensures.value
+    ∙ reports stays c.self.invariant listed clean devices has) c.decode_all.ensures.listed))

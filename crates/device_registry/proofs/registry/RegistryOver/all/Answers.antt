@@ -4,8 +4,7 @@ use Rattle.device_registry.proofs.registry.RegistryOver.all.Goals as goal
 pub invariant_of-self : goal.invariant_of-self
 invariant_of-self g c = (
   c.all.ensures.lists.reopenable,
-  λ entry has clean. kept_recalled c.in-Ok.ensures.ready clean
-      (λ devices had. (c.in-Ok.ensures.lists.devices clean devices had).1)
+  λ entry has clean. kept_recalled c.in-Ok.ensures.ready clean (c.in-Ok.ensures.lists.devices clean)
       (c.self.invariant.1 entry has (c.all.ensures.lists.clean clean)),
 )
 

@@ -1,8 +1,6 @@
-use Rattle.std.proofs.Common.{inl, inr, subst, sym, rules}
+use Rattle.keyed_table.proofs.Common.{inl, inr, rules}
 use Rattle.sqlite.proofs.StateLemmas.{unchanged}
-use Rattle.device_registry.specs.private.Cached.{EntryAgrees}
-use Rattle.device_registry.proofs.CacheAgreement.{recalled, recalled_ready, kept_recalled, found_recalled}
-use Rattle.device_registry.proofs.CacheAgreement.{cleared_recalled}
+use Rattle.device_registry.proofs.CacheAgreement.{kept_recalled, found_recalled, cleared_recalled}
 use Rattle.device_registry.proofs.registry.RegistryOver.known.Goals as goal
 
 -- ---- the sender is cached
@@ -15,18 +13,14 @@ pub returns-in-Some : goal.returns-in-Some
 returns-in-Some g c =
     let entry = c.self.invariant.1 (c.args.id, c.in-Some.known) c.in-Some.ensures.known in
     rw (← c.self.view_is) (record {
+      survives = search rules;
       looks_up = record {
         clean = λ clean. clean;
         reopenable = c.self.invariant.0;
-        devices =
-            λ clean devices has. (
-              recalled clean (entry clean) devices has,
-              record { now = has; crash = λ left may. may },
-            );
+        devices = λ clean devices has. ((entry clean).is devices has, record { now = has; crash = λ left may. may });
       };
-      same = λ clean. unchanged _ (entry clean).shows.is_open;
-      survives = search rules;
-      ready = λ clean. (recalled_ready (entry clean), recalled_ready (entry clean));
+      same = λ clean. unchanged _ (entry clean).ready.shows.is_open;
+      ready = λ clean. ((entry clean).ready, (entry clean).ready);
     })
 
 -- ---- it is looked up
@@ -34,14 +28,13 @@ returns-in-Some g c =
 pub invariant_of-self-in-Ok : goal.invariant_of-self-in-Ok
 invariant_of-self-in-Ok g c =
     let found = c.in-Ok.ensures.looks_up in
-    let ready = c.in-Ok.ensures.ready in
-    let new = g.C.SqlConnection.state c.find.new.self in (
+    let ready = c.in-Ok.ensures.ready in (
       found.reopenable,
       λ entry has clean.
           elim ((rw c.copied-copy.ensures at c.insert_entry.ensures.kept) entry has) [
-            | inl was ↦ kept_recalled ready clean (λ devices had. (found.devices clean devices had).1)
+            | inl was ↦ kept_recalled ready clean (found.devices clean)
                 (c.self.invariant.1 entry (c.look_up_cached.ensures.kept entry was) (found.clean clean))
-            | inr same ↦ subst (EntryAgrees new) (sym same) (found_recalled ready clean (found.devices clean))
+            | inr same ↦ rw same (found_recalled ready clean (found.devices clean))
           ],
     )
 

@@ -1,17 +1,15 @@
-use Rattle.std.proofs.lemmas.Result.{err_from_is_err_and}
 use Rattle.device_registry.proofs.OpenCalls.{not_asked}
 use Rattle.device_registry.proofs.CacheAgreement.{none_recalled}
+use Rattle.device_registry.proofs.RegistryCalls.{err_is}
 use Rattle.device_registry.proofs.registry.RegistryOver.open_with.Goals as goal
 
 pub returns-in_err-cache-clause-refused : goal.returns-in_err-cache-clause-refused
-returns-in_err-cache-clause-refused g c =
-    let why = err_from_is_err_and c.from_residual.result c.from_residual.ensures.1 in
-    rw (why.1, why.2) (λ is. (c.args.conn, not_asked _ _))
+returns-in_err-cache-clause-refused g c = rw (err_is _ c.from_residual.ensures.1) (λ is. (c.args.conn, not_asked _ _))
 
 pub returns-in_err-prepare-clause-refused : goal.returns-in_err-prepare-clause-refused
 returns-in_err-prepare-clause-refused g c =
-    let why = err_from_is_err_and c.from_residual-in_err-prepare.result c.from_residual-in_err-prepare.ensures.1 in
-    rw (why.1, why.2) (λ is. (c.prepare.new.conn, c.in_err-prepare.ensures.refused))
+    rw (err_is _ c.from_residual-in_err-prepare.ensures.1)
+    (λ is. (c.prepare.new.conn, c.in_err-prepare.ensures.refused))
 
 pub invariant_of-result : goal.invariant_of-result
 invariant_of-result g c = (

@@ -1,21 +1,12 @@
-use Rattle.std.proofs.Common.{refl}
-use Rattle.std.proofs.lemmas.Result.{err_from_is_err_and}
-use Rattle.learned_devices.specs.Devices.{Learn, is_full_for}
-use Rattle.device_registry.proofs.RegistryCalls.{either, still_pending, updates_after, learns_after, stored_now}
-use Rattle.device_registry.proofs.RegistryCalls.{makes_known, room_after}
+use Rattle.keyed_table.proofs.Common.{Ok, Err, refl}
+use Rattle.device_registry.proofs.Common.{Learn}
+use Rattle.device_registry.proofs.RegistryCalls.{err_is, updates_after, learns_then, stored_now, makes_known, learns}
+use Rattle.device_registry.proofs.RegistryCalls.{unlearned, room_after}
 use Rattle.device_registry.proofs.registry.RegistryOver.put_keeping_label.Goals as goal
 
 pub returns-in_err-known-clause-learns : goal.returns-in_err-known-clause-learns
 returns-in_err-known-clause-learns g c =
-    let why = err_from_is_err_and c.from_residual.result c.from_residual.ensures.1 in
-    let looks = c.in_err-known.ensures.looks_up in
-    rw (why.1, why.2) (record {
-      clean = looks.clean;
-      reopenable = looks.reopenable;
-      devices = λ clean devices has.
-          let same = looks.devices clean devices has in
-          either (is_full_for devices c.args.device.id) same (still_pending same);
-    })
+    rw (err_is _ c.from_residual.ensures.1) (unlearned c.args.device c.in_err-known.ensures.looks_up)
 
 -- ---- the sender is known
 
@@ -34,16 +25,9 @@ returns-in_err-store_known-in-Some-clause-learns g c =
     let learn = Learn c.args.device.eep c.args.device.maker in
     let makes = makes_known known.looks_up known.ready c.in-Some.is learn refl refl in
     let stored = c.in_err-store_known-in-Some.ensures.updates learn makes in
-    let updates = updates_after known.looks_up _ stored in
-    let why = err_from_is_err_and c.from_residual-in_err-store_known-in-Some.result
-    c.from_residual-in_err-store_known-in-Some.ensures.1 in
-    rw (why.1, why.2) (record {
-      clean = updates.clean;
-      reopenable = updates.reopenable;
-      devices = λ clean devices has.
-          rw (room_after known.looks_up known.ready _ learn makes (stored.clean clean) devices has)
-          (updates.devices clean devices has);
-    })
+    rw (err_is _ c.from_residual-in_err-store_known-in-Some.ensures.1)
+    (learns c.args.device (λ fault. fault) (Err _) (updates_after known.looks_up (Err _) stored)
+    (λ clean. room_after known.looks_up known.ready _ learn makes (stored.clean clean)))
 
 pub returns-in_ok-store_known-in-Some : goal.returns-in_ok-store_known-in-Some
 returns-in_ok-store_known-in-Some g c =
@@ -52,16 +36,9 @@ returns-in_ok-store_known-in-Some g c =
     let makes = makes_known known.looks_up known.ready c.in-Some.is learn refl refl in
     let done = c.in_ok-store_known-in-Some.ensures in
     let stored = done.updates learn makes in
-    let updates = updates_after known.looks_up _ stored in
     record {
-      learns = record {
-        clean = updates.clean;
-        reopenable = updates.reopenable;
-        devices = λ clean devices has. (
-          room_after known.looks_up known.ready _ learn makes (stored.clean clean) devices has,
-          updates.devices clean devices has,
-        );
-      };
+      learns = learns c.args.device (λ fault. fault) (Ok _) (updates_after known.looks_up (Ok _) stored)
+          (λ clean. room_after known.looks_up known.ready _ learn makes (stored.clean clean));
       written = λ clean devices has. done.written learn makes clean devices
           (known.looks_up.devices (stored.clean clean) devices has).1.now;
     }
@@ -81,7 +58,7 @@ returns-in-None g c =
     let looks = c.in_ok-known.ensures.looks_up in
     let stored = c.store_new_unless_full.ensures in
     record {
-      learns = learns_after looks c.store_new_unless_full.result stored.learns;
+      learns = learns_then looks.clean (λ clean devices has. (looks.devices clean devices has).1) _ stored.learns;
       written = λ clean devices has. stored.written clean devices
           (looks.devices (stored.learns.clean clean) devices has).1.now;
     }

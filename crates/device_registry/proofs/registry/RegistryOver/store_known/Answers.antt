@@ -1,5 +1,5 @@
-use Rattle.std.proofs.Common.{◌∙◌, Some, option_map, ap, sym}
-use Rattle.learned_devices.specs.Devices.{DeviceUpdate, device}
+use Rattle.keyed_table.proofs.Common.{◌∙◌, Some, option_map, ap, sym}
+use Rattle.device_registry.proofs.Common.{device}
 use Rattle.device_registry.proofs.CacheAgreement.{changed_recalled, cleared_recalled}
 use Rattle.device_registry.proofs.registry.RegistryOver.store_known.Goals as goal
 
@@ -9,15 +9,10 @@ put_known-requires g c = rw (← c.self.view_is) at c.requires
 pub invariant_of-self : goal.invariant_of-self
 invariant_of-self g c =
     let known = rw (← c.self.view_is) at c.requires.known in
-    let update : DeviceUpdate = record { sender = c.args.device.id; operation = known.0 } in
-    let updates = c.in-Ok.ensures.updates known.0 known.1 in (
-      updates.reopenable,
-      changed_recalled c.in-Ok.ensures.ready updates.clean update
-          c.self.inside.cache.entries c.drop_entry.new.cache.entries c.insert_entry.new.cache.entries updates.devices
-          (λ clean devices has. ap (λ it. Some it) c.copied-stored.ensures
-          ∙ sym (ap (option_map (device c.args.device.id)) (known.1 clean devices has).1))
-          c.self.invariant.1 c.drop_entry.ensures.kept c.insert_entry.ensures.kept,
-    )
+    changed_recalled c.in-Ok.ensures.ready _ _ _ (c.in-Ok.ensures.updates known.0 known.1)
+    (λ clean devices has. ap (λ it. Some it) c.copied-stored.ensures
+    ∙ sym (ap (option_map (device c.args.device.id)) (known.1 clean devices has).1))
+    c.self.invariant.1 c.drop_entry.ensures.kept c.insert_entry.ensures.kept
 
 pub returns-in-Ok : goal.returns-in-Ok
 returns-in-Ok g c = rw (← c.self.view_is) (record {

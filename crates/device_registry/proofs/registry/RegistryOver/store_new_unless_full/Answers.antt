@@ -1,5 +1,5 @@
-use Rattle.std.proofs.Common.{◌∙◌, Some, option_map, ap, sym}
-use Rattle.learned_devices.specs.Devices.{device, learn_update}
+use Rattle.keyed_table.proofs.Common.{◌∙◌, Ok, Some, option_map, ap, sym}
+use Rattle.device_registry.proofs.Common.{device, learn_update, Updates}
 use Rattle.device_registry.proofs.CacheAgreement.{changed_recalled, kept_recalled, cleared_recalled}
 use Rattle.device_registry.proofs.registry.RegistryOver.store_new_unless_full.Goals as goal
 
@@ -11,23 +11,19 @@ learn_unless_full-requires g c = rw (← c.self.view_is) at c.requires
 pub invariant_of-self : goal.invariant_of-self
 invariant_of-self g c =
     let adds = rw (c.in-Ok-true.field-0-test) at c.in-Ok-true.ensures.adds in
-    let learned = rw (← c.self.view_is) at c.requires.learned in (
-      adds.reopenable,
-      changed_recalled c.in-Ok-true.ensures.ready adds.clean (learn_update c.args.device)
-          c.self.inside.cache.entries c.drop_entry.new.cache.entries c.insert_entry.new.cache.entries
-          (λ clean devices has. (adds.devices clean devices has).1)
-          (λ clean devices has. ap (λ it. Some it) c.copied-copy.ensures
-          ∙ sym (ap (option_map (device c.args.device.id)) (learned clean devices has)))
-          c.self.invariant.1 c.drop_entry.ensures.kept c.insert_entry.ensures.kept,
-    )
+    let updates : Updates {A = Unit {0}} {E = Unit {0}} _ _ (learn_update c.args.device) (Ok tt) = record {
+      clean = adds.clean;
+      reopenable = adds.reopenable;
+      devices = λ clean devices has. (adds.devices clean devices has).1;
+    } in
+    changed_recalled c.in-Ok-true.ensures.ready _ _ _ updates (λ clean devices has.
+    ap (λ it. Some it) c.copied-copy.ensures
+    ∙ sym (ap (option_map (device c.args.device.id)) ((rw (← c.self.view_is) at c.requires.learned) clean devices has)))
+    c.self.invariant.1 c.drop_entry.ensures.kept c.insert_entry.ensures.kept
 
-pub returns-in-Ok-true : goal.returns-in-Ok-true
-returns-in-Ok-true g c =
-    let adds = rw (c.in-Ok-true.field-0-test) at c.in-Ok-true.ensures.adds in
-    rw (← c.self.view_is) (record {
-      learns = record { clean = adds.clean; reopenable = adds.reopenable; devices = adds.devices };
-      written = λ clean devices has. c.in-Ok-true.ensures.written clean devices has c.in-Ok-true.field-0-test;
-    })
+pub returns-in-Ok-true-clause-written : goal.returns-in-Ok-true-clause-written
+returns-in-Ok-true-clause-written g c = rw (← c.self.view_is)
+    (λ clean devices has. c.in-Ok-true.ensures.written clean devices has c.in-Ok-true.field-0-test)
 
 -- ---- the registry is full, and the other cache entries stay
 
@@ -35,8 +31,7 @@ pub invariant_of-self-in-Ok-false : goal.invariant_of-self-in-Ok-false
 invariant_of-self-in-Ok-false g c =
     let adds = rw (c.in-Ok-false.field-0-test) at c.in-Ok-false.ensures.adds in (
       adds.reopenable,
-      λ entry has clean. kept_recalled c.in-Ok-false.ensures.ready clean
-          (λ devices had. (adds.devices clean devices had).1)
+      λ entry has clean. kept_recalled c.in-Ok-false.ensures.ready clean (adds.devices clean)
           (c.self.invariant.1 entry (c.drop_entry.ensures.kept entry has).0 (adds.clean clean)),
     )
 
@@ -50,5 +45,4 @@ pub returns-in-Err-clause-learns : goal.returns-in-Err-clause-learns
 returns-in-Err-clause-learns g c = rw (← c.self.view_is) (assumption c.in-Err.ensures)
 
 pub invariant_of-self-in-Err : goal.invariant_of-self-in-Err
-invariant_of-self-in-Err g c =
-    (c.learn_unless_full.ensures.adds.reopenable, cleared_recalled _ c.clear.ensures)
+invariant_of-self-in-Err g c = (c.learn_unless_full.ensures.adds.reopenable, cleared_recalled _ c.clear.ensures)

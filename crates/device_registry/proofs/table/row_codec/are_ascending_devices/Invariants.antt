@@ -1,5 +1,5 @@
-use Rattle.std.proofs.Common.{◌≡◌, drop}
-use Rattle.device_registry.specs.Table.Rows.{are_ascending_devices}
+use Rattle.keyed_table.proofs.Common.{◌≡◌, drop}
+use Rattle.device_registry.proofs.Common.{are_ascending_devices}
 use Rattle.device_registry.proofs.table.row_codec.are_ascending_devices.Given as goal
 
 abbrev pub invariant-loop-row : goal.invariant-loop-row

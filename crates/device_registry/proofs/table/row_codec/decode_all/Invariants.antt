@@ -1,5 +1,5 @@
-use Rattle.std.proofs.Common.{◌≡◌, map, take}
-use Rattle.device_registry.specs.Table.Rows.{shown_device}
+use Rattle.keyed_table.proofs.Common.{◌≡◌, map, take}
+use Rattle.device_registry.proofs.Common.{shown_device}
 use Rattle.device_registry.proofs.table.row_codec.decode_all.Given as goal
 
 abbrev pub invariant-loop-row : goal.invariant-loop-row

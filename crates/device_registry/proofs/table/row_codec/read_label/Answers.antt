@@ -1,12 +1,9 @@
-use Rattle.std.proofs.Common.{IsUtf8, rules, ◌≡◌, ◌∙◌, sym, ap, false, inl, inr, List, ℕ, None, Result, Ok, Err}
-use Rattle.std.proofs.Common.{MatchResult}
+use Rattle.keyed_table.proofs.Common.{rules, ◌≡◌, ◌∙◌, sym, ap, false, inl, inr, List, ℕ, None, Result, Ok, Err}
+use Rattle.keyed_table.proofs.Common.{and_parts, cases_Bool, Text, column}
+use Rattle.device_registry.proofs.Common.{is_label, is_label_text}
+use Rattle.std.proofs.Common.{IsUtf8, MatchResult}
 use Rattle.std.specs.Result.{result_ok}
-use Rattle.std.proofs.lemmas.Bool.{and_parts, cases_Bool}
-use Rattle.learned_devices.specs.Labels.{is_label}
 use Rattle.learned_devices.proofs.LabelLemmas.{name-utf8}
-use Rattle.sqlite.specs.declared.types.Value.TheVariants.{Text}
-use Rattle.sqlite.specs.Order.{column}
-use Rattle.device_registry.specs.Table.Rows.{is_label_text}
 use Rattle.device_registry.proofs.table.row_codec.read_label.Goals as goal
 
 -- a text that is not UTF-8 is no label

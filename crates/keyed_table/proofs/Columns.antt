@@ -1,0 +1,42 @@
+-- Values that the type of their column leaves unchanged, and CHECKs that a number is between two others.
+use Rattle.keyed_table.proofs.Common.{◌≡◌, ℤ, refl, ◌≤ℤ◌, Bool, true, false, not, ◌&&◌, Some, sym, ◌∙◌, arith}
+use Rattle.keyed_table.proofs.Common.{cond_both, and_parts, Null, Int, from_truth, ints, Binary, value_cmp}
+use Rattle.keyed_table.proofs.Common.{value_cmp-Int, Compare}
+use Rattle.std.proofs.Common.{is_le, is_ge}
+use Rattle.sqlite.specs.Cast.{cast}
+use Rattle.sqlite_sql.specs.Ops.{unary, binary, is_false, truth, and3}
+use Rattle.sqlite_sql.specs.declared.ops.BinaryOp.TheVariants.{And}
+use Rattle.sqlite_sql.specs.declared.ops.CompareOp.TheVariants.{Le, Ge}
+use Rattle.sqlite.specs.Kind.TheVariants as kind
+
+pub cast_int : (n : ℤ) → cast kind.Integer (Int n) ≡ Int n
+unfolding unary
+cast_int n = cond_both _ (Int n) (Int n) (λ v. v ≡ Int n) (λ _. refl) (λ _. refl)
+
+pub cast_none : cast kind.Integer Null ≡ Null
+unfolding unary
+cast_none = cond_both _ Null Null (λ v. v ≡ Null) (λ _. refl) (λ _. refl)
+
+pub ruleset casts = (cast_int, cast_none)
+
+-- the test of a CHECK that a number is between two others
+abbrev pub is_between : ℤ → ℤ → ℤ → Bool
+is_between low high n =
+    not (is_false (binary And (binary (Compare Ge Binary) (Int n) (Int low))
+    (binary (Compare Le Binary) (Int n) (Int high))))
+
+truths : (a b : Bool) → not (is_false (from_truth (and3 (truth (from_truth (Some a))) (truth (from_truth (Some b))))))
+    ≡ (a && b)
+truths true true = refl
+truths true false = refl
+truths false true = refl
+truths false false = refl
+
+pub lies_between : (low high n : ℤ) → is_between low high n ≡ true → (low ≤ℤ n) × (n ≤ℤ high)
+unfolding binary
+lies_between low high n h =
+    let two =
+    and_parts (is_ge (value_cmp (Int n) (Int low))) (is_le (value_cmp (Int n) (Int high))) (sym (truths _ _) ∙ h) in
+    let above = rw value_cmp-Int at two.0 in
+    let below = rw value_cmp-Int at two.1 in
+    (grind (arith, ints, above), grind (arith, ints, below))
