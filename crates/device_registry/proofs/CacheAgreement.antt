@@ -32,7 +32,7 @@ agrees {s} {entry} clean ready devices has is =
     }
 
 module _ {old new : State} (ready : HasCleanDisk new → AreReady old new) where
-  -- the result of a look-up is correct
+  -- an entry with the result of a look-up is correct
   pub found_recalled : HasCleanDisk new → {entry : Entry} → ((devices : Devices) → HasDevicesIfOpen old devices
       → (entry.1 ≡ device_of devices entry.0) × Keeps (registry_state old) (registry_state new) devices)
       → EntryAgrees new entry
@@ -41,7 +41,7 @@ module _ {old new : State} (ready : HasCleanDisk new → AreReady old new) where
       let now = found was.held (λ _ _. was.shows.holds) in
       agrees clean (ready clean).1 was.held now.1.now now.0
 
-  -- and a correct entry stays correct if its devices are kept
+  -- a correct entry stays correct if the call keeps the devices
   pub kept_recalled : HasCleanDisk new → {entry : Entry} {Told : Devices → Type 0} → ((devices : Devices)
       → HasDevicesIfOpen old devices → Told devices × Keeps (registry_state old) (registry_state new) devices)
       → EntryAgrees old entry → EntryAgrees new entry

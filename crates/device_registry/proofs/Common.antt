@@ -1,4 +1,4 @@
--- The definitions, and the lemmas of the kit, that several proofs cite. Declares nothing.
+-- Re-exports the definitions that several proofs cite. Declares nothing.
 pub use Rattle.device_registry.specs.Holding.{HasDevicesIfOpen, OpenFinds, registry_state}
 pub use Rattle.device_registry.specs.Opening.{IsRegistryIn, IsSettledOpen}
 pub use Rattle.device_registry.specs.Ready.{AreReady, IsReady, IsReadyWith, KeepsOtherTables, KeepsRows}

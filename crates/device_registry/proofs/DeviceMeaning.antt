@@ -13,7 +13,7 @@ use Rattle.device_registry.proofs.StatementTexts.{collations}
 use Rattle.sqlite_ast.specs.declared.Conflict.TheVariants as conflict
 use Rattle.sqlite_ast.specs.declared.Statement.TheVariants as written
 
--- ---- how the texts are read
+-- ---- how the text of the list is parsed, in either version
 
 all_is : (version : Version) → IsPlainSelect (find_all_sql version)
     (plain_select (device_table_name version) (columns_read version) None (by_column (codes "id") ∷ []))

@@ -1,5 +1,5 @@
--- The rows of the device table: what the CHECKs say of a row, what its query shows, the ranges of its numbers, and the
--- devices that the rows encode; and the table as a keyed table.
+-- The rows of the device table: the CHECKs, the test of the rows that queries show, the ranges of the numbers, and the
+-- devices that the rows encode. The table of version 2 is a keyed table.
 use Rattle.keyed_table.proofs.Common.{◌≡◌, ◌≤◌, ◌<◌, ◌^◌, nat_le, ℕ, ℤ, ◌≤ℤ◌, pos, negsuc, true, List, refl, sym, ap}
 use Rattle.keyed_table.proofs.Common.{subst, ◌∙◌, arith, ◌+◌, Some, None, Option, length, and_parts, nat_tests, ints}
 use Rattle.keyed_table.proofs.Common.{Value, Int, Text, Row, column, passes_checks, Codec, IsCodec, AllByRecursion}
@@ -53,7 +53,7 @@ labelled _ h = absurd cc
 
 -- ---- rows
 
--- what is shown as a device is one
+-- a row that is shown as a device is the row of a device
 pub device_is : (row : Row) → shows_device (shown row) ≡ true → IsDeviceRow row
 device_is row h =
     let all = and_parts _ _ h in
@@ -93,7 +93,7 @@ checked d id it label h =
       label,
     ) refl)
 
--- and a device is shown as one
+-- the row of a device is shown as a device
 pub device_shows : (row : Row) → IsDeviceRow row → shows_device (shown row) ≡ true
 device_shows row it =
     let id = ap (is_natural_up_to max_sender) it.id_is ∙ passes it.id max_sender it.is_sender in

@@ -1,5 +1,5 @@
--- The devices that a database holds, and how the statements on the device table, from what the database reports about
--- them, show and change these devices.
+-- The devices that a database holds. The statements on the device table show and change them; the proofs cite what the
+-- database reports about the statements.
 use Rattle.keyed_table.proofs.Common.{is_some, ◌≡◌, ℕ, ◌≤◌, false, List, [], map, sym, ap, subst, ◌∙◌, arith, nat_le}
 use Rattle.keyed_table.proofs.Common.{inl, inr, pos, true, ◌∷◌, Option, option_map, refl, IsPermutation, nat_tests}
 use Rattle.keyed_table.proofs.Common.{nat_cmp_total, get, insert, remove, len, Table, Database, IsDatabase, understood}
@@ -28,7 +28,7 @@ use Rattle.keyed_table.proofs.ListedTables as listed
 use Rattle.keyed_table.proofs.RowsAsMap as answers
 use Rattle.keyed_table.proofs.KeyedMap as keyed_map
 
--- ---- one database has one list of devices
+-- ---- a database determines its devices
 
 pub registers_by : (version : Version) (db : Database) (a b : Devices) → IsRegistryOfVersion version db a
     → IsRegistryOfVersion version db b → a ≡ b
@@ -108,7 +108,7 @@ fewer devices id = grind (arith, gets)
 
 -- ---- a write of the device table
 
--- only the device table has other rows
+-- after a write of the device table, the database is a registry if it has at most `max_devices` devices
 pub written_registers : (before after : Database) (held : Devices) (had : IsVersion2RegistryOf before held)
     → IsDatabase before → {now : Devices} → IsWritten devices before after had.registry.tables.devices now
     → len now ≤ max_devices → IsVersion2RegistryOf after now

@@ -23,7 +23,7 @@ copy_read : ParsesAs copy_sql
 unfolding everything
 copy_read = record { parsed = _; read = refl; is = refl; needs_no_time = refl }
 
--- the same as a query, before its output is arranged as rows of version 2
+-- the query of the copy, before its output is arranged as rows of version 2
 abbrev drafted : ℕ → Draft
 drafted d = draft_of (device_table First d) (plain_query d [] (device_terms First))
 
@@ -54,7 +54,7 @@ module _ (schema : Schema) (at d : ℕ) (it : IsTableAt schema (device_table_nam
             (record { from = refl; accepted = refl }),
       ))
 
-  -- no view has its name
+  -- the text drops the table, if no view has the name of the table
   pub drop_means : view_named schema (device_table_name First) ≡ None → CompilesTo schema drop_sql (DropTable at)
   unfolding everything
   drop_means none =

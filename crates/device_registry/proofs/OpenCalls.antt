@@ -1,4 +1,4 @@
--- From the postconditions of the calls of an open to the registry.
+-- The postconditions of an open, from those of the calls that it makes.
 use Rattle.keyed_table.proofs.Common.{◌≡◌, ◌≢◌, inl, inr, ℕ, [], Bool, Ok, Err, Result, IfErr, refl, sym, ap, subst}
 use Rattle.keyed_table.proofs.Common.{◌∙◌, IsTrue, Database, IsDatabase, State, IsUnchanged, HasCleanDisk, Survives}
 use Rattle.keyed_table.proofs.Common.{Executes, unchanged_then, survives_weaker, survives_then, Trees, empty}
@@ -162,7 +162,7 @@ rows_from {old} {new = new} same kept = subst (λ (db : Database). KeepsRows (re
 
 -- ---- a successful open
 
--- the first query showed that the connection is open
+-- `check_open` changed nothing, and showed that the connection is open
 module _ {old mid : State} (was : IsUnchanged old mid × IsSettledOpen old) where
   pub last : mid.now.trees ≡ old.committed.trees
   last = ap (λ (db : Database). db.trees) (was.0.0.now_is ∙ was.1.settled)
@@ -212,17 +212,17 @@ fails {old} {new} fault survives not_a_registry = record {
   crash = survives.crash;
 }
 
--- the connection is closed, or the call fails
+-- an open that committed nothing failed with a fault other than `NotARegistry`
 pub refused_first : (old new : State) (fault : OpenFault) → fault ≢ NotARegistry → Survives old new (λ _. ⊥)
     → FailsToOpen old new fault
 refused_first old new fault other survives = fails fault
     (survives_weaker old new (λ _. ⊥) _ (λ clean trees no. absurd no) survives) (λ clean is. absurd (other is))
 
--- the database failed before anything was queried
+-- the open failed before its first call of the database, when it allocated the cache
 pub not_asked : (s : State) (fault : StoreFault) → FailsToOpen s s (Failed fault)
 not_asked s fault = refused_first s s (Failed fault) (λ is. let e = is in cc) (survives_itself s (λ _. ⊥))
 
--- and what the registry reports about a database holds of the connection before the query
+-- if `create_or_recognize` fails, its postconditions also hold for the state before `check_open`
 pub refused_then : {T : Type 0} (r : Result T OpenFault) (old mid new : State)
     → (HasCleanDisk mid → IsUnchanged old mid × IsSettledOpen old) → Survives old mid (λ _. ⊥)
     → Survives mid new (KeepsFoundDevices mid.now.trees)
@@ -246,7 +246,7 @@ refused_then (Err fault) old mid new was first second other same =
           [ inl before ↦ before | inr none ↦ absurd none ],
     ))
 
--- ---- what a crash left, found again
+-- ---- the devices that the next open finds
 
 pub found_devices_are_unique : FoundDevicesAreUnique
 found_devices_are_unique trees left found (inl (v, one)) (inl (w, two)) =

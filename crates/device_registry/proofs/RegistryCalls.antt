@@ -1,4 +1,4 @@
--- From the effects of the statements to the postconditions of the calls of the device table and of the registry.
+-- The postconditions of the calls of the device table and of the registry, from the effects of the statements.
 use Rattle.keyed_table.proofs.Common.{◌≡◌, false, inl, inr, ℕ, Bool, Option, Result, Ok, Err, IsTrue, Some, None}
 use Rattle.keyed_table.proofs.Common.{is_some, option_map, refl, sym, ap, subst, ◌∙◌, true, MatchBool, IfOk, get}
 use Rattle.keyed_table.proofs.Common.{insert, Trees, Database, State, HasCleanDisk, Error}
@@ -19,7 +19,7 @@ use Rattle.keyed_table.proofs.Statements.{ready_on, ready_with}
 use Rattle.learned_devices.specs.declared.fault.LearnFault.{LearnFault}
 use Rattle.learned_devices.specs.declared.fault.LearnFault.TheVariants.{Full, Failed}
 
--- the invariant of a registry, about its connection between two calls
+-- the invariant of `DeviceTable`, about its connection
 abbrev pub IsWell : State → Type 0
 IsWell s = (HasCleanDisk s → AreVersion2Registries s.may_leave) × IsReadyIfOpen s
 
@@ -55,7 +55,7 @@ module _ {old new : State} (stays : WritesNothing old new) (well : IsWell old) w
   pub both_ready : HasCleanDisk new → IsReady new → AreReady old new
   both_ready clean ready = (ready_before clean ready.shows.is_open, ready)
 
-  -- what a query showed of the devices that were ready is true of those that the registry had
+  -- a property that a query showed for `IsReadyWith` also holds for `HasDevicesIfOpen`
   pub reports : {Q : Devices → Type 0}
       → (HasCleanDisk new → IsReady new × ((devices : Devices) → IsReadyWith old devices → Q devices))
       → HasCleanDisk new → (devices : Devices) → HasDevicesIfOpen old devices → Q devices
@@ -72,7 +72,7 @@ module _ {old new : State} (stays : WritesNothing old new) (well : IsWell old) w
     crash = λ left (trees, may, holds). (trees, stays.crash clean trees may, holds);
   }
 
-  -- what it shows afterwards it showed before
+  -- the devices after the call are those before it
   pub shown_before : HasCleanDisk new → {devices : Devices} → IsReadyWith new devices → IsReadyWith old devices
   shown_before clean shows =
       let was = ready_before clean shows.is_open in
@@ -192,7 +192,7 @@ module _ {A E : Type 0} {old new : DeviceStoreState} (it : Device) where
     devices = λ clean devices has. rw (room clean devices has) (updates.devices clean devices has);
   }
 
-  -- a query before it failed
+  -- the query before the update failed
   pub unlearned : {e : E} {fault : StoreFault} → LooksUp old new it.id (Err e)
       → Learns {A = A} old new it (Err (Failed fault))
   unlearned looks = record {
@@ -253,13 +253,13 @@ updates_after looks = updates_then looks.clean (λ clean devices has. (looks.dev
 module _ {T : Type 0} {mid new : State} {r : Result T Error} (it : Device) (turns : (update : DeviceUpdate)
     → (HasCleanDisk mid → (devices : Devices) → IsReadyWith mid devices
     → apply_update devices update ≡ insert devices it.id (device_data it)) → CommitsOrMayBeLeft mid new update r) where
-  -- it makes the update of each operation that makes the device
+  -- the upsert implements each operation whose result is this device
   pub makes_update : (operation : Operation) → OperationMakesDevice mid it operation
       → CommitsOrMayBeLeft mid new (record { sender = it.id; operation = operation }) r
   makes_update operation makes = turns (record { sender = it.id; operation = operation })
       (λ clean devices shows. ap (with_entry devices it.id) (makes clean devices (λ _ _. shows.holds)).1)
 
-  -- after a count of the other senders, which wrote nothing, it learns the device
+  -- after a count of the other senders, which wrote nothing, the upsert learns the device
   module _ {old : State} {is_full : Bool} (stays : WritesNothing old mid) (well : IsWell old)
       (made : HasCleanDisk old → (devices : Devices) → HasDevicesIfOpen old devices
       → data_after (get devices it.id) (Learn it.eep it.maker) ≡ Some (device_data it))

@@ -10,12 +10,12 @@ use Rattle.keyed_table.specs.Queries as keyed
 
 -- ---- the columns of the device table
 
--- what is shown of a device; in version 1 the label is the empty one
+-- the columns that a query shows of a device; in version 1 the label is empty
 abbrev pub device_terms : Version → List Term
 device_terms First = col 1 0 ∷ col 1 2 ∷ col 1 3 ∷ lit (Text []) ∷ []
 device_terms Second = col 1 0 ∷ col 1 2 ∷ col 1 3 ∷ col 1 4 ∷ []
 
--- the same as it is written, and the names that SQLite shows
+-- the same columns as they are written; `shown_columns` has the names that SQLite shows
 abbrev pub columns_read : Version → List Column
 columns_read First = column_read (codes "id") ∷ column_read (codes "eep") ∷ column_read (codes "maker")
     ∷ One (written.Text []) None (codes "''") ∷ []
@@ -47,7 +47,7 @@ abbrev pub copy_query : ℕ → Query
 copy_query d = rows_query d [] (col 1 0 ∷ lit Null ∷ col 1 2 ∷ col 1 3 ∷ lit (Text []) ∷ [])
     (Binary ∷ Binary ∷ Binary ∷ Binary ∷ Binary ∷ []) []
 
--- ---- the other statements
+-- ---- the queries, and the rows that they show
 
 -- what is shown of a row of version 2
 abbrev pub shown : Row → Row

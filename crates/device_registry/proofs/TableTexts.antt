@@ -16,7 +16,7 @@ unfoldable device_read : (def : Defined) × ParsesAs (create_device_sql Second) 
 unfolding everything
 device_read = (_, record { parsed = _; read = refl; is = refl; needs_no_time = refl })
 
--- the texts that a program runs create these tables
+-- ---- the texts of CREATE that the program runs
 
 pub meta_text : IsCreateText (meta_table 0) create_meta_sql
 unfolding everything

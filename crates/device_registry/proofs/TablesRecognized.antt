@@ -36,7 +36,7 @@ before survives clean = omega (arith, clean, survives.clean)
 -- ---- the tables are independent of the other objects
 
 module _ (schema : Schema) where
-  -- nothing refers to our names
+  -- no foreign key refers to our tables
   pub spares_meta : NoneRefersToOurs schema → AllByRecursion (HasNoReferenceTo meta_name) schema.tables
   spares_meta = all_weaker _ _ (λ t ours. ours.meta) schema.tables
 
@@ -72,7 +72,7 @@ unfolding same_name
 other_name First = refl
 other_name Second = refl
 
--- two such tables are those of a registry
+-- a version table and a device table that no other object affects are the tables of a registry
 abbrev pub stand_in : (version : Version) (db : Database) → IsDatabase db → {meta devices : ℕ}
     → IsLone db.schema meta_name (meta_table meta)
     → IsLone db.schema (device_table_name version) (device_table version devices)
@@ -198,9 +198,8 @@ has_one db sound {name} {table} it =
     one_table db sound table it.listed name it.named t was.0
     (all_has _ tables t it.keeps was.0 ((Decides-eqb t.tree _).0 was.1))))
 
--- ---- all conditions
+-- ---- the conditions for the creation of the tables
 
--- for the creation of the tables
 pub admits : (schema : Schema) → Decides (admits_tables schema) (AdmitsTables schema)
 admits schema = (
   λ ok.
@@ -265,7 +264,7 @@ module _ (schema : Schema) where
       rw (meta, devices First, devices Second, rw (meta, devices First, devices Second) at free) refl
 
 module _ (db : Database) (sound : IsDatabase db) where
-  -- those of a registry are there
+  -- the status of the tables of a registry is `Present`
   pub is_present : {version : Version} → HasTables version db.schema → tables_status db.schema ≡ Present version
   is_present {version} t = in_trees version db.schema t.meta t.devices
       (rw (t.meta_is_table.named, t.meta_is_table.there) refl)
@@ -312,7 +311,7 @@ module _ (db : Database) (sound : IsDatabase db) where
       ((sequence_allowed version db.schema).0 (grind (arith, unaffected)))
 
 module _ (version : Version) (s : State) where
-  -- so a registry as this program leaves it is recognized
+  -- a sound database that has the trees of a registry is a registry
   pub own_found : IsSettledOpen s → IsRegistryIn version s.now.trees → IsRegistry version s.now
   own_found rest own = subst (IsRegistry version) (one_database own.same own.sound rest.sound) own.registry
 

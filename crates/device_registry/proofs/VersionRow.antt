@@ -103,7 +103,7 @@ module _ (schema : Schema) (at m : ℕ) (limit : Option ℕ) (mode : Mode) (db :
           it.3 ∙ ap (λ rs. Some (length (edit_of db (meta_table m) (ids_of rs) Given 1 rs).news)) are,
         )
 
--- ---- the text that rewrites it, on a registry
+-- ---- the rewrite of the version row of a registry
 
 abbrev rewrite_command : (db : Database) (devices : Devices) → IsVersion2RegistryOf db devices → Command
 rewrite_command db devices had =
@@ -158,7 +158,7 @@ rewrite_crash {old} {new} = survives_weaker old new _ _ (λ clean trees commits 
     [] (λ devices. devices) (λ devices. devices ≡ devices) rewrite_command (λ db devices had. tt) rewrite_known
     (rewrite_does (λ devices. devices)) old devices trees refl shows commits)
 
--- the rewrite changes exactly one row
+-- the rewrite counts exactly one row, and changes no other table
 pub rewritten_once : (old new : State) (count : ℕ) (ready : IsReady old) → Executes rewrite_version_sql [] old new
     (Ok count) → (new.now.schema ≡ old.now.schema)
     × (new.now.trees ready.shows.holds.registry.tables.meta ≡ version_row ∷ [])

@@ -1,4 +1,4 @@
--- The definitions, and the lemmas of the kit, that several proofs cite. Declares nothing.
+-- Re-exports the definitions, and the lemmas of the kit, that several proofs cite. Declares nothing.
 pub use Rattle.keyed_table.specs.KeyedMap.{AreMap, Codec, HoldsMap, IsCodec, SqlTextsCompile, table_of}
 pub use Rattle.keyed_table.specs.Lone.{IsLone}
 pub use Rattle.keyed_table.specs.Meaning.{CompilesTo, ParsesAs}

@@ -15,7 +15,7 @@ use Rattle.sqlite_ast.specs.declared.Conflict.TheVariants as conflict
 use Rattle.sqlite_ast.specs.declared.Rows.TheVariants as rows
 use Rattle.sqlite_ast.specs.declared.Statement.TheVariants as written
 
--- the CHECKs say which rows the table holds
+-- a row that passes the CHECKs is a row of the table
 checked : (tree id : ℕ) (metres : ℤ) → passes_checks (table_of heights tree) (heights.row id metres) ≡ true
     → IsHeight (heights.row id metres)
 checked tree id metres h =

@@ -1,4 +1,4 @@
--- The statements on a table with an integer key: their effect on the trees, and that they are operations of its map.
+-- The statements on a table with an integer key: their effect on the trees, and on the map that the rows encode.
 use Rattle.keyed_table.proofs.Common.{◌≡◌, ◌≢◌, inl, inr, ℕ, false, List, [], ◌∷◌, length, Option, None, Some, refl}
 use Rattle.keyed_table.proofs.Common.{◌==◌, ◌<◌, ◌⊎◌, ℤ, Bool, true, Ok, Err, Result, if◌then◌else◌, MatchBool, sym}
 use Rattle.keyed_table.proofs.Common.{ap, subst, ◌∙◌, slice_get, arith, pos, ◌&&◌, map, IsPermutation, nat_cmp}
@@ -44,12 +44,12 @@ use Rattle.keyed_table.proofs.RowsAsMap.{key_is, put_alike, insert_without, keye
 use Rattle.keyed_table.proofs.RowsAsMap.{map_without, ranked, apart_from, differ_from, entries_ranked}
 use Rattle.sqlite_trees.proofs.TreeLemmas.{all-put_row}
 use Rattle.keyed_table.proofs.Statements.{turned, CommitsWithRoom, AlwaysCommits}
-use Rattle.sqlite.specs.Command.TheVariants.{Insert, Update, Delete, InsertOr, Select as Selects}
+use Rattle.sqlite.specs.Command.TheVariants.{Select as Selects}
 use Rattle.keyed_table.proofs.RowsAsMap as answers
 
 module _ (schema : Schema) (name : List ℕ) (tree : ℕ) (keeps : AllByRecursion (TreeHasName name tree) schema.tables)
     (keys : Keys) (olds news : List Row) where
-  -- a reference to a table in another tree triggers no action
+  -- a reference to a table with another name triggers no action
   no_work : (child : Table) (reference : Reference) → same_name reference.parent name ≡ false → (deed : Option Deed)
       (key : Option ParentKey) → parent_key schema.tables reference ≡ key
       → work_by 0 tree (pairs olds news) child reference deed key ≡ None
@@ -108,7 +108,7 @@ objects_spared db sound t has after spared =
     (all_from _ db.schema.indexes (λ i there e. let row = zipped_left (IsIndexRow db.schema.tables) _ db.schema.indexes
     i sound.lists.listed.indexes there in omega (arith, row.2.described.low, e)))
 
--- a part that gave a value did not stop
+-- no part of a statement failed if the statement succeeded
 pub went : {B E R : Type 0} {b : B} {Stops : E → Type 0} → ((crash : E) × Stops crash × (Ok b ≡ Err crash)) ⊎ R → R
 went (inl stopped) = absurd (let e = stopped.2 in cc)
 went (inr on) = on
@@ -125,7 +125,7 @@ uncounts : (b c : Bool) (A B : Type 0) → b ≡ false → MatchBool (if b then 
 uncounts true c A B e h = absurd cc
 uncounts false c A B e h = h
 
--- the statement was this step on its table
+-- the statement applied this edit to its table, and changed nothing else
 pub record IsStep (schema : Schema) (db : Trees) (edit : Edit) (after : Database) : Type 0 where
   pub schema_is : after.schema ≡ schema
   pub rows : after.trees edit.table.tree ≡ edited db edit
@@ -136,7 +136,7 @@ abbrev pub task_of : Schema → Option ℕ → Mode → Row → Table → Task
 task_of schema limit mode params table =
     record { limit = limit; keys = mode.keys; schema = schema; table = table; params = params }
 
--- it did this to the database, and counted these rows
+-- the command, on the table at this index, returns this tally and leaves this database
 abbrev pub Did : Schema → Option ℕ → Mode → Row → Trees → ℕ → Command → Tally → Database → Type 0
 Did schema limit mode params db at command tally after =
     AtPlace (λ table. OnRows (task_of schema limit mode params table) mode None command db) (slice_get schema.tables at)
@@ -287,7 +287,7 @@ all_without_all : (P : Row → Type 0) (rows : List Row) (gone : List ℤ) → A
     → AllByRecursion P (without_all rows gone)
 all_without_all P rows gone all = all_from P _ (λ x has. all_has P rows x all (without_all_has gone rows x has))
 
--- where no index is on the table, only a row with its key conflicts with a new one
+-- if no index is on the table, a row conflicts with a new row only if both have the same key
 conflicts_by_key : (indexes : List Index) (table : Table) (new r : Row) (key : HasKey new) → HasKey r
     → AllByRecursion (λ index. index.table ≢ table.tree) indexes → conflicts None indexes table new r ≡ true
     → id_in (rowid r) ≡ pos key.id
@@ -381,7 +381,7 @@ module _ {V : Type 0} (c : Codec V) (codec : IsCodec c) (meant : SqlTextsCompile
     looks_up id shows = rw h.rows.is at (answers.finds c.value h.tree old.now.trees (keyed codec h.rows) id rows
         (answer_of (lookup_params id) old new rows (meant.find old.now.schema h.at h.tree h.stands) refl shows))
 
-    -- all rows, by rising key
+    -- all rows, in ascending order of key
     pub lists : Shown c.all_sql [] old new rows → (all : List Row)
         × (rows ≡ map (λ r. eval_all c.select_terms (env_of [] r)) all) × (entries m ≡ map (entry_of c.value) all)
     lists shows =
@@ -475,7 +475,7 @@ module _ {V : Type 0} (c : Codec V) (codec : IsCodec c) (meant : SqlTextsCompile
 -- ---- a database with the maps of two tables
 
 module _ {V W : Type 0} (c : Codec V) (d : Codec W) (apart : same_name d.name c.name ≡ false) where
-  -- a write of one keeps the other
+  -- a write of the first table keeps the map of the second
   pub keeps_other : {before after : Database} {m next : FinMap nat_cmp V} {other : FinMap nat_cmp W}
       (h : HoldsMap c before m) → HoldsMap d before other → IsWritten c before after h.tree next
       → HoldsMap d after other

@@ -1,5 +1,6 @@
--- The list of the objects of a sound database. No two objects have the same name, and a table is the one that its
--- text defines. The query for the objects reads this list, since no table or view has the name that the query reads.
+-- The list of the objects of a sound database. No two objects have the same name, and a table is the one that its text
+-- defines; so the trees determine the database. The query for the objects reads this list, since no table or view has
+-- the name that the query reads.
 use Rattle.keyed_table.proofs.Common.{Database, IsDatabase, value_cmp, Schema, Table, Text, Null, zipped_left}
 use Rattle.keyed_table.proofs.Common.{same_itself, IsSound, IsTableRow, IsIndexRow, all_from, all_has, has_got}
 use Rattle.keyed_table.proofs.Common.{has_filtered, has_left, has_right, some_from, Has, same_name, table_named}
@@ -37,7 +38,7 @@ use Rattle.sqlite.specs.State.{Shown}
 use Rattle.keyed_table.proofs.RowsAsMap.{shows_all}
 use Rattle.std.proofs.lemmas.Slice.Eq.{bytes_eq-Decides}
 use Rattle.std.proofs.lemmas.List.Sorted.{list_any-IsPermutation}
-use Rattle.sqlite_trees.specs.Sound.{same_name as spelled_same, Head, head_at, may_follow, are_in_order}
+use Rattle.sqlite_trees.specs.Sound.{same_name as spelled_same}
 use Rattle.sqlite.specs.Command.TheVariants.{Select as Selects}
 
 pub same_name_symmetric : (a b : List ℕ) → same_name a b ≡ true → same_name b a ≡ true
@@ -55,7 +56,7 @@ pub record IsNamed (schema : Schema) (name : List ℕ) (tree : ℕ) : Type 0 whe
   pub there : slice_get schema.tables at ≡ Some table
   pub is : table.tree ≡ tree
 
--- what is found at an index is there, and passes the test
+-- the element that is found at an index exists, and passes the test
 pub found_at : {X : Type 0} (test : X → Bool) (at : ℕ) (xs : List X) → position_from test 0 xs ≡ Some at
     → (it : X) × (slice_get xs at ≡ Some it) × (test it ≡ true)
 found_at test at xs found =
@@ -75,7 +76,7 @@ pub none_at : {X : Type 0} (test : X → Bool) (i : ℕ) (xs : List X) → AllBy
 none_at test i [] none = refl
 none_at test i (x ∷ xs) none = rw none.0 (none_at test (i + 1) xs none.1)
 
--- the table that a name finds has it
+-- the table that is found by a name has this name
 pub has_name : (schema : Schema) (name : List ℕ) (at : ℕ) (table : Table) → table_named schema name ≡ Some at
     → slice_get schema.tables at ≡ Some table → same_name table.name name ≡ true
 has_name schema name at table named is =
@@ -128,7 +129,7 @@ listed_row R test objects xs all x has =
     let kept = has_filtered test objects it.0 it.1 in
     (it.0, kept.0, kept.1, it.2)
 
--- what is listed is an object
+-- each listed object has a row in the catalog tree, with the same name and text
 object : (trees : Trees) (name text : List ℕ) → HasCatalogText trees name text
     → (row : Row) × Has (trees catalog_tree) row × (column row 2 ≡ Text name) × (column row 4 ≡ Text text)
 object trees name text it = elim (put_all_has (map shown (trees catalog_tree)) [] it.row it.listed) [
@@ -211,7 +212,7 @@ one_database {a} {b} trees sound_a sound_b =
     let schema = lists_once (b.trees catalog_tree) a.schema b.schema (rw trees at sound_a).lists sound_b.lists in
     λ i. record { schema = schema i; trees = trees i }
 
--- so they determine the value that it holds, if the database does
+-- the trees determine the value that a database holds, if each database holds at most one value
 pub held_once : {M : Type 0} (Holds : Database → M → Type 0) → ((db : Database) (a b : M) → Holds db a → Holds db b
     → a ≡ b) → (trees : Trees) (a b : M) → HoldsIn Holds trees a → HoldsIn Holds trees b → a ≡ b
 held_once Holds once trees a b one other =

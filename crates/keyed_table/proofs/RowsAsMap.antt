@@ -64,7 +64,7 @@ key_is row it = ap natural_in it.id_is
 is_at : (id : ℕ) (row : Row) (it : HasKey row) → has_rowid (pos id) row ≡ eq_by_cmp nat_cmp id (key_in row)
 is_at id row it = rw (it.id_is, value_cmp-Int (pos it.id) (pos id)) (grind (arith, ints, nat_tests))
 
--- where each row has a key, the rowids are different exactly if SQL's test says so
+-- if each row has a key and the rowids are different, SQL also compares the rowids as different
 pub apart_from : (rows : List Row) → AllByRecursion HasKey rows → RowidsDiffer rows → RowidsAreUntied rows
 apart_from [] all differ = tt
 apart_from (row ∷ rows) all differ = (
@@ -107,7 +107,7 @@ module _ {V : Type 0} where
   remove_absent m id none = same _ _ (λ q. simp looks (grind (arith, nat_tests)))
 
 module _ {V : Type 0} (value : Row → V) where
-  -- the same rows in another order
+  -- the rows in another order; if they are keyed, their map is the same
   abbrev Alike : List Row → List Row → Type 0
   Alike xs ys = IsPermutation xs ys × (AreKeyed xs → AreKeyed ys × (map_of value xs ≡ map_of value ys))
 
@@ -142,7 +142,7 @@ module _ {V : Type 0} (value : Row → V) where
 pub keyed_turned : (xs ys : List Row) → IsPermutation xs ys → AreKeyed xs → AreKeyed ys
 keyed_turned xs ys turn keyed = ((alike key_in xs ys turn).1 keyed).0
 
--- the rows by rising rowid
+-- the rows in ascending order of rowid
 abbrev pub ranked : List Row → List Row
 ranked = put_all []
 
@@ -183,7 +183,7 @@ module _ {V : Type 0} (value : Row → V) where
             ∙ same _ _ (λ q. simp looks (grind (arith, nat_tests))))
       ])
 
-  -- the replaced rows are deleted first
+  -- an insertion has the same result if rows with its key are deleted first
   pub insert_without : (rows : List Row) (gone : List ℤ) (id : ℕ) (v : V) → AllByRecursion HasKey rows
       → AllByRecursion (λ i. i ≡ pos id) gone
       → insert (map_of value (without_all rows gone)) id v ≡ insert (map_of value rows) id v
@@ -192,7 +192,7 @@ module _ {V : Type 0} (value : Row → V) where
       insert_without (without_rowid i rows) gone id v (all-filter HasKey (λ r. not (has_rowid i r)) rows all) these.1
       ∙ rw (these.0, map_without rows id all) (same _ _ (λ q. simp looks (grind (arith, nat_tests))))
 
-  -- a look-up of the key gives None, and there is no line; or it gives the value of the row that is the only line
+  -- the key is not found, and no line is shown; or the value of its row is found, and only this row's line is shown
   abbrev pub IsFound : Option V → (id : ℕ) (line : Row → Row) (lines : List Row) → Type 0
   IsFound found id line lines = ((found ≡ None) × (lines ≡ []))
       ⊎ ((r : Row) × (found ≡ Some (value r)) × (lines ≡ line r ∷ []) × (rowid r ≡ Int (pos id)))
@@ -225,7 +225,7 @@ module _ {V : Type 0} (value : Row → V) where
       let below = key_below row r key all.0 low.0 in
       let less : nat_cmp (key_in row) (key_in r) ≡ Less = grind (arith, nat_tests) in rw less
 
-  -- the entries of rising rows are those of the rows, in order
+  -- the map of rows in ascending order has the entries of the rows, in the same order
   entries_are : (rows : List Row) → AllByRecursion HasKey rows → IsTable rows
       → entries (map_of value rows) ≡ map (entry_of value) rows
   entries_are [] all once = nil_from_length _ (sym (len-entries empty) ∙ len-empty nat_cmp V)
@@ -351,7 +351,7 @@ module _ {V : Type 0} (value : Row → V) (d : ℕ) (db : Trees) (keyed : AreKey
         | inr some ↦ inr (some.0, some.1, one_permutation _ rows (rw some.2 at turned), some.3)
       ]
 
-  -- the rows by rising key
+  -- the rows in ascending order of key
   pub lists : {shown : List Term} (rows : List Row) → IsAnswer (all_query d shown) (overlay db []) [] rows
       → rows ≡ map (λ r. eval_all shown (env_of [] r)) (ranked (db d))
   lists {shown} rows a =

@@ -1,4 +1,4 @@
--- From what the database reports about a statement or a transaction to its effect on the value that it holds.
+-- The effect of a statement or a transaction on the value that a database holds, from what the database reports.
 use Rattle.keyed_table.proofs.Common.{◌≡◌, ◌⊎◌, inl, inr, ℕ, List, [], append-nil, OnOk, OnErr, false, Ok, Err, Result}
 use Rattle.keyed_table.proofs.Common.{None, IsTrue, IfOk, IfErr, sym, ap, subst, ◌∙◌, arith, refl, unwrap_or, ◌∷◌}
 use Rattle.keyed_table.proofs.Common.{◌++◌, true, cases_Bool, IfOk-weaker, Row, Trees, Command, Error, understood}
@@ -20,9 +20,9 @@ use Rattle.sqlite.specs.Command.TheVariants.{Rows, Begin, Commit, Rollback, Save
 use Rattle.sqlite_schema.specs.declared.program.Program.{Program}
 use Rattle.sqlite.specs.Clock.{timed}
 use Rattle.keyed_table.specs.Transactions.{IsUncommitted, IsMidTransaction}
-use Rattle.sqlite.specs.Command.TheVariants.{Update, Select as Selects, Rows, Begin, Commit, Rollback, Savepoint}
+use Rattle.sqlite.specs.Command.TheVariants.{Select as Selects}
 
--- it changes nothing, or returns to what was committed
+-- the state is unchanged, or was rolled back to what is committed
 abbrev pub IsSpared : State → State → Type 0
 IsSpared old new = IsUnchanged old new ⊎ IsRolledBack old new
 
@@ -75,7 +75,7 @@ compiled_spared P sql old new (Err e) ok err = not_run sql [] old new e (err [])
 commits_none : (a b c : State) → Survives a b (λ _. ⊥) → Survives b c (λ _. ⊥) → Survives a c (λ _. ⊥)
 commits_none a b c = survives_then a b c _ _ _ (λ clean trees no. no) (λ clean trees no. no)
 
--- it leaves what a crash could leave before, and its answer is about the state before
+-- a plain query with a compiled statement commits nothing, and if it is answered, the state is unchanged
 module _ (sql text : List ℕ) (params : Row) (old mid new : State) where
   pub query_survives : Survives old mid (λ _. ⊥) → (HasCleanDisk mid → text ≡ sql)
       → (HasCleanDisk mid → IsPlain (understood mid.now.schema sql)) → Survives mid new (CommitsShowing text params mid)
@@ -100,7 +100,7 @@ spared_settled old new (inl same) is_open idle settled =
 spared_settled old new (inr back) is_open idle settled =
     let both = back.undone is_open in (back.autocommit, both.0 ∙ sym both.1)
 
--- a call that keeps what is committed, and leaves nothing uncommitted
+-- if a call keeps what is committed and leaves nothing uncommitted, an open connection shows the same database
 keeps_database : (old new : State) → KeepsCommit old new → StaysSettled old new → KeepsDatabaseIfStillOpen old new
 keeps_database old new kept stays is_open rest =
     let now = stays is_open rest.idle rest.settled in
@@ -137,7 +137,7 @@ module _ {M : Type 0} {Holds : Database → M → Type 0} where
       goes_on = λ clean. spared (it clean);
     }
 
-  -- a query of a ready database
+  -- a plain query writes nothing
   pub query_stays : {V : Type 0} (sql : List ℕ) (params : Row) (old new : State) (items : V → List Row)
       (r : Result V Error) → (HasCleanDisk old → IsPlain (understood old.now.schema sql))
       → Survives old new (CommitsShowing sql params old)
@@ -148,7 +148,7 @@ module _ {M : Type 0} {Holds : Database → M → Type 0} where
       query_spared sql params old new (plain (omega (arith, clean, survives.clean))) items r (shown clean)
       (failed clean))
 
-  -- a query with a statement that was compiled from a plain text
+  -- a query writes nothing if its statement was compiled from a plain text
   pub compiled_query_stays : {V : Type 0} (sql text : List ℕ) (params : Row) (old mid new : State)
       (items : V → List Row) (r : Result V Error) → WritesNothing Holds old mid → (HasCleanDisk mid → text ≡ sql)
       → (HasCleanDisk mid → IsPlain (understood mid.now.schema sql)) → Survives mid new (CommitsShowing text params mid)
@@ -164,7 +164,7 @@ module _ {M : Type 0} {Holds : Database → M → Type 0} where
             let early = first.goes_on (second.clean clean) late.0 in (early.0, λ m shows. late.1 m (early.1 m shows));
       }
 
-  -- and a query that was answered
+  -- if a plain query is answered, a ready connection is still ready
   pub query_ready : (sql : List ℕ) (params : Row) (old new : State) (rows : List Row)
       → IsPlain (understood old.now.schema sql) → IsReady Holds old → Shown sql params old new rows → IsReady Holds new
   query_ready sql params old new rows plain ready h =
@@ -179,14 +179,14 @@ module _ {M : Type 0} {Holds : Database → M → Type 0} where
     compiled_stays r survives ok err =
         stays_from old new survives (λ clean. compiled_spared P sql old new r (ok clean) (err clean))
 
-    -- and which implies that the connection is open
+    -- if a text is compiled, the connection is open, and a ready connection is still ready
     pub compiled_ready : (r : Result V Error) → IfOk r (λ v. P v × IsUnchanged old new)
         → (IsTrue old.is_open → IsReady Holds old) → OnOk r (IsReady Holds new)
     compiled_ready r done ready = IfOk-weaker r _ _ (λ v ok.
         ready_on old new (spared old new (inl ok.1)) ok.1.0.is_open (ready ok.1.0.was_open)) done
 
 module _ (sql : List ℕ) (params : Row) (old new : State) where
-  -- a statement that was not run keeps the facts about an open connection
+  -- if a statement was not run and the connection is still open, the database is unchanged and no transaction is open
   pub not_run_kept : {T E : Type 0} (r : Result T E) (e : Error) → (IsTrue old.is_open → IsSettledOpen old)
       → IsNotRun old new sql params e → OnErr r (IsTrue new.is_open → IsSettledOpen new × (new.now ≡ old.now))
   not_run_kept (Ok v) e rest h = tt
@@ -243,13 +243,13 @@ updates_from old mid new same limit sql params at program count means h =
 
 -- ---- a statement that writes rows
 
--- what a call that runs this text promises, if the database holds a value
+-- the contract of a call that runs this text on a database that holds a value
 module _ {M : Type 0} (Holds : Database → M → Type 0) (sql : List ℕ) (params : Row) (then : M → M) where
   abbrev pub CommitsFrom : (old new : State) → Result ℕ Error → Type 0
   CommitsFrom old new r = Survives old new (CommitsBy sql params old)
       → (HasCleanDisk new → Executes sql params old new r) → CommitsOrMayBeLeft Holds old new then r
 
-  -- if the value has room for the update
+  -- the contract if the value satisfies `HasRoom`
   abbrev pub CommitsWithRoom : (HasRoom : M → Type 0) → Type 1
   CommitsWithRoom HasRoom = (old new : State) (r : Result ℕ Error) → (HasCleanDisk old → IsReady Holds old)
       → (HasCleanDisk old → (m : M) → IsReadyWith Holds old m → HasRoom m) → CommitsFrom old new r
@@ -271,7 +271,7 @@ wrote old new (RollbackTo name) text params count is h = absurd is
 wrote old new Nothing text params count is h = absurd is
 wrote old new _ text params count is h = h
 
--- A statement that writes rows, and its effect on a value that has room for it.
+-- a statement that writes rows, and its effect on a value that satisfies `HasRoom`
 module _ {M : Type 0} {Holds : Database → M → Type 0} (sql : List ℕ) (params : Row) (then : M → M)
     (HasRoom : M → Type 0) (command : (db : Database) (m : M) → Holds db m → Command)
     (is_write : (db : Database) (m : M) (had : Holds db m) → IsWrite (command db m had))
@@ -360,7 +360,7 @@ module _ {S : Type 0} (g : Ghosts S) where
           one_more_run texts text a b c n (it.ran (omega (arith, clean, crash.clean))) (rw is at (ran clean));
     }
 
--- it began in this state
+-- a transaction that committed nothing since BEGIN committed nothing since the state before BEGIN
 pub since : {S : Type 0} (g : Ghosts S) (old start : Held S) (new : State)
     → start ≡ record old { in_transaction = true } → IsUncommitted (state g start) new → IsUncommitted (state g old) new
 since g old start new is it =
@@ -369,7 +369,7 @@ since g old start new is it =
       kept = λ clean. record { was_open = (at.kept clean).was_open; committed = (at.kept clean).committed };
     }
 
--- a commit leaves what the transaction shows
+-- after a commit, a crash leaves what it could leave before the transaction, or what the transaction shows
 module _ (old last new : State) (it : IsUncommitted old last)
     (commits : Survives last new (λ trees. trees ≡ last.now.trees)) where
   pub leaves : (P : Trees → Type 0) → (HasCleanDisk last → P last.now.trees) → Survives old new P
@@ -377,7 +377,7 @@ module _ (old last new : State) (it : IsUncommitted old last)
       (λ clean trees no. absurd no)
       (λ clean trees is. rw is (shows (omega (arith, clean, commits.clean)))) it.crash commits
 
-  -- a rollback restores the state
+  -- a failed commit rolls back: if the connection is still open, the database is the one before the transaction
   pub uncommitted_remains : {V : Type 0} (r : Result V Error) → (HasCleanDisk last → IsTrue last.in_transaction)
       → (HasCleanDisk new → IfErr r (FailsToCommit last new)) → HasCleanDisk new
       → OnErr r (KeepsDatabaseIfStillOpen old new)
@@ -389,7 +389,7 @@ module _ (old last new : State) (it : IsUncommitted old last)
     | inr late ↦ absurd (let e = sym (inside (omega (arith, clean, commits.clean))) ∙ late.1 in cc)
   ]
 
--- what it shows is committed
+-- the second state has committed what the first one showed in its transaction
 abbrev pub Commits : State → State → Type 0
 Commits d e = IsTrue d.in_transaction × Shows d e d.now d.now false × KeepsCounts d e × (e.marks ≡ [])
 

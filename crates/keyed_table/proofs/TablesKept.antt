@@ -1,4 +1,5 @@
--- What tables hold, while they or other tables are created, written and dropped; and the first map of a table.
+-- CREATE, DROP and writes of other tables keep the rows of a table. After CREATE a table holds the empty map; a table
+-- that an open finds holds the map of its rows.
 use Rattle.keyed_table.proofs.Common.{and_left, and_right, or_from, false_from_ne_true, both_ways, ne_eqb, not-true}
 use Rattle.keyed_table.proofs.Common.{same_itself, ParsesAs, CompilesTo, statement_of, runs_as, DropTable, Tally}
 use Rattle.keyed_table.proofs.Common.{lacks_sequence, Database, IsDatabase, understood, Schema, Table, Term}
@@ -33,7 +34,7 @@ use Rattle.std.proofs.Common.{slice_range}
 use Rattle.std.proofs.lemmas.List.Folds.{list_any-append}
 use Rattle.keyed_table.specs.Tables.{keyed_table, IsTableAt, HasCatalogText}
 use Rattle.keyed_table.specs.Stores.{IsReadyWith}
-use Rattle.sqlite_catalog.proofs.StepLemmas.{no_table, no_index as no_index_of, no_view as no_view_of, table_below}
+use Rattle.sqlite_catalog.proofs.StepLemmas.{no_index as no_index_of, no_view as no_view_of}
 use Rattle.sqlite_ast.specs.declared.CreateTable.{CreateTable as Defined}
 use Rattle.sqlite_ast.specs.declared.Statement.TheVariants as written
 use Rattle.sqlite_resolve.specs.Define as define
@@ -49,7 +50,7 @@ pub record IsCreateText (table : Table) (sql : List ℕ) : Type 0 where
   pub makes : (schema : Schema) → is_used schema table.name ≡ false
       → CompilesTo schema sql CreateTable × (statement_of sql (understood schema sql) ≡ sql)
 
--- the text only defines this table, which has no other value that SQLite computes
+-- the text is the CREATE of this table; each default is a literal or the time, and ON CONFLICT names only ABORT
 module _ {text : List ℕ} (table : Table) {def : Defined} (it : ParsesAs text (written.CreateTable def))
     (whole : slice_range text it.parsed.start it.parsed.end ≡ text) (named : def.name ≡ table.name)
     (own : is_reserved def.name ≡ false) (is : define.table [] def ≡ Ok table)
@@ -69,7 +70,7 @@ none_in : {X : Type 0} (test : X → Bool) (xs : List X) → position_from test 
     → AllByRecursion (λ x. test x ≡ false) xs
 none_in test xs none = all_from _ xs (λ x. none_placed test xs 0 x none)
 
--- no list of the schema has the name
+-- a name that no table, index or view of the schema has is unused
 unnamed : (schema : Schema) (name : List ℕ) → AllByRecursion (λ t. same_name t.name name ≡ false) schema.tables
     → AllByRecursion (λ i. same_name i.name name ≡ false) schema.indexes
     → AllByRecursion (λ w. same_name w.name name ≡ false) schema.views → is_used schema name ≡ false
@@ -77,7 +78,7 @@ unnamed schema name tables indexes views = or_from _ _
     (or_from _ _ (ap is_some (none_at _ 0 schema.tables tables)) (ap is_some (none_at _ 0 schema.indexes indexes)))
     (ap is_some (none_at _ 0 schema.views views))
 
--- in a sound database the name of a table that no other object affects finds it, at some index of the list of tables
+-- in a sound database, a table that no other object affects is found by its name, at some index of the schema
 pub lone_stands : (db : Database) → IsDatabase db → {name : List ℕ} {table : Table} → IsLone db.schema name table
     → (at : ℕ) × IsTableAt db.schema name table at
 lone_stands db sound {name} {table} it =
@@ -90,7 +91,7 @@ lone_stands db sound {name} {table} it =
     (all_has (TreeHasName name table.tree) db.schema.tables t it.keeps there (eqb-true _ _ same)))) in
     (at.0, record { named = at.1; there = at.2; classes = rw stored classes })
 
--- the table is there, no other object affects it, and it has these rows
+-- the table exists, no other object affects it, and it has these rows
 pub record HoldsRows (table : Table) (rows : List Row) (db : Database) : Type 0 where
   pub lone : IsLone db.schema table.name table
   pub rows_are : db.trees table.tree ≡ rows
@@ -120,7 +121,7 @@ sequence_is schema = elim (none_or_some (table_named schema (codes "sqlite_seque
       rw (is, found.1, some_from _ schema.tables found.0 (has_got schema.tables at found.0 found.1) found.2)
 ]
 
--- a table that counts no rowids does not need the table of the counts
+-- a table without AUTOINCREMENT does not need `sqlite_sequence`
 still_counted : (schema : Schema) (table : Table) → table.is_counted ≡ false → lacks_sequence schema ≡ false
     → lacks_sequence (created schema table) ≡ false
 still_counted schema table plain lacks = elim (and_cases _ _ lacks) [
@@ -131,7 +132,7 @@ still_counted schema table plain lacks = elim (and_cases _ _ lacks) [
       ∙ rw (sym (sequence_is schema) ∙ not-false _ has)))
 ]
 
--- the table is empty, and the others have the rows that they had
+-- the table was created and is empty, and all other tables keep their rows
 pub record IsCreated (table : Table) (old new : Database) : Type 0 where
   pub schema_is : new.schema ≡ created old.schema table
   pub empty : new.trees (next_tree old.schema) ≡ []
@@ -222,13 +223,13 @@ module _ {name : List ℕ} {columns : List Column} {checks : List Term} {old new
 
 -- ---- a table is dropped
 
--- the table in this tree is gone, and the others have the rows that they had
+-- the table in this tree was dropped, and all other tables keep their rows
 pub record IsDropped (tree : ℕ) (old new : Database) : Type 0 where
   pub schema_is : new.schema ≡ without_table old.schema tree
   pub others : KeepsRows new.schema.tables old.trees new.trees
   pub sound : IsDatabase new
 
--- no foreign key acts when rows of a table are deleted that no key refers to
+-- no foreign key acts when rows are deleted from a table that no foreign key refers to
 unacted : (schema : Schema) (keys : Keys) (table : Table) → AllByRecursion (HasNoReferenceTo table.name) schema.tables
     → is_acted_on schema keys table ≡ false
 unacted schema keys table spares = any_from_none _ schema.tables (all_weaker (HasNoReferenceTo table.name) _
@@ -301,7 +302,7 @@ dropped_unused {table} {old = old} it sound h =
     (all-filter _ _ old.schema.indexes (no_index old sound table lone.listed table.name lone.named))
     (no_view old sound table lone.listed table.name lone.named))
 
--- ---- the first map: the empty one after CREATE, or that of its rows if the table is found in a database
+-- ---- the first map of a table: empty after CREATE, or the map of the rows that an open finds
 
 -- if a table that no other object affects has the rows of a map, the database holds the map
 pub holds_map : {V : Type 0} (c : Codec V) {db : Database} → IsDatabase db → {tree : ℕ} {rows : List Row}

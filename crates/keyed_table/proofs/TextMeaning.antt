@@ -37,7 +37,7 @@ use Rattle.sqlite_resolve.specs.Lowering.{take_slot}
 use Rattle.sqlite_resolve.specs.Order.{keys, sorts}
 use Rattle.sqlite_resolve.specs.Select.{named, paging, constant_or, outermost, inside, parts, having, assembled}
 use Rattle.sqlite_sql.specs.declared.aggregate.AggregateOp.TheVariants.{CountRows}
-use Rattle.sqlite.specs.Command.TheVariants.{Select as Reads, Delete, Update}
+use Rattle.sqlite.specs.Command.TheVariants.{Select as Reads}
 use Rattle.sqlite_ast.specs.declared.Shown.{Shown as Column}
 use Rattle.sqlite_ast.specs.declared.Binary.{Binary as Compared}
 use Rattle.sqlite_ast.specs.declared.Origin.TheVariants.{Table as Named}
@@ -70,14 +70,14 @@ pub record IsTyped (table : Table) (q : Query) : Type 0 where
       ≡ true
 
 module _ {schema : Schema} {name : List ℕ} {table : Table} {at : ℕ} (stands : IsTableAt schema name table at) where
-  -- therefore it is a program if the table exists
+  -- the draft of a typed query compiles to the program of the query, if the table exists
   pub program_is : (d : Draft) → IsTyped table (query_of d) → program schema [] d ≡ Ok (program_of (query_of d))
   unfolding program
   program_is d typed =
       let accepted : accepts_over schema [] (query_of d) [] ≡ true = rw (typed.from, stands.classes) typed.accepted in
       rw accepted
 
-  -- DELETE, UPDATE and INSERT without RETURNING: the rows for which the test holds are deleted
+  -- a DELETE without RETURNING deletes the rows for which the test holds
   pub delete_means : {text : List ℕ} {test : Option Expr} (d : Draft) → ParsesAs text (written.Delete name test [])
       → deleted schema at table test ≡ Ok d → IsTyped table (query_of d)
       → CompilesTo schema text (Delete at (program_of (query_of d)))
@@ -93,7 +93,7 @@ module _ {schema : Schema} {name : List ℕ} {table : Table} {at : ℕ} (stands 
   update_means d it is typed =
       means schema _ it refl (λ base. refl) (λ base. rw (stands.named, stands.there, is, program_is d typed))
 
-  -- the text means this command, if no column of the table has the time as its default
+  -- an INSERT without RETURNING means this command, if no column of the table has the time as its default
   pub insert_means : {text : List ℕ} {how : Conflict} {columns : List (List ℕ)} {rows : Rows} (c : Command)
       → ParsesAs text (written.Insert how name columns rows [] []) → table.stamps.formats ≡ []
       → ((base : ℕ) → command schema [] base (written.Insert how name columns rows [] []) ≡ Ok c)
@@ -112,7 +112,7 @@ by_column name = roll-Sort (record { key = expr.Column None name; descending = f
 abbrev pub parameter_test : Compared → List ℕ → Option Expr
 parameter_test op name = Some (expr.Binary op (expr.Column None name) (expr.Parameter 1))
 
--- the columns of one table, in this order, that are shown of each row for which the test holds
+-- a SELECT from one table: these columns of each row for which the test holds, with the rows in this order
 pub record PlainSelect : Type 0 where
   pub name : List ℕ
   pub columns : List Column
@@ -122,7 +122,7 @@ pub record PlainSelect : Type 0 where
 abbrev pub plain_select : List ℕ → List Column → Option Expr → List Sort → PlainSelect
 plain_select name columns test order = record { name = name; columns = columns; test = test; order = order }
 
--- as it is written: without WITH, further parts, a page, GROUP BY, HAVING or DISTINCT
+-- the syntax of this SELECT: no WITH, compound SELECT, LIMIT, OFFSET, GROUP BY, HAVING or DISTINCT
 abbrev pub core_of : PlainSelect → Core
 core_of it =
     let from : List Source =
@@ -141,7 +141,7 @@ pub record IsPlainSelect (text : List ℕ) (it : PlainSelect) : Type 0 where
 abbrev pub no_page : Term × Term
 no_page = (lit (Int (negsuc 0)), lit (Int (pos 0)))
 
--- the meaning of its clauses over its table, which is at this index, in the first slot
+-- the meaning of a plain SELECT whose table is at this index of the schema, in slot 1
 module _ (schema : Schema) (at : ℕ) (table : Table) (it : PlainSelect) where
   abbrev level_of : List Output → Level
   level_of shown = record { tables = record { name = it.name; table = at; slot = 1; shared = [] } ∷ []; shown = shown }

@@ -48,7 +48,7 @@ key_differs_from_param = op2 (Compare Ne Binary) (col 1 0) (col 0 0)
 abbrev pub find_query : (tree : ℕ) (shown : List Term) → Query
 find_query tree shown = plain_query tree (key_equals_param ∷ []) shown
 
--- all rows, by rising key
+-- all rows, in ascending order of key
 abbrev pub all_query : (tree : ℕ) (shown : List Term) → Query
 all_query tree shown =
     rows_query tree [] shown [] ((col 1 0, record { collation = Binary; descending = false }) ∷ [])

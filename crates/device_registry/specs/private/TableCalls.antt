@@ -12,7 +12,7 @@ use Rattle.learned_devices.specs.StoreCalls.{Learns}
 use Rattle.device_registry.specs.Faults.{fault_of}
 use Rattle.device_registry.specs.Holding.{HasDevicesIfOpen}
 
--- whether a device was learned, as the result of `learn`
+-- the result of `learn_unless_full` as a result of `learn`: `Ok false` means that the registry is full
 abbrev pub learn_result : Result Bool Error → Result (Unit {0}) LearnFault
 learn_result (Ok true) = Ok tt
 learn_result (Ok false) = Err Full

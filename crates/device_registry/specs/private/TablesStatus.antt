@@ -41,8 +41,8 @@ tables_in_trees schema None (Some first) second = Unusable
 tables_in_trees schema (Some meta) None None = Unusable
 tables_in_trees schema (Some meta) (Some first) (Some second) = Unusable
 
--- whether the tables can be created, are present in one version, or neither, computed as in the code; `is_absent`,
--- `is_present` and `status_implies` (`TablesRecognized.antt`) say what it implies
+-- The status of the tables, computed as in the code. In `TablesRecognized.antt`, `is_absent` and `is_present` say when
+-- it is `Absent` or `Present`, and `status_implies` says what a status implies.
 abbrev pub tables_status : Schema → TablesStatus
 tables_status schema =
     tables_in_trees schema (tree_of_table schema meta_name) (tree_of_table schema (device_table_name First))

@@ -7,7 +7,7 @@ pub use Rattle.keyed_table.specs.Transactions.{IsUncommitted, HasRunStatements, 
 use Rattle.device_registry.specs.declared.table.Version.{Version}
 use Rattle.device_registry.specs.Stored.{AreTablesListed}
 
--- the same, and the two tables of this version were seen in its list of objects
+-- the transaction ran these texts, and a query of the list of objects then showed the two tables of this version
 pub record IsMidTransactionWithTables {S : Type 0} (g : Ghosts S) (version : Version) (texts : List (List ℕ))
     (old new : Held S)
     : Type 0 where

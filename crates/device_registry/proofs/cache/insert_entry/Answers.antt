@@ -5,7 +5,7 @@ use Rattle.lru.specs.LruCache.{put_entries}
 use Rattle.lru.proofs.CallerLemmas.{Contains-put_entries}
 use Rattle.device_registry.proofs.cache.insert_entry.Goals as goal
 
--- the entry is added, or the cache is unchanged, out of memory
+-- each entry is an old one or the added one; without memory, the cache is unchanged
 kept : {V A B : Type 0} (old new : LruCache ℕ V) (id : ℕ) (v : V) (r : Result A B)
     → OnOk r (new ≡ lru_cache (put_entries eqb old id v) old.cap) → OnErr r (new ≡ old) → (e : ℕ × V)
     → Contains new.entries e → Contains old.entries e ⊎ (e ≡ (id, v))

@@ -12,6 +12,8 @@ no_error is = absurd (let e = is in cc)
 ok_no_error : {T E : Type 0} {v : T} {e : E} → ◌≡◌ {A = Result T E} (Ok v) (Err e) → ⊥
 ok_no_error = no_error
 
+-- ---- the tables are created
+
 pub create_tables-requires-clause-clear : goal.create_tables-requires-clause-clear
 create_tables-requires-clause-clear g c clean =
     (status_implies _ {status = Absent} (search rules), (c.requires.rest clean).sound)
@@ -26,6 +28,8 @@ returns-in_ok-create_tables-in-Absent g c =
     c.in_ok-create_tables-in-Absent.ensures.made c.in_ok-create_tables-in-Absent.ensures.others in
     search (rules, it, no_error, ok_no_error)
 
+-- ---- the database is foreign
+
 pub returns-then-not-branch-clause-refused : goal.returns-then-not-branch-clause-refused
 returns-then-not-branch-clause-refused g c clean why =
     foreign _ {status = Present c.in-Present.version} (c.requires.rest (before c.is_registry.ensures.crash clean))
@@ -36,6 +40,8 @@ pub returns-in-Unusable-clause-refused : goal.returns-in-Unusable-clause-refused
 returns-in-Unusable-clause-refused g c clean why =
     foreign _ {status = Unusable} (c.requires.rest clean) (search rules) (λ is. let e = is in cc)
     (λ _ is. let e = is in cc)
+
+-- ---- the database is a registry of version 1
 
 pub migrate_tables-requires-clause-first : goal.migrate_tables-requires-clause-first
 migrate_tables-requires-clause-first g c clean =
@@ -58,6 +64,8 @@ returns-in_ok-migrate_tables-in-First g c =
     (λ clean held. absurd (one_version (known (before c.migrate_tables.ensures.crash clean)) held))
     (λ clean. rw (known (before c.migrate_tables.ensures.crash clean)).same.0.now_is at
     (c.in_ok-migrate_tables-in-First.ensures.others clean)) in search (rules, it, no_error, ok_no_error)
+
+-- ---- the database is a registry of version 2
 
 pub rewrite_version-requires : goal.rewrite_version-requires
 rewrite_version-requires g c clean =

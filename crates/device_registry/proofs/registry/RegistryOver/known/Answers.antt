@@ -23,7 +23,7 @@ returns-in-Some g c =
       ready = λ clean. ((entry clean).ready, (entry clean).ready);
     })
 
--- ---- it is looked up
+-- ---- the sender is looked up
 
 pub invariant_of-self-in-Ok : goal.invariant_of-self-in-Ok
 invariant_of-self-in-Ok g c =

@@ -15,7 +15,6 @@ unread P Bad text (Err e) cases bad none = elim (cases_Bool (is_label text)) [
   | inr other ↦ other
 ]
 
--- a label is UTF-8, so a text that is not UTF-8 is no label
 pub returns-in_err-ok-in-Ok-Text : goal.returns-in_err-ok-in-Ok-Text
 returns-in_err-ok-in-Ok-Text c =
     let value = column c.args.row.now c.args.at in
