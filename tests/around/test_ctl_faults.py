@@ -23,7 +23,7 @@ class Hangs(CtlTest):
         self.hang()
         begin = time.monotonic()
         self.assert_run(self.ctl("--timeout", "1", "learn", "off"), SILENT, "", LATE)
-        self.assertLess(time.monotonic() - begin, 2)
+        self.assertLess(time.monotonic() - begin, 5)
 
     def test_a_late_answer_is_not_that_of_the_next_order(self):
         """The first order is answered with `ok`, and the second one is refused."""
