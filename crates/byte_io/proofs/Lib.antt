@@ -1,3 +1,4 @@
 pub mod CountLemmas
+pub mod TransferLemmas
 pub mod WriteLemmas
 pub mod ForCallers

@@ -2,6 +2,7 @@
 //! of it.
 #![tactic(auto)]
 
+mod history;
 pub mod laws;
 mod read_limit;
 mod sink;

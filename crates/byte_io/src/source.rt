@@ -1,14 +1,19 @@
 //! Sources of bytes.
-ghost use Rattle.std.specs.Prelude.{◌≡◌, ◌≤◌, ◌<◌, ℕ, List, Option, IfOk, length};
+ghost use Rattle.std.specs.Prelude.{◌≡◌, ◌≤◌, ◌<◌, ℕ, List, [], Option, IfOk, length};
 ghost use Rattle.std.specs.Io.KnownBytes.{ReadConsumes};
 ghost use Rattle.byte_io.specs.Counts.{CallCounts, count_call, no_calls};
 ghost use Rattle.byte_io.specs.ReadLimit.{max_read};
+ghost use Rattle.byte_io.specs.Transfers.{ReadIsRecorded};
 
+use crate::history::History;
 use crate::tally::{Failed, Tally};
 use std::io::Read;
 
 /// A source of bytes.
 pub trait Source {
+    /// The bytes of each read so far that did not fail. Those of a read of 0 bytes are the empty list.
+    ghost returned: { Self → List (List ℕ) };
+
     /// The bytes that later reads will return, if they are known.
     ghost left: { Self → Option (List ℕ) };
 
@@ -22,6 +27,7 @@ pub trait Source {
         requires { (0 < length buffer.old) × (length buffer.old ≤ max_read) }
         ensures within { IfOk result (λ n. n ≤ length buffer.new) }
         ensures bytes { ReadConsumes (left self.old) (left self.new) result buffer.new }
+        ensures recorded { ReadIsRecorded (returned self.old) (returned self.new) result buffer.new }
         ensures counted { counts self.new ≡ count_call (counts self.old) result };
 }
 
@@ -31,22 +37,27 @@ pub trait Source {
 pub struct OverRead<R> {
     reader: R,
     tally: Tally,
+    history: History,
 }
 
 impl<R: Read> OverRead<R> {
     /// A source that has made no read of this reader yet.
     pub fn new(reader: R) -> OverRead<R>
         ensures bytes { ⟦<OverRead<R> as Source>⟧.left result ≡ R.remaining reader }
+        ensures fresh { ⟦<OverRead<R> as Source>⟧.returned result ≡ [] }
         ensures counted { ⟦<OverRead<R> as Source>⟧.counts result ≡ no_calls }
     {
         OverRead {
             reader,
             tally: Tally::new(),
+            history: History::new(),
         }
     }
 }
 
 impl<R: Read> Source for OverRead<R> {
+    ghost returned = { λ source. source.history.pieces };
+
     ghost left = { λ source. R.remaining source.reader };
 
     ghost counts = { λ source. source.tally };
@@ -54,6 +65,9 @@ impl<R: Read> Source for OverRead<R> {
     fn read(&mut self, buffer: &mut [u8]) -> Result<usize, Failed> {
         let answer = self.reader.read(buffer).map_err(|_| Failed);
         self.tally.count(answer);
+        if let Ok(length) = answer {
+            self.history.note(&buffer[..length]);
+        }
         answer
     }
 }

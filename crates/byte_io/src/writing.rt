@@ -7,7 +7,7 @@ use crate::tally::Failed;
 
 /// Writes the whole text. After `Failed` a proper prefix of it is written.
 pub fn write_text<W: Sink>(writer: &mut W, text: &[u8]) -> Result<(), Failed>
-    ensures written { Writes (W.held writer.old) (W.held writer.new) result text.now }
+    ensures written { Writes (W.bytes writer.old) (W.bytes writer.new) result text.now }
     ensures counted { CallsMatchResult result (W.counts writer.old) (W.counts writer.new) }
 {
     let mut rest = text;

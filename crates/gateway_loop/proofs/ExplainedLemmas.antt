@@ -1,6 +1,5 @@
 -- The lines that explain packets are inserted into a text.
-use Rattle.std.proofs.Common.{◌≡◌, ℕ, List, [], ◌∷◌, ◌++◌, Option, Some, refl, ap, sym, ◌∙◌, append_assoc}
-use Rattle.std.specs.Io.KnownBytes.{Appends}
+use Rattle.std.proofs.Common.{◌≡◌, ℕ, List, [], ◌∷◌, ◌++◌, refl, ap, sym, ◌∙◌, append_assoc}
 use Rattle.std.specs.List.{flat_map}
 use Rattle.gateway_core.specs.Step.{Answer}
 use Rattle.gateway_loop.specs.Explained.{DifferByExplanations, DifferByExplanationsAfter, ExplanationsStandApart}
@@ -41,20 +40,13 @@ module _ (before : Answer → List ℕ) where
     differ = explained-text answers;
   }
 
--- what a sink holds, if it is known
-appended : (old new : Option (List ℕ)) (held now text : List ℕ) → old ≡ Some held → new ≡ Some now
-    → Appends old new text → now ≡ held ++ text
-appended old new held now text is so grown = rw (is, so) at grown
-
 pub explanations_stand_apart : ExplanationsStandApart
 explanations_stand_apart = record {
-  replay = λ answers held plain explained first second.
-      behind (λ answer. radio_chunk_line answer.radio) answers held plain explained first second;
-  desk = λ answers old new other held plain explained one two before is so.
-      behind (λ answer. []) answers held plain explained
-      (appended old.1.contents new.1.contents held plain _ before is one.1.text)
-      (appended old.1.contents other.1.contents held explained _ before so two.1.text);
-  serial = λ answers old new other held plain explained one two before is so.
-      appended old.0.contents new.0.contents held plain _ before is one.0.text
-      ∙ sym (appended old.0.contents other.0.contents held explained _ before so two.0.text);
+  replay = λ answers old new other first second.
+      behind (λ answer. radio_chunk_line answer.radio) answers old.accepted new.accepted other.accepted first.0
+      second.0;
+  desk = λ answers old new other one two.
+      behind (λ answer. []) answers old.1.bytes.accepted new.1.bytes.accepted other.1.bytes.accepted one.1.text.0
+      two.1.text.0;
+  serial = λ answers old new other one two. one.0.text.0 ∙ sym two.0.text.0;
 }

@@ -1,11 +1,9 @@
 -- `replay` and `live` do what the headline specifies, for a new gateway.
-use Rattle.std.proofs.Common.{◌≡◌, inl, inr, ℕ, Bool, List, [], ◌∷◌, ◌++◌}
+use Rattle.std.proofs.Common.{◌≡◌, ◌⊎◌, ◌+◌, inl, inr, ℕ, Bool, List, [], ◌∷◌, ◌++◌, length}
 use Rattle.std.proofs.Common.{map, Option, Some, None, Ok, Err, append-nil, append_assoc, refl, sym, ap}
-use Rattle.std.proofs.Common.{subst, ◌∙◌}
+use Rattle.std.proofs.Common.{subst, ◌∙◌, length-append}
 use Rattle.std.specs.List.{concat, flat_map}
-use Rattle.std.specs.Io.KnownBytes.{Appends, Consumes, IsAtEnd}
-use Rattle.std.proofs.lemmas.List.{map-append}
-use Rattle.std.proofs.lemmas.List.Folds.{concat-append}
+use Rattle.std.proofs.lemmas.List.{length-map, map-append}
 use Rattle.std.proofs.lemmas.List.Concat.{flat_map-append}
 use Rattle.learned_devices.specs.DeviceStoreState.{DeviceStoreState}
 use Rattle.learned_devices.specs.Devices.{Devices}
@@ -16,13 +14,14 @@ use Rattle.gateway_core.specs.Handling.{HandlerValue, Handles, HasState}
 use Rattle.gateway_core.specs.Calls.{GatewayValue}
 use Rattle.gateway_core.specs.Events.{InputEvent, Chunk, Line, new_packets, bytes_in, inputs_of}
 use Rattle.gateway_core.proofs.ForCallers.{new_packets-append, inputs_of-append, sessions_leave_prefixes, safe-weaker}
+use Rattle.byte_io.specs.Transfers.{Adds}
 use Rattle.byte_io.specs.Writes.{AppendsPart}
 use Rattle.byte_io.specs.declared.sink.Sink as sinks
 use Rattle.byte_io.specs.declared.source.Source as sources
 use Rattle.gateway_loop.specs.declared.run_result.RunFault.{RunFault}
 use Rattle.gateway_loop.specs.declared.run_result.RunFault.TheVariants.{Read, Write, TooManyTurns}
 use Rattle.gateway_loop.specs.declared.run_result.Summary.{Summary}
-use Rattle.gateway_loop.specs.Headline.{AsSpecified, BrokenOff, IsNew, IsPrefix, ReplaySpecified}
+use Rattle.gateway_loop.specs.Headline.{AsSpecified, BrokenOff, IsNew, IsPrefix}
 use Rattle.gateway_loop.specs.Headline.{ReplaysAsSpecified, ServesAsSpecified, all_desk_text, all_radio_bytes}
 use Rattle.gateway_loop.specs.LiveGateway.{BreaksTurn, Serves, ServesUntilFault, ServesUntilReadFails}
 use Rattle.gateway_loop.specs.LiveGateway.{ServesUntilWriteFails}
@@ -32,35 +31,15 @@ use Rattle.gateway_loop.specs.Processing.{Breaks, IsWholeOrChunkPrefix}
 use Rattle.gateway_loop.specs.Script.{script, with_lf}
 use Rattle.gateway_loop.specs.ScriptReplay.{Replays, ReplaysEndedLines, ReplaysUntilFault, ReplaysUntilWriteFails}
 use Rattle.gateway_loop.specs.ScriptReplay.{replay_value}
-use Rattle.gateway_loop.specs.Turns.{Turn, desk_reads, events_of_turns, serial_reads}
+use Rattle.gateway_loop.specs.Reads.{Returns}
+use Rattle.gateway_loop.specs.Streams.{source_value}
+use Rattle.gateway_loop.specs.Turns.{Turn, desk_reads, events_of_turns, serial_reads, turns_of}
 use Rattle.gateway_loop.specs.LiveOutputs.{radio_bytes, live_output}
 use Rattle.gateway_loop.specs.Written.{AppendsCutReplayText, desk_text, text_of, written}
 use Rattle.gateway_loop.proofs.LineLemmas.{script-behind}
-use Rattle.gateway_loop.proofs.TurnLemmas.{events_of_piece, serial_reads-more, desk_reads-more}
+use Rattle.gateway_loop.proofs.TurnLemmas.{events_of_piece}
 
--- ---- known bytes
-
--- after more were appended
-grown : (held text : List ℕ) (old new : Option (List ℕ)) → old ≡ Some held → Appends old new text
-    → new ≡ Some (held ++ text)
-grown held text old new is appends = by new (subst (λ o. Appends o new text) is appends)
-  where
-    by : (now : Option (List ℕ)) → Appends (Some held) now text → now ≡ Some (held ++ text)
-    by None never = absurd never
-    by (Some bytes) same = ap Some same
-
--- some of these bytes were read, and the rest is left
-record Lost (all taken : List ℕ) (new : Option (List ℕ)) : Type 0 where
-  rest : List ℕ
-  is : new ≡ Some rest
-  whole : all ≡ taken ++ rest
-
-lost : (all taken : List ℕ) (old new : Option (List ℕ)) → old ≡ Some all → Consumes old new taken → Lost all taken new
-lost all taken old new is consumes = by new (subst (λ o. Consumes o new taken) is consumes)
-  where
-    by : (now : Option (List ℕ)) → Consumes (Some all) now taken → Lost all taken now
-    by None never = absurd never
-    by (Some rest) whole = record { rest = rest; is = refl; whole = whole }
+-- ---- prefixes
 
 whole_prefix : (bytes : List ℕ) → IsPrefix bytes bytes
 whole_prefix bytes = record { rest = []; whole = sym (append-nil bytes) }
@@ -83,30 +62,30 @@ module _ (says : Answer → List ℕ) (answers : List Answer) (last : Answer) wh
 
 -- ---- turns
 
--- a turn in which only the chunk was read
-with_piece : List Turn → Option (List ℕ) → List Turn
-with_piece read None = read
-with_piece read (Some chunk) = read ++ record { chunk = chunk; desk = [] } ∷ []
+same_length : (read : List Turn) → length (serial_reads read) ≡ length (desk_reads read)
+same_length read = length-map read (λ (turn : Turn). turn.chunk) ∙ sym (length-map read (λ (turn : Turn). turn.desk))
 
-events-with_piece : (read : List Turn) (chunk : Option (List ℕ))
-    → events_of_turns (with_piece read chunk) ≡ events_and_chunk read chunk
-unfolding with_piece
-events-with_piece read None = refl
-events-with_piece read (Some chunk) = events_of_piece read chunk
+turns_of-reads : (read : List Turn) → turns_of (serial_reads read) (desk_reads read) ≡ read
+turns_of-reads [] = refl
+turns_of-reads (turn ∷ read) = ap (λ (turns : List Turn). turn ∷ turns) (turns_of-reads read)
 
-serial_reads-with_piece : (read : List Turn) (chunk : Option (List ℕ))
-    → serial_reads (with_piece read chunk) ≡ serial_reads_and_chunk read chunk
-unfolding with_piece
-serial_reads-with_piece read None = refl
-serial_reads-with_piece read (Some chunk) = serial_reads-more read (record { chunk = chunk; desk = [] })
+-- and a turn in which only the chunk was read
+turns_of-piece : (read : List Turn) (chunk : List ℕ)
+    → turns_of (serial_reads read ++ chunk ∷ []) (desk_reads read) ≡ read ++ record { chunk = chunk; desk = [] } ∷ []
+turns_of-piece [] chunk = refl
+turns_of-piece (turn ∷ read) chunk = ap (λ (turns : List Turn). turn ∷ turns) (turns_of-piece read chunk)
 
-desk_reads-with_piece : (read : List Turn) (chunk : Option (List ℕ))
-    → concat (desk_reads (with_piece read chunk)) ≡ concat (desk_reads read)
-unfolding with_piece
-desk_reads-with_piece read None = refl
-desk_reads-with_piece read (Some chunk) =
-    ap (λ (parts : List (List ℕ)). concat parts) (desk_reads-more read (record { chunk = chunk; desk = [] }))
-    ∙ concat-append (desk_reads read) ([] ∷ []) ∙ append-nil (concat (desk_reads read))
+events_of-reads : (read : List Turn) (chunk : Option (List ℕ))
+    → events_of_turns (turns_of (serial_reads_and_chunk read chunk) (desk_reads read)) ≡ events_and_chunk read chunk
+events_of-reads read None = ap events_of_turns (turns_of-reads read)
+events_of-reads read (Some chunk) = ap events_of_turns (turns_of-piece read chunk) ∙ events_of_piece read chunk
+
+alternating : (read : List Turn) (chunk : Option (List ℕ))
+    → (length (serial_reads_and_chunk read chunk) ≡ length (desk_reads read))
+    ⊎ (length (serial_reads_and_chunk read chunk) ≡ length (desk_reads read) + 1)
+alternating read None = inl (same_length read)
+alternating read (Some chunk) =
+    inr (length-append (serial_reads read) (chunk ∷ []) ∙ ap (λ n. n + 1) (same_length read))
 
 -- ---- inputs
 
@@ -247,88 +226,80 @@ module _ {S : Type 0} (state : S → DeviceStoreState) where
       (old new : GatewayValue S × R × W) where
     pub replayed : (summary : Summary) → Replays state (replay_value source sink) explains old new summary
         → ReplaysAsSpecified state source sink explains (Ok summary) old new
-    replayed summary done base found input held began left_is held_is clean =
-        let gone = lost input done.input (source.left old.1) (source.left new.1) left_is done.read in
-        let ended : gone.rest ≡ [] = subst IsAtEnd gone.is done.at_end in
-        let whole : done.input ≡ input =
-        sym (gone.whole ∙ ap (λ r. done.input ++ r) ended ∙ append-nil done.input) in
+    replayed summary done base found began clean =
         let its = done.processed.answered in
         let text = written explains its.answers in
-        let out = λ (answers : List Answer). text ≡ written explains answers in
         record {
+          reads = done.reads;
+          read = done.read;
           text = text;
-          text_is_appended = grown held text (sink.held old.2) (sink.held new.2) held_is its.out;
+          text_is_added = its.out;
           specified = (
-            gone.is ∙ ap Some ended,
-            subst (λ i. AsSpecified state base found (inputs_of [] (script i)) out new.0.handler) whole
-                (processed base found old.0 new.0.handler began clean (script done.input) its.answers out its.handled
-                refl),
+            done.ends,
+            done.at_end,
+            processed base found old.0 new.0.handler began clean (script (concat done.reads)) its.answers
+                (λ answers. text ≡ written explains answers) its.handled refl,
           );
         }
 
-    -- some lines that LF ended, of a script with more after them
+    -- some lines that LF ended, and perhaps the beginning of one more
     ended_lines_replayed : (fault : RunFault) → ReplaysEndedLines state (replay_value source sink) explains old new
         → ReplaysAsSpecified state source sink explains (Err fault) old new
-    ended_lines_replayed fault done base found input held began left_is held_is clean =
-        let gone = lost input done.input (source.left old.1) (source.left new.1) left_is done.read in
+    ended_lines_replayed fault done base found began clean =
         let its = done.processed.processed.answered in
         let text = written explains its.answers in
         let ended = done.processed.ended in
-        let more = done.processed.is.tail ++ gone.rest in
-        let whole : script input ≡ script ended ++ script more =
-        ap script (gone.whole ∙ ap (λ s. s ++ gone.rest) done.processed.is.whole
-        ∙ append_assoc ended done.processed.is.tail gone.rest) ∙ script-behind ended more done.processed.is.ends in
+        let tail = done.processed.is.tail in
+        let input = concat done.reads in
+        let whole : script input ≡ script ended ++ script tail =
+        ap script done.processed.is.whole ∙ script-behind ended tail done.processed.is.ends in
         record {
+          reads = done.reads;
+          read = done.read;
           text = text;
-          text_is_appended = grown held text (sink.held old.2) (sink.held new.2) held_is its.out;
-          specified = played_first base found old.0 new.0.handler began clean (script ended) (script more)
+          text_is_added = its.out;
+          specified = played_first base found old.0 new.0.handler began clean (script ended) (script tail)
               (script input)
               whole its.answers (λ answers. IsPrefix text (written explains answers)) its.handled (whole_prefix text);
         }
 
     -- an answer to an input of one event
-    event_broken : (events : List InputEvent) (event : InputEvent)
-        → Breaks state old.0 new.0 events event (AppendsCutReplayText explains (sink.held old.2) (sink.held new.2))
-        → (base : ℕ) (found : Devices) (input held : List ℕ) (later : List InputEvent) → IsNew state base found old.0
-        → sink.held old.2 ≡ Some held → (state new.0.handler.registry).honest
-        → script input ≡ events ++ event ∷ later
-        → ReplaySpecified state source sink explains (Err Write) base found input held new
-    event_broken events event b base found input held later began held_is clean whole =
+    event_broken : (reads : List (List ℕ))
+        → Returns (source_value source old.1) (source_value source new.1) reads → (events : List InputEvent)
+        (event : InputEvent)
+        → Breaks state old.0 new.0 events event (AppendsCutReplayText explains (sink.bytes old.2) (sink.bytes new.2))
+        → (later : List InputEvent) → script (concat reads) ≡ events ++ event ∷ later
+        → ReplaysAsSpecified state source sink explains (Err Write) old new
+    event_broken reads read events event b later whole base found began clean =
         let its = b.answered in
-        let part : AppendsPart (sink.held old.2) (sink.held new.2) (written explains its.answers)
+        let part : AppendsPart (sink.bytes old.2) (sink.bytes new.2) (written explains its.answers)
         (text_of explains its.last) = its.out in
         let text = written explains its.answers ++ part.part in
         record {
+          reads = reads;
+          read = read;
           text = text;
-          text_is_appended = grown held text (sink.held old.2) (sink.held new.2) held_is part.grown;
-          specified = broken_off base found old.0 new.0 events event later (script input) began clean whole b
+          text_is_added = part.grown;
+          specified = broken_off base found old.0 new.0 events event later (script (concat reads)) began clean whole b
               (λ answers. IsPrefix text (written explains answers))
               (part_prefix (text_of explains) its.answers its.last part.part part.missing part.whole);
         }
 
     write_failed : ReplaysUntilWriteFails state (replay_value source sink) explains old new
         → ReplaysAsSpecified state source sink explains (Err Write) old new
-    write_failed done base found input held began left_is held_is clean =
-        let gone = lost input done.input (source.left old.1) (source.left new.1) left_is done.read in
-        elim done.broken [
-          | inl at_line ↦
-              let it = at_line.broken in
-              let more = it.more ++ gone.rest in
-              let whole : script input ≡ it.events ++ it.event ∷ script more =
-              ap script (gone.whole ∙ ap (λ s. s ++ gone.rest) it.whole
-              ∙ append_assoc (with_lf it.part) it.more gone.rest)
-              ∙ script-behind (with_lf it.part) more (inr (it.part, refl))
-              ∙ ap (λ (es : List InputEvent). es ++ script more) it.is
-              ∙ append_assoc it.events (it.event ∷ []) (script more) in
-              event_broken it.events it.event it.broken base found input held (script more) began held_is clean whole
-          | inr at_end ↦
-              let it = at_end.broken in
-              let none : gone.rest ≡ [] = subst IsAtEnd gone.is at_end.at_end in
-              let whole : input ≡ done.input =
-              gone.whole ∙ ap (λ r. done.input ++ r) none ∙ append-nil done.input in
-              event_broken it.events it.event it.broken base found input held [] began held_is clean
-              (ap script whole ∙ it.whole)
-        ]
+    write_failed done = elim done.broken [
+      | inl at_line ↦
+          let it = at_line.broken in
+          let whole : script (concat done.reads) ≡ it.events ++ it.event ∷ script it.more =
+          ap script it.whole
+          ∙ script-behind (with_lf it.part) it.more (inr (it.part, refl))
+          ∙ ap (λ (es : List InputEvent). es ++ script it.more) it.is
+          ∙ append_assoc it.events (it.event ∷ []) (script it.more) in
+          event_broken done.reads done.read it.events it.event it.broken (script it.more) whole
+      | inr at_end ↦
+          let it = at_end.broken in
+          event_broken done.reads done.read it.events it.event it.broken [] it.whole
+    ]
 
     pub replayed_until : (fault : RunFault) → ReplaysUntilFault state (replay_value source sink) explains old new fault
         → ReplaysAsSpecified state source sink explains (Err fault) old new
@@ -345,31 +316,29 @@ module _ {S : Type 0} (state : S → DeviceStoreState) where
 
     pub served : (count : ℕ) (summary : Summary) → Serves state at explains old new count summary
         → ServesAsSpecified state serial_in desk_in serial_out desk_out explains (Ok summary) old new count
-    served count summary done base found serial desk sent printed began serial_is desk_is sent_is printed_is clean =
-        let of_serial = lost serial _ (serial_in.left old.1)
-        (serial_in.left new.1) serial_is done.serial.bytes_read.all in
-        let of_desk = lost desk _ (desk_in.left old.2) (desk_in.left new.2) desk_is done.desk.bytes_read.all in
+    served count summary done base found began clean =
         let its = done.processed.answered in
         let radio = all_radio_bytes its.answers in
         let lines = all_desk_text explains its.answers in
         record {
-          turns = done.read;
-          serial_unread = of_serial.rest;
-          desk_unread = of_desk.rest;
-          read = record { serial_is = of_serial.whole; desk_is = of_desk.whole };
-          serial_left = of_serial.is;
-          desk_left = of_desk.is;
+          serial = serial_reads done.read;
+          desk = desk_reads done.read;
+          serial_read = done.serial.bytes_read.all;
+          desk_read = done.desk.bytes_read.all;
+          alternate = inl (same_length done.read);
           radio_written = radio;
           desk_written = lines;
-          radio_is_appended = grown sent radio (serial_out.held old.3) (serial_out.held new.3) sent_is its.out.0.text;
-          desk_is_appended = grown printed lines (desk_out.held old.4) (desk_out.held new.4) printed_is its.out.1.text;
+          radio_is_added = its.out.0.text;
+          desk_is_added = its.out.1.text;
           specified = (
-            done.count,
-            done.serial,
-            done.desk,
-            processed base found old.0 new.0.handler began clean (events_of_turns done.read) its.answers
+            length-map done.read (λ (turn : Turn). turn.chunk) ∙ done.count,
+            length-map done.read (λ (turn : Turn). turn.desk) ∙ done.count,
+            subst (λ events. AsSpecified state base found (inputs_of [] events)
+                (λ answers. (radio ≡ all_radio_bytes answers) × (lines ≡ all_desk_text explains answers)) new.0.handler)
+                (sym (events_of-reads done.read None))
+                (processed base found old.0 new.0.handler began clean (events_of_turns done.read) its.answers
                 (λ answers. (radio ≡ all_radio_bytes answers) × (lines ≡ all_desk_text explains answers)) its.handled
-                (refl, refl),
+                (refl, refl)),
           );
         }
 
@@ -377,8 +346,8 @@ module _ {S : Type 0} (state : S → DeviceStoreState) where
     record PartIsOut (answers : List Answer) (last : Answer) : Type 0 where
       radio : List ℕ
       lines : List ℕ
-      radio_out : Appends (serial_out.held old.3) (serial_out.held new.3) radio
-      lines_out : Appends (desk_out.held old.4) (desk_out.held new.4) lines
+      radio_out : Adds (serial_out.bytes old.3) (serial_out.bytes new.3) radio
+      lines_out : Adds (desk_out.bytes old.4) (desk_out.bytes new.4) lines
       radio_is : IsPrefix radio (all_radio_bytes (answers ++ last ∷ []))
       lines_are : IsPrefix lines (all_desk_text explains (answers ++ last ∷ []))
 
@@ -413,43 +382,32 @@ module _ {S : Type 0} (state : S → DeviceStoreState) where
     -- what was read of the two sources before a fault
     abbrev Took : List Turn → Option (List ℕ) → Type 0
     Took read chunk =
-        Consumes (serial_in.left old.1) (serial_in.left new.1) (concat (serial_reads_and_chunk read chunk))
-        × Consumes (desk_in.left old.2) (desk_in.left new.2) (concat (desk_reads read))
+        Returns (source_value serial_in old.1) (source_value serial_in new.1) (serial_reads_and_chunk read chunk)
+        × Returns (source_value desk_in old.2) (source_value desk_in new.2) (desk_reads read)
 
     abbrev Out : List ℕ → List ℕ → List Answer → Type 0
     Out radio lines answers = IsPrefix radio (all_radio_bytes answers) × IsPrefix lines (all_desk_text explains answers)
 
     until_fault : (fault : RunFault) (count : ℕ) (read : List Turn) (chunk : Option (List ℕ)) (radio lines : List ℕ)
-        → Took read chunk → Appends (serial_out.held old.3) (serial_out.held new.3) radio
-        → Appends (desk_out.held old.4) (desk_out.held new.4) lines
+        → Took read chunk → Adds (serial_out.bytes old.3) (serial_out.bytes new.3) radio
+        → Adds (desk_out.bytes old.4) (desk_out.bytes new.4) lines
         → ((base : ℕ) (found : Devices) → IsNew state base found old.0 → (state new.0.handler.registry).honest
         → BrokenOff state base found (inputs_of [] (events_and_chunk read chunk)) (Out radio lines) new.0.handler)
         → ServesAsSpecified state serial_in desk_in serial_out desk_out explains (Err fault) old new count
-    until_fault fault count read chunk radio lines took radio_out lines_out broken base found serial desk sent printed
-        began serial_is desk_is sent_is printed_is clean =
-        let turns = with_piece read chunk in
-        let of_serial = lost serial _ (serial_in.left old.1) (serial_in.left new.1) serial_is took.0 in
-        let of_desk = lost desk _ (desk_in.left old.2) (desk_in.left new.2) desk_is took.1 in
-        record {
-          turns = turns;
-          serial_unread = of_serial.rest;
-          desk_unread = of_desk.rest;
-          read = record {
-            serial_is = of_serial.whole
-                ∙ ap (λ (parts : List (List ℕ)). concat parts ++ of_serial.rest)
-                (sym (serial_reads-with_piece read chunk));
-            desk_is = of_desk.whole ∙ ap (λ s. s ++ of_desk.rest) (sym (desk_reads-with_piece read chunk));
-          };
-          serial_left = of_serial.is;
-          desk_left = of_desk.is;
-          radio_written = radio;
-          desk_written = lines;
-          radio_is_appended = grown sent radio (serial_out.held old.3) (serial_out.held new.3) sent_is radio_out;
-          desk_is_appended = grown printed lines (desk_out.held old.4) (desk_out.held new.4) printed_is lines_out;
-          specified =
-              subst (λ events. BrokenOff state base found (inputs_of [] events) (Out radio lines) new.0.handler)
-              (sym (events-with_piece read chunk)) (broken base found began clean);
-        }
+    until_fault fault count read chunk radio lines took radio_out lines_out broken base found began clean = record {
+      serial = serial_reads_and_chunk read chunk;
+      desk = desk_reads read;
+      serial_read = took.0;
+      desk_read = took.1;
+      alternate = alternating read chunk;
+      radio_written = radio;
+      desk_written = lines;
+      radio_is_added = radio_out;
+      desk_is_added = lines_out;
+      specified =
+          subst (λ events. BrokenOff state base found (inputs_of [] events) (Out radio lines) new.0.handler)
+          (sym (events_of-reads read chunk)) (broken base found began clean);
+    }
 
     read_failed : (count : ℕ) → ServesUntilReadFails state at explains old new
         → ServesAsSpecified state serial_in desk_in serial_out desk_out explains (Err Read) old new count
@@ -487,7 +445,8 @@ module _ {S : Type 0} (state : S → DeviceStoreState) where
             clean whole b (Out part.radio part.lines) (part.radio_is, part.lines_are))
 
         by : (chunk : Option (List ℕ))
-            → Consumes (serial_in.left old.1) (serial_in.left new.1) (concat (serial_reads_and_chunk done.read chunk))
+            → Returns (source_value serial_in old.1) (source_value serial_in new.1)
+            (serial_reads_and_chunk done.read chunk)
             → BreaksTurn state old.0 new.0 done.read chunk breaks
             → ServesAsSpecified state serial_in desk_in serial_out desk_out explains (Err Write) old new count
         by None serial broken =

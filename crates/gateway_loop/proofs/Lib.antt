@@ -15,4 +15,6 @@ pub mod ReadLemmas
 pub mod TurnLemmas
 pub mod LiveOutputsLemmas
 pub mod ScriptReplayLemmas
+pub mod DeskCutLemmas
+pub mod CutLemmas
 pub mod HeadlineLemmas

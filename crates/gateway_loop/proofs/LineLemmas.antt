@@ -76,15 +76,15 @@ record EndedLines (bytes : List ℕ) : Type 0 where
   each : All HasNoLf ls
   whole : bytes ≡ flat_map with_lf ls
 
-line_more : (byte : ℕ) (line : List ℕ) → byte ≢ 10 → HasNoLf line → HasNoLf (byte ∷ line)
+pub line_more : (byte : ℕ) (line : List ℕ) → byte ≢ 10 → HasNoLf line → HasNoLf (byte ∷ line)
 line_more byte line other one zero d l = other
 line_more byte line other one (suc k) d l = one k d (omega (arith, l))
 
-lines_more : (line : List ℕ) (ls : List (List ℕ)) → HasNoLf line → All HasNoLf ls → All HasNoLf (line ∷ ls)
+pub lines_more : (line : List ℕ) (ls : List (List ℕ)) → HasNoLf line → All HasNoLf ls → All HasNoLf (line ∷ ls)
 lines_more line ls one each zero d l = one
 lines_more line ls one each (suc k) d l = each k d (omega (arith, l))
 
-no_line : HasNoLf []
+pub no_line : HasNoLf []
 no_line k d l = absurd (omega (arith, l))
 
 -- what ends with LF consists of lines

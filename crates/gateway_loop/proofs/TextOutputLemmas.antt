@@ -1,19 +1,19 @@
 -- An answer whose text is written to a sink is written, also if the text depends on a flag.
 use Rattle.std.proofs.Common.{◌≡◌, ℕ, Bool, List, [], ◌∷◌, sym, append-nil, subst, Ok, Err}
 use Rattle.std.specs.Prelude.{Result, MatchResult}
-use Rattle.std.specs.Io.KnownBytes.{Appends}
 use Rattle.gateway_core.specs.Step.{Answer}
 use Rattle.byte_io.specs.Counts.{CallsMatchResult}
+use Rattle.byte_io.specs.Transfers.{Adds}
 use Rattle.byte_io.specs.Writes.{Writes}
 use Rattle.gateway_loop.specs.OutputSpecs.{PutsOrBreaks, OutputSpec, output_by_flag}
 use Rattle.gateway_loop.specs.Streams.{SinkValue}
 use Rattle.gateway_loop.specs.TextOutput.{PutsText, BreaksText}
 
 pub puts_one : {A E : Type 0} (r : Result A E) (says : Answer → List ℕ) (old new : SinkValue) (answer : Answer)
-    → Writes old.contents new.contents r (says answer) → CallsMatchResult r old.counts new.counts
+    → Writes old.bytes new.bytes r (says answer) → CallsMatchResult r old.counts new.counts
     → MatchResult r (λ _. PutsText says old new (answer ∷ [])) (λ _. BreaksText says old new [] answer)
 puts_one (Ok done) says old new answer text went = record {
-  text = subst (Appends old.contents new.contents) (sym (append-nil (says answer))) text;
+  text = subst (Adds old.bytes new.bytes) (sym (append-nil (says answer))) text;
   calls = went;
 }
 puts_one (Err failed) says old new answer text went = record { text = text; calls = went }

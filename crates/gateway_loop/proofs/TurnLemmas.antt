@@ -51,12 +51,12 @@ orders-first line more one =
     ap (λ (ls : List (List ℕ)). map (λ line. Line (strip_carriage_return line)) ls)
     (lines_ended_by_lf-first line more one)
 
-orders-none : (tail : List ℕ) → HasNoLf tail → desk_line_events tail ≡ []
+pub orders-none : (tail : List ℕ) → HasNoLf tail → desk_line_events tail ≡ []
 orders-none tail one =
     ap (λ (parts : List (List ℕ)). map (λ line. Line (strip_carriage_return line)) (take (length parts - 1) parts))
     (slice_split_none (λ b. b == 10) tail (test_of_one_line tail one))
 
-orders-ended : (ls : List (List ℕ)) (more : List ℕ) → All HasNoLf ls
+pub orders-ended : (ls : List (List ℕ)) (more : List ℕ) → All HasNoLf ls
     → desk_line_events (flat_map with_lf ls ++ more) ≡ events_by DeskLines ls ++ desk_line_events more
 orders-ended [] more each = refl
 orders-ended (l ∷ ls) more each =

@@ -1,13 +1,13 @@
 -- How the writes of a text continue.
-use Rattle.std.proofs.Common.{ℕ, List, [], ◌++◌, ap, sym, ◌∙◌, append_assoc, length-append, arith, Option}
+use Rattle.std.proofs.Common.{ℕ, List, [], ◌++◌, ap, sym, ◌∙◌, append_assoc, length-append, arith}
 use Rattle.std.specs.Prelude.{Result, IsErrAnd}
-use Rattle.std.specs.Io.KnownBytes.{Appends}
-use Rattle.std.proofs.KnownBytes.{Appends-trans}
 use Rattle.std.proofs.lemmas.Result.{MatchResult-weaker, err_from_is_err_and}
+use Rattle.byte_io.specs.Transfers.{Adds, SinkBytes}
 use Rattle.byte_io.specs.Writes.{AppendsPart, Writes}
+use Rattle.byte_io.proofs.ForCallers.{adds-trans}
 
 -- a prefix of the front is a prefix of all
-pub part_of_front : (old new : Option (List ℕ)) (front back : List ℕ) → AppendsPart old new [] front
+pub part_of_front : (old new : SinkBytes) (front back : List ℕ) → AppendsPart old new [] front
     → AppendsPart old new [] (front ++ back)
 part_of_front old new front back p = record {
   part = p.part;
@@ -18,24 +18,24 @@ part_of_front old new front back p = record {
 }
 
 -- after the front, a prefix of the back
-pub part_of_back : (old mid new : Option (List ℕ)) (front back : List ℕ) → Appends old mid front
+pub part_of_back : (old mid new : SinkBytes) (front back : List ℕ) → Adds old mid front
     → AppendsPart mid new [] back → AppendsPart old new [] (front ++ back)
 part_of_back old mid new front back first p = record {
   part = front ++ p.part;
   missing = p.missing;
   whole = ap (λ s. front ++ s) p.whole ∙ sym (append_assoc front p.part p.missing);
   proper = p.proper;
-  grown = Appends-trans old mid new front p.part first p.grown;
+  grown = adds-trans old mid new front p.part first p.grown;
 }
 
 -- the front was written, and then the back
-pub writes_behind : {A E : Type 0} (old mid new : Option (List ℕ)) (r : Result A E) (front back : List ℕ)
-    → Appends old mid front → Writes mid new r back → Writes old new r (front ++ back)
+pub writes_behind : {A E : Type 0} (old mid new : SinkBytes) (r : Result A E) (front back : List ℕ)
+    → Adds old mid front → Writes mid new r back → Writes old new r (front ++ back)
 writes_behind old mid new r front back first second =
-    MatchResult-weaker r second (λ _ grown. Appends-trans old mid new front back first grown)
+    MatchResult-weaker r second (λ _ grown. adds-trans old mid new front back first grown)
     (λ _ part. part_of_back old mid new front back first part)
 
 -- an error after a prefix
-pub writes_part : {A E : Type 0} (Q : E → Type 0) (old new : Option (List ℕ)) (r : Result A E) (text : List ℕ)
+pub writes_part : {A E : Type 0} (Q : E → Type 0) (old new : SinkBytes) (r : Result A E) (text : List ℕ)
     → IsErrAnd r Q → AppendsPart old new [] text → Writes old new r text
 writes_part Q old new r text err part = let p = err_from_is_err_and r err in rw p.1 part

@@ -1,6 +1,7 @@
 -- The effect of the lines that explain packets on the output.
-use Rattle.std.specs.Prelude.{◌≡◌, ℕ, true, false, List, [], ◌∷◌, ◌++◌, Some}
+use Rattle.std.specs.Prelude.{◌≡◌, ℕ, true, false, List, [], ◌∷◌, ◌++◌}
 use Rattle.gateway_core.specs.Step.{Answer}
+use Rattle.byte_io.specs.Transfers.{SinkBytes}
 use Rattle.gateway_loop.specs.Streams.{SinkValue}
 use Rattle.gateway_loop.specs.LiveOutputs.{live_output}
 use Rattle.gateway_loop.specs.Written.{AppendsReplayText, radio_chunk_line}
@@ -14,7 +15,7 @@ DifferByExplanations before (answer ∷ answers) plain explained =
     × (explained ≡ before answer ++ (answer.explanation ++ (answer.desk ++ more)))
     × DifferByExplanations before answers rest more
 
--- The same for what was written after what a sink held.
+-- The same for what a sink received after what it had received.
 pub record DifferByExplanationsAfter (before : Answer → List ℕ) (answers : List Answer) (held plain explained : List ℕ)
     : Type 0 where
   pub plain_added : List ℕ
@@ -26,14 +27,14 @@ pub record DifferByExplanationsAfter (before : Answer → List ℕ) (answers : L
 -- theorem `explanations_stand_apart`: explaining adds the lines that explain packets, each directly before the text for
 -- the desk, and changes nothing else in what a replay writes, or a live gateway to the desk and to the serial line
 pub record ExplanationsStandApart : Type 0 where
-  pub replay : (answers : List Answer) (held plain explained : List ℕ)
-      → AppendsReplayText false (Some held) (Some plain) answers
-      → AppendsReplayText true (Some held) (Some explained) answers
-      → DifferByExplanationsAfter (λ answer. radio_chunk_line answer.radio) answers held plain explained
-  pub desk : (answers : List Answer) (old new other : SinkValue × SinkValue) (held plain explained : List ℕ)
+  pub replay : (answers : List Answer) (old new other : SinkBytes)
+      → AppendsReplayText false old new answers → AppendsReplayText true old other answers
+      → DifferByExplanationsAfter (λ answer. radio_chunk_line answer.radio) answers old.accepted new.accepted
+      other.accepted
+  pub desk : (answers : List Answer) (old new other : SinkValue × SinkValue)
       → (live_output false).puts old new answers → (live_output true).puts old other answers
-      → old.1.contents ≡ Some held → new.1.contents ≡ Some plain → other.1.contents ≡ Some explained
-      → DifferByExplanationsAfter (λ answer. []) answers held plain explained
-  pub serial : (answers : List Answer) (old new other : SinkValue × SinkValue) (held plain explained : List ℕ)
+      → DifferByExplanationsAfter (λ answer. []) answers old.1.bytes.accepted new.1.bytes.accepted
+      other.1.bytes.accepted
+  pub serial : (answers : List Answer) (old new other : SinkValue × SinkValue)
       → (live_output false).puts old new answers → (live_output true).puts old other answers
-      → old.0.contents ≡ Some held → new.0.contents ≡ Some plain → other.0.contents ≡ Some explained → plain ≡ explained
+      → new.0.bytes.accepted ≡ other.0.bytes.accepted

@@ -1,6 +1,7 @@
 -- The headline: what a gateway writes by `replay` and by `live`, what it knows afterwards, and what a crash leaves of
 -- it. The contracts of the two functions state it, for every result; that of `start` says how a gateway begins.
-use Rattle.std.specs.Prelude.{◌≡◌, ℕ, Bool, List, [], ◌++◌, length, Some, Result, MatchResult}
+use Rattle.std.specs.Prelude.{◌≡◌, ◌⊎◌, ◌+◌, ℕ, Bool, List, [], ◌++◌, length, Result, MatchResult}
+use Rattle.std.specs.Io.KnownBytes.{IsAtEnd}
 use Rattle.std.specs.List.{concat, flat_map}
 use Rattle.learned_devices.specs.DeviceStoreState.{DeviceStoreState}
 use Rattle.learned_devices.specs.Devices.{Devices}
@@ -11,14 +12,15 @@ use Rattle.gateway_core.specs.Prefixes.{AfterPrefix}
 use Rattle.gateway_core.specs.Handling.{HandlerValue, HasState}
 use Rattle.gateway_core.specs.Calls.{GatewayValue, new_gateway_value}
 use Rattle.gateway_core.specs.Events.{inputs_of}
+use Rattle.byte_io.specs.Transfers.{Adds}
 use Rattle.byte_io.specs.declared.sink.Sink as sinks
 use Rattle.byte_io.specs.declared.source.Source as sources
 use Rattle.gateway_loop.specs.declared.run_result.RunFault.{RunFault}
 use Rattle.gateway_loop.specs.declared.run_result.Summary.{Summary}
-use Rattle.gateway_loop.specs.Reads.{AllReadsSucceed}
+use Rattle.gateway_loop.specs.Reads.{OnlyLastIsEmpty, Returns}
 use Rattle.gateway_loop.specs.Script.{script}
 use Rattle.gateway_loop.specs.Streams.{source_value}
-use Rattle.gateway_loop.specs.Turns.{Turn, desk_reads, events_of_turns, serial_reads}
+use Rattle.gateway_loop.specs.Turns.{events_of_turns, turns_of}
 use Rattle.gateway_loop.specs.LiveOutputs.{radio_bytes}
 use Rattle.gateway_loop.specs.Written.{desk_text, written}
 
@@ -26,11 +28,6 @@ use Rattle.gateway_loop.specs.Written.{desk_text, written}
 pub record IsPrefix (bytes all : List ℕ) : Type 0 where
   pub rest : List ℕ
   pub whole : all ≡ bytes ++ rest
-
--- the turns read these bytes of the two sources, and left the rest
-pub record ReadInTurns (turns : List Turn) (serial serial_unread desk desk_unread : List ℕ) : Type 0 where
-  pub serial_is : serial ≡ concat (serial_reads turns) ++ serial_unread
-  pub desk_is : desk ≡ concat (desk_reads turns) ++ desk_unread
 
 -- the radio bytes of the answers, and their lines for the desk
 abbrev pub all_radio_bytes : List Answer → List ℕ
@@ -75,56 +72,54 @@ module _ {S : Type 0} (stored : S → DeviceStoreState) where
     pub whole : inputs ≡ handled ++ later
     pub specified : AsSpecified base found handled out new
 
-  -- `replay`, for a new gateway, a reader that has these bytes left, and a writer that holds those. At `Ok` the
-  -- script was read to its end, and the writer received exactly the text of the answers to the inputs of the script. At
-  -- a fault it received a prefix of the text for some prefix of these inputs. (The postconditions `err`, `read`,
-  -- `write` and `too_many` of `replay` say which prefix, and when each fault is returned.)
+  -- `replay`, for a new gateway, any reader and any writer. `reads` lists what the reads of this call returned. At `Ok`
+  -- the last read returned 0 bytes, which ends the script, and the writer accepted exactly the text of the answers to
+  -- the inputs of the script. At a fault it accepted a prefix of the text for some prefix of these inputs. (The
+  -- postconditions `err`, `read`, `write` and `too_many` say which prefix, and when each fault is returned.)
   pub record ReplaySpecified {R W : Type 0} (source : sources.Ghosts R) (sink : sinks.Ghosts W) (explains : Bool)
-      (result : Result Summary RunFault) (base : ℕ) (found : Devices) (input held : List ℕ)
-      (new : GatewayValue S × R × W)
+      (result : Result Summary RunFault) (base : ℕ) (found : Devices) (old new : GatewayValue S × R × W)
       : Type 0 where
+    pub reads : List (List ℕ)
+    pub read : Returns (source_value source old.1) (source_value source new.1) reads
     pub text : List ℕ
-    pub text_is_appended : sink.held new.2 ≡ Some (held ++ text)
+    pub text_is_added : Adds (sink.bytes old.2) (sink.bytes new.2) text
     pub specified : MatchResult result
-        (λ _. (source.left new.1 ≡ Some [])
-        × AsSpecified base found (inputs_of [] (script input)) (λ answers. text ≡ written explains answers)
+        (λ _. OnlyLastIsEmpty reads × IsAtEnd (source.left new.1)
+        × AsSpecified base found (inputs_of [] (script (concat reads))) (λ answers. text ≡ written explains answers)
         new.0.handler)
-        (λ _. BrokenOff base found (inputs_of [] (script input)) (λ answers. IsPrefix text (written explains answers))
-        new.0.handler)
+        (λ _. BrokenOff base found (inputs_of [] (script (concat reads)))
+        (λ answers. IsPrefix text (written explains answers)) new.0.handler)
 
   abbrev pub ReplaysAsSpecified : {R W : Type 0} → sources.Ghosts R → sinks.Ghosts W → (explains : Bool)
       → Result Summary RunFault → (old new : GatewayValue S × R × W) → Type 0
   ReplaysAsSpecified source sink explains result old new =
-      (base : ℕ) (found : Devices) (input held : List ℕ) → IsNew base found old.0 → source.left old.1 ≡ Some input
-      → sink.held old.2 ≡ Some held → (stored new.0.handler.registry).honest
-      → ReplaySpecified source sink explains result base found input held new
+      (base : ℕ) (found : Devices) → IsNew base found old.0 → (stored new.0.handler.registry).honest
+      → ReplaySpecified source sink explains result base found old new
 
-  -- `live`, for a new gateway, two readers that have these bytes left, and two writers that hold these. At `Ok` all
-  -- turns were made, each with one read of the serial line and one of the desk, and the writers received exactly the
-  -- radio bytes and the lines of the answers to the inputs of the turns. At a fault they received prefixes of these,
-  -- for some prefix of the inputs. (The postconditions `err` and `reads` of `live` say which.)
+  -- `live`, for a new gateway, any two readers and any two writers. `serial` and `desk` list what the reads of this
+  -- call returned. Any of them may have returned 0 bytes, as from a serial line that is silent for a while. At `Ok` all
+  -- turns were made, and the writers accepted exactly the radio bytes and the lines of the answers to the inputs of
+  -- these reads. At a fault they accepted prefixes of these, for some prefix of the inputs; the last turn may lack its
+  -- read of the desk. (The postconditions `err` and `reads` of `live` say which.)
   pub record LiveSpecified {P Q R D : Type 0} (serial_in : sources.Ghosts P) (desk_in : sources.Ghosts Q)
       (serial_out : sinks.Ghosts R) (desk_out : sinks.Ghosts D) (explains : Bool) (result : Result Summary RunFault)
-      (count base : ℕ) (found : Devices) (serial desk sent printed : List ℕ) (old new : GatewayValue S × P × Q × R × D)
+      (count base : ℕ) (found : Devices) (old new : GatewayValue S × P × Q × R × D)
       : Type 0 where
-    pub turns : List Turn
-    pub serial_unread : List ℕ
-    pub desk_unread : List ℕ
-    pub read : ReadInTurns turns serial serial_unread desk desk_unread
-    pub serial_left : serial_in.left new.1 ≡ Some serial_unread
-    pub desk_left : desk_in.left new.2 ≡ Some desk_unread
+    pub serial : List (List ℕ)
+    pub desk : List (List ℕ)
+    pub serial_read : Returns (source_value serial_in old.1) (source_value serial_in new.1) serial
+    pub desk_read : Returns (source_value desk_in old.2) (source_value desk_in new.2) desk
+    pub alternate : (length serial ≡ length desk) ⊎ (length serial ≡ length desk + 1)
     pub radio_written : List ℕ
     pub desk_written : List ℕ
-    pub radio_is_appended : serial_out.held new.3 ≡ Some (sent ++ radio_written)
-    pub desk_is_appended : desk_out.held new.4 ≡ Some (printed ++ desk_written)
+    pub radio_is_added : Adds (serial_out.bytes old.3) (serial_out.bytes new.3) radio_written
+    pub desk_is_added : Adds (desk_out.bytes old.4) (desk_out.bytes new.4) desk_written
     pub specified : MatchResult result
-        (λ _. (length turns ≡ count)
-        × AllReadsSucceed (source_value serial_in old.1) (source_value serial_in new.1) (serial_reads turns)
-        × AllReadsSucceed (source_value desk_in old.2) (source_value desk_in new.2) (desk_reads turns)
-        × AsSpecified base found (inputs_of [] (events_of_turns turns))
+        (λ _. (length serial ≡ count) × (length desk ≡ count)
+        × AsSpecified base found (inputs_of [] (events_of_turns (turns_of serial desk)))
         (λ answers. (radio_written ≡ all_radio_bytes answers) × (desk_written ≡ all_desk_text explains answers))
         new.0.handler)
-        (λ _. BrokenOff base found (inputs_of [] (events_of_turns turns))
+        (λ _. BrokenOff base found (inputs_of [] (events_of_turns (turns_of serial desk)))
         (λ answers. IsPrefix radio_written (all_radio_bytes answers)
         × IsPrefix desk_written (all_desk_text explains answers)) new.0.handler)
 
@@ -132,9 +127,5 @@ module _ {S : Type 0} (stored : S → DeviceStoreState) where
       → sinks.Ghosts D → (explains : Bool) → Result Summary RunFault
       → (old new : GatewayValue S × P × Q × R × D) (count : ℕ) → Type 0
   ServesAsSpecified serial_in desk_in serial_out desk_out explains result old new count =
-      (base : ℕ) (found : Devices) (serial desk sent printed : List ℕ) → IsNew base found old.0
-      → serial_in.left old.1 ≡ Some serial → desk_in.left old.2 ≡ Some desk
-      → serial_out.held old.3 ≡ Some sent → desk_out.held old.4 ≡ Some printed
-      → (stored new.0.handler.registry).honest
-      → LiveSpecified serial_in desk_in serial_out desk_out explains result count base found serial desk sent printed
-      old new
+      (base : ℕ) (found : Devices) → IsNew base found old.0 → (stored new.0.handler.registry).honest
+      → LiveSpecified serial_in desk_in serial_out desk_out explains result count base found old new

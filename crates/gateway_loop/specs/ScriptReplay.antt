@@ -1,6 +1,7 @@
 -- The bytes and inputs that `replay` reads, handles and writes.
 use Rattle.std.specs.Prelude.{◌≡◌, ◌↔◌, ◌⊎◌, ◌+◌, ◌-◌, ◌^◌, min, ℕ, Bool, List, length, Result, Err}
-use Rattle.std.specs.Io.KnownBytes.{Consumes, IsAtEnd}
+use Rattle.std.specs.Io.KnownBytes.{IsAtEnd}
+use Rattle.std.specs.List.{concat}
 use Rattle.learned_devices.specs.DeviceStoreState.{DeviceStoreState}
 use Rattle.gateway_core.specs.Calls.{GatewayValue}
 use Rattle.gateway_core.specs.Events.{inputs_of}
@@ -11,6 +12,7 @@ use Rattle.gateway_loop.specs.declared.run_result.RunFault.{RunFault}
 use Rattle.gateway_loop.specs.declared.run_result.RunFault.TheVariants.{Read, Write, TooManyTurns}
 use Rattle.gateway_loop.specs.declared.run_result.Summary.{Summary}
 use Rattle.gateway_loop.specs.Processing.{Processes, ProcessesEndedLines, BreaksAtLastEvent, BreaksAtEndedLine}
+use Rattle.gateway_loop.specs.Reads.{OnlyLastIsEmpty, Returns}
 use Rattle.gateway_loop.specs.Script.{script}
 use Rattle.gateway_loop.specs.Streams.{SinkValue, SourceValue, sink_value, source_value}
 use Rattle.gateway_loop.specs.Written.{AppendsReplayText, AppendsCutReplayText}
@@ -30,38 +32,39 @@ module _ {S T : Type 0} (stored : S → DeviceStoreState) (at : T → ReplayValu
   -- the source was read to its end, exactly the inputs of the script were handled and counted, and the text of their
   -- answers was written
   pub record Replays (old new : T) (summary : Summary) : Type 0 where
-    pub input : List ℕ
-    pub read : Consumes (at old).source.unread (at new).source.unread input
+    pub reads : List (List ℕ)
+    pub read : Returns (at old).source (at new).source reads
+    pub ends : OnlyLastIsEmpty reads
     pub at_end : IsAtEnd (at new).source.unread
-    pub processed : Processes stored (at old).gateway (at new).gateway (script input)
-        (AppendsReplayText explains (at old).sink.contents (at new).sink.contents)
-    pub counted : summary.items ≡ min (length (inputs_of (at old).gateway.rest (script input))) (2 ^ 64 - 1)
+    pub processed : Processes stored (at old).gateway (at new).gateway (script (concat reads))
+        (AppendsReplayText explains (at old).sink.bytes (at new).sink.bytes)
+    pub counted : summary.items ≡ min (length (inputs_of (at old).gateway.rest (script (concat reads)))) (2 ^ 64 - 1)
 
   -- the lines that LF ends in what was read were replayed
   pub record ReplaysEndedLines (old new : T) : Type 0 where
-    pub input : List ℕ
-    pub read : Consumes (at old).source.unread (at new).source.unread input
-    pub processed : ProcessesEndedLines stored (at old).gateway (at new).gateway input
-        (AppendsReplayText explains (at old).sink.contents (at new).sink.contents)
+    pub reads : List (List ℕ)
+    pub read : Returns (at old).source (at new).source reads
+    pub processed : ProcessesEndedLines stored (at old).gateway (at new).gateway (concat reads)
+        (AppendsReplayText explains (at old).sink.bytes (at new).sink.bytes)
 
   -- a write failed at a line that LF ends in what was read, and all reads returned something
   pub record BreaksAtLine (old new : T) (input : List ℕ) : Type 0 where
     pub reads : NoneFailedOrEmpty (at old).source.counts (at new).source.counts
     pub broken : BreaksAtEndedLine stored (at old).gateway (at new).gateway input
-        (AppendsCutReplayText explains (at old).sink.contents (at new).sink.contents)
+        (AppendsCutReplayText explains (at old).sink.bytes (at new).sink.bytes)
 
   -- a write failed at the last event of the script, and one read returned nothing
   pub record BreaksAtEndOfScript (old new : T) (input : List ℕ) : Type 0 where
     pub reads : OneEmptyNoneFailed (at old).source.counts (at new).source.counts
     pub at_end : IsAtEnd (at new).source.unread
     pub broken : BreaksAtLastEvent stored (at old).gateway (at new).gateway (script input)
-        (AppendsCutReplayText explains (at old).sink.contents (at new).sink.contents)
+        (AppendsCutReplayText explains (at old).sink.bytes (at new).sink.bytes)
 
   -- a write failed
   pub record ReplaysUntilWriteFails (old new : T) : Type 0 where
-    pub input : List ℕ
-    pub read : Consumes (at old).source.unread (at new).source.unread input
-    pub broken : BreaksAtLine old new input ⊎ BreaksAtEndOfScript old new input
+    pub reads : List (List ℕ)
+    pub read : Returns (at old).source (at new).source reads
+    pub broken : BreaksAtLine old new (concat reads) ⊎ BreaksAtEndOfScript old new (concat reads)
 
   -- what was done before a fault
   abbrev pub ReplaysUntilFault : (old new : T) → RunFault → Type 0

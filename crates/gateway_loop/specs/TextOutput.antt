@@ -1,13 +1,13 @@
 -- A sink as an output: it receives the text of each answer.
 use Rattle.std.specs.Prelude.{ℕ, List, ◌++◌}
-use Rattle.std.specs.Io.KnownBytes.{Appends}
 use Rattle.std.specs.List.{flat_map}
 use Rattle.std.proofs.Common.{ap, sym, ◌∙◌, append_assoc, subst, refl}
-use Rattle.std.proofs.KnownBytes.{Appends-nil, Appends-trans}
 use Rattle.std.proofs.lemmas.List.Concat.{flat_map-append}
 use Rattle.gateway_core.specs.Step.{Answer}
 use Rattle.byte_io.specs.Counts.{NoneFailedOrEmpty}
+use Rattle.byte_io.specs.Transfers.{Adds}
 use Rattle.byte_io.specs.Writes.{AppendsPart}
+use Rattle.byte_io.proofs.ForCallers.{adds-nil, adds-trans}
 use Rattle.gateway_loop.specs.CallCounts.{OneFailedOrEmpty, none_failed_in_both, failed_in_second}
 use Rattle.gateway_loop.specs.OutputSpecs.{OutputSpec}
 use Rattle.gateway_loop.specs.Streams.{SinkValue}
@@ -15,32 +15,32 @@ use Rattle.gateway_loop.specs.Streams.{SinkValue}
 module _ (says : Answer → List ℕ) where
   -- a sink received the texts of the answers, and no write went wrong
   pub record PutsText (old new : SinkValue) (answers : List Answer) : Type 0 where
-    pub text : Appends old.contents new.contents (flat_map says answers)
+    pub text : Adds old.bytes new.bytes (flat_map says answers)
     pub calls : NoneFailedOrEmpty old.counts new.counts
 
   -- a sink received the texts of the answers, and a write of the last one's text went wrong
   pub record BreaksText (old new : SinkValue) (answers : List Answer) (last : Answer) : Type 0 where
-    pub text : AppendsPart old.contents new.contents (flat_map says answers) (says last)
+    pub text : AppendsPart old.bytes new.bytes (flat_map says answers) (says last)
     pub calls : OneFailedOrEmpty old.counts new.counts
 
-  pub appends_join : (old mid new : SinkValue) (first second : List Answer) (more : List ℕ)
-      → Appends old.contents mid.contents (flat_map says first)
-      → Appends mid.contents new.contents (flat_map says second ++ more)
-      → Appends old.contents new.contents (flat_map says (first ++ second) ++ more)
-  appends_join old mid new first second more a b =
-      subst (Appends old.contents new.contents)
+  pub adds_join : (old mid new : SinkValue) (first second : List Answer) (more : List ℕ)
+      → Adds old.bytes mid.bytes (flat_map says first)
+      → Adds mid.bytes new.bytes (flat_map says second ++ more)
+      → Adds old.bytes new.bytes (flat_map says (first ++ second) ++ more)
+  adds_join old mid new first second more a b =
+      subst (Adds old.bytes new.bytes)
       (sym (ap (λ s. s ++ more) (flat_map-append says first second)
       ∙ append_assoc (flat_map says first) (flat_map says second) more))
-      (Appends-trans old.contents mid.contents new.contents (flat_map says first) (flat_map says second ++ more) a b)
+      (adds-trans old.bytes mid.bytes new.bytes (flat_map says first) (flat_map says second ++ more) a b)
 
   abbrev pub text_output : OutputSpec SinkValue
   text_output = record {
     puts = PutsText;
     breaks = BreaksText;
-    puts_nothing = λ old. record { text = Appends-nil old.contents; calls = (refl, refl) };
+    puts_nothing = λ old. record { text = adds-nil old.bytes; calls = (refl, refl) };
     puts_join = λ old mid new first second a b. record {
-      text = subst (Appends old.contents new.contents) (sym (flat_map-append says first second))
-          (Appends-trans old.contents mid.contents new.contents (flat_map says first)
+      text = subst (Adds old.bytes new.bytes) (sym (flat_map-append says first second))
+          (adds-trans old.bytes mid.bytes new.bytes (flat_map says first)
           (flat_map says second) a.text b.text);
       calls = none_failed_in_both old.counts mid.counts new.counts a.calls b.calls;
     };
@@ -50,7 +50,7 @@ module _ (says : Answer → List ℕ) where
         missing = b.text.missing;
         whole = b.text.whole;
         proper = b.text.proper;
-        grown = appends_join old mid new first second b.text.part a.text b.text.grown;
+        grown = adds_join old mid new first second b.text.part a.text b.text.grown;
       };
       calls = failed_in_second old.counts mid.counts new.counts a.calls b.calls;
     };

@@ -1,9 +1,9 @@
 -- The text that is written for answers. Own choice.
 use Rattle.std.specs.Prelude.{ℕ, Bool, List, [], ◌++◌, codes, Option, Some, None, if◌then◌else◌}
-use Rattle.std.specs.Io.KnownBytes.{Appends}
 use Rattle.std.specs.List.{flat_map}
 use Rattle.hex.specs.Hex.{encode_lower}
 use Rattle.gateway_core.specs.Step.{Answer}
+use Rattle.byte_io.specs.Transfers.{Adds, SinkBytes}
 use Rattle.byte_io.specs.Writes.{AppendsPart}
 use Rattle.byte_io.specs.declared.sink.Sink as sinks
 use Rattle.gateway_loop.specs.declared.replay_output.ReplayOutput.{ReplayOutput}
@@ -27,13 +27,13 @@ abbrev pub written : (explains : Bool) → List Answer → List ℕ
 written explains answers = flat_map (text_of explains) answers
 
 -- exactly the text of the answers was written
-abbrev pub AppendsReplayText : (explains : Bool) (held now : Option (List ℕ)) → List Answer → Type 0
-AppendsReplayText explains held now answers = Appends held now (written explains answers)
+abbrev pub AppendsReplayText : (explains : Bool) (old new : SinkBytes) → List Answer → Type 0
+AppendsReplayText explains old new answers = Adds old new (written explains answers)
 
 -- the text of the answers was written, and then only a proper prefix of the last one's
-abbrev pub AppendsCutReplayText : (explains : Bool) (held now : Option (List ℕ)) → List Answer → Answer → Type 0
-AppendsCutReplayText explains held now answers last =
-    AppendsPart held now (written explains answers) (text_of explains last)
+abbrev pub AppendsCutReplayText : (explains : Bool) (old new : SinkBytes) → List Answer → Answer → Type 0
+AppendsCutReplayText explains old new answers last =
+    AppendsPart old new (written explains answers) (text_of explains last)
 
 -- the text of each answer goes to the sink
 abbrev pub replay_output_of : {W : Type 0} → sinks.Ghosts W → OutputSpec (ReplayOutput W)

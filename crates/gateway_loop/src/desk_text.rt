@@ -18,7 +18,7 @@ pub fn write_desk_text<W: Sink>(
     line: Option<&PacketLine>,
     reply: &Reply,
 ) -> Result<(), Failed>
-    ensures written { Writes (W.held writer.old) (W.held writer.new) result
+    ensures written { Writes (W.bytes writer.old) (W.bytes writer.new) result
         (desk_text explains (with_packet_line (option_copied line.entry) (answer_of reply.now))) }
     ensures counted { CallsMatchResult result (W.counts writer.old) (W.counts writer.new) }
 {

@@ -33,7 +33,7 @@ pub fn live<P: Source, Q: Source, R: Sink, D: Sink, S: DeviceStore>(
     turns: u64,
 ) -> Result<Summary, RunFault>
     requires { gateway.old.ready ≡ [] }
-    // The headline, for a new gateway, and for readers and writers whose bytes are known.
+    // The headline, for a new gateway, and for any readers and writers: also if the serial line is silent for a while.
     ensures as_specified { ServesAsSpecified S.store_state P.Source Q.Source R.Sink D.Sink explains result
         (gateway.old, serial_in.old, desk_in.old, serial_out.old, desk_out.old)
         (gateway.new, serial_in.new, desk_in.new, serial_out.new, desk_out.new) turns }

@@ -35,7 +35,7 @@ impl<W: Sink> ReplySink for ReplayOutput<'_, W> {
 /// Writes bytes as a serial chunk: `S` and a space, hexadecimal digits, LF.
 fn write_chunk<W: Sink>(writer: &mut W, bytes: &[u8]) -> Result<(), Failed>
     requires { length bytes.now ≤ 64 }
-    ensures written { Writes (W.held writer.old) (W.held writer.new) result (radio_chunk_line (Some bytes.now)) }
+    ensures written { Writes (W.bytes writer.old) (W.bytes writer.new) result (radio_chunk_line (Some bytes.now)) }
     ensures counted { CallsMatchResult result (W.counts writer.old) (W.counts writer.new) }
 {
     let mut buffer = [0u8; 128];

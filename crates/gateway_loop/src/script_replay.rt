@@ -35,7 +35,7 @@ pub fn replay<R: Source, W: Sink, S: DeviceStore>(
     turns: u64,
 ) -> Result<Summary, RunFault>
     requires { gateway.old.ready ≡ [] }
-    // The headline, for a new gateway, and for a reader and a writer whose bytes are known.
+    // The headline, for a new gateway, and for any reader and writer.
     ensures as_specified { ReplaysAsSpecified S.store_state R.Source W.Sink explains result
         (gateway.old, reader.old, writer.old) (gateway.new, reader.new, writer.new) }
 

@@ -1,6 +1,7 @@
 //! Theorems about the gateway over a registry in SQLite, and about its loops. Each function does nothing: its contract
 //! is the theorem.
-ghost use Rattle.std.specs.Prelude.{Bool, List, Option, ℕ};
+ghost use Rattle.std.specs.Prelude.{Bool};
+ghost use Rattle.byte_io.specs.Transfers.{SinkBytes};
 ghost use Rattle.device_registry.specs.Holding.{registry_state_of};
 ghost use Rattle.gateway_core.specs.Handling.{HasStateWhileHonest};
 ghost use Rattle.gateway_loop.specs.Streams.{sink_value};
@@ -14,7 +15,7 @@ use byte_io::Sink;
 use device_registry::laws::devices_are_held;
 use device_registry::{RegistryOver, SqlConnection};
 use gateway_core::GatewayOver;
-pub use gateway_loop::laws::explanations_stand_apart;
+pub use gateway_loop::laws::{cuts_of_turns_do_not_matter, explanations_stand_apart};
 
 /// Every gateway over a registry knows a state, while the disk has returned what was written and the connection is
 /// open.
@@ -33,10 +34,10 @@ pub fn closes_end_registry_sessions<C: SqlConnection>()
 /// After `replay` or `live`, by a gateway that `start` made, a crash leaves what a session may leave that found the
 /// devices that were committed last and handled the inputs read.
 pub fn crashed_runs_are_sessions<R: Sink, D: Sink, C: SqlConnection>()
-    ensures replay { (explains : Bool) (held now : Option (List ℕ))
-        → RunsAreSessions C.state (AppendsReplayText explains held now) }
-    ensures broken_replay { (explains : Bool) (held now : Option (List ℕ))
-        → BrokenRunsAreSessions C.state (AppendsCutReplayText explains held now) }
+    ensures replay { (explains : Bool) (sink sink_now : SinkBytes)
+        → RunsAreSessions C.state (AppendsReplayText explains sink sink_now) }
+    ensures broken_replay { (explains : Bool) (sink sink_now : SinkBytes)
+        → BrokenRunsAreSessions C.state (AppendsCutReplayText explains sink sink_now) }
     ensures live { (explains : Bool) (serial serial_now : R) (desk desk_now : D)
         → RunsAreSessions C.state ((live_output explains).puts (sink_value R.Sink serial, sink_value D.Sink desk)
         (sink_value R.Sink serial_now, sink_value D.Sink desk_now)) }
@@ -49,10 +50,10 @@ pub fn crashed_runs_are_sessions<R: Sink, D: Sink, C: SqlConnection>()
 /// After `replay` or `live`, by a gateway that `start` made and that is then closed, the next open finds what such a
 /// session may leave, which is what was known at its end.
 pub fn closed_runs_are_sessions<R: Sink, D: Sink, C: SqlConnection>()
-    ensures replay { (explains : Bool) (held now : Option (List ℕ))
-        → ClosedRunsAreSessions C.state (AppendsReplayText explains held now) }
-    ensures broken_replay { (explains : Bool) (held now : Option (List ℕ))
-        → BrokenClosedRunsAreSessions C.state (AppendsCutReplayText explains held now) }
+    ensures replay { (explains : Bool) (sink sink_now : SinkBytes)
+        → ClosedRunsAreSessions C.state (AppendsReplayText explains sink sink_now) }
+    ensures broken_replay { (explains : Bool) (sink sink_now : SinkBytes)
+        → BrokenClosedRunsAreSessions C.state (AppendsCutReplayText explains sink sink_now) }
     ensures live { (explains : Bool) (serial serial_now : R) (desk desk_now : D)
         → ClosedRunsAreSessions C.state ((live_output explains).puts (sink_value R.Sink serial, sink_value D.Sink desk)
         (sink_value R.Sink serial_now, sink_value D.Sink desk_now)) }

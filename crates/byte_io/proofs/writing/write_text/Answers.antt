@@ -5,9 +5,9 @@ use Rattle.byte_io.proofs.writing.write_text.Goals as goal
 
 pub loop-rest-preserved : goal.loop-rest-preserved
 loop-rest-preserved g c =
-    let held = g.W.Sink.held in
+    let bytes = g.W.Sink.bytes in
     let counts = g.W.Sink.counts in (
-      left_after (held c.args.writer.now) (held c.loop-rest.writer) (held c.write.new.self) c.args.text.now
+      left_after (bytes c.args.writer.now) (bytes c.loop-rest.writer) (bytes c.write.new.self) c.args.text.now
           c.loop-rest.rest.now c.in_ok-count.count c.loop-rest.invariant.0 c.in_ok-count.ensures.bytes,
       went_well Failed (counts c.args.writer.now) (counts c.loop-rest.writer) (counts c.write.new.self)
           c.in_ok-count.count c.loop-rest.invariant.1 c.in_ok-count.ensures.counted c.if-count-eq0.false,

@@ -5,7 +5,7 @@ use Rattle.byte_io.proofs.writing.write_text.Given as goal
 
 abbrev pub invariant-loop-rest : goal.invariant-loop-rest
 invariant-loop-rest g l =
-    Left (g.W.Sink.held l.fn.writer) (g.W.Sink.held l.writer) l.text l.rest
+    Left (g.W.Sink.bytes l.fn.writer) (g.W.Sink.bytes l.writer) l.text l.rest
     × NoneFailedOrEmpty (g.W.Sink.counts l.fn.writer) (g.W.Sink.counts l.writer)
 
 abbrev pub decreases-loop-rest : goal.decreases-loop-rest

@@ -1,5 +1,5 @@
 use Rattle.std.proofs.Common.{[]}
-use Rattle.std.specs.Io.KnownBytes.{Appends}
+use Rattle.byte_io.specs.Transfers.{Adds}
 use Rattle.byte_io.specs.Writes.{AppendsPart, Writes}
 use Rattle.json_lines.specs.PacketLines.{packet_text}
 use Rattle.gateway_core.specs.Desks.{desk_bytes}
@@ -10,8 +10,8 @@ use Rattle.gateway_loop.proofs.desk_text.write_desk_text.Goals.{then-explains+in
 
 pub returns-in_err-write_text-clause-written : goal.returns-in_err-write_text-clause-written
 returns-in_err-write_text-clause-written g c =
-    let old = g.W.Sink.held c.args.writer.now in
-    let new = g.W.Sink.held c.write_text.new.writer in
+    let old = g.W.Sink.bytes c.args.writer.now in
+    let new = g.W.Sink.bytes c.write_text.new.writer in
     let text = packet_text c.in-Some.line.now in
     let part : AppendsPart old new [] text =
     rw (c.as_slice.ensures.value, c.packet_line.ensures) at c.in_err-write_text.ensures.written in
@@ -21,20 +21,20 @@ returns-in_err-write_text-clause-written g c =
 
 pub returns-clause-written : goal.returns-clause-written
 returns-clause-written g c =
-    let held = g.W.Sink.held in
-    let old = held c.args.writer.now in
-    let new = held c.write_text-2.new.writer in
+    let bytes = g.W.Sink.bytes in
+    let old = bytes c.args.writer.now in
+    let new = bytes c.write_text-2.new.writer in
     let r = c.write_text-2.result in
     let text = desk_bytes c.args.reply.now.desk in
-    let desk : Writes (held c.if-explains.writer) new r text =
+    let desk : Writes (bytes c.if-explains.writer) new r text =
     rw c.as_bytes.ensures at c.write_text-2.ensures.written in
     elim c.if-explains.branch [
       | then-explains+in-Some+in_ok-write_text w ↦
-          let first : Appends old (held c.if-explains.writer) (packet_text w.in-Some.line.now) =
+          let first : Adds old (bytes c.if-explains.writer) (packet_text w.in-Some.line.now) =
           rw (w.writer-is, ← w.packet_line.ensures, ← w.as_slice.ensures.value)
           w.in_ok-write_text.ensures.written in
           rw (w.if-explains.true, w.in-Some.is)
-          (writes_behind old (held c.if-explains.writer) new r (packet_text w.in-Some.line.now) text first desk)
+          (writes_behind old (bytes c.if-explains.writer) new r (packet_text w.in-Some.line.now) text first desk)
       | then-explains+in_default w ↦ rw (w.if-explains.true, w.in_default.is) (rw w.writer-is at desk)
       | else-explains w ↦ rw w.if-explains.false (rw w.writer-is at desk)
     ]

@@ -51,7 +51,7 @@ returns-in_default-clause-err g c =
       chunk = None;
       fails = (
         reads_fail _ _ _ (serial_reads read) c.in_default.field-0 serial c.in_default.ensures.bytes
-            c.in_default.ensures.counted,
+            c.in_default.ensures.recorded c.in_default.ensures.counted,
         desk,
       );
       processed =
@@ -94,7 +94,7 @@ returns-in_default-process_chunk-clause-err g c =
       serial =
           reads_more _ _ _ (serial_reads read) c.in-Ok.length c.read.new.buffer serial c.in-Ok.ensures.within
           (omega arith)
-          c.in-Ok.ensures.bytes c.in-Ok.ensures.counted;
+          c.in-Ok.ensures.bytes c.in-Ok.ensures.recorded c.in-Ok.ensures.counted;
       desk = desk;
       broken =
           breaks_at stored g.R.Sink g.D.Sink entry.driver c.process_chunk.new.self _ _ _ (search rules)
@@ -147,9 +147,9 @@ returns-in_default-read-clause-err g c =
       fails = (
         reads_more _ _ _ (serial_reads read) c.in-Ok.length c.read.new.buffer serial c.in-Ok.ensures.within
             (omega arith)
-            c.in-Ok.ensures.bytes c.in-Ok.ensures.counted,
+            c.in-Ok.ensures.bytes c.in-Ok.ensures.recorded c.in-Ok.ensures.counted,
         reads_fail _ _ _ (desk_reads read) c.in_default-read.field-0 desk c.in_default-read.ensures.bytes
-            c.in_default-read.ensures.counted,
+            c.in_default-read.ensures.recorded c.in_default-read.ensures.counted,
       );
       processed =
           plays_at stored g.R.Sink g.D.Sink entry.driver new _ _ _ (search rules) (search rules) (search rules) _
@@ -197,10 +197,11 @@ returns-in_default-process_bytes-clause-err g c =
       serial = rw (serial_reads-more read turn)
           (reads_more _ _ _ (serial_reads read) c.in-Ok.length c.read.new.buffer serial c.in-Ok.ensures.within
           (omega arith)
-          c.in-Ok.ensures.bytes c.in-Ok.ensures.counted);
+          c.in-Ok.ensures.bytes c.in-Ok.ensures.recorded c.in-Ok.ensures.counted);
       desk = rw (desk_reads-more read turn)
           (reads_more _ _ _ (desk_reads read) c.in-Ok-read.length c.read-in-loop-turn.new.buffer desk
-          c.in-Ok-read.ensures.within (omega arith) c.in-Ok-read.ensures.bytes c.in-Ok-read.ensures.counted);
+          c.in-Ok-read.ensures.within (omega arith) c.in-Ok-read.ensures.bytes
+          c.in-Ok-read.ensures.recorded c.in-Ok-read.ensures.counted);
       broken =
           breaks_at_order stored g.R.Sink g.D.Sink entry.driver new.driver _ _ _ (search rules) (search rules)
           (search rules) _
@@ -267,10 +268,11 @@ loop-turn-preserved g c =
         rw (serial_reads-more read both)
             (reads_more _ _ _ (serial_reads read) c.in-Ok.length c.read.new.buffer serial c.in-Ok.ensures.within
             (omega arith)
-            c.in-Ok.ensures.bytes c.in-Ok.ensures.counted),
+            c.in-Ok.ensures.bytes c.in-Ok.ensures.recorded c.in-Ok.ensures.counted),
         rw (desk_reads-more read both)
             (reads_more _ _ _ (desk_reads read) c.in-Ok-read.length c.read-in-loop-turn.new.buffer desk
-            c.in-Ok-read.ensures.within (omega arith) c.in-Ok-read.ensures.bytes c.in-Ok-read.ensures.counted),
+            c.in-Ok-read.ensures.within (omega arith) c.in-Ok-read.ensures.bytes
+            c.in-Ok-read.ensures.recorded c.in-Ok-read.ensures.counted),
         turn_taken stored output entry c.loop-turn.splitter read chunk taken mid new bytes
             c.in-Ok-process_chunk.ensures.taken
             (c.in-Ok-process_bytes.ensures.taken taken.rest taken.keeps),

@@ -1,19 +1,22 @@
-use Rattle.std.proofs.Common.{rules, [], ◌∷◌, ◌++◌, ◌+◌, ◌∙◌, refl, take, ap, arith, append-nil, inl, inr}
+use Rattle.std.proofs.Common.{rules, ℕ, List, [], ◌∷◌, ◌++◌, ◌+◌, ◌∙◌, refl, take, ap, arith, inl, inr}
 use Rattle.std.proofs.Common.{length-append}
-use Rattle.std.specs.Io.KnownBytes.{Consumes}
-use Rattle.std.proofs.KnownBytes.{Consumes-nil, Consumes-trans, Consumes-kept}
+use Rattle.std.specs.Prelude.{◌≢◌}
+use Rattle.std.specs.List.{concat}
+use Rattle.std.proofs.lemmas.List.Elements.{All-nil, All-push}
 use Rattle.byte_io.specs.declared.tally.Failed.{Failed}
-use Rattle.byte_io.proofs.ForCallers.{went_well}
+use Rattle.byte_io.proofs.ForCallers.{concat-more, went_well}
 use Rattle.gateway_loop.specs.Processing.{HasNoReadyPacket}
 use Rattle.gateway_loop.specs.CallCounts.{OneFailedOrEmpty, failed_in_second}
 use Rattle.gateway_loop.specs.declared.line_splitter.LineSource.TheVariants.{ScriptLines}
+use Rattle.gateway_loop.specs.Script.{script}
 use Rattle.gateway_loop.specs.Streams.{source_value}
 use Rattle.gateway_loop.specs.Written.{replay_output_of}
 use Rattle.gateway_loop.specs.declared.run_result.RunFault.TheVariants.{Read, TooManyTurns, Write}
 use Rattle.gateway_loop.proofs.HeadlineLemmas.{replayed, replayed_until}
 use Rattle.gateway_loop.proofs.LineSplitterLemmas.{bytes_none, bytes_behind, first_player, keeps_none, stops_behind}
 use Rattle.gateway_loop.proofs.CallCountLemmas.{wrong_at}
-use Rattle.gateway_loop.proofs.ReadLemmas.{one_read_more, reads_fail, reads_more, reads_none}
+use Rattle.gateway_loop.proofs.ReadLemmas.{concat-and_empty, one_read_more, reads_end, reads_fail, reads_more}
+use Rattle.gateway_loop.proofs.ReadLemmas.{reads_none, some_taken}
 use Rattle.gateway_loop.proofs.ScriptReplayLemmas.{part_at_end, part_at_line, plays_ended, plays_written}
 use Rattle.gateway_loop.proofs.ScriptReplayLemmas.{script_of_bytes}
 use Rattle.gateway_loop.proofs.ScriptReplayLemmas.{script_taken}
@@ -29,40 +32,40 @@ loop-turn-init g c =
       idle = idle;
       progress = (
         [],
-        Consumes-nil (g.R.Source.left c.args.reader.now),
+        refl,
+        reads_none (source_value g.R.Source c.args.reader.now),
+        All-nil (λ (bytes : List ℕ). bytes ≢ []),
         bytes_none g.S.DeviceStore.store_state (replay_output_of g.W.Sink) ScriptLines _ [] idle (omega arith)
             (rw c.new.ensures keeps_none),
       );
       writes = (refl, refl);
       reads = (refl, refl);
-      gave = ([], refl, reads_none (source_value g.R.Source c.args.reader.now));
     }
 
 pub returns-in-Err-clause-err : goal.returns-in-Err-clause-err
 returns-in-Err-clause-err g c =
-    let left = g.R.Source.left in
-    let (input, read, taken) = c.loop-turn.invariant.progress in
+    let (parts, count, well, some, taken) = c.loop-turn.invariant.progress in
     let entry = first_player g.S.DeviceStore.store_state (replay_output_of g.W.Sink) ScriptLines taken in
+    let failed = reads_fail (source_value g.R.Source c.args.reader.now) _ (source_value g.R.Source c.read.new.self)
+    parts c.in-Err.field-0 well c.in-Err.ensures.bytes c.in-Err.ensures.recorded c.in-Err.ensures.counted in
     record {
-      input = input;
-      read =
-          Consumes-kept (left c.args.reader.now) (left c.loop-turn.reader) (left c.read.new.self) input read
-          c.in-Err.ensures.bytes;
+      reads = parts;
+      read = failed.bytes_read.all;
       processed =
-          plays_ended g.S.DeviceStore.store_state g.W.Sink entry c.loop-turn.splitter input _ _ (search rules)
+          plays_ended g.S.DeviceStore.store_state g.W.Sink entry c.loop-turn.splitter (concat parts) _ _ (search rules)
           (search rules)
           taken;
     }
 
 pub returns-clause-err : goal.returns-clause-err
 returns-clause-err g c =
-    let (input, read, taken) = c.loop-turn.invariant.progress in
+    let (parts, count, well, some, taken) = c.loop-turn.invariant.progress in
     let entry = first_player g.S.DeviceStore.store_state (replay_output_of g.W.Sink) ScriptLines taken in
     record {
-      input = input;
-      read = read;
+      reads = parts;
+      read = well.bytes_read.all;
       processed =
-          plays_ended g.S.DeviceStore.store_state g.W.Sink entry c.loop-turn.splitter input _ _ (search rules)
+          plays_ended g.S.DeviceStore.store_state g.W.Sink entry c.loop-turn.splitter (concat parts) _ _ (search rules)
           (search rules)
           taken;
     }
@@ -70,29 +73,31 @@ returns-clause-err g c =
 pub returns-then-length-eq0-clause-ok : goal.returns-then-length-eq0-clause-ok
 returns-then-length-eq0-clause-ok g c =
     let stored = g.S.DeviceStore.store_state in
-    let left = g.R.Source.left in
     let new = c.process_last_script_line.new.self.driver in
-    let (input, read, taken) = c.loop-turn.invariant.progress in
+    let (parts, count, well, some, taken) = c.loop-turn.invariant.progress in
     let entry = first_player g.S.DeviceStore.store_state (replay_output_of g.W.Sink) ScriptLines taken in
-    let none : Consumes (left c.loop-turn.reader) (left c.read.new.self) [] =
-    rw c.if-length-eq0.true at c.in-Ok.ensures.bytes.0 in
     let done =
-    script_taken stored g.W.Sink _ c.loop-turn.splitter input new taken
+    script_taken stored g.W.Sink _ c.loop-turn.splitter (concat parts) new taken
     (c.in-Ok-process_last_script_line.ensures.taken taken.rest taken.keeps) in
+    let last = reads_end (source_value g.R.Source c.args.reader.now) (source_value g.R.Source c.loop-turn.reader)
+    (source_value g.R.Source c.read.new.self) parts c.in-Ok.length c.read.new.buffer well c.if-length-eq0.true
+    c.in-Ok.ensures.within (omega arith) c.in-Ok.ensures.bytes c.in-Ok.ensures.recorded c.in-Ok.ensures.counted in
     record {
-      input = input;
-      read = rw append-nil at (Consumes-trans (left c.args.reader.now) (left c.loop-turn.reader)
-          (left c.read.new.self) input [] read none);
+      reads = parts ++ [] ∷ [];
+      read = last.bytes_read.all;
+      ends = record { earlier = parts; whole = refl; some = some };
       at_end = c.in-Ok.ensures.bytes.1 c.if-length-eq0.true (omega arith);
-      processed = plays_written stored g.W.Sink entry.driver new _ _ (search rules) (search rules) _ done.processed;
-      counted = let counted = done.counted in omega (arith, counted);
+      processed = rw (concat-and_empty parts)
+          (plays_written stored g.W.Sink entry.driver new _ _ (search rules) (search rules) (script (concat parts))
+          done.processed);
+      counted = rw (concat-and_empty parts) (let counted = done.counted in omega (arith, counted));
     }
 
 pub returns-then-length-eq0-clause-ended : goal.returns-then-length-eq0-clause-ended
 returns-then-length-eq0-clause-ended g c =
-    let (input, read, taken) = c.loop-turn.invariant.progress in
+    let (parts, count, well, some, taken) = c.loop-turn.invariant.progress in
     let done =
-    script_taken g.S.DeviceStore.store_state g.W.Sink _ c.loop-turn.splitter input
+    script_taken g.S.DeviceStore.store_state g.W.Sink _ c.loop-turn.splitter (concat parts)
     c.process_last_script_line.new.self.driver taken
     (c.in-Ok-process_last_script_line.ensures.taken taken.rest taken.keeps) in
     let went = done.processed.answered.out.1.calls in
@@ -101,31 +106,30 @@ returns-then-length-eq0-clause-ended g c =
 pub returns-in_default-clause-err : goal.returns-in_default-clause-err
 returns-in_default-clause-err g c =
     let stored = g.S.DeviceStore.store_state in
-    let left = g.R.Source.left in
-    let (input, read, taken) = c.loop-turn.invariant.progress in
+    let (parts, count, well, some, taken) = c.loop-turn.invariant.progress in
     let entry = first_player g.S.DeviceStore.store_state (replay_output_of g.W.Sink) ScriptLines taken in
-    let none : Consumes (left c.loop-turn.reader) (left c.read.new.self) [] =
-    rw c.if-length-eq0.true at c.in-Ok.ensures.bytes.0 in
+    let last = reads_end (source_value g.R.Source c.args.reader.now) (source_value g.R.Source c.loop-turn.reader)
+    (source_value g.R.Source c.read.new.self) parts c.in-Ok.length c.read.new.buffer well c.if-length-eq0.true
+    c.in-Ok.ensures.within (omega arith) c.in-Ok.ensures.bytes c.in-Ok.ensures.recorded c.in-Ok.ensures.counted in
     record {
-      input = input;
-      read = rw append-nil at (Consumes-trans (left c.args.reader.now) (left c.loop-turn.reader)
-          (left c.read.new.self) input [] read none);
-      broken = inr (record {
+      reads = parts ++ [] ∷ [];
+      read = last.bytes_read.all;
+      broken = rw (concat-and_empty parts) (inr (record {
         reads = search rules;
         at_end = c.in-Ok.ensures.bytes.1 c.if-length-eq0.true (omega arith);
         broken =
             part_at_end stored g.W.Sink entry.driver c.process_last_script_line.new.self.driver _ _ (search rules)
             (search rules)
-            c.loop-turn.splitter.driver input _ _ (script_of_bytes stored g.W.Sink _ c.loop-turn.splitter input
-            taken)
+            c.loop-turn.splitter.driver (concat parts) _ _ (script_of_bytes stored g.W.Sink _ c.loop-turn.splitter
+            (concat parts) taken)
             taken.taken.processed (c.in_default.ensures.taken taken.rest taken.keeps);
-      });
+      }));
     }
 
 pub returns-in_default-clause-write : goal.returns-in_default-clause-write
 returns-in_default-clause-write g c =
     let counts = g.W.Sink.counts in
-    let (input, read, taken) = c.loop-turn.invariant.progress in
+    let (parts, count, well, some, taken) = c.loop-turn.invariant.progress in
     let last = c.in_default.ensures.taken taken.rest taken.keeps in
     λ _. (
       search rules,
@@ -139,38 +143,39 @@ returns-in_default-clause-write g c =
 pub returns-in_default-process_bytes-clause-err : goal.returns-in_default-process_bytes-clause-err
 returns-in_default-process_bytes-clause-err g c =
     let stored = g.S.DeviceStore.store_state in
-    let left = g.R.Source.left in
     let reads = g.R.Source.counts in
-    let (input, read, taken) = c.loop-turn.invariant.progress in
+    let (parts, count, well, some, taken) = c.loop-turn.invariant.progress in
     let entry = first_player g.S.DeviceStore.store_state (replay_output_of g.W.Sink) ScriptLines taken in
     let chunk = take c.in-Ok.length c.read.new.buffer in
     let crash =
-    stops_behind stored (replay_output_of g.W.Sink) ScriptLines _ c.loop-turn.splitter c.process_bytes.new.self input
+    stops_behind stored (replay_output_of g.W.Sink) ScriptLines _ c.loop-turn.splitter c.process_bytes.new.self
+    (concat parts)
     chunk
     taken
     (c.in_default-process_bytes.ensures.stopped taken.rest taken.keeps) in
+    let more = reads_more (source_value g.R.Source c.args.reader.now) _ (source_value g.R.Source c.read.new.self) parts
+    c.in-Ok.length c.read.new.buffer well c.in-Ok.ensures.within (omega arith) c.in-Ok.ensures.bytes
+    c.in-Ok.ensures.recorded c.in-Ok.ensures.counted in
     record {
-      input = input ++ chunk;
-      read =
-          Consumes-trans (left c.args.reader.now) (left c.loop-turn.reader) (left c.read.new.self) input chunk read
-          c.in-Ok.ensures.bytes.0;
-      broken = inl (record {
+      reads = parts ++ chunk ∷ [];
+      read = more.bytes_read.all;
+      broken = rw (concat-more parts chunk) (inl (record {
         reads =
             went_well Failed (reads c.args.reader.now) (reads c.loop-turn.reader) (reads c.read.new.self)
             c.in-Ok.length c.loop-turn.invariant.reads c.in-Ok.ensures.counted c.if-length-eq0.false;
         broken =
-            part_at_line stored g.W.Sink entry c.process_bytes.new.self (input ++ chunk) _ _ (search rules)
+            part_at_line stored g.W.Sink entry c.process_bytes.new.self (concat parts ++ chunk) _ _ (search rules)
             (search rules)
             crash;
-      });
+      }));
     }
 
 pub returns-in_default-process_bytes-clause-write : goal.returns-in_default-process_bytes-clause-write
 returns-in_default-process_bytes-clause-write g c =
-    let (input, read, taken) = c.loop-turn.invariant.progress in
+    let (parts, count, well, some, taken) = c.loop-turn.invariant.progress in
     let crash =
     stops_behind g.S.DeviceStore.store_state (replay_output_of g.W.Sink) ScriptLines _ c.loop-turn.splitter
-    c.process_bytes.new.self input
+    c.process_bytes.new.self (concat parts)
     _ taken (c.in_default-process_bytes.ensures.stopped taken.rest taken.keeps) in
     λ _. (
       search rules,
@@ -181,10 +186,10 @@ returns-in_default-process_bytes-clause-write g c =
 pub returns-in_default-process_bytes-clause-too_many : goal.returns-in_default-process_bytes-clause-too_many
 returns-in_default-process_bytes-clause-too_many g c =
     let counts = g.W.Sink.counts in
-    let (input, read, taken) = c.loop-turn.invariant.progress in
+    let (parts, count, well, some, taken) = c.loop-turn.invariant.progress in
     let crash =
     stops_behind g.S.DeviceStore.store_state (replay_output_of g.W.Sink) ScriptLines _ c.loop-turn.splitter
-    c.process_bytes.new.self input
+    c.process_bytes.new.self (concat parts)
     _ taken (c.in_default-process_bytes.ensures.stopped taken.rest taken.keeps) in
     let wrong : OneFailedOrEmpty (counts c.args.writer.now)
     (counts c.process_bytes.new.self.driver.reply_sink.sink.now) =
@@ -192,71 +197,70 @@ returns-in_default-process_bytes-clause-too_many g c =
 
 pub loop-turn-preserved : goal.loop-turn-preserved
 loop-turn-preserved g c =
-    let left = g.R.Source.left in
     let reads = g.R.Source.counts in
     let before = c.loop-turn.invariant in
-    let (input, read, taken) = before.progress in
+    let (parts, count, well, some, taken) = before.progress in
     let chunk = take c.in-Ok.length c.read.new.buffer in
     let after = c.in-Ok-process_bytes.ensures in
     let now =
     bytes_behind g.S.DeviceStore.store_state (replay_output_of g.W.Sink) ScriptLines _ c.loop-turn.splitter
-    c.process_bytes.new.self input
+    c.process_bytes.new.self (concat parts)
     chunk taken (after.taken taken.rest taken.keeps) in
     record {
       gateway = search rules;
       writer = search rules;
       idle = after.idle;
       progress = (
-        input ++ chunk,
-        Consumes-trans (left c.args.reader.now) (left c.loop-turn.reader) (left c.read.new.self) input chunk read
-            c.in-Ok.ensures.bytes.0,
-        now,
+        parts ++ chunk ∷ [],
+        length-append parts (chunk ∷ []) ∙ ap (λ n. n + 1) count,
+        reads_more _ _ _ parts c.in-Ok.length c.read.new.buffer well c.in-Ok.ensures.within (omega arith)
+            c.in-Ok.ensures.bytes c.in-Ok.ensures.recorded c.in-Ok.ensures.counted,
+        All-push (λ (bytes : List ℕ). bytes ≢ []) parts chunk some
+            (some_taken c.in-Ok.length c.read.new.buffer c.in-Ok.ensures.within c.if-length-eq0.false),
+        rw (concat-more parts chunk) now,
       );
       writes = now.taken.processed.answered.out.1.calls;
       reads =
           went_well Failed (reads c.args.reader.now) (reads c.loop-turn.reader) (reads c.read.new.self) c.in-Ok.length
           before.reads c.in-Ok.ensures.counted c.if-length-eq0.false;
-      gave =
-          let (parts, count, well) = before.gave in (
-            parts ++ chunk ∷ [],
-            length-append parts (chunk ∷ []) ∙ ap (λ n. n + 1) count,
-            reads_more _ _ _ parts c.in-Ok.length c.read.new.buffer well c.in-Ok.ensures.within (omega arith)
-                c.in-Ok.ensures.bytes c.in-Ok.ensures.counted,
-          );
     }
 
 pub returns-in-Err-clause-reads : goal.returns-in-Err-clause-reads
 returns-in-Err-clause-reads g c =
-    let (parts, count, well) = c.loop-turn.invariant.gave in
+    let (parts, count, well, some, taken) = c.loop-turn.invariant.progress in
     let below = c.loop-turn-test.true in (
       parts,
       inr (
-        reads_fail _ _ _ parts c.in-Err.field-0 well c.in-Err.ensures.bytes c.in-Err.ensures.counted,
+        reads_fail _ _ _ parts c.in-Err.field-0 well c.in-Err.ensures.bytes c.in-Err.ensures.recorded
+            c.in-Err.ensures.counted,
         omega (arith, count, below),
       ),
     )
 
 pub returns-then-length-eq0-clause-reads : goal.returns-then-length-eq0-clause-reads
 returns-then-length-eq0-clause-reads g c =
-    let (parts, count, well) = c.loop-turn.invariant.gave in
+    let (parts, count, well, some, taken) = c.loop-turn.invariant.progress in
     one_read_more _ _ _ parts c.in-Ok.length c.loop-turn._turn c.args.turns c.read.new.buffer well count
-    c.loop-turn-test.true c.in-Ok.ensures.within (omega arith) c.in-Ok.ensures.bytes c.in-Ok.ensures.counted
+    c.loop-turn-test.true c.in-Ok.ensures.within (omega arith) c.in-Ok.ensures.bytes c.in-Ok.ensures.recorded
+    c.in-Ok.ensures.counted
 
 pub returns-in_default-clause-reads : goal.returns-in_default-clause-reads
 returns-in_default-clause-reads g c =
-    let (parts, count, well) = c.loop-turn.invariant.gave in
+    let (parts, count, well, some, taken) = c.loop-turn.invariant.progress in
     one_read_more _ _ _ parts c.in-Ok.length c.loop-turn._turn c.args.turns c.read.new.buffer well count
-    c.loop-turn-test.true c.in-Ok.ensures.within (omega arith) c.in-Ok.ensures.bytes c.in-Ok.ensures.counted
+    c.loop-turn-test.true c.in-Ok.ensures.within (omega arith) c.in-Ok.ensures.bytes c.in-Ok.ensures.recorded
+    c.in-Ok.ensures.counted
 
 pub returns-in_default-process_bytes-clause-reads : goal.returns-in_default-process_bytes-clause-reads
 returns-in_default-process_bytes-clause-reads g c =
-    let (parts, count, well) = c.loop-turn.invariant.gave in
+    let (parts, count, well, some, taken) = c.loop-turn.invariant.progress in
     one_read_more _ _ _ parts c.in-Ok.length c.loop-turn._turn c.args.turns c.read.new.buffer well count
-    c.loop-turn-test.true c.in-Ok.ensures.within (omega arith) c.in-Ok.ensures.bytes c.in-Ok.ensures.counted
+    c.loop-turn-test.true c.in-Ok.ensures.within (omega arith) c.in-Ok.ensures.bytes c.in-Ok.ensures.recorded
+    c.in-Ok.ensures.counted
 
 pub returns-clause-reads : goal.returns-clause-reads
 returns-clause-reads g c =
-    let (parts, count, well) = c.loop-turn.invariant.gave in
+    let (parts, count, well, some, taken) = c.loop-turn.invariant.progress in
     (parts, inl (well, omega (arith, count)))
 
 pub returns-clause-ok : goal.returns-clause-ok

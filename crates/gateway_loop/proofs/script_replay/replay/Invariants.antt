@@ -1,5 +1,6 @@
-use Rattle.std.proofs.Common.{◌≡◌, List, ℕ, length}
-use Rattle.std.specs.Io.KnownBytes.{Consumes}
+use Rattle.std.proofs.Common.{◌≡◌, List, ℕ, [], length}
+use Rattle.std.specs.Prelude.{◌≢◌, All}
+use Rattle.std.specs.List.{concat}
 use Rattle.byte_io.specs.Counts.{NoneFailedOrEmpty}
 use Rattle.gateway_loop.specs.Processing.{HasNoReadyPacket}
 use Rattle.gateway_loop.specs.private.LineSplitting.{TakesEndedLines}
@@ -14,12 +15,12 @@ invariant-loop-turn g l = record {
   gateway : l.splitter.driver.gateway.ghost_name ≡ l.initial.splitter.driver.gateway.ghost_name;
   writer : l.splitter.driver.reply_sink.sink.ghost_name ≡ l.initial.splitter.driver.reply_sink.sink.ghost_name;
   idle : HasNoReadyPacket l.splitter.driver.gateway.now;
-  progress : (input : List ℕ) × Consumes (g.R.Source.left l.fn.reader) (g.R.Source.left l.reader) input
+  progress : (parts : List (List ℕ)) × (length parts ≡ l._turn)
+      × AllReadsSucceed (source_value g.R.Source l.fn.reader) (source_value g.R.Source l.reader) parts
+      × All (λ bytes. bytes ≢ []) parts
       × TakesEndedLines g.S.DeviceStore.store_state
       (replay_output_of g.W.Sink) ScriptLines l.initial.splitter l.splitter
-      input;
+      (concat parts);
   writes : NoneFailedOrEmpty (g.W.Sink.counts l.fn.writer) (g.W.Sink.counts l.splitter.driver.reply_sink.sink.now);
   reads : NoneFailedOrEmpty (g.R.Source.counts l.fn.reader) (g.R.Source.counts l.reader);
-  gave : (parts : List (List ℕ)) × (length parts ≡ l._turn)
-      × AllReadsSucceed (source_value g.R.Source l.fn.reader) (source_value g.R.Source l.reader) parts;
 }
