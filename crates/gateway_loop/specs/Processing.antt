@@ -20,6 +20,11 @@ IsWholeOrChunkPrefix (Chunk bytes) (Chunk some) = (more : List ℕ) × (bytes �
 IsWholeOrChunkPrefix (Line line) (Line other) = other ≡ line
 IsWholeOrChunkPrefix event other = ⊥
 
+-- the gateway is as it was directly after some input was handled with this answer
+abbrev pub HasJustHandled : {S : Type 0} → (S → DeviceStoreState) → HandlerValue S → Answer → Type 0
+HasJustHandled {S} stored now answer =
+    (before : HandlerValue S) × (input : Input) × Handles stored before (input ∷ []) (answer ∷ []) now
+
 -- Below, `puts` says that exactly these answers were written, and `breaks` that they were, and one more incompletely.
 module _ {S : Type 0} (stored : S → DeviceStoreState) where
   -- the inputs were handled, and their answers written

@@ -8,7 +8,7 @@ ghost use Rattle.gateway_core.specs.Events.{Line as LineEvent, Chunk as ChunkEve
 ghost use Rattle.gateway_core.specs.Replies.{answer_of, packet_answer};
 ghost use Rattle.gateway_loop.specs.private.DriverSteps.{Drains, DrainsPart, DriverBreaks, Takes, TakesOrBreaks};
 ghost use Rattle.gateway_loop.specs.OutputSpecs.{PutsOrBreaks};
-ghost use Rattle.gateway_loop.specs.Processing.{HasNoReadyPacket};
+ghost use Rattle.gateway_loop.specs.Processing.{HasJustHandled, HasNoReadyPacket};
 ghost use Rattle.gateway_loop.specs.Script.{event_of_script_line, chunk_if_decoded};
 
 use crate::digits::try_decode_hex;
@@ -139,6 +139,7 @@ impl<O: ReplySink, S: DeviceStore> Driver<'_, O, S> {
 
     /// Counts a packet that was handled, and writes its reply, with the line that explains it.
     fn answer_packet(&mut self, handled: &HandledPacket) -> Result<(), Failed>
+        requires handled { HasJustHandled S.store_state self.old.gateway.now.handler (packet_answer handled.now) }
         ensures gateway { self.new.gateway.ghost_name ≡ self.old.gateway.ghost_name }
         ensures kept { self.new.gateway.now ≡ self.old.gateway.now }
         ensures loans { O.loans self.new.reply_sink ≡ O.loans self.old.reply_sink }
@@ -146,11 +147,13 @@ impl<O: ReplySink, S: DeviceStore> Driver<'_, O, S> {
         ensures put { PutsOrBreaks O.output result self.old.reply_sink self.new.reply_sink (packet_answer handled.now) }
     {
         self.count_input();
-        self.reply_sink.put(Some(&handled.line), &handled.reply)
+        self.reply_sink
+            .put(self.gateway, Some(&handled.line), &handled.reply)
     }
 
     /// Counts an order that was handled, and writes its reply.
     fn answer_order(&mut self, reply: &Reply) -> Result<(), Failed>
+        requires handled { HasJustHandled S.store_state self.old.gateway.now.handler (answer_of reply.now) }
         ensures gateway { self.new.gateway.ghost_name ≡ self.old.gateway.ghost_name }
         ensures kept { self.new.gateway.now ≡ self.old.gateway.now }
         ensures loans { O.loans self.new.reply_sink ≡ O.loans self.old.reply_sink }
@@ -158,6 +161,6 @@ impl<O: ReplySink, S: DeviceStore> Driver<'_, O, S> {
         ensures put { PutsOrBreaks O.output result self.old.reply_sink self.new.reply_sink (answer_of reply.now) }
     {
         self.count_input();
-        self.reply_sink.put(None, reply)
+        self.reply_sink.put(self.gateway, None, reply)
     }
 }

@@ -5,7 +5,7 @@ ghost use Rattle.gateway_loop.specs.LiveOutputs.{live_output_of};
 use crate::desk_text::write_desk_text;
 use crate::reply_sink::ReplySink;
 use byte_io::{Failed, Sink, write_text};
-use gateway_core::Reply;
+use gateway_core::{DeviceStore, GatewayOver, Reply};
 use json_lines::PacketLine;
 
 /// The two outputs of a live gateway: for each reply its radio bytes, if any, go to the serial line. Then the line that
@@ -23,7 +23,12 @@ impl<R: Sink, D: Sink> ReplySink for LiveOutputs<'_, '_, R, D> {
 
     ghost loans = { λ out. out.serial.ghost_name ∷ out.desk.ghost_name ∷ [] };
 
-    fn put(&mut self, line: Option<&PacketLine>, reply: &Reply) -> Result<(), Failed> {
+    fn put<S: DeviceStore>(
+        &mut self,
+        _gateway: &GatewayOver<S>,
+        line: Option<&PacketLine>,
+        reply: &Reply,
+    ) -> Result<(), Failed> {
         if let Some(bytes) = &reply.radio {
             write_text(self.serial, bytes.as_slice())?;
         }

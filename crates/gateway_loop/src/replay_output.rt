@@ -7,7 +7,7 @@ ghost use Rattle.gateway_loop.specs.Written.{radio_chunk_line, replay_output_of}
 use crate::desk_text::write_desk_text;
 use crate::reply_sink::ReplySink;
 use byte_io::{Failed, Sink, write_text};
-use gateway_core::Reply;
+use gateway_core::{DeviceStore, GatewayOver, Reply};
 use json_lines::PacketLine;
 
 /// The text of a replay: for each reply its radio bytes, if any, as a serial chunk, then the line that explains its
@@ -24,7 +24,12 @@ impl<W: Sink> ReplySink for ReplayOutput<'_, W> {
 
     ghost loans = { λ text. text.sink.ghost_name ∷ [] };
 
-    fn put(&mut self, line: Option<&PacketLine>, reply: &Reply) -> Result<(), Failed> {
+    fn put<S: DeviceStore>(
+        &mut self,
+        _gateway: &GatewayOver<S>,
+        line: Option<&PacketLine>,
+        reply: &Reply,
+    ) -> Result<(), Failed> {
         if let Some(bytes) = &reply.radio {
             write_chunk(self.sink, bytes.as_slice())?;
         }

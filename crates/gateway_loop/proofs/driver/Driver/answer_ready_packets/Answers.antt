@@ -3,6 +3,7 @@ use Rattle.std.proofs.lemmas.Result.{err_from_is_err_and}
 use Rattle.gateway_core.specs.declared.handled.HandledPacket.{HandledPacket}
 use Rattle.gateway_core.specs.Calls.{GatewayValue, Transition, Next}
 use Rattle.gateway_core.specs.Replies.{packet_answer}
+use Rattle.gateway_core.specs.Step.{Received}
 use Rattle.json_lines.specs.Counts.{saturated_sum}
 use Rattle.gateway_loop.specs.declared.driver.Driver.{Driver}
 use Rattle.gateway_loop.specs.private.DriverSteps.{Drains}
@@ -22,6 +23,11 @@ loop-handled-init g c =
           old.items
           (search rules);
     }
+
+pub answer_packet-requires : goal.answer_packet-requires
+answer_packet-requires g c =
+    let (packet, first, rest, handled) = c.in-Some.ensures in
+    record { handled = (c.loop-handled.self.gateway.now.handler, Received packet, handled) }
 
 pub returns-in_err-answer_packet-clause-broken : goal.returns-in_err-answer_packet-clause-broken
 returns-in_err-answer_packet-clause-broken g c =

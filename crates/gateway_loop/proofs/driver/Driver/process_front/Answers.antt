@@ -3,10 +3,17 @@ use Rattle.std.proofs.lemmas.List.{take-append-drop}
 use Rattle.std.proofs.lemmas.Result.{err_from_is_err_and}
 use Rattle.gateway_core.specs.Calls.{GatewayValue, Transition, Bytes}
 use Rattle.gateway_core.specs.Replies.{packet_answer}
+use Rattle.gateway_core.specs.Step.{Received}
 use Rattle.gateway_loop.proofs.DriverStepLemmas.{drains_nothing, drains_one, drains_part, takes_run, breaks_in_run}
 use Rattle.gateway_loop.proofs.driver.Driver.process_front.Goals as goal
 
 -- a packet at the front
+
+pub answer_packet-requires : goal.answer_packet-requires
+answer_packet-requires g c =
+    let (mid, moved, taken) = c.in-Some.ensures.taken in
+    let (packet, first, rest, handled) = taken in
+    record { handled = (mid.handler, Received packet, handled) }
 
 pub returns-in_err-answer_packet-clause-taken : goal.returns-in_err-answer_packet-clause-taken
 returns-in_err-answer_packet-clause-taken g c =
