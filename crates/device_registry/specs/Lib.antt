@@ -4,6 +4,7 @@ pub mod Faults
 pub mod Holding
 pub mod Ready
 pub mod Opening
+pub mod FilesHeld
 pub mod SchemaChecks
 pub mod Ranges
 pub mod private

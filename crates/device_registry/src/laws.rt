@@ -1,16 +1,21 @@
 //! Theorems about the definitions, and about every registry. Each function does nothing: its contract is the theorem.
 ghost use Rattle.std.specs.Prelude.{◌≡◌};
+ghost use Rattle.sqlite_trees.specs.View.{IsClean};
+ghost use Rattle.sqlite_store.specs.FileStore.{view};
 ghost use Rattle.device_registry.specs.declared.cache_limits.TheConstants.{MAX_CACHED};
 ghost use Rattle.device_registry.specs.Opening.{max_cached};
 ghost use Rattle.device_registry.specs.Holding.{HasSomeDevicesIfOpen};
 ghost use Rattle.device_registry.specs.Opening.{ClosedFilesAreFound, DevicesAreLimited, FoundDevicesAreUnique};
 ghost use Rattle.device_registry.specs.Opening.{ReturnedIsFound};
 ghost use Rattle.device_registry.specs.Opening.{CrashedFilesAreFound};
+ghost use Rattle.device_registry.specs.FilesHeld.{CrashedFilesHold};
 ghost use Rattle.device_registry.specs.Opening.{RegistriesAreRecognized, OnlyNonRegistriesAreRefused, FailedOpensKeep};
 ghost use Rattle.device_registry.specs.Ranges.{RegistriesAreInRange};
 
+use crate::device_table::DeviceTable;
 use crate::registry::RegistryOver;
 use crate::sql_connection::SqlConnection;
+use sqlite::{Connection, FileStore};
 use sqlite_disk::Disk;
 
 /// The limit of the cache is that of the definitions.
@@ -61,6 +66,19 @@ pub fn returned_is_found<C: SqlConnection>()
 pub fn crashed_files_are_found<D: Disk>()
     ensures { CrashedFilesAreFound D.Disk }
 {}
+
+/// Whatever a crash leaves in the two files of a registry, they hold devices that this crash could leave. The premise is
+/// that the disk has returned what was written, also during the rollback by which the connection is taken apart here;
+/// that call is the only one of `sqlite` that shows how the pages are numbered.
+pub fn crashed_files_hold_devices<D: Disk + Drop>(
+    registry: RegistryOver<Connection<FileStore<D>>>,
+) -> FileStore<D>
+    ensures { IsClean (view result) → CrashedFilesHold registry }
+{
+    let RegistryOver { table, cache: _ } = registry;
+    let DeviceTable { alloc: _, conn } = table;
+    conn.into_store()
+}
 
 /// After the database has closed the files of a registry, an open of these files finds what the registry held, if there
 /// was no crash in between.

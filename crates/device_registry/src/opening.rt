@@ -126,6 +126,7 @@ impl<C: SqlConnection + Drop> RegistryOver<C> {
     pub fn open_with(alloc: Global, conn: C, cache: usize) -> Result<RegistryOver<C>, OpenFault>
         requires idle { (C.state conn).in_transaction ≡ false }
         requires cached { (1 ≤ cache) × (cache ≤ max_cached) }
+        ensures clean { IfOk result (λ r. HasCleanDisk (C.state r) → HasCleanDisk (C.state conn)) }
         ensures opened { IfOk result (λ r. HasCleanDisk (C.state r) → IsOpened (C.state conn) (C.state r)) }
         ensures refused { IfErr result (RefusesAndDrops C.state conn) }
     {

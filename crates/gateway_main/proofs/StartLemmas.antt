@@ -1,10 +1,14 @@
 -- How a gateway begins over a registry that was opened.
 use Rattle.std.proofs.Common.{◌≡◌, ℕ, IsTrue, refl, sym, subst}
 use Rattle.sqlite.specs.State.{State, HasCleanDisk}
+use Rattle.sqlite.specs.Recovery.{Image}
+use Rattle.sqlite.specs.Start.{FindsIn}
 use Rattle.esp3_frames.proofs.ForCallers.{empty_may_become}
 use Rattle.learned_devices.specs.Devices.{Devices}
 use Rattle.device_registry.specs.Holding.{OpenFinds, registry_state_of}
 use Rattle.device_registry.specs.Opening.{IsOpened}
+use Rattle.device_registry.specs.FilesHeld.{FilesHold}
+use Rattle.device_registry.proofs.ForCallers.{found_devices_are_unique}
 use Rattle.gateway_core.specs.Calls.{GatewayValue, new_gateway_value}
 use Rattle.gateway_loop.specs.Processing.{HasNoReadyPacket}
 use Rattle.gateway_loop.specs.Headline.{IsNew}
@@ -54,3 +58,10 @@ new_gateway {C} state database registry base new is opened =
       record { value = refl; holds_found = opens.now; reopenable = it.registries; crash_leaves_found = opens.crash },
       it.ready.shows.is_open,
     ))
+
+-- an open of files that hold these devices finds no others
+pub found_in_files : (image : Image) (opened : State) (found devices : Devices) → FindsIn image opened
+    → OpenFinds opened.committed.trees found → FilesHold image devices → found ≡ devices
+found_in_files image opened found devices finds has (trees, holds, are) =
+    found_devices_are_unique _ found devices has
+    (subst (λ t. OpenFinds t devices) (sym (finds.holds trees holds)) are)

@@ -1,10 +1,13 @@
 //! Starting a gateway over a database.
 ghost use Rattle.std.specs.Prelude.{◌≡◌, ◌≤◌, false, true, IfErr, IfOk, IsTrue};
 ghost use Rattle.sqlite.specs.State.{HasCleanDisk};
+ghost use Rattle.sqlite.specs.Files.{file_state};
+ghost use Rattle.sqlite.specs.WalFiles.{image_at};
 ghost use Rattle.erp1_telegrams.specs.Address;
 ghost use Rattle.learned_devices.specs.Devices.{Devices};
 ghost use Rattle.device_registry.specs.Opening.{max_cached};
 ghost use Rattle.device_registry.specs.Holding.{OpenFinds, registry_state_of};
+ghost use Rattle.device_registry.specs.FilesHeld.{FilesHold};
 ghost use Rattle.gateway_core.specs.Calls.{new_gateway_value};
 ghost use Rattle.gateway_loop.specs.Headline.{IsNew};
 ghost use Rattle.gateway_loop.specs.Processing.{HasNoReadyPacket};
@@ -13,7 +16,9 @@ ghost use Rattle.gateway_main.specs.Started.{MayFailToStart, Starts};
 use crate::fault::Fault;
 use device_registry::{RegistryOver, SqlConnection};
 use gateway_core::GatewayOver;
+use sqlite::{Connection, FileFrom, FileStore, Start};
 use std::alloc::Global;
+use std::rt::HostRuntime;
 
 /// Returns a new gateway for a radio module with this base ID, over the registry in the database: all counters are 0,
 /// no packet is ready, and no byte has arrived. Creates the registry's tables if the database has none of them. The
@@ -34,6 +39,8 @@ pub fn start<C: SqlConnection + Drop>(
     ensures begins { IfOk result (λ gateway. HasCleanDisk (C.state gateway.handler.registry) → (found : Devices)
         × OpenFinds (C.state conn).committed.trees found × IsNew (registry_state_of C.state) base found gateway
         × IsTrue (C.state gateway.handler.registry).is_open) }
+    ensures clean { IfOk result (λ gateway. HasCleanDisk (C.state gateway.handler.registry) →
+        HasCleanDisk (C.state conn)) }
     ensures new { IfOk result (λ gateway. gateway ≡ new_gateway_value base gateway.handler.registry) }
     ensures idle { IfOk result HasNoReadyPacket }
     ensures starts { IfOk result (λ gateway. HasCleanDisk (C.state gateway.handler.registry) →
@@ -42,4 +49,38 @@ pub fn start<C: SqlConnection + Drop>(
 {
     let registry = RegistryOver::open_with(alloc, conn, cached_senders)?;
     Ok(GatewayOver::with_base_id(alloc, registry, base)?)
+}
+
+/// A gateway over the registry in two files.
+pub type FileGateway<S> = GatewayOver<RegistryOver<Connection<FileStore<FileFrom<S>>>>>;
+
+/// Opens the database file at this path and its log, or makes them, and starts a gateway over them, as `start` does.
+/// `S` stands for what the two files hold and for what a torn write may leave. A function over `S` is proved for all
+/// contents, so this is also the next start on files that a crash left: it finds the devices that they hold.
+///
+/// Fails as opening the files or `start` does.
+pub fn start_file<S: Start>(
+    rt: &HostRuntime,
+    path: &str,
+    contents: S,
+    base: u32,
+    cached_senders: usize,
+) -> Result<FileGateway<S>, Fault>
+    requires base { Address.is_base_id base ≡ true }
+    requires room { (1 ≤ cached_senders) × (cached_senders ≤ max_cached) }
+    // How the headline begins: with the devices that the files hold.
+    ensures finds { IfOk result (λ gateway. HasCleanDisk (file_state gateway.handler.registry) → (devices : Devices)
+        → FilesHold (image_at S.Start) devices → IsNew (registry_state_of file_state) base devices gateway) }
+    // With some devices, whatever the files hold, and over an open connection.
+    ensures begins { IfOk result (λ gateway. HasCleanDisk (file_state gateway.handler.registry) → (found : Devices)
+        × IsNew (registry_state_of file_state) base found gateway
+        × IsTrue (file_state gateway.handler.registry).is_open) }
+    ensures idle { IfOk result HasNoReadyPacket }
+{
+    let conn = match Connection::open_from(rt, path, false, contents) {
+        Ok(conn) => conn,
+        Err((error, _)) => return Err(error.into()),
+    };
+    let gateway = start(rt.alloc(), conn, base, cached_senders)?;
+    Ok(gateway)
 }

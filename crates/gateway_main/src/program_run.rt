@@ -1,5 +1,5 @@
 //! The program's run.
-ghost use Rattle.std.specs.Prelude.{◌≡◌, false, true};
+ghost use Rattle.std.specs.Prelude.{◌≡◌, true};
 ghost use Rattle.erp1_telegrams.specs.Address;
 ghost use Rattle.gateway_loop.specs.Processing.{HasNoReadyPacket};
 
@@ -8,14 +8,14 @@ use crate::ending::{
     Ending, RunResultIfOpened, done_or_first_fault, ending_without_arguments, status,
 };
 use crate::fault::Fault;
-use crate::gateway_start::start;
+use crate::gateway_start::{start, start_file};
 use crate::registry_gateway::{live, replay};
 use byte_io::{OverRead, OverWrite};
 use device_registry::{MAX_CACHED, RegistryOver, SqlConnection};
 use gateway_cli::{Access, CommandLineFault, FileToOpen, Options, Service};
 use gateway_core::GatewayOver;
 use gateway_loop::{RunFault, Summary};
-use sqlite::Connection;
+use sqlite::{Connection, Start, Wary};
 use std::fs::{File, OpenOptions};
 use std::process::ExitCode;
 use std::{env, io};
@@ -48,31 +48,47 @@ fn run(rt: &HostRuntime, options: &Options<'_>) -> Result<(), Fault>
     requires base { Address.is_base_id options.now.base ≡ true }
 {
     match options.db {
-        None => {
-            let (_, served) = serve(rt, Connection::open_in_memory(rt.alloc())?, options)?;
-            done_or_first_fault(served, Ok(()))
-        }
-        Some(path) => {
-            let (conn, served) = serve(rt, Connection::open(rt, path)?, options)?;
-            done_or_first_fault(served, conn.close())
-        }
+        None => run_in_memory(rt, options),
+        // Whatever a torn write leaves, the registry is found again. It costs a second sync for each commit.
+        Some(path) => run_over_files(rt, path, Wary, options),
     }
 }
 
-/// Makes the gateway over a database, lets it serve, and returns the connection.
-fn serve<C: SqlConnection + Drop>(
-    rt: &HostRuntime,
-    conn: C,
-    options: &Options<'_>,
-) -> Result<(C, RunResultIfOpened), Fault>
+/// Starts a gateway over a new database in memory, and lets it serve.
+fn run_in_memory(rt: &HostRuntime, options: &Options<'_>) -> Result<(), Fault>
     requires base { Address.is_base_id options.now.base ≡ true }
-    requires idle { (C.state conn).in_transaction ≡ false }
 {
+    let conn = Connection::open_in_memory(rt.alloc())?;
     let mut gateway = start(rt.alloc(), conn, options.base, MAX_CACHED)?;
-    let served = match options.service {
+    done_or_first_fault(serve(rt, &mut gateway, options), Ok(()))
+}
+
+/// Starts a gateway over the registry in two files, whatever they hold, lets it serve, and closes the database.
+fn run_over_files<S: Start>(
+    rt: &HostRuntime,
+    path: &str,
+    contents: S,
+    options: &Options<'_>,
+) -> Result<(), Fault>
+    requires base { Address.is_base_id options.now.base ≡ true }
+{
+    let mut gateway = start_file(rt, path, contents, options.base, MAX_CACHED)?;
+    let served = serve(rt, &mut gateway, options);
+    done_or_first_fault(served, gateway.close().close())
+}
+
+/// Lets the gateway serve what the options name.
+fn serve<C: SqlConnection>(
+    rt: &HostRuntime,
+    gateway: &mut GatewayOver<RegistryOver<C>>,
+    options: &Options<'_>,
+) -> RunResultIfOpened
+    requires { HasNoReadyPacket gateway.old }
+{
+    match options.service {
         Service::Replay { reads } => Ok(replay_standard(
             rt,
-            &mut gateway,
+            gateway,
             options.explain_packets,
             reads,
         )),
@@ -83,10 +99,9 @@ fn serve<C: SqlConnection + Drop>(
             turns,
         } => {
             let files = (serial, desk, out);
-            live_on_files(rt, files, &mut gateway, options.explain_packets, turns)
+            live_on_files(rt, files, gateway, options.explain_packets, turns)
         }
-    };
-    Ok((gateway.close(), served))
+    }
 }
 
 /// Replays standard input to standard output.
