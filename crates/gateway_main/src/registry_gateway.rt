@@ -1,7 +1,13 @@
-//! The loops that run a gateway over a registry in SQLite, with the headline stated for the registry.
-ghost use Rattle.std.specs.Prelude.{◌≡◌, []};
+//! The loops that run a gateway over a registry in SQLite, with their postconditions stated for the registry.
+ghost use Rattle.std.specs.Prelude.{◌≡◌, ◌+◌, ◌≤◌, ℕ, Err, [], IfErr, IfOk, OnOk};
+ghost use Rattle.byte_io.specs.Counts.{CallsMade, OneEmptyNoneFailed, OneFailedNoneEmpty, NoneFailedOrEmpty};
 ghost use Rattle.device_registry.specs.Holding.{registry_state_of};
+ghost use Rattle.gateway_loop.specs.CallCounts.{OneFailedOrEmpty, NoneFailedAtMostOneEmpty};
 ghost use Rattle.gateway_loop.specs.Headline.{ReplaysAsSpecified, ServesAsSpecified};
+ghost use Rattle.gateway_loop.specs.LiveGateway.{Serves, ServesUntilFault, SucceedsIffAllTurns, live_value};
+ghost use Rattle.gateway_loop.specs.Reads.{MakesAtMostReads};
+ghost use Rattle.gateway_loop.specs.ScriptReplay.{Replays, ReplaysUntilFault, FailsIffTooManyTurns, replay_value};
+ghost use Rattle.gateway_loop.specs.Streams.{source_value};
 
 use byte_io::{Sink, Source};
 use device_registry::{RegistryOver, SqlConnection};
@@ -19,6 +25,23 @@ pub fn replay<R: Source, W: Sink, C: SqlConnection>(
     requires { gateway.old.ready ≡ [] }
     ensures as_specified { ReplaysAsSpecified (registry_state_of C.state) R.Source W.Sink explains result
         (gateway.old, reader.old, writer.old) (gateway.new, reader.new, writer.new) }
+
+    // What is read, handled and written.
+    ensures ok { IfOk result (Replays (registry_state_of C.state) (replay_value R.Source W.Sink) explains
+        (gateway.old, reader.old, writer.old) (gateway.new, reader.new, writer.new)) }
+    ensures err { IfErr result (ReplaysUntilFault (registry_state_of C.state) (replay_value R.Source W.Sink) explains
+        (gateway.old, reader.old, writer.old) (gateway.new, reader.new, writer.new)) }
+
+    // How the reads and the writes went.
+    ensures reads { MakesAtMostReads (source_value R.Source reader.old) (source_value R.Source reader.new) turns }
+    ensures ended { OnOk result (OneEmptyNoneFailed (R.counts reader.old) (R.counts reader.new)
+        × NoneFailedOrEmpty (W.counts writer.old) (W.counts writer.new)) }
+    ensures read { result ≡ Err RunFault.Read → OneFailedNoneEmpty (R.counts reader.old) (R.counts reader.new)
+        × NoneFailedOrEmpty (W.counts writer.old) (W.counts writer.new) }
+    ensures write { result ≡ Err RunFault.Write → NoneFailedAtMostOneEmpty (R.counts reader.old) (R.counts reader.new)
+        × OneFailedOrEmpty (W.counts writer.old) (W.counts writer.new) }
+    ensures too_many { FailsIffTooManyTurns (replay_value R.Source W.Sink) result (gateway.old, reader.old, writer.old)
+        (gateway.new, reader.new, writer.new) turns }
 {
     gateway_loop::replay(reader, writer, gateway, explains, turns)
 }
@@ -35,6 +58,23 @@ pub fn live<P: Source, Q: Source, R: Sink, D: Sink, C: SqlConnection>(
 ) -> Result<Summary, RunFault>
     requires { gateway.old.ready ≡ [] }
     ensures as_specified { ServesAsSpecified (registry_state_of C.state) P.Source Q.Source R.Sink D.Sink explains result
+        (gateway.old, serial_in.old, desk_in.old, serial_out.old, desk_out.old)
+        (gateway.new, serial_in.new, desk_in.new, serial_out.new, desk_out.new) turns }
+
+    // What is read, handled and written.
+    ensures ok { IfOk result (Serves (registry_state_of C.state) (live_value P.Source Q.Source R.Sink D.Sink) explains
+        (gateway.old, serial_in.old, desk_in.old, serial_out.old, desk_out.old)
+        (gateway.new, serial_in.new, desk_in.new, serial_out.new, desk_out.new) turns) }
+    ensures err { IfErr result (ServesUntilFault (registry_state_of C.state)
+        (live_value P.Source Q.Source R.Sink D.Sink) explains
+        (gateway.old, serial_in.old, desk_in.old, serial_out.old, desk_out.old)
+        (gateway.new, serial_in.new, desk_in.new, serial_out.new, desk_out.new)) }
+
+    // How many reads are made, and when all turns are.
+    ensures reads { (n m : ℕ) × (n ≤ turns) × (m ≤ n) × (n ≤ m + 1)
+        × CallsMade (P.counts serial_in.old) (P.counts serial_in.new) n
+        × CallsMade (Q.counts desk_in.old) (Q.counts desk_in.new) m }
+    ensures whole { SucceedsIffAllTurns (live_value P.Source Q.Source R.Sink D.Sink) result
         (gateway.old, serial_in.old, desk_in.old, serial_out.old, desk_out.old)
         (gateway.new, serial_in.new, desk_in.new, serial_out.new, desk_out.new) turns }
 {
