@@ -3,6 +3,7 @@ pub mod CacheAgreement
 pub mod DeviceRows
 pub mod DeviceMeaning
 pub mod DevicesHeld
+pub mod FilesFound
 pub mod ForCallers
 pub mod MigrationMeaning
 pub mod OpenCalls

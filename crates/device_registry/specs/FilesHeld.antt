@@ -1,4 +1,6 @@
 -- The devices that a log and its database file hold.
+use Rattle.std.specs.Prelude.{◌≡◌, ◌⊎◌, length}
+use Rattle.std.specs.FinMap.{empty}
 use Rattle.sqlite.specs.Held.{Held}
 use Rattle.sqlite.specs.Files.{HoldsDatabase, file_state}
 use Rattle.sqlite.specs.Recovery.{Image}
@@ -12,6 +14,10 @@ use Rattle.device_registry.specs.Holding.{MayRecover, OpenFinds}
 -- the two files hold a database in which an open finds these devices
 abbrev pub FilesHold : Image → Devices → Type 0
 FilesHold image devices = (trees : Trees) × HoldsDatabase image trees × OpenFinds trees devices
+
+-- A start finds these devices in the two files. If the database file is new or empty, there are none.
+abbrev pub FoundAtStart : Image → Devices → Type 0
+FoundAtStart image devices = FilesHold image devices ⊎ ((length image.db ≡ 0) × (devices ≡ empty))
 
 -- whatever a crash leaves in the two files of a registry, they hold devices that this crash could leave
 abbrev pub CrashedFilesHold : {D : Type 0} {g : Ghosts D} → Held (FileStore D g) → Type 0

@@ -111,31 +111,45 @@ pub fn prepare<C: SqlConnection>(conn: &mut C) -> Result<(), OpenFault>
 }
 
 impl<C: SqlConnection + Drop> RegistryOver<C> {
-    /// `open_with` a cache of `DEFAULT_CACHED` senders.
+    /// `open_with` a cache of `DEFAULT_CACHED` senders. A failed open drops the connection that `open_with` returns.
     pub fn open(alloc: Global, conn: C) -> Result<RegistryOver<C>, OpenFault>
         requires idle { (C.state conn).in_transaction ≡ false }
         ensures opened { IfOk result (λ r. HasCleanDisk (C.state r) → IsOpened (C.state conn) (C.state r)) }
         ensures refused { IfErr result (RefusesAndDrops C.state conn) }
     {
-        RegistryOver::open_with(alloc, conn, DEFAULT_CACHED)
+        match RegistryOver::open_with(alloc, conn, DEFAULT_CACHED) {
+            Ok(registry) => Ok(registry),
+            Err((fault, _)) => Err(fault),
+        }
     }
+}
 
+impl<C: SqlConnection> RegistryOver<C> {
     /// Prepares the database, as `prepare` does, and keeps the connection. `cache` is the size of the cache in senders,
-    /// 1 to `MAX_CACHED`. A failed open drops the connection: as it was, if there is no memory for the cache, and
+    /// 1 to `MAX_CACHED`. A failed open returns the connection: as it was, if there is no memory for the cache, and
     /// otherwise as `prepare` left it.
-    pub fn open_with(alloc: Global, conn: C, cache: usize) -> Result<RegistryOver<C>, OpenFault>
+    pub fn open_with(
+        alloc: Global,
+        conn: C,
+        cache: usize,
+    ) -> Result<RegistryOver<C>, (OpenFault, C)>
         requires idle { (C.state conn).in_transaction ≡ false }
         requires cached { (1 ≤ cache) × (cache ≤ max_cached) }
         ensures clean { IfOk result (λ r. HasCleanDisk (C.state r) → HasCleanDisk (C.state conn)) }
         ensures opened { IfOk result (λ r. HasCleanDisk (C.state r) → IsOpened (C.state conn) (C.state r)) }
-        ensures refused { IfErr result (RefusesAndDrops C.state conn) }
+        ensures refused { IfErr result (λ e. FailsToOpen (C.state conn) (C.state e.1) e.0) }
     {
-        let cache = new_cache(alloc, cache)?;
+        let cache = match new_cache(alloc, cache) {
+            Ok(cache) => cache,
+            Err(refused) => return Err((refused.into(), conn)),
+        };
         let mut conn = conn;
-        prepare(&mut conn)?;
-        Ok(RegistryOver {
-            table: DeviceTable { alloc, conn },
-            cache,
-        })
+        match prepare(&mut conn) {
+            Ok(()) => Ok(RegistryOver {
+                table: DeviceTable { alloc, conn },
+                cache,
+            }),
+            Err(fault) => Err((fault, conn)),
+        }
     }
 }

@@ -1,6 +1,6 @@
 //! The gateway.
 ghost use Rattle.std.specs.Prelude.{◌≡◌, ◌≢◌, ◌↔◌, ◌<◌, ◌≤◌, ℕ, [], ◌∷◌, ◌++◌, List, length, take, true, false};
-ghost use Rattle.std.specs.Prelude.{IfOk, IfSome, IfNone, MatchBool, Some};
+ghost use Rattle.std.specs.Prelude.{IfErr, IfOk, IfSome, IfNone, MatchBool, Some};
 ghost use Rattle.std.specs.Option.{option_map};
 ghost use Rattle.esp3_frames.specs.PacketsAndRest.{front_of, packets_in};
 ghost use Rattle.esp3_frames.specs.PacketsAndRest.Front.{Whole};
@@ -78,19 +78,39 @@ impl<S: DeviceStore + Drop> GatewayOver<S> {
         if !is_base_id(base) {
             return Err(StartFault::BadBase);
         }
-        Ok(GatewayOver::with_base_id(alloc, registry, base)?)
+        match GatewayOver::with_base_id(alloc, registry, base) {
+            Ok(gateway) => Ok(gateway),
+            Err((refused, _)) => Err(refused.into()),
+        }
     }
+}
 
-    /// The same for an ID that is known to be a base ID. Fails if there is no memory for the framer.
-    pub fn with_base_id(alloc: Global, registry: S, base: u32) -> Result<GatewayOver<S>, AllocError>
+fn new_buffers(alloc: Global) -> Result<(Framer, PacketBuf), AllocError>
+    ensures { IfOk result (λ buffers. buffers.0 ≡ record { ready = []; rest = [] }) }
+{
+    Ok((Framer::new(alloc)?, PacketBuf::new(alloc)?))
+}
+
+impl<S: DeviceStore> GatewayOver<S> {
+    /// The same for an ID that is known to be a base ID. Fails if there is no memory for the framer, and then returns
+    /// the device store.
+    pub fn with_base_id(
+        alloc: Global,
+        registry: S,
+        base: u32,
+    ) -> Result<GatewayOver<S>, (AllocError, S)>
         requires { Address.is_base_id base ≡ true }
-        ensures { IfOk result (λ gateway. gateway ≡ new_gateway_value base registry) }
+        ensures new { IfOk result (λ gateway. gateway ≡ new_gateway_value base registry) }
+        ensures returned { IfErr result (λ e. e.1 ≡ registry) }
     {
-        Ok(GatewayOver {
-            handler: Handler::new(alloc, registry, base),
-            framer: Framer::new(alloc)?,
-            packet: PacketBuf::new(alloc)?,
-        })
+        match new_buffers(alloc) {
+            Ok((framer, packet)) => Ok(GatewayOver {
+                handler: Handler::new(alloc, registry, base),
+                framer,
+                packet,
+            }),
+            Err(refused) => Err((refused, registry)),
+        }
     }
 }
 

@@ -11,5 +11,5 @@ pub mod registry_gateway;
 
 pub use byte_io::{Failed, MAX_READ, OverRead, OverWrite, Sink, Source};
 pub use gateway_loop::{RunFault, Summary, live, replay};
-pub use gateway_start::{FileGateway, start, start_file};
+pub use gateway_start::{FileConnection, start, start_file};
 pub use program_run::program;

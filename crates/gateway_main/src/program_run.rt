@@ -59,8 +59,10 @@ fn run_in_memory(rt: &HostRuntime, options: &Options<'_>) -> Result<(), Fault>
     requires base { Address.is_base_id options.now.base ≡ true }
 {
     let conn = Connection::open_in_memory(rt.alloc())?;
-    let mut gateway = start(rt.alloc(), conn, options.base, MAX_CACHED)?;
-    done_or_first_fault(serve(rt, &mut gateway, options), Ok(()))
+    match start(rt.alloc(), conn, options.base, MAX_CACHED) {
+        Ok(mut gateway) => done_or_first_fault(serve(rt, &mut gateway, options), Ok(())),
+        Err((fault, _)) => Err(fault),
+    }
 }
 
 /// Starts a gateway over the registry in two files, whatever they hold, lets it serve, and closes the database.
@@ -72,7 +74,10 @@ fn run_over_files<S: Start>(
 ) -> Result<(), Fault>
     requires base { Address.is_base_id options.now.base ≡ true }
 {
-    let mut gateway = start_file(rt, path, contents, options.base, MAX_CACHED)?;
+    let mut gateway = match start_file(rt, path, contents, options.base, MAX_CACHED) {
+        Ok(gateway) => gateway,
+        Err((fault, _)) => return Err(fault),
+    };
     let served = serve(rt, &mut gateway, options);
     done_or_first_fault(served, gateway.close().close())
 }

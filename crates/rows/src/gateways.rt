@@ -16,7 +16,7 @@ pub(crate) fn fresh(
     alloc: Global,
 ) -> Result<GatewayOver<RegistryOver<Connection<MemStore>>>, Fault> {
     let conn = Connection::open_in_memory(alloc)?;
-    start(alloc, conn, BASE, MAX_CACHED)
+    start(alloc, conn, BASE, MAX_CACHED).map_err(|(fault, _)| fault)
 }
 
 /// Replays a script by a new gateway, with explanations or without.
@@ -28,7 +28,10 @@ pub(crate) fn replay_new<R: Source, W: Sink>(
     turns: u64,
 ) -> Result<Result<Summary, RunFault>, Fault> {
     let conn = Connection::open_in_memory(alloc)?;
-    let mut gateway = start(alloc, conn, BASE, MAX_CACHED)?;
+    let mut gateway = match start(alloc, conn, BASE, MAX_CACHED) {
+        Ok(gateway) => gateway,
+        Err((fault, _)) => return Err(fault),
+    };
     Ok(replay(reader, writer, &mut gateway, explains, turns))
 }
 
@@ -61,7 +64,10 @@ pub(crate) fn serve_new<P: Source, Q: Source, R: Sink, D: Sink>(
     turns: u64,
 ) -> Result<Result<Summary, RunFault>, Fault> {
     let conn = Connection::open_in_memory(alloc)?;
-    let mut gateway = start(alloc, conn, BASE, MAX_CACHED)?;
+    let mut gateway = match start(alloc, conn, BASE, MAX_CACHED) {
+        Ok(gateway) => gateway,
+        Err((fault, _)) => return Err(fault),
+    };
     let (serial_in, serial_out) = serial;
     let (desk_in, desk_out) = desk;
     Ok(live(

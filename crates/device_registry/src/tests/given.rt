@@ -189,7 +189,10 @@ pub fn fresh_registry<S: Fresh>(alloc: Global, cache: usize) -> Result<Registry<
     if !conn.is_autocommit() {
         return Err(Fail::from("a transaction is open"));
     }
-    Ok(Registry::open_with(alloc, conn, cache)?)
+    match Registry::open_with(alloc, conn, cache) {
+        Ok(registry) => Ok(registry),
+        Err((fault, _)) => Err(fault.into()),
+    }
 }
 
 /// `Registry::open` over a connection that has no open transaction.

@@ -180,8 +180,10 @@ fn started<C: SqlConnection + Drop>(
     }
     match start(alloc, conn, BASE, MAX_CACHED) {
         Ok(gateway) => Ok(Some(gateway)),
-        Err(Fault::Database(OpenFault::Failed(fault))) if !fault.is_memory() => Ok(None),
-        Err(_) => bail!("not refused by the store"),
+        Err((fault, _)) => match fault {
+            Fault::Database(OpenFault::Failed(fault)) if !fault.is_memory() => Ok(None),
+            _ => bail!("not refused by the store"),
+        },
     }
 }
 

@@ -180,7 +180,9 @@ fn is_found_again<C: SqlConnection + Drop>(
     if !conn.is_autocommit() {
         return Ok(false);
     }
-    let mut again = start(alloc, conn, BASE, MAX_CACHED)?;
+    let Ok(mut again) = start(alloc, conn, BASE, MAX_CACHED) else {
+        return Ok(false);
+    };
     let list = written_by(alloc, &mut again, b"list")?;
     let wanted = State::new(Known::Actuator, 0).listed(alloc)?;
     Ok(list.as_slice() == wanted.as_bytes())

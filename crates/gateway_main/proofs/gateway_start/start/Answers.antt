@@ -1,25 +1,29 @@
-use Rattle.std.proofs.Common.{sym, subst}
-use Rattle.std.proofs.lemmas.Result.{err_from_is_err_and}
-use Rattle.gateway_main.specs.Started.{MayFailToStart}
-use Rattle.gateway_main.proofs.StartLemmas.{idle_at_first, new_gateway, starts}
+use Rattle.std.proofs.Common.{inl, inr, refl}
+use Rattle.learned_devices.specs.Faults.{out_of_memory}
+use Rattle.device_registry.specs.declared.fault.OpenFault.TheVariants.{Failed}
+use Rattle.gateway_main.specs.declared.fault.Fault.TheVariants.{Database}
+use Rattle.gateway_main.proofs.StartLemmas.{idle_at_first, keeps_committed, new_gateway, starts}
 use Rattle.gateway_main.proofs.gateway_start.start.Goals as goal
 
-pub returns-in_err-registry-clause-refused : goal.returns-in_err-registry-clause-refused
-returns-in_err-registry-clause-refused g c =
-    let fault = err_from_is_err_and c.from_residual.result c.from_residual.ensures.1 in
-    rw fault.1 (subst (MayFailToStart g.C.SqlConnection.state c.args.conn) (sym fault.2)
-    c.in_err-registry.ensures.refused)
+pub returns-in-Err-clause-kept : goal.returns-in-Err-clause-kept
+returns-in-Err-clause-kept g c =
+    keeps_committed _ _ (Database c.in-Err.why) (g.met.C.SqlConnection.settled c.args.conn) (inl c.in-Err.ensures.refused)
 
-pub returns-clause-idle : goal.returns-clause-idle
-returns-clause-idle g c =
-    idle_at_first c.args.base c.in_ok-registry.registry c.in_ok-with_base_id.field-0 c.in_ok-with_base_id.ensures
+pub returns-in-Ok-with_base_id-clause-begins : goal.returns-in-Ok-with_base_id-clause-begins
+returns-in-Ok-with_base_id-clause-begins g c =
+    new_gateway g.C.SqlConnection.state c.args.conn c.in-Ok.registry c.args.base c.in-Ok-with_base_id.gateway
+    c.in-Ok-with_base_id.ensures.new c.in-Ok.ensures.opened
 
-pub returns-clause-starts : goal.returns-clause-starts
-returns-clause-starts g c =
-    starts g.C.SqlConnection.state c.args.conn c.in_ok-registry.registry c.args.base c.in_ok-with_base_id.field-0
-    c.in_ok-with_base_id.ensures c.in_ok-registry.ensures.opened
+pub returns-in-Ok-with_base_id-clause-idle : goal.returns-in-Ok-with_base_id-clause-idle
+returns-in-Ok-with_base_id-clause-idle g c =
+    idle_at_first c.args.base c.in-Ok.registry c.in-Ok-with_base_id.gateway c.in-Ok-with_base_id.ensures.new
 
-pub returns-clause-begins : goal.returns-clause-begins
-returns-clause-begins g c =
-    new_gateway g.C.SqlConnection.state c.args.conn c.in_ok-registry.registry c.args.base
-    c.in_ok-with_base_id.field-0 c.in_ok-with_base_id.ensures c.in_ok-registry.ensures.opened
+pub returns-in-Ok-with_base_id-clause-starts : goal.returns-in-Ok-with_base_id-clause-starts
+returns-in-Ok-with_base_id-clause-starts g c =
+    starts g.C.SqlConnection.state c.args.conn c.in-Ok.registry c.args.base c.in-Ok-with_base_id.gateway
+    c.in-Ok-with_base_id.ensures.new c.in-Ok.ensures.opened
+
+pub returns-in-Err-with_base_id-clause-kept : goal.returns-in-Err-with_base_id-clause-kept
+returns-in-Err-with_base_id-clause-kept g c = rw (c.close.ensures.same, c.in-Err-with_base_id.ensures.returned)
+    (keeps_committed _ _ (Database (Failed out_of_memory)) (g.met.C.SqlConnection.settled c.args.conn)
+    (inr (refl, λ clean. (c.in-Ok.ensures.clean clean, c.in-Ok.ensures.opened clean))))
