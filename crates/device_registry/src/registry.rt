@@ -158,7 +158,7 @@ impl<C: SqlConnection> RegistryOver<C> {
     /// Learns a device, in place of what was stored for its sender. A known sender keeps its label; an unknown one gets
     /// the empty label, which the device has here. `Full` means that 1,000 others are learned. A device that is already
     /// stored is written again.
-    pub fn learn(&mut self, device: Device) -> Result<Receipt, LearnFault>
+    pub fn learn(&mut self, device: Device) -> Result<Receipt<Self>, LearnFault>
         requires { device.label ≡ [] }
         ensures learns { Learns (registry_state (C.state self.old)) (registry_state (C.state self.new)) device result }
         ensures receipt { IfOk result (λ receipt. (receipt.id ≡ device.id) × IsTrue receipt.is_learned) }
@@ -226,7 +226,7 @@ impl<C: SqlConnection> RegistryOver<C> {
     }
 
     /// Forgets a sender. Commits also if the sender is not known: the version row is then rewritten unchanged.
-    pub fn forget(&mut self, id: u32) -> Result<Receipt, StoreFault>
+    pub fn forget(&mut self, id: u32) -> Result<Receipt<Self>, StoreFault>
         ensures forgets { Forgets (registry_state (C.state self.old)) (registry_state (C.state self.new)) id result }
         ensures receipt { IfOk result (λ receipt. (receipt.id ≡ id) × (receipt.is_learned ≡ false)) }
         ensures written { HasCleanDisk (C.state self.new) → (devices : Devices) →

@@ -6,21 +6,26 @@ ghost use Rattle.learned_devices.specs.StoreCalls.{LooksUp, Learns, Forgets, Rel
 
 use crate::fault::{LearnFault, StoreFault};
 use crate::{Device, Label};
+use std::marker::PhantomData;
 
-/// Proof that a device store has committed an update. `DeviceStore::learn` and `DeviceStore::forget` make one, after
-/// the commit; its fields are private to this module. It does not name its store. It cannot be dropped; `spend`
-/// consumes it.
-pub struct Receipt {
+/// Proof that a device store of this type has committed an update. `DeviceStore::learn` and `DeviceStore::forget` make
+/// one, after the commit; its fields are private to this module. It cannot be dropped; `spend` consumes it.
+pub struct Receipt<S> {
     id: u32,
     is_learned: bool,
+    store: PhantomData<S>,
 }
 
-impl Receipt {
+impl<S> Receipt<S> {
     /// The sender, and whether it was learned (true) or forgotten.
     pub fn spend(self) -> (u32, bool)
         ensures { (result.0 ≡ self.id) × (result.1 ≡ self.is_learned) }
     {
-        let Receipt { id, is_learned } = self;
+        let Receipt {
+            id,
+            is_learned,
+            store: _,
+        } = self;
         (id, is_learned)
     }
 }
@@ -62,7 +67,7 @@ pub trait DeviceStore {
         ensures { ListsAll (store_state self.old) (store_state self.new) result };
 
     /// Learns a device, like `put`, and returns the receipt for it.
-    fn learn(&mut self, device: Device) -> Result<Receipt, LearnFault>
+    fn learn(&mut self, device: Device) -> Result<Receipt<Self>, LearnFault>
         requires { device.label ≡ [] }
         ensures learns { Learns (store_state self.old) (store_state self.new) device result }
         ensures receipt { IfOk result (λ receipt. (receipt.id ≡ device.id) × IsTrue receipt.is_learned) }
@@ -74,11 +79,12 @@ pub trait DeviceStore {
         Ok(Receipt {
             id,
             is_learned: true,
+            store: PhantomData,
         })
     }
 
     /// Forgets a sender, like `delete`, and returns the receipt for it.
-    fn forget(&mut self, id: u32) -> Result<Receipt, StoreFault>
+    fn forget(&mut self, id: u32) -> Result<Receipt<Self>, StoreFault>
         ensures forgets { Forgets (store_state self.old) (store_state self.new) id result }
         ensures receipt { IfOk result (λ receipt. (receipt.id ≡ id) × (receipt.is_learned ≡ false)) }
         ensures written { (store_state self.new).honest → (devices : Devices) → (store_state self.old).holds devices →
@@ -88,6 +94,7 @@ pub trait DeviceStore {
         Ok(Receipt {
             id,
             is_learned: false,
+            store: PhantomData,
         })
     }
 }

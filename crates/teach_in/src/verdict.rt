@@ -14,7 +14,7 @@ pub struct Verdict {
 
 impl Verdict {
     /// The verdict on an update that is committed.
-    pub fn committed(receipt: Receipt) -> Verdict
+    pub fn committed<S>(receipt: Receipt<S>) -> Verdict
         ensures id { result.id ≡ receipt.id }
         ensures outcome { MatchBool receipt.is_learned (result.outcome ≡ Outcome.Accepted)
             (result.outcome ≡ Outcome.Deleted) }

@@ -9,13 +9,13 @@ use crate::{Device, LearnFault, Receipt, RegistryOver, SqlConnection, StoreFault
 pub trait Remembering {
     fn find(&mut self, id: u32) -> Result<Option<Device>, StoreFault>;
 
-    fn learn(&mut self, device: Device) -> Result<Receipt, LearnFault>
+    fn learn(&mut self, device: Device) -> Result<Receipt<Self>, LearnFault>
         requires { device.label ≡ [] };
 
     fn relabel(&mut self, id: u32, text: &str) -> Result<bool, StoreFault>
         requires { is_label text.now ≡ true };
 
-    fn forget(&mut self, id: u32) -> Result<Receipt, StoreFault>;
+    fn forget(&mut self, id: u32) -> Result<Receipt<Self>, StoreFault>;
 
     fn all(&mut self) -> Result<Vec<Device>, StoreFault>;
 
@@ -31,7 +31,7 @@ impl<C: SqlConnection> Remembering for RegistryOver<C> {
         RegistryOver::find(self, id)
     }
 
-    fn learn(&mut self, device: Device) -> Result<Receipt, LearnFault> {
+    fn learn(&mut self, device: Device) -> Result<Receipt<Self>, LearnFault> {
         RegistryOver::learn(self, device)
     }
 
@@ -39,7 +39,7 @@ impl<C: SqlConnection> Remembering for RegistryOver<C> {
         RegistryOver::relabel(self, id, text)
     }
 
-    fn forget(&mut self, id: u32) -> Result<Receipt, StoreFault> {
+    fn forget(&mut self, id: u32) -> Result<Receipt<Self>, StoreFault> {
         RegistryOver::forget(self, id)
     }
 
