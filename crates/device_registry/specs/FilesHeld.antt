@@ -23,3 +23,9 @@ FoundAtStart image devices = FilesHold image devices ⊎ ((length image.db ≡ 0
 abbrev pub CrashedFilesHold : {D : Type 0} {g : Ghosts D} → Held (FileStore D g) → Type 0
 CrashedFilesHold stopped = (image : Image) → (stored stopped.store).may_leave image
     → ∥ ((left : Devices) × MayRecover (file_state stopped) left × FilesHold image left) ∥₁
+
+-- if the next open finds these devices in whatever a crash leaves, as after a failed start, then the two files hold them
+abbrev pub CrashedFilesHoldFound : {D : Type 0} {g : Ghosts D} → Held (FileStore D g) → Type 0
+CrashedFilesHoldFound stopped = (devices : Devices) (image : Image)
+    → ((trees : Trees) → (file_state stopped).may_leave trees → OpenFinds trees devices)
+    → (stored stopped.store).may_leave image → ∥ FilesHold image devices ∥₁

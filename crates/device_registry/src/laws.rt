@@ -8,7 +8,7 @@ ghost use Rattle.device_registry.specs.Holding.{HasSomeDevicesIfOpen};
 ghost use Rattle.device_registry.specs.Opening.{ClosedFilesAreFound, DevicesAreLimited, FoundDevicesAreUnique};
 ghost use Rattle.device_registry.specs.Opening.{ReturnedIsFound};
 ghost use Rattle.device_registry.specs.Opening.{CrashedFilesAreFound};
-ghost use Rattle.device_registry.specs.FilesHeld.{CrashedFilesHold};
+ghost use Rattle.device_registry.specs.FilesHeld.{CrashedFilesHold, CrashedFilesHoldFound};
 ghost use Rattle.device_registry.specs.Opening.{RegistriesAreRecognized, OnlyNonRegistriesAreRefused, FailedOpensKeep};
 ghost use Rattle.device_registry.specs.Ranges.{RegistriesAreInRange};
 
@@ -77,6 +77,14 @@ pub fn crashed_files_hold_devices<D: Disk + Drop>(
 {
     let RegistryOver { table, cache: _ } = registry;
     let DeviceTable { alloc: _, conn } = table;
+    conn.into_store()
+}
+
+/// The same for any connection, as one that a failed start returns, if the next open finds the same devices in whatever a
+/// crash leaves. So the start after it finds them too.
+pub fn crashed_files_hold_found<D: Disk + Drop>(conn: Connection<FileStore<D>>) -> FileStore<D>
+    ensures { IsClean (view result) → CrashedFilesHoldFound conn }
+{
     conn.into_store()
 }
 
