@@ -1,6 +1,5 @@
 -- The devices that a log and its database file hold.
-use Rattle.std.specs.Prelude.{◌≡◌, ◌⊎◌, length}
-use Rattle.std.specs.FinMap.{empty}
+use Rattle.sqlite.specs.State.{HasCleanDisk}
 use Rattle.sqlite.specs.Held.{Held}
 use Rattle.sqlite.specs.Files.{HoldsDatabase, file_state}
 use Rattle.sqlite.specs.Recovery.{Image}
@@ -15,10 +14,6 @@ use Rattle.device_registry.specs.Holding.{MayRecover, OpenFinds}
 abbrev pub FilesHold : Image → Devices → Type 0
 FilesHold image devices = (trees : Trees) × HoldsDatabase image trees × OpenFinds trees devices
 
--- A start finds these devices in the two files. If the database file is new or empty, there are none.
-abbrev pub FoundAtStart : Image → Devices → Type 0
-FoundAtStart image devices = FilesHold image devices ⊎ ((length image.db ≡ 0) × (devices ≡ empty))
-
 -- whatever a crash leaves in the two files of a registry, they hold devices that this crash could leave
 abbrev pub CrashedFilesHold : {D : Type 0} {g : Ghosts D} → Held (FileStore D g) → Type 0
 CrashedFilesHold stopped = (image : Image) → (stored stopped.store).may_leave image
@@ -29,3 +24,8 @@ abbrev pub CrashedFilesHoldFound : {D : Type 0} {g : Ghosts D} → Held (FileSto
 CrashedFilesHoldFound stopped = (devices : Devices) (image : Image)
     → ((trees : Trees) → (file_state stopped).may_leave trees → OpenFinds trees devices)
     → (stored stopped.store).may_leave image → ∥ FilesHold image devices ∥₁
+
+-- a crash leaves some contents in the two files
+abbrev pub SomeFilesAreLeft : {D : Type 0} {g : Ghosts D} → Held (FileStore D g) → Type 0
+SomeFilesAreLeft crashed =
+    HasCleanDisk (file_state crashed) → ∥ ((image : Image) × (stored crashed.store).may_leave image) ∥₁

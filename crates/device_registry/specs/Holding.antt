@@ -24,6 +24,15 @@ HasSomeDevicesIfOpen s = HasCleanDisk s → (devices : Devices) × HasDevicesIfO
 abbrev pub MayRecover : State → Devices → Type 0
 MayRecover s devices = (trees : Trees) × s.may_leave trees × HoldsVersion2 trees devices
 
+-- a crash leaves some devices
+abbrev pub SomeDevicesAreLeft : State → Type 0
+SomeDevicesAreLeft s = HasCleanDisk s → ∥ ((left : Devices) × MayRecover s left) ∥₁
+
+-- while the connection is open, a crash may leave the devices that the registry holds
+abbrev pub HeldDevicesMayBeLeft : State → Type 0
+HeldDevicesMayBeLeft s = HasCleanDisk s → IsTrue s.is_open → (devices : Devices) → HasDevicesIfOpen s devices
+    → MayRecover s devices
+
 -- whatever a crash leaves is a registry
 abbrev pub AreVersion2Registries : (Trees → Type 0) → Type 0
 AreVersion2Registries may_leave = (trees : Trees) → may_leave trees → AreVersion2Trees trees

@@ -5,12 +5,10 @@ use Rattle.sqlite.specs.Effect.{Database, IsDatabase}
 use Rattle.sqlite.specs.State.{State, HasCleanDisk, IsUnchanged, Survives}
 use Rattle.sqlite.specs.Held.{Held}
 use Rattle.sqlite.specs.Files.{file_state, Finds as FindsFiles}
-use Rattle.sqlite.specs.Start.{FindsIn}
 use Rattle.sqlite.specs.Closing.{IsCopied}
 use Rattle.sqlite_disk.specs.declared.Disk.{Ghosts}
 use Rattle.sqlite_disk.specs.declared.Files.{Files}
 use Rattle.sqlite_store.specs.declared.store.FileStore.{FileStore}
-use Rattle.sqlite_store.specs.FileStore.{view, state as stored}
 use Rattle.sqlite_trees.specs.Tree.{Trees}
 pub use Rattle.keyed_table.specs.Stores.{IsSettledOpen, KeepsDatabaseIfStillOpen}
 use Rattle.device_registry.specs.declared.fault.OpenFault.{OpenFault}
@@ -20,7 +18,7 @@ use Rattle.learned_devices.specs.Devices.{Devices, max_devices}
 use Rattle.device_registry.specs.Stored.{IsRegistry, HoldsVersion2, AreVersion2Trees}
 use Rattle.device_registry.specs.Ready.{IsReadyWith, IsReady}
 use Rattle.device_registry.specs.Holding.{AreVersion2Registries, HasDevicesIfOpen, DevicesAreCommitted, RewritesVersion}
-use Rattle.device_registry.specs.Holding.{MayRecover, OpenFinds}
+use Rattle.device_registry.specs.Holding.{OpenFinds}
 use Rattle.device_registry.specs.Holding.{Opens}
 
 -- the maximum size of the cache of looked-up senders. Own choice
@@ -133,13 +131,3 @@ ClosedFilesAreFound {D} g =
     → FindsFiles files opened → DevicesAreCommitted (file_state closed) → HasDevicesIfOpen (file_state closed) devices
     → OpenFinds (file_state opened).committed.trees devices
     × ((found : Devices) → OpenFinds (file_state opened).committed.trees found → found ≡ devices)
-
--- If two files hold what a crash could leave in them, an open of these files finds devices that this crash could leave.
--- (`next_run` of the crate `sqlite` says this of the trees; a file store numbers its pages while its disk is clean.)
-abbrev pub CrashedFilesAreFound : {D : Type 0} → Ghosts D → Type 0
-CrashedFilesAreFound {D} g =
-    (stopped opened : Held (FileStore D g)) (image : _) → IsTrue (view stopped.store).is_numbered
-    → AreVersion2Registries (file_state stopped).may_leave → (stored stopped.store).may_leave image
-    → FindsIn image (file_state opened)
-    → ∥ ((left : Devices) × MayRecover (file_state stopped) left
-    × OpenFinds (file_state opened).committed.trees left) ∥₁

@@ -4,18 +4,20 @@ ghost use Rattle.sqlite_trees.specs.View.{IsClean};
 ghost use Rattle.sqlite_store.specs.FileStore.{view};
 ghost use Rattle.device_registry.specs.declared.cache_limits.TheConstants.{MAX_CACHED};
 ghost use Rattle.device_registry.specs.Opening.{max_cached};
-ghost use Rattle.device_registry.specs.Holding.{HasSomeDevicesIfOpen};
+ghost use Rattle.sqlite.specs.Held.{state};
+ghost use Rattle.device_registry.specs.Holding.{HasSomeDevicesIfOpen, HeldDevicesMayBeLeft, SomeDevicesAreLeft};
+ghost use Rattle.device_registry.specs.Holding.{registry_state_of};
 ghost use Rattle.device_registry.specs.Opening.{ClosedFilesAreFound, DevicesAreLimited, FoundDevicesAreUnique};
 ghost use Rattle.device_registry.specs.Opening.{ReturnedIsFound};
-ghost use Rattle.device_registry.specs.Opening.{CrashedFilesAreFound};
-ghost use Rattle.device_registry.specs.FilesHeld.{CrashedFilesHold, CrashedFilesHoldFound};
+ghost use Rattle.device_registry.specs.FilesHeld.{CrashedFilesHold, CrashedFilesHoldFound, SomeFilesAreLeft};
 ghost use Rattle.device_registry.specs.Opening.{RegistriesAreRecognized, OnlyNonRegistriesAreRefused, FailedOpensKeep};
 ghost use Rattle.device_registry.specs.Ranges.{RegistriesAreInRange};
 
 use crate::device_table::DeviceTable;
-use crate::registry::RegistryOver;
+use crate::registry::{Registry, RegistryOver};
 use crate::sql_connection::SqlConnection;
-use sqlite::{Connection, FileStore};
+use learned_devices::DeviceStore;
+use sqlite::{Alter, Connection, FileStore};
 use sqlite_disk::Disk;
 
 /// The limit of the cache is that of the definitions.
@@ -62,11 +64,6 @@ pub fn returned_is_found<C: SqlConnection>()
     ensures { ReturnedIsFound C.state }
 {}
 
-/// An open of two files finds what a crash left in them: devices of a registry that this crash could leave.
-pub fn crashed_files_are_found<D: Disk>()
-    ensures { CrashedFilesAreFound D.Disk }
-{}
-
 /// Whatever a crash leaves in the two files of a registry, they hold devices that this crash could leave. The premise is
 /// that the disk has returned what was written, also during the rollback by which the connection is taken apart here;
 /// that call is the only one of `sqlite` that shows how the pages are numbered.
@@ -99,6 +96,31 @@ pub fn devices_are_held<C: SqlConnection>(registry: &RegistryOver<C>)
     ensures { HasSomeDevicesIfOpen (C.state registry.now) }
 {
     // The proof uses the fields: the table's invariant implies the contract.
+    let table = &registry.table;
+    let _conn = &table.conn;
+}
+
+/// What a registry keeps as a device store is what its connection keeps.
+pub fn stores_are_connections<C: SqlConnection>(registry: &RegistryOver<C>)
+    ensures { ⟦<RegistryOver<C> as DeviceStore>⟧.store_state registry.now ≡ registry_state_of C.state registry.now }
+{}
+
+/// While the disk of a connection of SQLite has returned what was written, crash states exist: a crash leaves the
+/// devices of some registry; while the connection is open, those that the registry holds. The contract is in terms of
+/// SQLite's own state.
+pub fn crash_states_exist<S: Alter>(registry: &Registry<S>)
+    ensures some { SomeDevicesAreLeft (state S.Store registry.now) }
+    ensures held { HeldDevicesMayBeLeft (state S.Store registry.now) }
+{
+    // The proof uses the fields: the table's invariant implies the contract.
+    let table = &registry.table;
+    let _conn = &table.conn;
+}
+
+/// The same for two files: a crash leaves some contents in them.
+pub fn crashed_files_exist<D: Disk>(registry: &Registry<FileStore<D>>)
+    ensures { SomeFilesAreLeft registry.now }
+{
     let table = &registry.table;
     let _conn = &table.conn;
 }

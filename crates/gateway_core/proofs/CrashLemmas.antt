@@ -118,7 +118,8 @@ safe-reported : (Before : Devices → Type 0) (left : CrashStates) (known : Devi
 safe-reported Before left known None safe = safe
 safe-reported Before left known (Some update) safe = inl (inl refl)
 
-safe-step : (Before : Devices → Type 0) (left : CrashStates) (state : State) (input : Input) (result : InputResult)
+-- the devices after one input are crash-consistent
+pub safe-step : (Before : Devices → Type 0) (left : CrashStates) (state : State) (input : Input) (result : InputResult)
     → IsCrashConsistent Before left state.devices
     → IsCrashConsistent Before (crash_states_after_result left state input result)
     (state_after_result state input result).devices

@@ -11,6 +11,7 @@ pub use Rattle.gateway_core.proofs.ChunkLemmas.{answers_do_not_depend_on_chunks}
 pub use Rattle.gateway_core.proofs.SessionLemmas.{updates_survive_restarts}
 pub use Rattle.gateway_core.proofs.LongLineLemmas.{handles_alike}
 pub use Rattle.gateway_core.proofs.PrefixLemmas.{crash_states_are_prefixes, sessions_leave_prefixes}
+pub use Rattle.gateway_core.proofs.PrefixSessionLemmas.{prefixes_end_sessions}
 pub use Rattle.gateway_core.proofs.RangeLemmas.{leaves_in_range, stays_in_range, reports_in_range}
 pub use Rattle.gateway_core.proofs.RestLemmas.{rest_goes_on, items_behind, rest_behind}
 pub use Rattle.gateway_core.proofs.RunLemmas.{handles-nothing, handles-append, same_failures_give_same_answers}

@@ -11,6 +11,7 @@ pub mod ForCallers
 pub mod SessionLemmas
 pub mod LongLineLemmas
 pub mod PrefixLemmas
+pub mod PrefixSessionLemmas
 pub mod QueryLemmas
 pub mod RangeLemmas
 pub mod RestLemmas

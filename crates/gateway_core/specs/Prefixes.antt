@@ -1,9 +1,9 @@
 -- A crash leaves what was known after a prefix of the inputs, perhaps with the update of the next one. The prefix
 -- contains every acknowledged input.
-use Rattle.std.specs.Prelude.{◌≡◌, ◌<◌, ◌⊎◌, length, IsSome, List, [], ◌∷◌, ◌++◌, Option, Some, None}
+use Rattle.std.specs.Prelude.{◌≡◌, ◌<◌, ◌⊎◌, ℕ, length, IsSome, List, [], ◌∷◌, ◌++◌, Option, Some, None}
 use Rattle.learned_devices.specs.Devices.{Devices}
-use Rattle.gateway_core.specs.Step.{State, Input, update_of, with_update}
-use Rattle.gateway_core.specs.Run.{InputResult, Applied, Failed, FailedAtCommit, state_after_result}
+use Rattle.gateway_core.specs.Step.{State, Input, Answer, update_of, with_update}
+use Rattle.gateway_core.specs.Run.{InputResult, Applied, Failed, FailedAtCommit, state_after_result, Run}
 use Rattle.gateway_core.specs.CrashStates.{nothing_committed_yet, crash_states, IsCrashConsistent}
 use Rattle.gateway_core.specs.Sessions.{Session, initial_state, IsSession}
 
@@ -79,3 +79,21 @@ abbrev pub SessionsLeavePrefixes : Type 0
 SessionsLeavePrefixes = (session : Session) → IsSession session
     → AfterPrefix (initial_state session.base session.found) session.inputs session.results session.left
     ⊎ HasInterruptedUpdate session.last session.interrupted_input session.left
+
+-- Conversely, a run with these results is a session that a crash ended, if the crash left the devices after a prefix
+-- that contains every acknowledged input. So what is said of sessions and restarts holds of it.
+abbrev pub PrefixesEndSessions : Type 0
+PrefixesEndSessions = (base : ℕ) (found : Devices) (inputs : List Input) (results : List InputResult)
+    (answers : List Answer) (last : State) (left : Devices)
+    → Run (initial_state base found) inputs results answers last
+    → AfterPrefix (initial_state base found) inputs results left
+    → IsSession (record {
+      base = base;
+      found = found;
+      inputs = inputs;
+      results = results;
+      answers = answers;
+      last = last;
+      interrupted_input = None;
+      left = left;
+    })

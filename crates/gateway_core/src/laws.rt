@@ -12,6 +12,7 @@ ghost use Rattle.gateway_core.specs.Explaining.{ExplanationsAreTrue};
 ghost use Rattle.gateway_core.specs.Handling.{Handles, HandlerValue};
 ghost use Rattle.gateway_core.specs.Sessions.{UpdatesSurviveRestarts};
 ghost use Rattle.gateway_core.specs.Prefixes.{SessionsLeavePrefixes, CrashStatesArePrefixes, AcknowledgedAreInPrefix};
+ghost use Rattle.gateway_core.specs.Prefixes.{PrefixesEndSessions};
 ghost use Rattle.gateway_core.specs.Ranges.{InputsAreOfBytes, SessionsLeaveDevicesInRange, StaysInRange};
 ghost use Rattle.gateway_core.specs.Ranges.{ReportsInRange};
 ghost use Rattle.gateway_core.specs.Run.{FailuresAreCounted, SameFailuresGiveSameAnswers};
@@ -151,6 +152,12 @@ pub fn crash_states_are_prefixes()
 /// of them and the one in progress.
 pub fn sessions_leave_prefixes()
     ensures { SessionsLeavePrefixes }
+{}
+
+/// A run is a session, if a crash left the devices after a prefix of its inputs that contains every acknowledged one. So
+/// the theorems about sessions hold of `replay` and `live`, whose postcondition `as_specified` says this.
+pub fn prefixes_end_sessions()
+    ensures { PrefixesEndSessions }
 {}
 
 /// Only an applied input is answered with a teach line. With `accepted` it learns the device in the line. With

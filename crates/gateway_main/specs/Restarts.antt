@@ -1,22 +1,43 @@
--- From a crash to the next start: what the two files of a gateway hold after a crash.
-use Rattle.std.specs.Prelude.{List}
-use Rattle.sqlite.specs.Held.{Held}
+-- From a crash to the next start. A start is on two files, the log and the database.
+use Rattle.std.specs.Prelude.{◌≡◌, ◌≢◌, ℕ, List, Option, Some, None, Result, Ok, Err}
 use Rattle.sqlite.specs.Files.{file_state}
+use Rattle.sqlite.specs.Held.{Held}
 use Rattle.sqlite.specs.Recovery.{Image}
+use Rattle.sqlite.specs.State.{State as ConnectionState, HasCleanDisk}
 use Rattle.sqlite_disk.specs.declared.Disk.{Ghosts}
-use Rattle.sqlite_store.specs.declared.store.FileStore.{FileStore}
 use Rattle.sqlite_store.specs.FileStore.{state as stored}
+use Rattle.sqlite_store.specs.declared.store.FileStore.{FileStore}
+use Rattle.sqlite_trees.specs.Tree.{Trees}
 use Rattle.learned_devices.specs.Devices.{Devices}
-use Rattle.device_registry.specs.Holding.{MayRecover}
-use Rattle.device_registry.specs.FilesHeld.{FilesHold}
-use Rattle.gateway_core.specs.Step.{Input, State}
-use Rattle.gateway_core.specs.Run.{InputResult}
+use Rattle.device_registry.specs.Holding.{MayRecover, OpenFinds, registry_state_of}
+use Rattle.device_registry.specs.declared.fault.OpenFault.TheVariants.{NotARegistry}
+use Rattle.gateway_core.specs.Calls.{GatewayValue}
 use Rattle.gateway_core.specs.Prefixes.{AfterPrefix}
+use Rattle.gateway_core.specs.Run.{InputResult}
+use Rattle.gateway_core.specs.Step.{Input, State}
+use Rattle.gateway_loop.specs.Headline.{IsNew}
+use Rattle.gateway_main.specs.declared.fault.Fault.{Fault}
+use Rattle.gateway_main.specs.declared.fault.Fault.TheVariants.{Database}
 
--- If a crash leaves only what was known after a prefix of the inputs, as `AsSpecified` says after `replay` and `live`,
--- then whatever it leaves in the two files, they hold the devices of such a prefix.
-abbrev pub CrashedFilesHoldPrefixes : {D : Type 0} {g : Ghosts D} → Held (FileStore D g) → Type 0
-CrashedFilesHoldPrefixes stopped = (start : State) (inputs : List Input) (results : List InputResult) (image : Image)
-    → ((left : Devices) → MayRecover (file_state stopped) left → AfterPrefix start inputs results left)
-    → (stored stopped.store).may_leave image
-    → ∥ ((left : Devices) × AfterPrefix start inputs results left × FilesHold image left) ∥₁
+-- The result of a start on files that hold these devices. The gateway is new over exactly these devices. A start that
+-- fails does not reject the files as no registry; once the files are open, it returns the connection, and the next open
+-- finds these devices in whatever a crash then leaves.
+abbrev pub StartsWith : {C : Type 0} → (C → ConnectionState) → (base : ℕ) → Devices
+    → Result (GatewayValue C) (Fault × Option C) → Type 0
+StartsWith state base devices (Ok gateway) =
+    HasCleanDisk (state gateway.handler.registry) → IsNew (registry_state_of state) base devices gateway
+StartsWith state base devices (Err (fault, Some conn)) =
+    HasCleanDisk (state conn) → (fault ≢ Database NotARegistry)
+    × ((trees : Trees) → (state conn).may_leave trees → OpenFinds trees devices)
+StartsWith state base devices (Err (fault, None)) = fault ≢ Database NotARegistry
+
+-- A crash of a gateway left these contents in its two files. Any crash leaves devices after a prefix of its inputs that
+-- contains every acknowledged one, as `AsSpecified` says after `replay` and `live`. Then a start on the files has this
+-- result over the devices of such a prefix.
+abbrev pub RestartsAfterPrefix : {D C : Type 0} {g : Ghosts D} → (crashed : Held (FileStore D g)) → (left_in_files : Image)
+    → (C → ConnectionState) → (base : ℕ) → Result (GatewayValue C) (Fault × Option C) → Type 0
+RestartsAfterPrefix crashed left_in_files state base result =
+    (start : State) (inputs : List Input) (results : List InputResult)
+    → ((left : Devices) → MayRecover (file_state crashed) left → AfterPrefix start inputs results left)
+    → (stored crashed.store).may_leave left_in_files
+    → ∥ ((left : Devices) × AfterPrefix start inputs results left × StartsWith state base left result) ∥₁

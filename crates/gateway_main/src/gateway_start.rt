@@ -1,21 +1,22 @@
 //! Starting a gateway over a database.
-ghost use Rattle.std.specs.Prelude.{◌≡◌, ◌≤◌, false, true, IfErr, IfOk, IfSome, IsSomeAnd, IsTrue};
+ghost use Rattle.std.specs.Prelude.{◌≡◌, ◌≤◌, false, true, length, IfErr, IfOk, IsTrue};
+ghost use Rattle.std.specs.FinMap;
 ghost use Rattle.sqlite.specs.State.{HasCleanDisk};
 ghost use Rattle.sqlite.specs.Files.{file_state};
 ghost use Rattle.sqlite.specs.WalFiles.{image_at};
-ghost use Rattle.sqlite.specs.Tree.{Trees};
 ghost use Rattle.erp1_telegrams.specs.Address;
 ghost use Rattle.learned_devices.specs.Devices.{Devices};
 ghost use Rattle.device_registry.specs.Opening.{max_cached};
 ghost use Rattle.device_registry.specs.Holding.{OpenFinds, registry_state_of};
-ghost use Rattle.device_registry.specs.FilesHeld.{FilesHold, FoundAtStart};
+ghost use Rattle.device_registry.specs.FilesHeld.{FilesHold};
 ghost use Rattle.gateway_core.specs.Calls.{new_gateway_value};
 ghost use Rattle.gateway_loop.specs.Headline.{IsNew};
 ghost use Rattle.gateway_loop.specs.Processing.{HasNoReadyPacket};
+ghost use Rattle.gateway_main.specs.Restarts.{StartsWith};
 ghost use Rattle.gateway_main.specs.Started.{FailsToStart, KeepsCommittedDevices, Starts};
 
 use crate::fault::Fault;
-use device_registry::{OpenFault, RegistryOver, SqlConnection};
+use device_registry::{RegistryOver, SqlConnection};
 use gateway_core::GatewayOver;
 use sqlite::{Connection, FileFrom, FileStore, Start};
 use std::alloc::Global;
@@ -62,9 +63,12 @@ pub fn start<C: SqlConnection>(
 /// A connection to a database file and its log, with the contents that `S` stands for.
 pub type FileConnection<S> = Connection<FileStore<FileFrom<S>>>;
 
+/// The gateway that a start on two files made, or why it failed, with the connection once the files are open.
+pub type StartedOnFiles<S> = Result<GatewayOver<RegistryOver<FileConnection<S>>>, (Fault, Option<FileConnection<S>>)>;
+
 /// Opens the database file at this path and its log, or makes them, and starts a gateway over them, as `start` does.
 /// `S` stands for what the two files hold and for what a torn write may leave. A function over `S` is proved for all
-/// contents, so this is also the next start on files that a crash left: it finds the devices that they hold.
+/// contents, so this is also the next start on files that a crash left.
 ///
 /// Fails as opening the files or `start` does. Once the files are open, a failed start returns the connection.
 pub fn start_file<S: Start>(
@@ -73,24 +77,20 @@ pub fn start_file<S: Start>(
     contents: S,
     base: u32,
     cached_senders: usize,
-) -> Result<GatewayOver<RegistryOver<FileConnection<S>>>, (Fault, Option<FileConnection<S>>)>
+) -> StartedOnFiles<S>
     requires base { Address.is_base_id base ≡ true }
     requires room { (1 ≤ cached_senders) × (cached_senders ≤ max_cached) }
-    // How the headline begins: with the devices that the files hold.
-    ensures finds { IfOk result (λ gateway. HasCleanDisk (file_state gateway.handler.registry) → (devices : Devices)
-        → FoundAtStart (image_at S.Start) devices → IsNew (registry_state_of file_state) base devices gateway) }
-    // With some devices, whatever the files hold, and over an open connection.
+    // If the files hold a registry, the start finds its devices.
+    ensures holds { (devices : Devices) → FilesHold (image_at S.Start) devices
+        → StartsWith file_state base devices result }
+    // If the database file is new or empty, there are no devices.
+    ensures empty { IfOk result (λ gateway. HasCleanDisk (file_state gateway.handler.registry)
+        → length (image_at S.Start).db ≡ 0 → IsNew (registry_state_of file_state) base FinMap.empty gateway) }
+    // Whatever the files hold, the gateway is new over some devices, and the connection is open.
     ensures begins { IfOk result (λ gateway. HasCleanDisk (file_state gateway.handler.registry) → (found : Devices)
         × IsNew (registry_state_of file_state) base found gateway
         × IsTrue (file_state gateway.handler.registry).is_open) }
     ensures idle { IfOk result HasNoReadyPacket }
-    // Files that hold devices are not rejected as no registry.
-    ensures recognized { IfErr result (λ e. e.0 ≡ Fault.Database OpenFault.NotARegistry → IsSomeAnd e.1 (λ conn.
-        HasCleanDisk (file_state conn) → (devices : Devices) → ¬ FilesHold (image_at S.Start) devices)) }
-    // A failed start keeps the devices that the files hold, also if a crash follows.
-    ensures kept { IfErr result (λ e. IfSome e.1 (λ conn. HasCleanDisk (file_state conn) → (devices : Devices)
-        → FilesHold (image_at S.Start) devices → (trees : Trees) → (file_state conn).may_leave trees
-        → OpenFinds trees devices)) }
 {
     let conn = match Connection::open_from(rt, path, false, contents) {
         Ok(conn) => conn,

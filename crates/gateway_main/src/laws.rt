@@ -10,17 +10,12 @@ ghost use Rattle.gateway_loop.specs.Written.{AppendsReplayText, AppendsCutReplay
 ghost use Rattle.gateway_main.specs.SessionRuns.{BrokenClosedRunsAreSessions, BrokenRunsAreSessions};
 ghost use Rattle.gateway_main.specs.SessionRuns.{ClosedRunsAreSessions};
 ghost use Rattle.gateway_main.specs.SessionRuns.{ClosedSessionsAreFound, RunsAreSessions};
-ghost use Rattle.gateway_main.specs.Restarts.{CrashedFilesHoldPrefixes};
-ghost use Rattle.sqlite.specs.FileStore.{view};
-ghost use Rattle.sqlite.specs.View.{IsClean};
 
 use byte_io::Sink;
-use device_registry::laws::{crashed_files_hold_devices, devices_are_held};
+use device_registry::laws::devices_are_held;
 use device_registry::{RegistryOver, SqlConnection};
 use gateway_core::GatewayOver;
 pub use gateway_loop::laws::{cuts_of_turns_do_not_matter, explanations_stand_apart};
-use sqlite::{Connection, FileStore};
-use sqlite_disk::Disk;
 
 /// Every gateway over a registry knows a state, while the disk has returned what was written and the connection is
 /// open.
@@ -67,16 +62,3 @@ pub fn closed_runs_are_sessions<R: Sink, D: Sink, C: SqlConnection>()
         (sink_value R.Sink serial, sink_value D.Sink desk)
         (sink_value R.Sink serial_now, sink_value D.Sink desk_now)) }
 {}
-
-/// Whatever a crash leaves in the two files of a gateway, they hold the devices after a prefix of its inputs that
-/// contains every acknowledged one. `start_file` on these files then makes a gateway that is new over these devices.
-///
-/// The premise is that the disk has returned what was written, also during the rollback by which the connection is
-/// taken apart here.
-pub fn crashed_files_hold_prefixes<D: Disk + Drop>(
-    gateway: GatewayOver<RegistryOver<Connection<FileStore<D>>>>,
-) -> FileStore<D>
-    ensures { IsClean (view result) → CrashedFilesHoldPrefixes gateway.handler.registry }
-{
-    crashed_files_hold_devices(gateway.into_store())
-}

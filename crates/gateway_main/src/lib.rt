@@ -8,8 +8,10 @@ mod gateway_start;
 pub mod laws;
 mod program_run;
 pub mod registry_gateway;
+pub mod restart;
 
 pub use byte_io::{Failed, MAX_READ, OverRead, OverWrite, Sink, Source};
-pub use gateway_loop::{RunFault, Summary, live, replay};
-pub use gateway_start::{FileConnection, start, start_file};
+pub use gateway_loop::{RunFault, Summary};
+pub use gateway_start::{FileConnection, StartedOnFiles, start, start_file};
 pub use program_run::program;
+pub use registry_gateway::{live, replay};

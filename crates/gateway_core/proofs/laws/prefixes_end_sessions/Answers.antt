@@ -1,0 +1,5 @@
+use Rattle.gateway_core.proofs.PrefixSessionLemmas.{prefixes_end_sessions}
+use Rattle.gateway_core.proofs.laws.prefixes_end_sessions.Goals as goal
+
+pub returns : goal.returns
+returns c = prefixes_end_sessions
