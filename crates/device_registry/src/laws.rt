@@ -6,7 +6,9 @@ ghost use Rattle.device_registry.specs.declared.cache_limits.TheConstants.{MAX_C
 ghost use Rattle.device_registry.specs.Opening.{max_cached};
 ghost use Rattle.sqlite.specs.Held.{state};
 ghost use Rattle.device_registry.specs.Holding.{HasSomeDevicesIfOpen, HeldDevicesMayBeLeft, SomeDevicesAreLeft};
-ghost use Rattle.device_registry.specs.Holding.{registry_state_of};
+ghost use Rattle.device_registry.specs.Holding.{HasDevicesIfOpen, MayRecover};
+ghost use Rattle.learned_devices.specs.Devices.{Devices};
+ghost use Rattle.sqlite.specs.State.{HasCleanDisk};
 ghost use Rattle.device_registry.specs.Opening.{ClosedFilesAreFound, DevicesAreLimited, FoundDevicesAreUnique};
 ghost use Rattle.device_registry.specs.Opening.{ReturnedIsFound};
 ghost use Rattle.device_registry.specs.FilesHeld.{CrashedFilesHold, CrashedFilesHoldFound, SomeFilesAreLeft};
@@ -100,9 +102,15 @@ pub fn devices_are_held<C: SqlConnection>(registry: &RegistryOver<C>)
     let _conn = &table.conn;
 }
 
-/// What a registry keeps as a device store is what its connection keeps.
+/// A registry is a device store in terms of its connection: it is honest while the disk has returned what was written,
+/// holds devices only if the database does, and may leave all that a crash may leave of the database.
 pub fn stores_are_connections<C: SqlConnection>(registry: &RegistryOver<C>)
-    ensures { ⟦<RegistryOver<C> as DeviceStore>⟧.store_state registry.now ≡ registry_state_of C.state registry.now }
+    ensures honest { HasCleanDisk (C.state registry.now)
+        → (⟦<RegistryOver<C> as DeviceStore>⟧.store_state registry.now).honest }
+    ensures holds { (devices : Devices) → (⟦<RegistryOver<C> as DeviceStore>⟧.store_state registry.now).holds devices
+        → HasDevicesIfOpen (C.state registry.now) devices }
+    ensures leaves { (left : Devices) → MayRecover (C.state registry.now) left
+        → (⟦<RegistryOver<C> as DeviceStore>⟧.store_state registry.now).may_recover left }
 {}
 
 /// While the disk of a connection of SQLite has returned what was written, crash states exist: a crash leaves the

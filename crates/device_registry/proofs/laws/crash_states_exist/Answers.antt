@@ -11,10 +11,13 @@ returns-clause-some g c = rw (← c.registry.view_is, ← c.table.view_is) (λ c
 pub returns-clause-held : goal.returns-clause-held
 returns-clause-held g c = rw (← c.registry.view_is, ← c.table.view_is) (λ clean is_open devices has.
     let ready = (c.table.invariant.1 clean is_open).shows in
-    let now = state g.S.Store c.table.inside.conn in
-    (now.committed.trees, g.met.S.Store.stays c.table.inside.conn.store is_open, record {
-      db = now.now;
-      same = ap (λ (it : _). it.trees) ready.settled;
-      sound = ready.sound;
-      holds = has clean is_open;
-    }))
+    let now = state g.S.Store c.table.inside.conn in (
+      now.committed.trees,
+      g.met.S.Store.stays c.table.inside.conn.store is_open,
+      record {
+        db = now.now;
+        same = ap (λ (it : _). it.trees) ready.settled;
+        sound = ready.sound;
+        holds = has clean is_open;
+      },
+    ))
