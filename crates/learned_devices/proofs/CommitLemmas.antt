@@ -1,6 +1,10 @@
 -- How the counts of the calls that may commit add up.
 use Rattle.std.proofs.Common.{◌≡◌, ◌≤◌, ℕ, ◌+◌, ◌-◌, ◌^◌, min, is_some, Option, Some, None, refl, sym, ap, ◌∙◌, arith}
+use Rattle.std.proofs.Common.{Bool, true, false, Result, Ok, Err}
 use Rattle.learned_devices.specs.CommitCounts.{with_one_more, AtMostMoreCommits}
+use Rattle.learned_devices.specs.StoreCalls.{most_commits_of_learn, most_commits_of_relabel}
+use Rattle.learned_devices.specs.declared.fault.LearnFault.{LearnFault}
+use Rattle.learned_devices.specs.declared.fault.LearnFault.TheVariants.{Full, Failed}
 
 pub no_more_commits : (most : ℕ) {old new : Option ℕ} → new ≡ old → AtMostMoreCommits most old new
 no_more_commits most same = record {
@@ -46,3 +50,16 @@ more_commits_weaker below more = record {
   counted = more.counted;
   rise = λ before after was is. let h = more.rise before after was is in omega arith;
 }
+
+-- each call that updates adds at most one
+pub learn_adds_one : {A : Type 0} (r : Result A LearnFault) {old new : Option ℕ}
+    → AtMostMoreCommits (most_commits_of_learn r) old new → AtMostMoreCommits 1 old new
+learn_adds_one (Err Full) more = more_commits_weaker (omega arith) more
+learn_adds_one (Err (Failed fault)) more = more
+learn_adds_one (Ok done) more = more
+
+pub relabel_adds_one : {E : Type 0} (r : Result Bool E) {old new : Option ℕ}
+    → AtMostMoreCommits (most_commits_of_relabel r) old new → AtMostMoreCommits 1 old new
+relabel_adds_one (Ok false) more = more_commits_weaker (omega arith) more
+relabel_adds_one (Ok true) more = more
+relabel_adds_one (Err e) more = more

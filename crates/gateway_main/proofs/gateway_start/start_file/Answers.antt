@@ -1,6 +1,6 @@
 use Rattle.std.proofs.Common.{subst}
 use Rattle.sqlite.specs.Files.{file_state}
-use Rattle.device_registry.specs.Holding.{registry_state_of}
+use Rattle.device_registry.specs.Holding.{registry_state_of, uncounted}
 use Rattle.device_registry.proofs.ForCallers.{found_in_files, held_in_files}
 use Rattle.gateway_loop.specs.Headline.{IsNew}
 use Rattle.gateway_main.proofs.StartLemmas.{rejects_foreign, was_clean}
@@ -10,7 +10,7 @@ pub returns-in-Ok-start-clause-finds : goal.returns-in-Ok-start-clause-finds
 returns-in-Ok-start-clause-finds g c clean devices has =
     let begun = c.in-Ok-start.ensures.begins clean in
     let finds = c.in-Ok.ensures.found (c.in-Ok-start.ensures.clean clean) in
-    subst (λ d. IsNew (registry_state_of file_state) c.args.base d c.in-Ok-start.gateway)
+    subst (λ d. IsNew (registry_state_of file_state uncounted) c.args.base d c.in-Ok-start.gateway)
     (found_in_files _ _ begun.0 devices finds begun.1 has) begun.2
 
 pub returns-in-Ok-start-clause-begins : goal.returns-in-Ok-start-clause-begins
