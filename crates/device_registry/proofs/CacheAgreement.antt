@@ -33,8 +33,8 @@ agrees {s} {entry} clean ready devices has is =
 
 module _ {old new : State} (ready : HasCleanDisk new → AreReady old new) where
   -- an entry with the result of a look-up is correct
-  pub found_recalled : HasCleanDisk new → {entry : Entry} → ((devices : Devices) → HasDevicesIfOpen old devices
-      → (entry.1 ≡ device_of devices entry.0) × Keeps (registry_state old) (registry_state new) devices)
+  pub found_recalled : {a b : Option ℕ} → HasCleanDisk new → {entry : Entry} → ((devices : Devices) → HasDevicesIfOpen old devices
+      → (entry.1 ≡ device_of devices entry.0) × Keeps (registry_state old a) (registry_state new b) devices)
       → EntryAgrees new entry
   found_recalled clean found =
       let was = (ready clean).0 in
@@ -42,21 +42,21 @@ module _ {old new : State} (ready : HasCleanDisk new → AreReady old new) where
       agrees clean (ready clean).1 was.held now.1.now now.0
 
   -- a correct entry stays correct if the call keeps the devices
-  pub kept_recalled : HasCleanDisk new → {entry : Entry} {Told : Devices → Type 0} → ((devices : Devices)
-      → HasDevicesIfOpen old devices → Told devices × Keeps (registry_state old) (registry_state new) devices)
+  pub kept_recalled : {a b : Option ℕ} → HasCleanDisk new → {entry : Entry} {Told : Devices → Type 0} → ((devices : Devices)
+      → HasDevicesIfOpen old devices → Told devices × Keeps (registry_state old a) (registry_state new b) devices)
       → EntryAgrees old entry → EntryAgrees new entry
   kept_recalled clean keeps right = found_recalled clean (λ devices has. (right.is devices has, (keeps devices has).1))
 
   -- the entries stay correct when an update is committed and its result is cached
-  pub changed_recalled : {A E : Type 0} {done : A} {update : DeviceUpdate} {known : Option Device}
+  pub changed_recalled : {A E : Type 0} {a b : Option ℕ} {done : A} {update : DeviceUpdate} {known : Option Device}
       (before between later : List Entry)
-      → Updates {E = E} (registry_state old) (registry_state new) update (Ok done)
+      → Updates {E = E} (registry_state old a) (registry_state new b) update (Ok done)
       → (HasCleanDisk old → (devices : Devices) → HasDevicesIfOpen old devices
       → known ≡ option_map (device update.sender) (data_after (get devices update.sender) update.operation))
       → CacheAgreesIfClean old before
       → ((e : Entry) → Contains between e → Contains before e × (e.0 ≢ update.sender))
       → ((e : Entry) → Contains later e → Contains between e ⊎ (e ≡ (update.sender, known)))
-      → ((registry_state new).honest → (registry_state new).reopenable) × CacheAgreesIfClean new later
+      → ((registry_state new b).honest → (registry_state new b).reopenable) × CacheAgreesIfClean new later
   changed_recalled {update} before between later updates is recalls taken fewer = (
     updates.reopenable,
     λ entry has clean.

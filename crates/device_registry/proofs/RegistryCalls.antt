@@ -7,6 +7,8 @@ use Rattle.device_registry.proofs.Common.{with_entry, apply_update, data_after, 
 use Rattle.device_registry.proofs.Common.{devices_by_ascending_id, Learn, learn_update, Keeps, Updates}
 use Rattle.device_registry.proofs.Common.{HasDevicesIfOpen, registry_state, OperationMakesDevice, IsReadyWith, IsReady}
 use Rattle.device_registry.proofs.Common.{AreReady, StoreFault}
+use Rattle.learned_devices.specs.CommitCounts.{AtMostMoreCommits}
+use Rattle.learned_devices.proofs.ForCallers.{no_more_commits, more_commits_after}
 use Rattle.std.proofs.Common.{Global, Vec, IsErrAnd}
 use Rattle.std.proofs.lemmas.Result.{MatchResult-weaker}
 use Rattle.learned_devices.specs.DeviceStoreState.{DeviceStoreState, LeavesPending}
@@ -63,8 +65,8 @@ module _ {old new : State} (stays : WritesNothing old new) (well : IsWell old) w
       let it = shown clean in
       it.1 devices (shows_them (stays.clean clean) (ready_before clean it.0.shows.is_open) has)
 
-  pub keeps : HasCleanDisk new → (devices : Devices) → HasDevicesIfOpen old devices
-      → Keeps (registry_state old) (registry_state new) devices
+  pub keeps : {a b : Option ℕ} → HasCleanDisk new → (devices : Devices) → HasDevicesIfOpen old devices
+      → Keeps (registry_state old a) (registry_state new b) devices
   keeps clean devices has = record {
     now = λ _ is_open.
         let was = shows_them (stays.clean clean) (ready_before clean is_open) has in
@@ -85,26 +87,29 @@ module _ {old new : State} (stays : WritesNothing old new) (well : IsWell old) w
     λ clean is_open. ready_on old new (stays.goes_on clean) is_open (ready_before clean is_open),
   )
 
-  pub looks_up : {E : Type 0} {id : ℕ} (r : Result (Option Device) E)
+  pub looks_up : {E : Type 0} {id : ℕ} {a b : Option ℕ} → (HasCleanDisk new → b ≡ a)
+      → (r : Result (Option Device) E)
       → (HasCleanDisk new → (devices : Devices) → HasDevicesIfOpen old devices
-      → IfOk r (λ found. found ≡ device_of devices id)) → LooksUp (registry_state old) (registry_state new) id r
-  looks_up r reported = record {
+      → IfOk r (λ found. found ≡ device_of devices id)) → LooksUp (registry_state old a) (registry_state new b) id r
+  looks_up {a} {b} counted r reported = record {
     clean = stays.clean;
     reopenable = keeps_well.0;
+    commits = counted;
     devices = λ clean devices has.
-        let kept = keeps clean devices has in
+        let kept = keeps {a = a} {b = b} clean devices has in
         MatchResult-weaker r (reported clean devices has) (λ found is. (is, kept)) (λ e none. kept);
   }
 
-  pub lists_all : {E : Type 0} (r : Result (Vec Device Global) E)
+  pub lists_all : {E : Type 0} {a b : Option ℕ} → (HasCleanDisk new → b ≡ a) → (r : Result (Vec Device Global) E)
       → (HasCleanDisk new → (devices : Devices) → HasDevicesIfOpen old devices
       → IfOk r (λ all. all.items ≡ devices_by_ascending_id devices))
-      → ListsAll (registry_state old) (registry_state new) r
-  lists_all r reported = record {
+      → ListsAll (registry_state old a) (registry_state new b) r
+  lists_all {a} {b} counted r reported = record {
     clean = stays.clean;
     reopenable = keeps_well.0;
+    commits = counted;
     devices = λ clean devices has.
-        let kept = keeps clean devices has in
+        let kept = keeps {a = a} {b = b} clean devices has in
         MatchResult-weaker r (reported clean devices has) (λ found is. (is, kept)) (λ e none. kept);
   }
 
@@ -136,12 +141,14 @@ module _ {old new : State} (update : DeviceUpdate) (well : IsWell old) (ready : 
       (registries turns, λ clean is_open. ready_on old new (turns.refused clean) is_open (ready (turns.clean clean)))
 
   -- while the connection is open, a crash leaves what is committed
-  pub updates : {T E : Type 0} (r : Result T E) → CommitsOrMayBeLeft old new update r
+  pub updates : {T E : Type 0} {a b : Option ℕ} → AtMostMoreCommits 1 a b → (r : Result T E)
+      → CommitsOrMayBeLeft old new update r
       → ((trees : Trees) → IsTrue new.is_open → new.may_leave trees → trees ≡ new.committed.trees)
-      → Updates (registry_state old) (registry_state new) update (without_value r)
-  updates (Ok done) turns settled = record {
+      → Updates (registry_state old a) (registry_state new b) update (without_value r)
+  updates counted (Ok done) turns settled = record {
     clean = turns.clean;
     reopenable = registries turns;
+    commits = λ _. counted;
     devices = λ clean devices has.
         let early = turns.clean clean in
         let shows = turns.made clean devices (shows_them early (ready early) has) in
@@ -155,9 +162,10 @@ module _ {old new : State} (update : DeviceUpdate) (well : IsWell old) (ready : 
           });
         };
   }
-  updates (Err e) turns settled = record {
+  updates counted (Err e) turns settled = record {
     clean = turns.clean;
     reopenable = registries turns;
+    commits = λ _. counted;
     devices = λ clean devices has.
         let early = turns.clean clean in
         let was = shows_them early (ready early) has in
@@ -184,11 +192,13 @@ module _ {A E : Type 0} {old new : DeviceStoreState} (it : Device) where
   learns fault (Ok v) updates room = record {
     clean = updates.clean;
     reopenable = updates.reopenable;
+    commits = updates.commits;
     devices = λ clean devices has. (room clean devices has, updates.devices clean devices has);
   }
   learns fault (Err e) updates room = record {
     clean = updates.clean;
     reopenable = updates.reopenable;
+    commits = updates.commits;
     devices = λ clean devices has. rw (room clean devices has) (updates.devices clean devices has);
   }
 
@@ -198,6 +208,7 @@ module _ {A E : Type 0} {old new : DeviceStoreState} (it : Device) where
   unlearned looks = record {
     clean = looks.clean;
     reopenable = looks.reopenable;
+    commits = λ clean. no_more_commits 1 (looks.commits clean);
     devices = λ clean devices has.
         let same = looks.devices clean devices has in
         either (is_full_for devices it.id) same (still_pending same);
@@ -223,12 +234,14 @@ module _ {a b : DeviceStoreState} {devices : Devices} (first : Keeps a b devices
   refuses_then c it (Failed fault) second = either_weaker (is_full_for devices it.id) second keeps_then pends_then
 
 module _ {old mid new : DeviceStoreState} (early : mid.honest → old.honest)
+    (same : mid.honest → mid.commits ≡ old.commits)
     (kept : mid.honest → (devices : Devices) → old.holds devices → Keeps old mid devices) where
   pub updates_then : {A F : Type 0} {update : DeviceUpdate} (r : Result A F) → Updates mid new update r
       → Updates old new update r
   updates_then r updates = record {
     clean = λ clean. early (updates.clean clean);
     reopenable = updates.reopenable;
+    commits = λ clean. more_commits_after (same (updates.clean clean)) (updates.commits clean);
     devices = λ clean devices has.
         let keeps = kept (updates.clean clean) devices has in
         MatchResult-weaker r (updates.devices clean devices keeps.now) (λ _ done. done) (λ _. pends_then keeps);
@@ -238,6 +251,7 @@ module _ {old mid new : DeviceStoreState} (early : mid.honest → old.honest)
   learns_then {it} r learns = record {
     clean = λ clean. early (learns.clean clean);
     reopenable = learns.reopenable;
+    commits = λ clean. more_commits_after (same (learns.clean clean)) (learns.commits clean);
     devices = λ clean devices has.
         let keeps = kept (learns.clean clean) devices has in
         MatchResult-weaker r (learns.devices clean devices keeps.now) (λ _ done. done) (refuses_then keeps new it);
@@ -246,7 +260,7 @@ module _ {old mid new : DeviceStoreState} (early : mid.honest → old.honest)
 pub updates_after : {E A F : Type 0} {old mid new : DeviceStoreState} {id : ℕ} {known : Option Device}
     {update : DeviceUpdate} → LooksUp {E = E} old mid id (Ok known) → (r : Result A F) → Updates mid new update r
     → Updates old new update r
-updates_after looks = updates_then looks.clean (λ clean devices has. (looks.devices clean devices has).1)
+updates_after looks = updates_then looks.clean looks.commits (λ clean devices has. (looks.devices clean devices has).1)
 
 -- ---- an upsert of this device
 
@@ -272,11 +286,12 @@ module _ {T : Type 0} {mid new : State} {r : Result T Error} (it : Device) (turn
     pub upserted_well : IsWell new
     upserted_well = turned_well (learn_update it) (keeps_well stays well) (λ clean. (full clean).0) r upserted
 
-    pub upserted_learns : is_full ≡ false
+    pub upserted_learns : {a b m : Option ℕ} → m ≡ a → AtMostMoreCommits 1 m b → is_full ≡ false
         → ((trees : Trees) → IsTrue new.is_open → new.may_leave trees → trees ≡ new.committed.trees)
-        → Learns (registry_state old) (registry_state new) it (learned fault_of (without_value r))
-    upserted_learns room settled = learns it fault_of (without_value r) (updates_then stays.clean (keeps stays well) _
-        (updates (learn_update it) (keeps_well stays well) (λ clean. (full clean).0) r upserted settled))
+        → Learns (registry_state old a) (registry_state new b) it (learned fault_of (without_value r))
+    upserted_learns same counted room settled =
+        learns it fault_of (without_value r) (updates_then stays.clean (λ _. same) (keeps stays well) _
+        (updates (learn_update it) (keeps_well stays well) (λ clean. (full clean).0) counted r upserted settled))
         (λ clean devices has. sym (reports stays well full (upserted.clean clean) devices has) ∙ room)
 
 -- ---- a sender that was looked up
@@ -286,8 +301,8 @@ device_data_back : (id : ℕ) (stored : Option DeviceData) → option_map device
 device_data_back id None = refl
 device_data_back id (Some it) = refl
 
-module _ {old mid : State} {E : Type 0} {id : ℕ} {known : Option Device}
-    (looks : LooksUp {E = E} (registry_state old) (registry_state mid) id (Ok known))
+module _ {old mid : State} {a b : Option ℕ} {E : Type 0} {id : ℕ} {known : Option Device}
+    (looks : LooksUp {E = E} (registry_state old a) (registry_state mid b) id (Ok known))
     (ready : HasCleanDisk mid → AreReady old mid) where
   -- the answer of the look-up is true of the devices that the registry holds now
   pub stored_now : {answer : Option Device} → known ≡ answer → HasCleanDisk mid → (devices : Devices)

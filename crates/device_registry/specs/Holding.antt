@@ -1,5 +1,5 @@
 -- The devices that a registry holds, those that a crash may leave, and what its calls write.
-use Rattle.std.specs.Prelude.{◌≡◌, ◌⊎◌, ℕ, false, IsTrue, [], Some, None, Ok}
+use Rattle.std.specs.Prelude.{◌≡◌, ◌⊎◌, ℕ, false, IsTrue, [], Option, Some, None, Ok}
 use Rattle.std.specs.FinMap.{empty, get}
 use Rattle.sqlite.specs.State.{State, HasCleanDisk, Executes}
 use Rattle.sqlite_trees.specs.Tree.{Trees}
@@ -37,18 +37,23 @@ HeldDevicesMayBeLeft s = HasCleanDisk s → IsTrue s.is_open → (devices : Devi
 abbrev pub AreVersion2Registries : (Trees → Type 0) → Type 0
 AreVersion2Registries may_leave = (trees : Trees) → may_leave trees → AreVersion2Trees trees
 
--- the state of a registry as a device store
-abbrev pub registry_state : State → DeviceStoreState
-registry_state s = record {
+-- the state of a registry as a device store, over a connection with this state and this count of commits
+abbrev pub registry_state : State → (commits : Option ℕ) → DeviceStoreState
+registry_state s commits = record {
   honest = HasCleanDisk s;
   holds = HasDevicesIfOpen s;
   may_recover = MayRecover s;
   reopenable = AreVersion2Registries s.may_leave;
+  commits = commits;
 }
 
 -- the same for a registry over a connection
-abbrev pub registry_state_of : {C : Type 0} → (C → State) → C → DeviceStoreState
-registry_state_of state conn = registry_state (state conn)
+abbrev pub registry_state_of : {C : Type 0} → (C → State) → (commits : C → Option ℕ) → C → DeviceStoreState
+registry_state_of state commits conn = registry_state (state conn) (commits conn)
+
+-- a connection of `sqlite` does not count its commits
+abbrev pub uncounted : {C : Type 0} → C → Option ℕ
+uncounted conn = None
 
 -- the registry holds exactly the committed devices
 abbrev pub DevicesAreCommitted : State → Type 0

@@ -1,4 +1,5 @@
 pub mod Table
+pub mod Queries
 pub mod Stored
 pub mod Faults
 pub mod Holding

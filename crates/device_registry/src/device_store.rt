@@ -6,7 +6,7 @@ use crate::sql_connection::SqlConnection;
 use learned_devices::{Device, DeviceStore, Label, LearnFault, StoreFault};
 
 impl<C: SqlConnection> DeviceStore for RegistryOver<C> {
-    ghost store_state = { registry_state_of C.state };
+    ghost store_state = { registry_state_of C.state C.commits };
 
     ghost wrote = { WritesRowForUpdate C.state };
 

@@ -5,7 +5,7 @@ ghost use Rattle.sqlite.specs.State.{HasCleanDisk, IsUnchanged, Survives};
 ghost use Rattle.learned_devices.specs.Devices.{Devices, Operation, Learn, data_after, device_data, learn_update};
 ghost use Rattle.learned_devices.specs.StoreCalls.{LooksUp, Updates, Forgets, ListsAll};
 ghost use Rattle.device_registry.specs.Holding.{HasDevicesIfOpen, IsReturnedByClose, RewritesVersion, WritesRow};
-ghost use Rattle.device_registry.specs.Holding.{registry_state};
+ghost use Rattle.device_registry.specs.Holding.{registry_state_of};
 ghost use Rattle.device_registry.specs.private.TableCalls.{LearnsUnlessFull, OperationMakesDevice};
 ghost use Rattle.device_registry.specs.Ready.{IsReady, AreReady};
 
@@ -44,7 +44,8 @@ impl<C: SqlConnection> Model for DeviceTable<C> {
 impl<C: SqlConnection> DeviceTable<C> {
     /// The device of a sender, if it is learned.
     pub fn find(&mut self, id: u32) -> Result<Option<Device>, Error>
-        ensures looks_up { LooksUp (registry_state (C.state self.old)) (registry_state (C.state self.new)) id result }
+        ensures looks_up { LooksUp (registry_state_of C.state C.commits self.old)
+            (registry_state_of C.state C.commits self.new) id result }
         ensures same { HasCleanDisk (C.state self.new) → OnOk result (IsUnchanged (C.state self.old)
             (C.state self.new)) }
         ensures survives { Survives (C.state self.old) (C.state self.new) (λ _. ⊥) }
@@ -63,8 +64,8 @@ impl<C: SqlConnection> DeviceTable<C> {
         requires learned { HasCleanDisk (C.state self.old) → (devices : Devices)
             → HasDevicesIfOpen (C.state self.old) devices
             → data_after (get devices device.id) (Learn device.eep device.maker) ≡ Some (device_data device) }
-        ensures adds { LearnsUnlessFull (registry_state (C.state self.old))
-            (registry_state (C.state self.new)) device result }
+        ensures adds { LearnsUnlessFull (registry_state_of C.state C.commits self.old)
+            (registry_state_of C.state C.commits self.new) device result }
         ensures written { HasCleanDisk (C.state self.new) → (devices : Devices) →
             HasDevicesIfOpen (C.state self.old) devices → IfOk result (λ room. IsTrue room →
             WritesRow C.state self.new (learn_update device) devices) }
@@ -84,7 +85,7 @@ impl<C: SqlConnection> DeviceTable<C> {
         requires ready { HasCleanDisk (C.state self.old) → IsReady (C.state self.old) }
         requires known { (operation : Operation) × OperationMakesDevice (C.state self.old) device operation }
         ensures updates { (operation : Operation) → OperationMakesDevice (C.state self.old) device operation →
-            Updates (registry_state (C.state self.old)) (registry_state (C.state self.new))
+            Updates (registry_state_of C.state C.commits self.old) (registry_state_of C.state C.commits self.new)
             (record { sender = device.id; operation = operation }) result }
         ensures written { (operation : Operation) → OperationMakesDevice (C.state self.old) device operation →
             HasCleanDisk (C.state self.new) → (devices : Devices) → HasDevicesIfOpen (C.state self.old) devices →
@@ -102,7 +103,8 @@ impl<C: SqlConnection> DeviceTable<C> {
         requires ready { HasCleanDisk (C.state self.old) → IsReady (C.state self.old) }
         requires known { HasCleanDisk (C.state self.old) → (devices : Devices) →
             HasDevicesIfOpen (C.state self.old) devices → is_known ≡ is_some (get devices id) }
-        ensures forgets { Forgets (registry_state (C.state self.old)) (registry_state (C.state self.new)) id result }
+        ensures forgets { Forgets (registry_state_of C.state C.commits self.old)
+            (registry_state_of C.state C.commits self.new) id result }
         ensures written { HasCleanDisk (C.state self.new) → (devices : Devices) →
             HasDevicesIfOpen (C.state self.old) devices → OnOk result (get devices id ≡ None →
             RewritesVersion (C.state self.old) (C.state self.new)) }
@@ -115,7 +117,8 @@ impl<C: SqlConnection> DeviceTable<C> {
 
     /// All devices, by ascending ID.
     pub fn all(&mut self) -> Result<Vec<Device>, Error>
-        ensures lists { ListsAll (registry_state (C.state self.old)) (registry_state (C.state self.new)) result }
+        ensures lists { ListsAll (registry_state_of C.state C.commits self.old)
+            (registry_state_of C.state C.commits self.new) result }
         ensures ready { HasCleanDisk (C.state self.new) → OnOk result (AreReady (C.state self.old)
             (C.state self.new)) }
     {

@@ -1,15 +1,17 @@
 //! The registry's calls of the database, one statement each. `look_up` and `list_devices` first compile their
 //! statement, which fails on a closed connection. The count of the others and the writes require an open connection,
 //! which an earlier look-up has shown: nothing is known about the writes of a closed one.
-ghost use Rattle.std.specs.Prelude.{◌≡◌, [], ◌∷◌, map, pos, false, is_some, Ok, OnOk, OnErr, IfOk, IfErr};
+ghost use Rattle.std.specs.Prelude.{◌≡◌, [], ◌∷◌, map, pos, false, is_some, Ok, IsTrue, OnOk, OnErr, IfOk, IfErr};
 ghost use Rattle.std.specs.FinMap.{insert, get};
 ghost use Rattle.sqlite.specs.declared.types.Value.TheVariants.{Int};
 ghost use Rattle.sqlite.specs.State.{HasCleanDisk, IsUnchanged, Survives, Executes, CommitsBy};
 ghost use Rattle.sqlite.specs.State.{Shown, FailsToQuery, CommitsShowing};
+ghost use Rattle.learned_devices.specs.CommitCounts.{with_one_more};
 ghost use Rattle.learned_devices.specs.Devices.{Devices, DeviceUpdate, apply_update, forget_update, device_data};
 ghost use Rattle.learned_devices.specs.Devices.{is_full_for, devices_by_ascending_id};
 ghost use Rattle.learned_devices.specs.Devices.{device_of};
 ghost use Rattle.device_registry.specs.Table.{upsert_sql, delete_sql, rewrite_version_sql};
+ghost use Rattle.device_registry.specs.Queries.{is_select};
 ghost use Rattle.device_registry.specs.Stored.{HoldsVersion2};
 ghost use Rattle.device_registry.specs.Opening.{KeepsDatabaseIfStillOpen};
 ghost use Rattle.device_registry.specs.Ready.{IsReadyWith, IsReady, IsReadyIfOpen, WritesNothing, CommitsOrMayBeLeft};
@@ -30,6 +32,7 @@ fn compile<C: SqlConnection>(conn: &mut C, sql: &str) -> Result<Statement, Error
     ensures same { HasCleanDisk (C.state conn.new) → OnOk result (IsUnchanged (C.state conn.old) (C.state conn.new)) }
     ensures survives { Survives (C.state conn.old) (C.state conn.new) (λ _. ⊥) }
     ensures ready { HasCleanDisk (C.state conn.new) → OnOk result (IsReady (C.state conn.new)) }
+    ensures counted { C.commits conn.new ≡ C.commits conn.old }
 {
     conn.prepare(sql)
 }
@@ -42,6 +45,7 @@ fn query_with_id<C: SqlConnection>(conn: &mut C, sql: &str, id: u32) -> Result<V
         IfErr result (FailsToQuery sql.now (Int (pos id) ∷ []) (C.state conn.old) (C.state conn.new)) }
     ensures survives { Survives (C.state conn.old) (C.state conn.new)
         (CommitsShowing sql.now (Int (pos id) ∷ []) (C.state conn.old)) }
+    ensures counted { IsTrue (is_select sql.now) → C.commits conn.new ≡ C.commits conn.old }
 {
     conn.query_all(sql, params![i64::from(id)])
 }
@@ -60,6 +64,7 @@ fn query_compiled_with_id<C: SqlConnection>(
         (C.state conn.new)) }
     ensures survives { Survives (C.state conn.old) (C.state conn.new)
         (CommitsShowing statement.now.text (Int (pos id) ∷ []) (C.state conn.old)) }
+    ensures counted { IsTrue (is_select statement.now.text) → C.commits conn.new ≡ C.commits conn.old }
 {
     conn.query_all_prepared(statement, params![i64::from(id)])
 }
@@ -73,6 +78,7 @@ pub(crate) fn look_up<C: SqlConnection>(conn: &mut C, id: u32) -> Result<Vec<Row
     ensures found { HasCleanDisk (C.state conn.new) → IfOk result (λ rows. IsReady (C.state conn.new) ×
         ((devices : Devices) → IsReadyWith (C.state conn.old) devices
         → IsDeviceOrNone (device_of devices id) rows.items)) }
+    ensures counted { HasCleanDisk (C.state conn.new) → C.commits conn.new ≡ C.commits conn.old }
 {
     let find = compile(conn, FIND)?;
     query_compiled_with_id(conn, &find, id)
@@ -84,6 +90,7 @@ pub(crate) fn is_full_for<C: SqlConnection>(conn: &mut C, id: u32) -> Result<boo
     ensures stays { WritesNothing (C.state conn.old) (C.state conn.new) }
     ensures full { HasCleanDisk (C.state conn.new) → IfOk result (λ full. IsReady (C.state conn.new) ×
         ((devices : Devices) → IsReadyWith (C.state conn.old) devices → full ≡ is_full_for devices id)) }
+    ensures counted { C.commits conn.new ≡ C.commits conn.old }
 {
     let rows = query_with_id(conn, COUNT_OTHERS, id)?;
     Ok(shown_count(&rows)? >= MAX_DEVICES as u64)
@@ -96,6 +103,7 @@ pub(crate) fn list_devices<C: SqlConnection>(conn: &mut C) -> Result<Vec<Row>, E
     ensures all { HasCleanDisk (C.state conn.new) → IfOk result (λ rows. IsReady (C.state conn.new) ×
         ((devices : Devices) → IsReadyWith (C.state conn.old) devices
         → map shown_device rows.items ≡ devices_by_ascending_id devices)) }
+    ensures counted { HasCleanDisk (C.state conn.new) → C.commits conn.new ≡ C.commits conn.old }
 {
     let all = compile(conn, FIND_ALL)?;
     conn.query_all_prepared(&all, &[])
@@ -111,6 +119,7 @@ pub(crate) fn upsert<C: SqlConnection>(conn: &mut C, device: Device) -> Result<u
         → CommitsOrMayBeLeft (C.state conn.old) (C.state conn.new) update result }
     ensures written { HasCleanDisk (C.state conn.new) → IfOk result (λ count. Executes upsert_sql
         (upsert_params device.id (device_data device)) (C.state conn.old) (C.state conn.new) (Ok count)) }
+    ensures counted { C.commits conn.new ≡ with_one_more (C.commits conn.old) }
 {
     conn.execute(UPSERT, &upsert_params(&device))
 }
@@ -120,6 +129,7 @@ fn run_delete<C: SqlConnection>(conn: &mut C, id: i64) -> Result<usize, Error>
         (C.state conn.old) (C.state conn.new) result }
     ensures survives { Survives (C.state conn.old) (C.state conn.new)
         (CommitsBy delete_sql (Int id ∷ []) (C.state conn.old)) }
+    ensures counted { C.commits conn.new ≡ with_one_more (C.commits conn.old) }
 {
     conn.execute(DELETE, params![id])
 }
@@ -127,7 +137,8 @@ fn run_delete<C: SqlConnection>(conn: &mut C, id: i64) -> Result<usize, Error>
 /// Deletes the device of a sender.
 fn forget<C: SqlConnection>(conn: &mut C, id: u32) -> Result<usize, Error>
     requires { HasCleanDisk (C.state conn.old) → IsReady (C.state conn.old) }
-    ensures { CommitsOrMayBeLeft (C.state conn.old) (C.state conn.new) (forget_update id) result }
+    ensures turns { CommitsOrMayBeLeft (C.state conn.old) (C.state conn.new) (forget_update id) result }
+    ensures counted { C.commits conn.new ≡ with_one_more (C.commits conn.old) }
 {
     run_delete(conn, i64::from(id))
 }
@@ -148,6 +159,7 @@ pub(crate) fn rewrite_version<C: SqlConnection>(conn: &mut C) -> Result<usize, E
     ensures turns { (update : DeviceUpdate) → (HasCleanDisk (C.state conn.old) → (devices : Devices) → IsReadyWith
         (C.state conn.old) devices → apply_update devices update ≡ devices)
         → CommitsOrMayBeLeft (C.state conn.old) (C.state conn.new) update result }
+    ensures counted { C.commits conn.new ≡ with_one_more (C.commits conn.old) }
 {
     conn.execute(REWRITE_VERSION, &[])
 }
@@ -165,6 +177,7 @@ pub(crate) fn delete_or_rewrite_if_absent<C: SqlConnection>(
     ensures written { HasCleanDisk (C.state conn.new) → is_known ≡ false
         → IfOk result (λ count. Executes rewrite_version_sql []
         (C.state conn.old) (C.state conn.new) (Ok count)) }
+    ensures counted { C.commits conn.new ≡ with_one_more (C.commits conn.old) }
 {
     if is_known {
         return forget(conn, id);

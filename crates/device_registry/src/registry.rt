@@ -7,7 +7,7 @@ ghost use Rattle.learned_devices.specs.Devices.{Devices, Operation, Learn, data_
 ghost use Rattle.learned_devices.specs.Devices.{learn_update, relabel_update};
 ghost use Rattle.learned_devices.specs.StoreCalls.{LooksUp, Updates, Learns, Forgets, Relabels, ListsAll};
 ghost use Rattle.device_registry.specs.Holding.{HasDevicesIfOpen, IsReturnedByClose, RewritesVersion, WritesRow};
-ghost use Rattle.device_registry.specs.Holding.{registry_state};
+ghost use Rattle.device_registry.specs.Holding.{registry_state_of};
 ghost use Rattle.device_registry.specs.Ready.{IsReady, AreReady};
 ghost use Rattle.device_registry.specs.private.TableCalls.{OperationMakesDevice};
 
@@ -50,7 +50,8 @@ impl<C: SqlConnection> Model for RegistryOver<C> {
 impl<C: SqlConnection> RegistryOver<C> {
     // The device of a sender, if it is learned. `Ok` also means that the connection is open.
     fn known(&mut self, id: u32) -> Result<Option<Device>, StoreFault>
-        ensures looks_up { LooksUp (registry_state (C.state self.old)) (registry_state (C.state self.new)) id result }
+        ensures looks_up { LooksUp (registry_state_of C.state C.commits self.old)
+            (registry_state_of C.state C.commits self.new) id result }
         ensures same { HasCleanDisk (C.state self.new) → OnOk result (IsUnchanged (C.state self.old)
             (C.state self.new)) }
         ensures survives { Survives (C.state self.old) (C.state self.new) (λ _. ⊥) }
@@ -75,7 +76,8 @@ impl<C: SqlConnection> RegistryOver<C> {
 
     /// The device of a sender, if it is learned.
     pub fn find(&mut self, id: u32) -> Result<Option<Device>, StoreFault>
-        ensures { LooksUp (registry_state (C.state self.old)) (registry_state (C.state self.new)) id result }
+        ensures { LooksUp (registry_state_of C.state C.commits self.old)
+            (registry_state_of C.state C.commits self.new) id result }
     {
         self.known(id)
     }
@@ -87,7 +89,8 @@ impl<C: SqlConnection> RegistryOver<C> {
         requires learned { HasCleanDisk (C.state self.old) → (devices : Devices)
             → HasDevicesIfOpen (C.state self.old) devices
             → data_after (get devices device.id) (Learn device.eep device.maker) ≡ Some (device_data device) }
-        ensures learns { Learns (registry_state (C.state self.old)) (registry_state (C.state self.new)) device result }
+        ensures learns { Learns (registry_state_of C.state C.commits self.old)
+            (registry_state_of C.state C.commits self.new) device result }
         ensures written { HasCleanDisk (C.state self.new) → (devices : Devices) →
             HasDevicesIfOpen (C.state self.old) devices → OnOk result
             (WritesRow C.state self.new (learn_update device) devices) }
@@ -113,7 +116,7 @@ impl<C: SqlConnection> RegistryOver<C> {
         requires ready { HasCleanDisk (C.state self.old) → IsReady (C.state self.old) }
         requires known { (operation : Operation) × OperationMakesDevice (C.state self.old) device operation }
         ensures updates { (operation : Operation) → OperationMakesDevice (C.state self.old) device operation →
-            Updates (registry_state (C.state self.old)) (registry_state (C.state self.new))
+            Updates (registry_state_of C.state C.commits self.old) (registry_state_of C.state C.commits self.new)
             (record { sender = device.id; operation = operation }) result }
         ensures written { (operation : Operation) → OperationMakesDevice (C.state self.old) device operation →
             HasCleanDisk (C.state self.new) → (devices : Devices) → HasDevicesIfOpen (C.state self.old) devices →
@@ -138,7 +141,8 @@ impl<C: SqlConnection> RegistryOver<C> {
     // one gets the empty label, which the device has here.
     pub(crate) fn put_keeping_label(&mut self, device: Device) -> Result<(), LearnFault>
         requires { device.label ≡ [] }
-        ensures learns { Learns (registry_state (C.state self.old)) (registry_state (C.state self.new)) device result }
+        ensures learns { Learns (registry_state_of C.state C.commits self.old)
+            (registry_state_of C.state C.commits self.new) device result }
         ensures written { HasCleanDisk (C.state self.new) → (devices : Devices) →
             HasDevicesIfOpen (C.state self.old) devices → OnOk result
             (WritesRow C.state self.new (learn_update device) devices) }
@@ -160,7 +164,8 @@ impl<C: SqlConnection> RegistryOver<C> {
     /// stored is written again.
     pub fn learn(&mut self, device: Device) -> Result<Receipt<Self>, LearnFault>
         requires { device.label ≡ [] }
-        ensures learns { Learns (registry_state (C.state self.old)) (registry_state (C.state self.new)) device result }
+        ensures learns { Learns (registry_state_of C.state C.commits self.old)
+            (registry_state_of C.state C.commits self.new) device result }
         ensures receipt { IfOk result (λ receipt. (receipt.id ≡ device.id) × IsTrue receipt.is_learned) }
         ensures written { HasCleanDisk (C.state self.new) → (devices : Devices) →
             HasDevicesIfOpen (C.state self.old) devices → OnOk result
@@ -171,7 +176,8 @@ impl<C: SqlConnection> RegistryOver<C> {
 
     // Gives a sender this label if it is learned, and returns whether it is.
     pub(crate) fn relabel_as(&mut self, id: u32, label: Label) -> Result<bool, StoreFault>
-        ensures relabels { Relabels (registry_state (C.state self.old)) (registry_state (C.state self.new)) id label
+        ensures relabels { Relabels (registry_state_of C.state C.commits self.old)
+            (registry_state_of C.state C.commits self.new) id label
             result }
         ensures written { HasCleanDisk (C.state self.new) → (devices : Devices) →
             HasDevicesIfOpen (C.state self.old) devices
@@ -191,7 +197,8 @@ impl<C: SqlConnection> RegistryOver<C> {
     /// again.
     pub fn relabel(&mut self, id: u32, text: &str) -> Result<bool, StoreFault>
         requires { is_label text.now ≡ true }
-        ensures relabels { Relabels (registry_state (C.state self.old)) (registry_state (C.state self.new)) id text.now
+        ensures relabels { Relabels (registry_state_of C.state C.commits self.old)
+            (registry_state_of C.state C.commits self.new) id text.now
             result }
         ensures written { HasCleanDisk (C.state self.new) → (devices : Devices) →
             HasDevicesIfOpen (C.state self.old) devices
@@ -206,7 +213,8 @@ impl<C: SqlConnection> RegistryOver<C> {
 
     // Deletes the device of a sender. Commits also if the sender is not known.
     pub(crate) fn delete_device(&mut self, id: u32) -> Result<(), StoreFault>
-        ensures forgets { Forgets (registry_state (C.state self.old)) (registry_state (C.state self.new)) id result }
+        ensures forgets { Forgets (registry_state_of C.state C.commits self.old)
+            (registry_state_of C.state C.commits self.new) id result }
         ensures written { HasCleanDisk (C.state self.new) → (devices : Devices) →
             HasDevicesIfOpen (C.state self.old) devices → OnOk result (get devices id ≡ None →
             RewritesVersion (C.state self.old) (C.state self.new)) }
@@ -227,7 +235,8 @@ impl<C: SqlConnection> RegistryOver<C> {
 
     /// Forgets a sender. Commits also if the sender is not known: the version row is then rewritten unchanged.
     pub fn forget(&mut self, id: u32) -> Result<Receipt<Self>, StoreFault>
-        ensures forgets { Forgets (registry_state (C.state self.old)) (registry_state (C.state self.new)) id result }
+        ensures forgets { Forgets (registry_state_of C.state C.commits self.old)
+            (registry_state_of C.state C.commits self.new) id result }
         ensures receipt { IfOk result (λ receipt. (receipt.id ≡ id) × (receipt.is_learned ≡ false)) }
         ensures written { HasCleanDisk (C.state self.new) → (devices : Devices) →
             HasDevicesIfOpen (C.state self.old) devices → OnOk result (get devices id ≡ None →
@@ -238,7 +247,8 @@ impl<C: SqlConnection> RegistryOver<C> {
 
     /// All devices, by ascending ID.
     pub fn all(&mut self) -> Result<Vec<Device>, StoreFault>
-        ensures { ListsAll (registry_state (C.state self.old)) (registry_state (C.state self.new)) result }
+        ensures { ListsAll (registry_state_of C.state C.commits self.old)
+            (registry_state_of C.state C.commits self.new) result }
     {
         match self.table.all() {
             Ok(all) => Ok(all),

@@ -1,5 +1,5 @@
 //! The registry's interface to a connection of SQLite.
-ghost use Rattle.std.specs.Prelude.{◌≡◌, false, not, IsTrue, IfOk, IfErr, OnOk, OnErr};
+ghost use Rattle.std.specs.Prelude.{◌≡◌, ℕ, false, not, Option, IsTrue, IfOk, IfErr, OnOk, OnErr};
 ghost use Rattle.std.specs.FinMap.{empty};
 ghost use Rattle.sqlite.specs.Values.{bound};
 ghost use Rattle.sqlite.specs.Effect.{IsDatabase};
@@ -7,7 +7,9 @@ ghost use Rattle.sqlite.specs.State.{State, HasCleanDisk, Survives, IsUnchanged,
 ghost use Rattle.sqlite.specs.State.{Executes, CommitsBy, Shown, FailsToQuery, CommitsShowing};
 ghost use Rattle.sqlite_trees.specs.Tree.{Trees};
 ghost use Rattle.device_registry.specs.declared.table.Version.TheVariants.{First};
+ghost use Rattle.learned_devices.specs.CommitCounts.{with_one_more};
 ghost use Rattle.learned_devices.specs.Devices.{Devices};
+ghost use Rattle.device_registry.specs.Queries.{is_select};
 ghost use Rattle.device_registry.specs.Stored.{IsRegistry, IsRegistryOfVersion, HoldsVersion2};
 ghost use Rattle.device_registry.specs.Ready.{IsReadyWith, KeepsOtherTables};
 ghost use Rattle.device_registry.specs.Opening.{KeepsDatabaseIfStillOpen};
@@ -23,6 +25,10 @@ use sqlite_schema::schema::Schema;
 pub trait SqlConnection {
     /// The state: what the connection shows, what is committed, and what a crash may leave.
     ghost state: { Self → State };
+
+    /// How many calls that may commit were made so far, if the connection counts them. A text with RETURNING may commit
+    /// even if it is run as a query: after a query that is no SELECT, nothing is known about the count.
+    ghost commits: { Self → Option ℕ };
 
     /// Whether no transaction is open.
     fn is_autocommit(&self) -> bool
@@ -42,14 +48,16 @@ pub trait SqlConnection {
         ensures err { HasCleanDisk (state self.new) → IfErr result (λ e. (params : _) →
             IsNotRun (state self.old) (state self.new) sql.now params e) }
         ensures mode { (state self.old).in_transaction ≡ false → (state self.new).in_transaction ≡ false }
-        ensures survives { Survives (state self.old) (state self.new) (λ _. ⊥) };
+        ensures survives { Survives (state self.old) (state self.new) (λ _. ⊥) }
+        ensures counted { commits self.new ≡ commits self.old };
 
     /// Runs a statement that shows no rows.
     fn execute(&mut self, sql: &str, params: &[ValueRef<'_>]) -> Result<usize, Error>
         ensures runs { HasCleanDisk (state self.new) → Executes sql.now (bound params.now) (state self.old)
             (state self.new) result }
         ensures survives { Survives (state self.old) (state self.new)
-            (CommitsBy sql.now (bound params.now) (state self.old)) };
+            (CommitsBy sql.now (bound params.now) (state self.old)) }
+        ensures counted { commits self.new ≡ with_one_more (commits self.old) };
 
     /// The rows that a query shows.
     fn query_all(&mut self, sql: &str, params: &[ValueRef<'_>]) -> Result<Vec<Row>, Error>
@@ -59,7 +67,8 @@ pub trait SqlConnection {
             (state self.old) (state self.new)) }
         ensures mode { (state self.old).in_transaction ≡ false → (state self.new).in_transaction ≡ false }
         ensures survives { Survives (state self.old) (state self.new)
-            (CommitsShowing sql.now (bound params.now) (state self.old)) };
+            (CommitsShowing sql.now (bound params.now) (state self.old)) }
+        ensures counted { IsTrue (is_select sql.now) → commits self.new ≡ commits self.old };
 
     /// The rows that a compiled query shows.
     fn query_all_prepared(
@@ -72,7 +81,8 @@ pub trait SqlConnection {
         ensures err { HasCleanDisk (state self.new) → IfErr result (FailsToQuery statement.now.text (bound params.now)
             (state self.old) (state self.new)) }
         ensures survives { Survives (state self.old) (state self.new)
-            (CommitsShowing statement.now.text (bound params.now) (state self.old)) };
+            (CommitsShowing statement.now.text (bound params.now) (state self.old)) }
+        ensures counted { IsTrue (is_select statement.now.text) → commits self.new ≡ commits self.old };
 
     /// Creates the two tables, in a database in which nothing has their names, in one transaction.
     fn create_tables(&mut self) -> Result<(), Error>
@@ -84,7 +94,8 @@ pub trait SqlConnection {
             (state self.new).now) }
         ensures crash { Survives (state self.old) (state self.new) (λ trees. HoldsVersion2 trees empty) }
         ensures remains { HasCleanDisk (state self.new)
-            → OnErr result (KeepsDatabaseIfStillOpen (state self.old) (state self.new)) };
+            → OnErr result (KeepsDatabaseIfStillOpen (state self.old) (state self.new)) }
+        ensures counted { commits self.new ≡ with_one_more (commits self.old) };
 
     /// Migrates the tables of a registry of version 1 to version 2, in one transaction.
     fn migrate_tables(&mut self) -> Result<(), Error>
@@ -98,7 +109,8 @@ pub trait SqlConnection {
         ensures crash { Survives (state self.old) (state self.new) (λ trees. (devices : Devices) →
             IsRegistryOfVersion First (state self.old).now devices → HoldsVersion2 trees devices) }
         ensures remains { HasCleanDisk (state self.new)
-            → OnErr result (KeepsDatabaseIfStillOpen (state self.old) (state self.new)) };
+            → OnErr result (KeepsDatabaseIfStillOpen (state self.old) (state self.new)) }
+        ensures counted { commits self.new ≡ with_one_more (commits self.old) };
 
     // While the connection is open, a crash leaves what is committed.
     ghost settled: { (s : Self) (trees : Trees) → IsTrue (state s).is_open → (state s).may_leave trees
@@ -107,8 +119,11 @@ pub trait SqlConnection {
 
 impl<S: Alter> SqlConnection for Connection<S> {
     ghost use Rattle.sqlite.specs.Held.{state};
+    ghost use Rattle.device_registry.specs.Holding.{uncounted};
 
     ghost state = { state S.Store };
+
+    ghost commits = { uncounted };
 
     fn is_autocommit(&self) -> bool {
         Connection::is_autocommit(self)

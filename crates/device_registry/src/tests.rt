@@ -1,6 +1,7 @@
 //! Tests of the effects of calls on a database, of the cache, and of the states after a failure or a crash.
 mod acts;
 mod cache;
+mod commits;
 mod crashes;
 mod databases;
 mod devices;

@@ -7,6 +7,8 @@ use Rattle.std.specs.Prelude.{MatchBool, is_some, if◌then◌else◌}
 use Rattle.std.specs.FinMap.{get}
 use Rattle.std.specs.Option.{option_map}
 use Rattle.std.proofs.lemmas.Bool.{le-ltb}
+use Rattle.learned_devices.proofs.ForCallers.{no_more_commits, more_commits_after}
+use Rattle.learned_devices.specs.CommitCounts.{AtMostMoreCommits}
 use Rattle.learned_devices.specs.DeviceStoreState.{DeviceStoreState, Keeps, Commits, LeavesPending}
 use Rattle.erp1_telegrams.specs.declared.eep.Eep.{Eep}
 use Rattle.erp1_telegrams.specs.Telegram.{Telegram}
@@ -241,18 +243,20 @@ module _ {S : Type 0} (stored : S → DeviceStoreState) where
       (r : Result HandlerEffect Failure)
       → ((stored new).honest → (stored old).honest)
       → ((stored new).honest → (stored new).reopenable)
+      → ((stored new).honest → AtMostMoreCommits 1 (stored old).commits (stored new).commits)
       → ((stored new).honest → (devices : Devices) → (stored old).holds devices
       → AppliesOrFails (stored old) (stored new) devices
       (effect (record { base = base; mode = mode; counts = counts; devices = devices })) r)
       → Attempts stored (record { base = base; mode = mode; counts = counts; registry = old }) effect r
       (record { base = base; mode = mode; counts = counts; registry = new })
-  tries base mode counts old new effect r clean reopenable applies_or_fails =
+  tries base mode counts old new effect r clean reopenable commits applies_or_fails =
       record {
         base = refl;
         mode = refl;
         counts = refl;
         clean = clean;
         reopenable = λ honest before. reopenable honest;
+        commits = commits;
         applies_or_fails = applies_or_fails;
       }
 
@@ -267,6 +271,7 @@ module _ {S : Type 0} (stored : S → DeviceStoreState) where
     counts = refl;
     clean = λ honest. honest;
     reopenable = λ honest before. before;
+    commits = λ honest. no_more_commits 1 refl;
     applies_or_fails = λ honest devices has. applies_or_fails devices (keeps-same (stored v.registry) devices has);
   }
 
@@ -280,6 +285,7 @@ module _ {S : Type 0} (stored : S → DeviceStoreState) where
     counts = tries.counts;
     clean = tries.clean;
     reopenable = tries.reopenable;
+    commits = tries.commits;
     applies_or_fails = λ honest devices has.
         subst (λ e. AppliesOrFails (stored old.registry) (stored new.registry) devices e r) (sym (same devices))
         (tries.applies_or_fails honest devices has);
@@ -291,11 +297,12 @@ module _ {S : Type 0} (stored : S → DeviceStoreState) where
       → mid ≡ record v { registry = registry }
       → ((stored registry).honest → (stored v.registry).honest)
       → ((stored registry).honest → (stored registry).reopenable)
+      → ((stored registry).honest → (stored registry).commits ≡ (stored v.registry).commits)
       → ((stored registry).honest → (devices : Devices) → (stored v.registry).holds devices
       → (effect (state_of v devices) ≡ other (state_of v devices))
       × Keeps (stored v.registry) (stored registry) devices)
       → Attempts stored mid other r new → Attempts stored v effect r new
-  tries-behind v mid new registry effect other r is clean reopenable found tried =
+  tries-behind v mid new registry effect other r is clean reopenable commits found tried =
       let over : Attempts stored (record v { registry = registry }) other r new =
       subst (λ (m : HandlerValue S). Attempts stored m other r new) is tried in
       record {
@@ -304,6 +311,7 @@ module _ {S : Type 0} (stored : S → DeviceStoreState) where
         counts = over.counts;
         clean = λ honest. clean (over.clean honest);
         reopenable = λ honest before. over.reopenable honest (reopenable (over.clean honest));
+        commits = λ honest. more_commits_after (commits (over.clean honest)) (over.commits honest);
         applies_or_fails = λ honest devices has.
             let f = found (over.clean honest) devices has in
             subst (λ e. AppliesOrFails (stored v.registry) (stored new.registry) devices e r) (sym f.0)
@@ -326,11 +334,18 @@ module _ {S : Type 0} (stored : S → DeviceStoreState) where
   pub alone : (base : ℕ) (mode : Mode) (counts : Counts) (old new : S) (IsSo : Devices → Type 0)
       → ((stored new).honest → (stored old).honest)
       → ((stored new).honest → (stored new).reopenable)
+      → ((stored new).honest → AtMostMoreCommits 1 (stored old).commits (stored new).commits)
       → ((stored new).honest → (devices : Devices) → (stored old).holds devices → IsSo devices)
       → ChangesOnlyRegistry stored (record { base = base; mode = mode; counts = counts; registry = old }) IsSo
       (record { base = base; mode = mode; counts = counts; registry = new })
-  alone base mode counts old new IsSo clean reopenable is_so =
-      record { same = refl; clean = clean; reopenable = λ honest before. reopenable honest; result_for_devices = is_so }
+  alone base mode counts old new IsSo clean reopenable commits is_so =
+      record {
+        same = refl;
+        clean = clean;
+        reopenable = λ honest before. reopenable honest;
+        commits = commits;
+        result_for_devices = is_so;
+      }
 
   -- with no call of the registry
   pub alone-unasked : (v : HandlerValue S) (IsSo : Devices → Type 0)
@@ -340,6 +355,7 @@ module _ {S : Type 0} (stored : S → DeviceStoreState) where
     same = refl;
     clean = λ honest. honest;
     reopenable = λ honest before. before;
+    commits = λ honest. no_more_commits 1 refl;
     result_for_devices = λ honest devices has. is_so devices (keeps-same (stored v.registry) devices has);
   }
 
@@ -356,6 +372,7 @@ module _ {S : Type 0} (stored : S → DeviceStoreState) where
         counts = ap (λ (v : HandlerValue S). v.counts) alone.same;
         clean = alone.clean;
         reopenable = alone.reopenable;
+        commits = alone.commits;
         applies_or_fails = λ honest devices has. applies_or_fails devices (alone.result_for_devices honest devices has);
       }
 
@@ -643,6 +660,7 @@ module _ {S : Type 0} (stored : S → DeviceStoreState) where
         base = settles.base ∙ over.base;
         clean = over.clean;
         reopenable = over.reopenable;
+        commits = over.commits;
         ran_from_any = λ honest start at.
             let come = over.applies_or_fails honest start.devices at.2 in
             let Here = λ (s : State).

@@ -79,6 +79,7 @@ module _ {S : Type 0} (stored : S → DeviceStoreState) where
     base = handled.base;
     clean = handled.clean;
     reopenable = handled.reopenable;
+    commits = handled.commits;
     ran_from_any = λ clean start at.
         went_alike old new start short long answers
         (effect-long start short a ∙ sym (effect-long start long b)) (handled.ran_from_any clean start at);

@@ -1,5 +1,6 @@
 -- Runs of many inputs.
-use Rattle.std.proofs.Common.{◌≡◌, inr, List, [], ◌∷◌, ◌++◌, refl, sym, ap, subst, ◌∙◌}
+use Rattle.std.proofs.Common.{◌≡◌, inr, List, [], ◌∷◌, ◌++◌, length, length-append, refl, sym, ap, subst, ◌∙◌}
+use Rattle.learned_devices.proofs.ForCallers.{no_more_commits, more_commits_then}
 use Rattle.learned_devices.specs.DeviceStoreState.{DeviceStoreState}
 use Rattle.gateway_core.specs.Step.{State, Input, Answer}
 use Rattle.gateway_core.specs.Run.{InputResult, Applied, Failed, FailedAtCommit, Run, failure_cause, failure_answer}
@@ -34,6 +35,7 @@ module _ {S : Type 0} (stored : S → DeviceStoreState) where
     base = refl;
     clean = λ honest. honest;
     reopenable = λ honest before. before;
+    commits = λ honest. no_more_commits 0 refl;
     ran_from_any = λ honest start at. record {
       results = [];
       last = start;
@@ -50,6 +52,8 @@ module _ {S : Type 0} (stored : S → DeviceStoreState) where
     base = second.base ∙ first.base;
     clean = λ honest. first.clean (second.clean honest);
     reopenable = λ honest before. second.reopenable honest (first.reopenable (second.clean honest) before);
+    commits = λ honest. rw (length-append inputs more)
+        (more_commits_then (first.commits (second.clean honest)) (second.commits honest));
     ran_from_any = λ honest start at.
         let a = first.ran_from_any (second.clean honest) start at in
         let b = second.ran_from_any honest a.last a.at in

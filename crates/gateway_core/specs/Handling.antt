@@ -1,6 +1,7 @@
 -- How the gateway handles inputs over its device store: its answers, what it then knows, and what a crash may leave.
 -- The only premise is about the device store: so far its medium has returned what was written.
-use Rattle.std.specs.Prelude.{◌≡◌, ℕ, List}
+use Rattle.std.specs.Prelude.{◌≡◌, ℕ, List, length}
+use Rattle.learned_devices.specs.CommitCounts.{AtMostMoreCommits}
 use Rattle.learned_devices.specs.DeviceStoreState.{DeviceStoreState}
 use Rattle.learned_devices.specs.Devices.{Devices}
 use Rattle.teach_in.specs.declared.mode.Mode.{Mode}
@@ -46,5 +47,8 @@ module _ {S : Type 0} (stored : S → DeviceStoreState) where
     -- the device store stays sound
     pub reopenable : (stored new.registry).honest → (stored old.registry).reopenable
         → (stored new.registry).reopenable
+    -- each input makes at most one commit
+    pub commits : (stored new.registry).honest
+        → AtMostMoreCommits (length inputs) (stored old.registry).commits (stored new.registry).commits
     pub ran_from_any : (stored new.registry).honest → (start : State) → HasState stored old start
         → HandlesFrom old start inputs answers new

@@ -1,5 +1,5 @@
 -- How a gateway begins over a registry that was opened.
-use Rattle.std.proofs.Common.{◌≡◌, ◌∙◌, inl, inr, ℕ, IsTrue, refl, sym, subst}
+use Rattle.std.proofs.Common.{◌≡◌, ◌∙◌, inl, inr, ℕ, IsTrue, Option, refl, sym, subst}
 use Rattle.sqlite.specs.State.{State, HasCleanDisk}
 use Rattle.sqlite.specs.Tree.{Trees}
 use Rattle.esp3_frames.proofs.ForCallers.{empty_may_become}
@@ -22,13 +22,13 @@ pub idle_at_first : {S : Type 0} (base : ℕ) (registry : S) (new : GatewayValue
 idle_at_first {S} base registry new is = let P : GatewayValue S → Type 0 = λ v. HasNoReadyPacket v in
     subst P (sym is) (record { ready = refl; rest = empty_may_become })
 
-pub starts : {C : Type 0} (state : C → State) (database registry : C) (base : ℕ) (new : GatewayValue C)
+pub starts : {C : Type 0} (state : C → State) (commits : C → Option ℕ) (database registry : C) (base : ℕ) (new : GatewayValue C)
     → new ≡ new_gateway_value base registry
     → (HasCleanDisk (state registry) → IsOpened (state database) (state registry))
-    → HasCleanDisk (state new.handler.registry) → Starts state database base new.handler
-starts {C} state database registry base new is opened =
+    → HasCleanDisk (state new.handler.registry) → Starts state commits database base new.handler
+starts {C} state commits database registry base new is opened =
     let P : GatewayValue C → Type 0 = λ v. HasCleanDisk (state v.handler.registry)
-    → Starts state database base v.handler in
+    → Starts state commits database base v.handler in
     subst P (sym is) (λ clean.
     let it = opened clean in
     let opens = it.opens.1 in
@@ -40,17 +40,17 @@ starts {C} state database registry base new is opened =
       registries = it.registries;
     })
 
-pub new_gateway : {C : Type 0} (state : C → State) (database registry : C) (base : ℕ) (new : GatewayValue C)
+pub new_gateway : {C : Type 0} (state : C → State) (commits : C → Option ℕ) (database registry : C) (base : ℕ) (new : GatewayValue C)
     → new ≡ new_gateway_value base registry
     → (HasCleanDisk (state registry) → IsOpened (state database) (state registry))
     → HasCleanDisk (state new.handler.registry)
     → (found : Devices) × OpenFinds (state database).committed.trees found
-    × IsNew (registry_state_of state) base found new
+    × IsNew (registry_state_of state commits) base found new
     × IsTrue (state new.handler.registry).is_open
-new_gateway {C} state database registry base new is opened =
+new_gateway {C} state commits database registry base new is opened =
     let P : GatewayValue C → Type 0 = λ v. HasCleanDisk (state v.handler.registry)
     → (found : Devices) × OpenFinds (state database).committed.trees found
-    × IsNew (registry_state_of state) base found v
+    × IsNew (registry_state_of state commits) base found v
     × IsTrue (state v.handler.registry).is_open in
     subst P (sym is) (λ clean.
     let it = opened clean in

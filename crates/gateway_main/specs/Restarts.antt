@@ -9,7 +9,7 @@ use Rattle.sqlite_store.specs.FileStore.{state as stored}
 use Rattle.sqlite_store.specs.declared.store.FileStore.{FileStore}
 use Rattle.sqlite_trees.specs.Tree.{Trees}
 use Rattle.learned_devices.specs.Devices.{Devices}
-use Rattle.device_registry.specs.Holding.{MayRecover, OpenFinds, registry_state_of}
+use Rattle.device_registry.specs.Holding.{MayRecover, OpenFinds, registry_state_of, uncounted}
 use Rattle.device_registry.specs.declared.fault.OpenFault.TheVariants.{NotARegistry}
 use Rattle.gateway_core.specs.Calls.{GatewayValue}
 use Rattle.gateway_core.specs.Prefixes.{AfterPrefix}
@@ -25,7 +25,7 @@ use Rattle.gateway_main.specs.declared.fault.Fault.TheVariants.{Database}
 abbrev pub StartsWith : {C : Type 0} → (C → ConnectionState) → (base : ℕ) → Devices
     → Result (GatewayValue C) (Fault × Option C) → Type 0
 StartsWith state base devices (Ok gateway) =
-    HasCleanDisk (state gateway.handler.registry) → IsNew (registry_state_of state) base devices gateway
+    HasCleanDisk (state gateway.handler.registry) → IsNew (registry_state_of state uncounted) base devices gateway
 StartsWith state base devices (Err (fault, Some conn)) =
     HasCleanDisk (state conn) → (fault ≢ Database NotARegistry)
     × ((trees : Trees) → (state conn).may_leave trees → OpenFinds trees devices)

@@ -1,5 +1,5 @@
 -- How a gateway's session begins, why a start fails, and what it then leaves.
-use Rattle.std.specs.Prelude.{◌≡◌, ◌⊎◌, ℕ, IsTrue}
+use Rattle.std.specs.Prelude.{◌≡◌, ◌⊎◌, ℕ, IsTrue, Option}
 use Rattle.sqlite.specs.State.{State, HasCleanDisk}
 use Rattle.sqlite.specs.Tree.{Trees}
 use Rattle.learned_devices.specs.Faults.{out_of_memory}
@@ -13,11 +13,12 @@ use Rattle.gateway_main.specs.declared.fault.Fault.{Fault}
 use Rattle.gateway_main.specs.declared.fault.Fault.TheVariants.{Database, CannotOpenFile, Run}
 
 -- The gateway knows the devices that were committed last. A crash leaves these, in a registry.
-pub record Starts {C : Type 0} (state : C → State) (database : C) (base : ℕ) (now : HandlerValue C) : Type 0 where
+pub record Starts {C : Type 0} (state : C → State) (commits : C → Option ℕ) (database : C) (base : ℕ)
+    (now : HandlerValue C) : Type 0 where
   pub found : Devices
   pub finds : OpenFinds (state database).committed.trees found
   pub base_is : now.base ≡ base
-  pub begins : BeginsSession (registry_state_of state) now found
+  pub begins : BeginsSession (registry_state_of state commits) now found
   pub registries : AreVersion2Registries (state now.registry).may_leave
 
 -- A start failed. The database is not a registry, or opening it failed, as `FailsToOpen` says; or it was opened, and

@@ -7,7 +7,7 @@ ghost use Rattle.sqlite.specs.WalFiles.{image_at};
 ghost use Rattle.erp1_telegrams.specs.Address;
 ghost use Rattle.learned_devices.specs.Devices.{Devices};
 ghost use Rattle.device_registry.specs.Opening.{max_cached};
-ghost use Rattle.device_registry.specs.Holding.{OpenFinds, registry_state_of};
+ghost use Rattle.device_registry.specs.Holding.{OpenFinds, registry_state_of, uncounted};
 ghost use Rattle.device_registry.specs.FilesHeld.{FilesHold};
 ghost use Rattle.gateway_core.specs.Calls.{new_gateway_value};
 ghost use Rattle.gateway_loop.specs.Headline.{IsNew};
@@ -39,14 +39,15 @@ pub fn start<C: SqlConnection>(
     requires idle { (C.state conn).in_transaction ≡ false }
     // How the headline begins: with the devices that were committed last, over an open connection.
     ensures begins { IfOk result (λ gateway. HasCleanDisk (C.state gateway.handler.registry) → (found : Devices)
-        × OpenFinds (C.state conn).committed.trees found × IsNew (registry_state_of C.state) base found gateway
+        × OpenFinds (C.state conn).committed.trees found
+        × IsNew (registry_state_of C.state C.commits) base found gateway
         × IsTrue (C.state gateway.handler.registry).is_open) }
     ensures clean { IfOk result (λ gateway. HasCleanDisk (C.state gateway.handler.registry) →
         HasCleanDisk (C.state conn)) }
     ensures new { IfOk result (λ gateway. gateway ≡ new_gateway_value base gateway.handler.registry) }
     ensures idle { IfOk result HasNoReadyPacket }
     ensures starts { IfOk result (λ gateway. HasCleanDisk (C.state gateway.handler.registry) →
-        Starts C.state conn base gateway.handler) }
+        Starts C.state C.commits conn base gateway.handler) }
     ensures refused { IfErr result (λ e. FailsToStart (C.state conn) (C.state e.1) e.0) }
     ensures kept { IfErr result (λ e. KeepsCommittedDevices (C.state conn) (C.state e.1)) }
 {
@@ -85,10 +86,11 @@ pub fn start_file<S: Start>(
         → StartsWith file_state base devices result }
     // If the database file is new or empty, there are no devices.
     ensures empty { IfOk result (λ gateway. HasCleanDisk (file_state gateway.handler.registry)
-        → length (image_at S.Start).db ≡ 0 → IsNew (registry_state_of file_state) base FinMap.empty gateway) }
+        → length (image_at S.Start).db ≡ 0
+        → IsNew (registry_state_of file_state uncounted) base FinMap.empty gateway) }
     // Whatever the files hold, the gateway is new over some devices, and the connection is open.
     ensures begins { IfOk result (λ gateway. HasCleanDisk (file_state gateway.handler.registry) → (found : Devices)
-        × IsNew (registry_state_of file_state) base found gateway
+        × IsNew (registry_state_of file_state uncounted) base found gateway
         × IsTrue (file_state gateway.handler.registry).is_open) }
     ensures idle { IfOk result HasNoReadyPacket }
 {

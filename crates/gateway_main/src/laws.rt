@@ -20,7 +20,7 @@ pub use gateway_loop::laws::{cuts_of_turns_do_not_matter, explanations_stand_apa
 /// Every gateway over a registry knows a state, while the disk has returned what was written and the connection is
 /// open.
 pub fn gateways_have_a_state<C: SqlConnection>(gateway: &GatewayOver<RegistryOver<C>>)
-    ensures { HasStateWhileHonest (registry_state_of C.state) gateway.now.handler }
+    ensures { HasStateWhileHonest (registry_state_of C.state C.commits) gateway.now.handler }
 {
     devices_are_held(gateway.store());
 }
@@ -28,21 +28,22 @@ pub fn gateways_have_a_state<C: SqlConnection>(gateway: &GatewayOver<RegistryOve
 /// A session may end by `close`: on the connection that was returned, the next open finds what the session may
 /// leave, which is what was known at its end.
 pub fn closes_end_registry_sessions<C: SqlConnection>()
-    ensures { ClosedSessionsAreFound C.state }
+    ensures { ClosedSessionsAreFound C.state C.commits }
 {}
 
 /// After `replay` or `live`, by a gateway that `start` made, a crash leaves what a session may leave that found the
 /// devices that were committed last and handled the inputs read.
 pub fn crashed_runs_are_sessions<R: Sink, D: Sink, C: SqlConnection>()
     ensures replay { (explains : Bool) (sink sink_now : SinkBytes)
-        → RunsAreSessions C.state (AppendsReplayText explains sink sink_now) }
+        → RunsAreSessions C.state C.commits (AppendsReplayText explains sink sink_now) }
     ensures broken_replay { (explains : Bool) (sink sink_now : SinkBytes)
-        → BrokenRunsAreSessions C.state (AppendsCutReplayText explains sink sink_now) }
+        → BrokenRunsAreSessions C.state C.commits (AppendsCutReplayText explains sink sink_now) }
     ensures live { (explains : Bool) (serial serial_now : R) (desk desk_now : D)
-        → RunsAreSessions C.state ((live_output explains).puts (sink_value R.Sink serial, sink_value D.Sink desk)
+        → RunsAreSessions C.state C.commits ((live_output explains).puts
+        (sink_value R.Sink serial, sink_value D.Sink desk)
         (sink_value R.Sink serial_now, sink_value D.Sink desk_now)) }
     ensures broken_live { (explains : Bool) (serial serial_now : R) (desk desk_now : D)
-        → BrokenRunsAreSessions C.state ((live_output explains).breaks
+        → BrokenRunsAreSessions C.state C.commits ((live_output explains).breaks
         (sink_value R.Sink serial, sink_value D.Sink desk)
         (sink_value R.Sink serial_now, sink_value D.Sink desk_now)) }
 {}
@@ -51,14 +52,15 @@ pub fn crashed_runs_are_sessions<R: Sink, D: Sink, C: SqlConnection>()
 /// session may leave, which is what was known at its end.
 pub fn closed_runs_are_sessions<R: Sink, D: Sink, C: SqlConnection>()
     ensures replay { (explains : Bool) (sink sink_now : SinkBytes)
-        → ClosedRunsAreSessions C.state (AppendsReplayText explains sink sink_now) }
+        → ClosedRunsAreSessions C.state C.commits (AppendsReplayText explains sink sink_now) }
     ensures broken_replay { (explains : Bool) (sink sink_now : SinkBytes)
-        → BrokenClosedRunsAreSessions C.state (AppendsCutReplayText explains sink sink_now) }
+        → BrokenClosedRunsAreSessions C.state C.commits (AppendsCutReplayText explains sink sink_now) }
     ensures live { (explains : Bool) (serial serial_now : R) (desk desk_now : D)
-        → ClosedRunsAreSessions C.state ((live_output explains).puts (sink_value R.Sink serial, sink_value D.Sink desk)
+        → ClosedRunsAreSessions C.state C.commits ((live_output explains).puts
+        (sink_value R.Sink serial, sink_value D.Sink desk)
         (sink_value R.Sink serial_now, sink_value D.Sink desk_now)) }
     ensures broken_live { (explains : Bool) (serial serial_now : R) (desk desk_now : D)
-        → BrokenClosedRunsAreSessions C.state ((live_output explains).breaks
+        → BrokenClosedRunsAreSessions C.state C.commits ((live_output explains).breaks
         (sink_value R.Sink serial, sink_value D.Sink desk)
         (sink_value R.Sink serial_now, sink_value D.Sink desk_now)) }
 {}

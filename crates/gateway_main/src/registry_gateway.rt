@@ -23,14 +23,14 @@ pub fn replay<R: Source, W: Sink, C: SqlConnection>(
     turns: u64,
 ) -> Result<Summary, RunFault>
     requires { gateway.old.ready ≡ [] }
-    ensures as_specified { ReplaysAsSpecified (registry_state_of C.state) R.Source W.Sink explains result
-        (gateway.old, reader.old, writer.old) (gateway.new, reader.new, writer.new) }
+    ensures as_specified { ReplaysAsSpecified (registry_state_of C.state C.commits) R.Source W.Sink
+        explains result (gateway.old, reader.old, writer.old) (gateway.new, reader.new, writer.new) }
 
     // What is read, handled and written.
-    ensures ok { IfOk result (Replays (registry_state_of C.state) (replay_value R.Source W.Sink) explains
-        (gateway.old, reader.old, writer.old) (gateway.new, reader.new, writer.new)) }
-    ensures err { IfErr result (ReplaysUntilFault (registry_state_of C.state) (replay_value R.Source W.Sink) explains
-        (gateway.old, reader.old, writer.old) (gateway.new, reader.new, writer.new)) }
+    ensures ok { IfOk result (Replays (registry_state_of C.state C.commits) (replay_value R.Source W.Sink)
+        explains (gateway.old, reader.old, writer.old) (gateway.new, reader.new, writer.new)) }
+    ensures err { IfErr result (ReplaysUntilFault (registry_state_of C.state C.commits) (replay_value R.Source W.Sink)
+        explains (gateway.old, reader.old, writer.old) (gateway.new, reader.new, writer.new)) }
 
     // How the reads and the writes went.
     ensures reads { MakesAtMostReads (source_value R.Source reader.old) (source_value R.Source reader.new) turns }
@@ -57,15 +57,16 @@ pub fn live<P: Source, Q: Source, R: Sink, D: Sink, C: SqlConnection>(
     turns: u64,
 ) -> Result<Summary, RunFault>
     requires { gateway.old.ready ≡ [] }
-    ensures as_specified { ServesAsSpecified (registry_state_of C.state) P.Source Q.Source R.Sink D.Sink explains result
+    ensures as_specified { ServesAsSpecified (registry_state_of C.state C.commits) P.Source Q.Source R.Sink D.Sink
+        explains result
         (gateway.old, serial_in.old, desk_in.old, serial_out.old, desk_out.old)
         (gateway.new, serial_in.new, desk_in.new, serial_out.new, desk_out.new) turns }
 
     // What is read, handled and written.
-    ensures ok { IfOk result (Serves (registry_state_of C.state) (live_value P.Source Q.Source R.Sink D.Sink) explains
-        (gateway.old, serial_in.old, desk_in.old, serial_out.old, desk_out.old)
+    ensures ok { IfOk result (Serves (registry_state_of C.state C.commits) (live_value P.Source Q.Source R.Sink D.Sink)
+        explains (gateway.old, serial_in.old, desk_in.old, serial_out.old, desk_out.old)
         (gateway.new, serial_in.new, desk_in.new, serial_out.new, desk_out.new) turns) }
-    ensures err { IfErr result (ServesUntilFault (registry_state_of C.state)
+    ensures err { IfErr result (ServesUntilFault (registry_state_of C.state C.commits)
         (live_value P.Source Q.Source R.Sink D.Sink) explains
         (gateway.old, serial_in.old, desk_in.old, serial_out.old, desk_out.old)
         (gateway.new, serial_in.new, desk_in.new, serial_out.new, desk_out.new)) }

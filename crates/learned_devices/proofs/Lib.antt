@@ -1,3 +1,4 @@
+pub mod CommitLemmas
 pub mod DeviceLemmas
 pub mod ForCallers
 pub mod LabelLemmas

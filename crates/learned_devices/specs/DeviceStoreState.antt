@@ -1,5 +1,5 @@
 -- The state of a device store, for any implementation, and how an update changes it. Own choice.
-use Rattle.std.specs.Prelude.{◌≡◌, ◌⊎◌}
+use Rattle.std.specs.Prelude.{◌≡◌, ◌⊎◌, ℕ, Option}
 use Rattle.learned_devices.specs.Devices.{Devices, DeviceUpdate, apply_update}
 
 -- The state of a device store at one moment.
@@ -12,6 +12,8 @@ pub record DeviceStoreState : Type 1 where
   pub may_recover : Devices → Type 0
   -- whatever a crash leaves can be opened again (for a registry: it is a registry)
   pub reopenable : Type 0
+  -- how many calls that may commit were made so far, if they are counted
+  pub commits : Option ℕ
 
 -- the devices are as they were, and a crash leaves only what it could leave before
 pub record Keeps (old new : DeviceStoreState) (devices : Devices) : Type 0 where

@@ -1,6 +1,6 @@
 -- The calls of a device store, from what it kept before to what it keeps afterwards. Own choice.
 use Rattle.std.specs.Prelude.{◌≡◌, ℕ, Bool, false, is_some, IsTrue, MatchBool, MatchResult}
-use Rattle.std.specs.Prelude.{List, Option, Result, Vec}
+use Rattle.std.specs.Prelude.{List, Option, Result, Ok, Err, Vec}
 use Rattle.std.specs.declared.alloc.Global.{Global}
 use Rattle.std.specs.FinMap.{get}
 use Rattle.learned_devices.specs.declared.Device.{Device}
@@ -10,11 +10,13 @@ use Rattle.learned_devices.specs.Devices.{Devices, DeviceUpdate, device_of, devi
 use Rattle.learned_devices.specs.Devices.{learn_update}
 use Rattle.learned_devices.specs.Devices.{forget_update, relabel_update}
 use Rattle.learned_devices.specs.DeviceStoreState.{DeviceStoreState, Keeps, Commits, LeavesPending}
+use Rattle.learned_devices.specs.CommitCounts.{AtMostMoreCommits}
 
 -- a sender is looked up
 pub record LooksUp {E : Type 0} (old new : DeviceStoreState) (id : ℕ) (result : Result (Option Device) E) : Type 0 where
   pub clean : new.honest → old.honest
   pub reopenable : new.honest → new.reopenable
+  pub commits : new.honest → new.commits ≡ old.commits
   pub devices : new.honest → (devices : Devices) → old.holds devices
       → MatchResult result (λ found. (found ≡ device_of devices id) × Keeps old new devices)
       (λ _. Keeps old new devices)
@@ -24,6 +26,7 @@ pub record Updates {A E : Type 0} (old new : DeviceStoreState) (update : DeviceU
     (result : Result A E) : Type 0 where
   pub clean : new.honest → old.honest
   pub reopenable : new.honest → new.reopenable
+  pub commits : new.honest → AtMostMoreCommits 1 old.commits new.commits
   pub devices : new.honest → (devices : Devices) → old.holds devices
       → MatchResult result (λ _. Commits new update devices) (λ _. LeavesPending old new update devices)
 
@@ -33,10 +36,16 @@ RefusesToLearn old new it devices Full = IsTrue (is_full_for devices it.id) × K
 RefusesToLearn old new it devices (Failed fault) =
     MatchBool (is_full_for devices it.id) (Keeps old new devices) (LeavesPending old new (learn_update it) devices)
 
+-- a device that is not learned because the registry is full makes no commit
+abbrev pub most_commits_of_learn : {A : Type 0} → Result A LearnFault → ℕ
+most_commits_of_learn (Err Full) = 0
+most_commits_of_learn result = 1
+
 -- a device is learned and replaces the data of its sender, except for the label
 pub record Learns {A : Type 0} (old new : DeviceStoreState) (it : Device) (result : Result A LearnFault) : Type 0 where
   pub clean : new.honest → old.honest
   pub reopenable : new.honest → new.reopenable
+  pub commits : new.honest → AtMostMoreCommits (most_commits_of_learn result) old.commits new.commits
   pub devices : new.honest → (devices : Devices) → old.holds devices
       → MatchResult result (λ _. (is_full_for devices it.id ≡ false) × Commits new (learn_update it) devices)
       (RefusesToLearn old new it devices)
@@ -45,12 +54,18 @@ pub record Learns {A : Type 0} (old new : DeviceStoreState) (it : Device) (resul
 abbrev pub Forgets : {A E : Type 0} → (old new : DeviceStoreState) (id : ℕ) → Result A E → Type 0
 Forgets old new id result = Updates old new (forget_update id) result
 
+-- a label for an unknown sender makes no commit
+abbrev pub most_commits_of_relabel : {E : Type 0} → Result Bool E → ℕ
+most_commits_of_relabel (Ok false) = 0
+most_commits_of_relabel result = 1
+
 -- A sender gets a label, if it is learned: the result is whether it is. If it is not, nothing is written.
 pub record Relabels {E : Type 0} (old new : DeviceStoreState) (id : ℕ) (label : List ℕ)
     (result : Result Bool E) : Type 0
   where
     pub clean : new.honest → old.honest
     pub reopenable : new.honest → new.reopenable
+    pub commits : new.honest → AtMostMoreCommits (most_commits_of_relabel result) old.commits new.commits
     pub devices : new.honest → (devices : Devices) → old.holds devices
         → MatchResult result (λ known. (known ≡ is_some (get devices id))
         × MatchBool known (Commits new (relabel_update id label) devices) (Keeps old new devices))
@@ -61,6 +76,7 @@ pub record Relabels {E : Type 0} (old new : DeviceStoreState) (id : ℕ) (label 
 pub record ListsAll {E : Type 0} (old new : DeviceStoreState) (result : Result (Vec Device Global) E) : Type 0 where
   pub clean : new.honest → old.honest
   pub reopenable : new.honest → new.reopenable
+  pub commits : new.honest → new.commits ≡ old.commits
   pub devices : new.honest → (devices : Devices) → old.holds devices
       → MatchResult result (λ all. (all.items ≡ devices_by_ascending_id devices) × Keeps old new devices)
       (λ _. Keeps old new devices)

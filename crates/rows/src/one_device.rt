@@ -32,7 +32,10 @@ impl OneDevice {
 }
 
 impl DeviceStore for OneDevice {
-    ghost store_state = { λ _. record { honest = ⊥; holds = λ _. ⊥; may_recover = λ _. ⊥; reopenable = ⊥ } };
+    ghost use Rattle.std.specs.Prelude.{None};
+
+    ghost store_state = { λ _.
+        record { honest = ⊥; holds = λ _. ⊥; may_recover = λ _. ⊥; reopenable = ⊥; commits = None } };
 
     ghost wrote = { λ _ _ _ _. ⊥ };
 

@@ -1,5 +1,6 @@
 -- The result of an input that is tried.
 use Rattle.std.specs.Prelude.{◌≡◌, ℕ, List, true, false, MatchBool, IsSome, Option, Some, None, Result, Ok, Err}
+use Rattle.learned_devices.specs.CommitCounts.{AtMostMoreCommits}
 use Rattle.learned_devices.specs.DeviceStoreState.{DeviceStoreState, Keeps, Commits, LeavesPending}
 use Rattle.learned_devices.specs.declared.Device.{Device}
 use Rattle.learned_devices.specs.Devices.{Devices, DeviceUpdate, is_full_for, learn_update, forget_update}
@@ -69,6 +70,8 @@ pub record Attempts {S : Type 0} (stored : S → DeviceStoreState) (old : Handle
   pub clean : (stored new.registry).honest → (stored old.registry).honest
   pub reopenable : (stored new.registry).honest → (stored old.registry).reopenable
       → (stored new.registry).reopenable
+  pub commits : (stored new.registry).honest
+      → AtMostMoreCommits 1 (stored old.registry).commits (stored new.registry).commits
   pub applies_or_fails : (stored new.registry).honest → (devices : Devices) → (stored old.registry).holds devices
       → AppliesOrFails (stored old.registry) (stored new.registry) devices (effect (state_of old devices)) result
 
@@ -94,6 +97,8 @@ pub record ChangesOnlyRegistry {S : Type 0} (stored : S → DeviceStoreState) (o
   pub clean : (stored new.registry).honest → (stored old.registry).honest
   pub reopenable : (stored new.registry).honest → (stored old.registry).reopenable
       → (stored new.registry).reopenable
+  pub commits : (stored new.registry).honest
+      → AtMostMoreCommits 1 (stored old.registry).commits (stored new.registry).commits
   pub result_for_devices : (stored new.registry).honest → (devices : Devices) → (stored old.registry).holds devices
       → IsSo devices
 

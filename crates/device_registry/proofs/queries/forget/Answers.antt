@@ -3,8 +3,8 @@ use Rattle.std.proofs.Common.{SFits, w64, to_z-of_z}
 use Rattle.device_registry.proofs.DevicesHeld.{forget_turns}
 use Rattle.device_registry.proofs.queries.forget.Goals as goal
 
-pub returns : goal.returns
-returns g c =
+pub returns-clause-turns : goal.returns-clause-turns
+returns-clause-turns g c =
     let a : SFits w64 c.from.result = search rules in
     forget_turns c.args.id (g.C.SqlConnection.state c.args.conn.now)
     (g.C.SqlConnection.state c.run_delete.new.conn) c.run_delete.result c.requires

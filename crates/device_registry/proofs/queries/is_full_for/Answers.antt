@@ -1,4 +1,4 @@
-use Rattle.keyed_table.proofs.Common.{rules, arith, lookup_params}
+use Rattle.keyed_table.proofs.Common.{refl, rules, arith, lookup_params}
 use Rattle.device_registry.proofs.Common.{count_others_sql}
 use Rattle.keyed_table.proofs.Statements.{query_ready, query_stays}
 use Rattle.device_registry.proofs.DevicesHeld.{are_plain, counts}
@@ -23,6 +23,7 @@ returns g c =
     record {
       stays = query_stays count_others_sql _ _ _ _ _ (λ clean. (are_plain (c.requires clean)).1) query.survives
           query.shown query.failed;
+      counted = query.counted refl;
       full = λ clean.
           let ready = c.requires (omega (arith, clean, query.survives.clean)) in
           let shown = c.in_ok-rows.ensures.shown clean in (

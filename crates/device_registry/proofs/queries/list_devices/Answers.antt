@@ -1,4 +1,4 @@
-use Rattle.keyed_table.proofs.Common.{arith, [], subst, IfOk-weaker, HasCleanDisk, Shown}
+use Rattle.keyed_table.proofs.Common.{◌∙◌, arith, [], refl, subst, IfOk-weaker, HasCleanDisk, Shown}
 use Rattle.device_registry.proofs.Common.{Second, find_all_sql}
 use Rattle.keyed_table.proofs.Statements.{compiled_query_stays, query_ready}
 use Rattle.device_registry.proofs.DevicesHeld.{are_plain, lists}
@@ -13,6 +13,9 @@ returns g c =
     record {
       stays = compiled_query_stays (find_all_sql Second) _ _ _ _ _ _ _ c.compile.ensures.stays compiled.text
           (λ clean. (are_plain (compiled.ready clean)).2) query.survives query.ok query.err;
+      counted = λ clean.
+          let early : HasCleanDisk mid = omega (arith, clean, query.survives.clean) in
+          query.counted (rw (compiled.text early) refl) ∙ c.compile.ensures.counted;
       all = λ clean.
           let early : HasCleanDisk mid = omega (arith, clean, query.survives.clean) in
           let ready = compiled.ready early in

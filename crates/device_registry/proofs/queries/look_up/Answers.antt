@@ -1,4 +1,4 @@
-use Rattle.keyed_table.proofs.Common.{arith, subst, IfOk-weaker, HasCleanDisk, Shown, lookup_params}
+use Rattle.keyed_table.proofs.Common.{◌∙◌, arith, refl, subst, IfOk-weaker, HasCleanDisk, Shown, lookup_params}
 use Rattle.device_registry.proofs.Common.{find_sql}
 use Rattle.keyed_table.proofs.Statements.{compiled_query_stays, query_survives, query_ready, answered_same}
 use Rattle.device_registry.proofs.DevicesHeld.{are_plain, finds}
@@ -20,6 +20,7 @@ returns g c =
           let early = before clean in
           answered_same find_sql _ _ _ mid _ _ _ (compiled.same early) (compiled.text early) (plain early)
           (query.shown clean);
+      counted = λ clean. query.counted (rw (compiled.text (before clean)) refl) ∙ c.compile.ensures.counted;
       survives = query_survives find_sql _ _ _ _ _ c.compile.ensures.survives compiled.text plain query.survives;
       found = λ clean.
           let early = before clean in

@@ -14,6 +14,7 @@ returns g c =
       crash = rewrite_crash run.survives;
       rows = λ clean. rows_if _ _ c.execute.result (run.runs clean);
       remains = λ clean. failed_keeps_database rewrite_version_sql [] _ _ c.execute.result (run.runs clean);
+      counted = run.counted;
       turns = λ update same. rewrite_turns (λ (devices : Devices). apply_update devices update) _ _ c.execute.result
           c.requires same run.survives run.runs;
     }

@@ -13,5 +13,6 @@ returns g c =
       turns = λ update makes. put_turns update c.args.device.id it (search rules) (search rules) _ _ result
           c.requires.ready (λ clean devices shows. (c.requires.room clean devices shows, makes clean devices shows))
           run.survives run.runs;
+      counted = run.counted;
       written = λ clean. executed_ok upsert_sql (upsert_params c.args.device.id it) _ _ result (run.runs clean);
     }

@@ -11,7 +11,8 @@ returns-in-Err-clause-kept g c =
 
 pub returns-in-Ok-with_base_id-clause-begins : goal.returns-in-Ok-with_base_id-clause-begins
 returns-in-Ok-with_base_id-clause-begins g c =
-    new_gateway g.C.SqlConnection.state c.args.conn c.in-Ok.registry c.args.base c.in-Ok-with_base_id.gateway
+    new_gateway g.C.SqlConnection.state g.C.SqlConnection.commits c.args.conn c.in-Ok.registry c.args.base
+    c.in-Ok-with_base_id.gateway
     c.in-Ok-with_base_id.ensures.new c.in-Ok.ensures.opened
 
 pub returns-in-Ok-with_base_id-clause-idle : goal.returns-in-Ok-with_base_id-clause-idle
@@ -20,7 +21,8 @@ returns-in-Ok-with_base_id-clause-idle g c =
 
 pub returns-in-Ok-with_base_id-clause-starts : goal.returns-in-Ok-with_base_id-clause-starts
 returns-in-Ok-with_base_id-clause-starts g c =
-    starts g.C.SqlConnection.state c.args.conn c.in-Ok.registry c.args.base c.in-Ok-with_base_id.gateway
+    starts g.C.SqlConnection.state g.C.SqlConnection.commits c.args.conn c.in-Ok.registry c.args.base
+    c.in-Ok-with_base_id.gateway
     c.in-Ok-with_base_id.ensures.new c.in-Ok.ensures.opened
 
 pub returns-in-Err-with_base_id-clause-kept : goal.returns-in-Err-with_base_id-clause-kept

@@ -2,7 +2,7 @@ use Rattle.std.proofs.Common.{subst}
 use Rattle.std.specs.FinMap.{empty}
 use Rattle.sqlite.specs.Files.{file_state}
 use Rattle.learned_devices.specs.Devices.{Devices}
-use Rattle.device_registry.specs.Holding.{registry_state_of}
+use Rattle.device_registry.specs.Holding.{registry_state_of, uncounted}
 use Rattle.device_registry.proofs.ForCallers.{found_in_files, found_in_new_file, held_in_files}
 use Rattle.gateway_loop.specs.Headline.{IsNew}
 use Rattle.gateway_main.proofs.StartLemmas.{rejects_foreign, was_clean}
@@ -12,14 +12,14 @@ pub returns-in-Ok-start-clause-holds : goal.returns-in-Ok-start-clause-holds
 returns-in-Ok-start-clause-holds g c devices held clean =
     let begun = c.in-Ok-start.ensures.begins clean in
     let finds = c.in-Ok.ensures.found (c.in-Ok-start.ensures.clean clean) in
-    subst (λ d. IsNew (registry_state_of file_state) c.args.base d c.in-Ok-start.gateway)
+    subst (λ d. IsNew (registry_state_of file_state uncounted) c.args.base d c.in-Ok-start.gateway)
     (found_in_files _ _ begun.0 devices finds begun.1 held) begun.2
 
 pub returns-in-Ok-start-clause-empty : goal.returns-in-Ok-start-clause-empty
 returns-in-Ok-start-clause-empty g c clean no_file =
     let begun = c.in-Ok-start.ensures.begins clean in
     let finds = c.in-Ok.ensures.found (c.in-Ok-start.ensures.clean clean) in
-    subst (λ d. IsNew (registry_state_of file_state) c.args.base d c.in-Ok-start.gateway)
+    subst (λ d. IsNew (registry_state_of file_state uncounted) c.args.base d c.in-Ok-start.gateway)
     (found_in_new_file _ _ begun.0 finds begun.1 no_file) begun.2
 
 pub returns-in-Ok-start-clause-begins : goal.returns-in-Ok-start-clause-begins

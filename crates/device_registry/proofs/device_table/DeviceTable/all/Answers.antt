@@ -9,7 +9,7 @@ invariant_of-self g c = keeps_well c.list_devices.ensures.stays c.self.invariant
 
 pub returns-in_err-rows-clause-lists : goal.returns-in_err-rows-clause-lists
 returns-in_err-rows-clause-lists g c =
-    rw (← c.self.view_is) (lists_all c.list_devices.ensures.stays c.self.invariant _
+    rw (← c.self.view_is) (lists_all c.list_devices.ensures.stays c.self.invariant c.list_devices.ensures.counted _
     (λ clean devices has. IfOk-from_err _ _ c.from_residual.ensures.0))
 
 pub invariant_of-self-2 : goal.invariant_of-self-2
@@ -19,6 +19,6 @@ pub returns-clause-lists : goal.returns-clause-lists
 returns-clause-lists g c =
     let stays = c.list_devices.ensures.stays in
     let listed = c.in_ok-rows.ensures.all in
-    rw (← c.self.view_is) (lists_all stays c.self.invariant c.decode_all.result (λ clean devices has.
+    rw (← c.self.view_is) (lists_all stays c.self.invariant c.list_devices.ensures.counted c.decode_all.result (λ clean devices has.
     IfOk-weaker c.decode_all.result _ _ (λ all read. read ∙ ap (map shown_device) c.deref.ensures.value
     ∙ reports stays c.self.invariant listed clean devices has) c.decode_all.ensures.listed))

@@ -2,6 +2,7 @@ use Rattle.keyed_table.proofs.Common.{◌∙◌, ap, is_some}
 use Rattle.device_registry.proofs.Common.{forget_update}
 use Rattle.device_registry.proofs.OpenCalls.{counts_one}
 use Rattle.device_registry.proofs.RegistryCalls.{err_is, turned_well, updates, made_ready}
+use Rattle.learned_devices.proofs.ForCallers.{one_more_commit}
 use Rattle.device_registry.proofs.device_table.DeviceTable.forget.Goals as goal
 
 pub delete_or_rewrite_if_absent-requires-clause-ready : goal.delete_or_rewrite_if_absent-requires-clause-ready
@@ -15,7 +16,8 @@ pub returns-in_err-delete_or_rewrite_if_absent-clause-forgets :
     goal.returns-in_err-delete_or_rewrite_if_absent-clause-forgets
 returns-in_err-delete_or_rewrite_if_absent-clause-forgets g c =
     rw (← c.self.view_is, err_is _ c.from_residual.ensures.1) (updates (forget_update c.args.id)
-    c.self.invariant (rw (← c.self.view_is) at c.requires.ready) _
+    c.self.invariant (rw (← c.self.view_is) at c.requires.ready)
+    (one_more_commit c.delete_or_rewrite_if_absent.ensures.counted) _
     c.in_err-delete_or_rewrite_if_absent.ensures.turns
     (g.met.C.SqlConnection.settled c.delete_or_rewrite_if_absent.new.conn))
 
@@ -30,7 +32,8 @@ returns g c =
     let ready = rw (← c.self.view_is) at c.requires.ready in
     let update = forget_update c.args.id in
     rw (← c.self.view_is) (record {
-      forgets = updates update c.self.invariant ready _ turns
+      forgets = updates update c.self.invariant ready
+          (one_more_commit c.delete_or_rewrite_if_absent.ensures.counted) _ turns
           (g.met.C.SqlConnection.settled c.delete_or_rewrite_if_absent.new.conn);
       written = λ clean devices has none.
           let early = turns.clean clean in

@@ -1,8 +1,9 @@
-use Rattle.keyed_table.proofs.Common.{◌∙◌, Err, sym}
+use Rattle.keyed_table.proofs.Common.{◌∙◌, Err, None, sym}
 use Rattle.device_registry.proofs.Common.{learn_update, device_data}
 use Rattle.device_registry.proofs.RegistryCalls.{err_is, shown_before, keeps, keeps_well, both_ready, reports}
 use Rattle.device_registry.proofs.RegistryCalls.{looks_up, unlearned, made_ready, upserted, upserted_learns}
 use Rattle.device_registry.proofs.RegistryCalls.{upserted_well}
+use Rattle.learned_devices.proofs.ForCallers.{no_more_commits, one_more_commit}
 use Rattle.device_registry.proofs.device_table.DeviceTable.learn_unless_full.Goals as goal
 
 pub is_full_for-requires : goal.is_full_for-requires
@@ -15,7 +16,8 @@ invariant_of-self g c = keeps_well c.is_full_for.ensures.stays c.self.invariant
 
 pub returns-in_err-is_full_for-clause-adds : goal.returns-in_err-is_full_for-clause-adds
 returns-in_err-is_full_for-clause-adds g c = rw (← c.self.view_is, err_is _ c.from_residual.ensures.1) (unlearned
-    c.args.device (looks_up c.is_full_for.ensures.stays c.self.invariant {E = Unit {0}} (Err tt) (λ _ _ _. tt)))
+    c.args.device (looks_up c.is_full_for.ensures.stays c.self.invariant {E = Unit {0}}
+    (λ _. c.is_full_for.ensures.counted) (Err tt) (λ _ _ _. tt)))
 
 -- ---- the registry is full
 
@@ -30,6 +32,7 @@ returns-then-branch g c =
       adds = record {
         clean = stays.clean;
         reopenable = (keeps_well stays c.self.invariant).0;
+        commits = λ _. no_more_commits 0 c.is_full_for.ensures.counted;
         devices = λ clean devices has. (
           sym (reports stays c.self.invariant full clean devices has) ∙ c.if-branch.true,
           keeps stays c.self.invariant clean devices has,
@@ -58,7 +61,8 @@ pub returns-in_err-upsert-clause-adds : goal.returns-in_err-upsert-clause-adds
 returns-in_err-upsert-clause-adds g c =
     rw (← c.self.view_is, err_is _ c.from_residual-in_err-upsert.ensures.1) (upserted_learns c.args.device
     c.in_err-upsert.ensures.turns c.is_full_for.ensures.stays c.self.invariant
-    (rw (← c.self.view_is) at c.requires.learned) c.in_ok-is_full_for.ensures.full c.if-branch.false
+    (rw (← c.self.view_is) at c.requires.learned) c.in_ok-is_full_for.ensures.full
+    c.is_full_for.ensures.counted (one_more_commit c.upsert.ensures.counted) c.if-branch.false
     (g.met.C.SqlConnection.settled c.upsert.new.conn))
 
 pub invariant_of-self-2 : goal.invariant_of-self-2
@@ -76,13 +80,14 @@ returns g c =
     let turns = c.in_ok-upsert.ensures.turns in
     let done = upserted it turns stays well made full in
     rw (← c.self.view_is) (record {
-      adds = upserted_learns it turns stays well made full c.if-branch.false
+      adds = upserted_learns it turns stays well made full c.is_full_for.ensures.counted
+          (one_more_commit c.upsert.ensures.counted) c.if-branch.false
           (g.met.C.SqlConnection.settled c.upsert.new.conn);
       written = λ clean devices has _. record {
         row = device_data it;
         is = made (stays.clean (done.clean clean)) devices has;
         before = c.is_full_for.new.conn;
-        had = (keeps stays well (done.clean clean) devices has).now;
+        had = (keeps stays well {a = None} {b = None} (done.clean clean) devices has).now;
         count = c.in_ok-upsert.field-0;
         executed = c.in_ok-upsert.ensures.written clean;
       };

@@ -1,6 +1,7 @@
 use Rattle.device_registry.proofs.Common.{device_data}
 use Rattle.device_registry.proofs.DevicesHeld.{room_if_known}
 use Rattle.device_registry.proofs.RegistryCalls.{makes_update, turned_well, updates, made_ready, err_is}
+use Rattle.learned_devices.proofs.ForCallers.{one_more_commit}
 use Rattle.device_registry.proofs.device_table.DeviceTable.put_known.Goals as goal
 
 pub upsert-requires : goal.upsert-requires
@@ -16,7 +17,8 @@ invariant_of-self g c =
 
 pub returns-in_err-upsert-clause-updates : goal.returns-in_err-upsert-clause-updates
 returns-in_err-upsert-clause-updates g c = rw (← c.self.view_is, err_is _ c.from_residual.ensures.1)
-    (λ operation makes. updates _ c.self.invariant (rw (← c.self.view_is) at c.requires.ready) _
+    (λ operation makes. updates _ c.self.invariant (rw (← c.self.view_is) at c.requires.ready)
+    (one_more_commit c.upsert.ensures.counted) _
     (makes_update c.args.device c.in_err-upsert.ensures.turns operation makes)
     (g.met.C.SqlConnection.settled c.upsert.new.conn))
 
@@ -32,7 +34,7 @@ returns g c =
     let known = rw (← c.self.view_is) at c.requires.known in
     let turns = makes_update c.args.device c.in_ok-upsert.ensures.turns in
     rw (← c.self.view_is) (record {
-      updates = λ operation makes. updates _ c.self.invariant ready _ (turns operation makes)
+      updates = λ operation makes. updates _ c.self.invariant ready (one_more_commit c.upsert.ensures.counted) _ (turns operation makes)
           (g.met.C.SqlConnection.settled c.upsert.new.conn);
       written = λ operation makes clean devices has. record {
         row = device_data c.args.device;

@@ -2,6 +2,7 @@ use Rattle.keyed_table.proofs.Common.{refl}
 use Rattle.device_registry.proofs.CacheAgreement.{changed_recalled, cleared_recalled}
 use Rattle.device_registry.proofs.OpenCalls.{rewritten_between}
 use Rattle.device_registry.proofs.RegistryCalls.{err_is, still_pending, updates_after, shows_them}
+use Rattle.learned_devices.proofs.ForCallers.{no_more_commits}
 use Rattle.device_registry.proofs.registry.RegistryOver.delete_device.Goals as goal
 
 pub returns-in_err-known-clause-forgets : goal.returns-in_err-known-clause-forgets
@@ -10,6 +11,7 @@ returns-in_err-known-clause-forgets g c =
     rw (err_is _ c.from_residual.ensures.1) (record {
       clean = looks.clean;
       reopenable = looks.reopenable;
+      commits = λ clean. no_more_commits 1 (looks.commits clean);
       devices = λ clean devices has. still_pending (looks.devices clean devices has);
     })
 
@@ -36,7 +38,12 @@ pub returns-in-Err-clause-forgets : goal.returns-in-Err-clause-forgets
 returns-in-Err-clause-forgets g c =
     let looks = rw (← c.self.view_is) at c.in_ok-known.ensures.looks_up in
     let forgets = updates_after looks _ c.in-Err.ensures.forgets in
-    record { clean = forgets.clean; reopenable = forgets.reopenable; devices = forgets.devices }
+    record {
+      clean = forgets.clean;
+      reopenable = forgets.reopenable;
+      commits = forgets.commits;
+      devices = forgets.devices;
+    }
 
 pub invariant_of-self-in-Err : goal.invariant_of-self-in-Err
 invariant_of-self-in-Err g c = (c.forget.ensures.forgets.reopenable, cleared_recalled _ c.clear.ensures)

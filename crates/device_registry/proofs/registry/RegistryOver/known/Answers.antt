@@ -1,4 +1,4 @@
-use Rattle.keyed_table.proofs.Common.{inl, inr, rules}
+use Rattle.keyed_table.proofs.Common.{inl, inr, refl, rules}
 use Rattle.sqlite.proofs.StateLemmas.{unchanged}
 use Rattle.device_registry.proofs.CacheAgreement.{kept_recalled, found_recalled, cleared_recalled}
 use Rattle.device_registry.proofs.registry.RegistryOver.known.Goals as goal
@@ -17,6 +17,7 @@ returns-in-Some g c =
       looks_up = record {
         clean = λ clean. clean;
         reopenable = c.self.invariant.0;
+        commits = λ _. refl;
         devices = λ clean devices has. ((entry clean).is devices has, record { now = has; crash = λ left may. may });
       };
       same = λ clean. unchanged _ (entry clean).ready.shows.is_open;

@@ -3,6 +3,7 @@ use Rattle.device_registry.proofs.Common.{device}
 use Rattle.sqlite_keyed.proofs.SliceLemmas.{is_some-map}
 use Rattle.learned_devices.specs.Devices.{Relabel}
 use Rattle.device_registry.proofs.RegistryCalls.{err_is, either, still_pending, updates_after, makes_known}
+use Rattle.learned_devices.proofs.ForCallers.{no_more_commits}
 use Rattle.device_registry.proofs.registry.RegistryOver.relabel_as.Goals as goal
 
 pub returns-in_err-known-clause-relabels : goal.returns-in_err-known-clause-relabels
@@ -11,6 +12,7 @@ returns-in_err-known-clause-relabels g c =
     rw (err_is _ c.from_residual.ensures.1) (record {
       clean = looks.clean;
       reopenable = looks.reopenable;
+      commits = λ clean. no_more_commits 1 (looks.commits clean);
       devices = λ clean devices has.
           let same = looks.devices clean devices has in
           either (is_some (get devices c.args.id)) (still_pending same) same;
@@ -34,6 +36,7 @@ returns-in_err-store_known-in-Some-clause-relabels g c =
     rw (err_is _ c.from_residual-in_err-store_known-in-Some.ensures.1) (record {
       clean = updates.clean;
       reopenable = updates.reopenable;
+      commits = updates.commits;
       devices = λ clean devices has.
           let early = stored.clean clean in
           rw (makes early devices (known.looks_up.devices early devices has).1.now).0
@@ -52,6 +55,7 @@ returns-in_ok-store_known-in-Some g c =
       relabels = record {
         clean = updates.clean;
         reopenable = updates.reopenable;
+        commits = updates.commits;
         devices = λ clean devices has. (
           sym (makes (stored.clean clean) devices (known.looks_up.devices (stored.clean clean) devices has).1.now).0,
           updates.devices clean devices has,
@@ -67,6 +71,7 @@ returns-in-None-clause-relabels g c =
     record {
       clean = looks.clean;
       reopenable = looks.reopenable;
+      commits = λ clean. no_more_commits 0 (looks.commits clean);
       devices = λ clean devices has.
           let found = looks.devices clean devices has in (
             ap is_some (sym c.in-None.is ∙ found.0) ∙ is_some-map (device c.args.id) (get devices c.args.id),

@@ -14,6 +14,7 @@ invariant_of-self g c =
     let updates : Updates {A = Unit {0}} {E = Unit {0}} _ _ (learn_update c.args.device) (Ok tt) = record {
       clean = adds.clean;
       reopenable = adds.reopenable;
+      commits = adds.commits;
       devices = λ clean devices has. (adds.devices clean devices has).1;
     } in
     changed_recalled c.in-Ok-true.ensures.ready _ _ _ updates (λ clean devices has.

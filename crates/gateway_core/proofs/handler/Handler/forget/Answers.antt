@@ -19,7 +19,7 @@ returns-in-Err g c =
     rw (← c.self.view_is) (record {
       reported = tt;
       changes_only_registry = alone g.S.DeviceStore.store_state _ _ _ _ _ _ c.forget.ensures.forgets.clean
-          c.forget.ensures.forgets.reopenable
+          c.forget.ensures.forgets.reopenable c.forget.ensures.forgets.commits
           (λ honest devices has. c.in-Err.ensures.forgets.devices honest devices has);
     })
 
@@ -34,6 +34,6 @@ returns g c =
         c.tell-line.ensures ∙ c.in_ok-draft.ensures.line,
       );
       changes_only_registry = alone g.S.DeviceStore.store_state _ _ _ _ _ _ c.forget.ensures.forgets.clean
-          c.forget.ensures.forgets.reopenable
+          c.forget.ensures.forgets.reopenable c.forget.ensures.forgets.commits
           (λ honest devices has. c.in-Ok.ensures.forgets.devices honest devices has);
     })

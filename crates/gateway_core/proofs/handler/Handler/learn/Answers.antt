@@ -5,6 +5,7 @@ use Rattle.learned_devices.specs.declared.fault.LearnFault.{LearnFault}
 use Rattle.learned_devices.specs.declared.fault.LearnFault.TheVariants as fault
 use Rattle.learned_devices.specs.StoreCalls.{RefusesToLearn}
 use Rattle.teach_in.specs.declared.outcome.Outcome.TheVariants.{Accepted, Deleted}
+use Rattle.learned_devices.proofs.ForCallers.{learn_adds_one}
 use Rattle.gateway_core.proofs.AttemptLemmas.{alone, alone-unasked}
 use Rattle.gateway_core.proofs.handler.Handler.learn.Goals as goal
 
@@ -23,6 +24,7 @@ returns-in-Err-Full g c =
       reported = tt;
       changes_only_registry =
           alone g.S.DeviceStore.store_state _ _ _ _ _ _ c.learn.ensures.learns.clean c.learn.ensures.learns.reopenable
+          (λ honest. learn_adds_one c.learn.result (c.learn.ensures.learns.commits honest))
           (λ honest devices has.
           let Refuses = λ (why : LearnFault). RefusesToLearn (g.S.DeviceStore.store_state c.self.inside.registry)
           (g.S.DeviceStore.store_state c.learn.new.self) c.args.device devices why in
@@ -36,6 +38,7 @@ returns-in-Err-Failed g c =
       reported = tt;
       changes_only_registry =
           alone g.S.DeviceStore.store_state _ _ _ _ _ _ c.learn.ensures.learns.clean c.learn.ensures.learns.reopenable
+          (λ honest. learn_adds_one c.learn.result (c.learn.ensures.learns.commits honest))
           (λ honest devices has.
           let Refuses = λ (why : LearnFault). RefusesToLearn (g.S.DeviceStore.store_state c.self.inside.registry)
           (g.S.DeviceStore.store_state c.learn.new.self) c.args.device devices why in
@@ -55,5 +58,6 @@ returns g c =
       );
       changes_only_registry =
           alone g.S.DeviceStore.store_state _ _ _ _ _ _ c.learn.ensures.learns.clean c.learn.ensures.learns.reopenable
+          (λ honest. learn_adds_one c.learn.result (c.learn.ensures.learns.commits honest))
           c.in-Ok.ensures.learns.devices;
     })

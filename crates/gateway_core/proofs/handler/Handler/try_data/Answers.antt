@@ -1,6 +1,7 @@
 use Rattle.std.proofs.Common.{refl, sym, ap, ◌∙◌}
 use Rattle.std.proofs.lemmas.Result.{err_from_is_err_and}
 use Rattle.learned_devices.specs.Devices.{device_of}
+use Rattle.learned_devices.proofs.ForCallers.{no_more_commits}
 use Rattle.gateway_core.specs.Profiles.{read_by}
 use Rattle.gateway_core.specs.Step.{case_effect, data_case}
 use Rattle.gateway_core.proofs.AttemptLemmas.{known_with, permitted, tries, tries-behind, data-need}
@@ -16,6 +17,7 @@ returns-in_err-device g c =
     let error = err_from_is_err_and c.from_residual.result c.from_residual.ensures.1 in
     rw (← c.self.view_is, error.1, error.2)
     (tries g.S.DeviceStore.store_state _ _ _ _ _ _ _ c.find.ensures.clean c.find.ensures.reopenable
+    (λ honest. no_more_commits 1 (c.find.ensures.commits honest))
     (λ honest devices has.
     let now = known_with c.self.inside.base c.self.inside.mode c.self.inside.counts devices in (
       permitted _ _ (data-need now c.args.telegram.now (device_of devices c.args.telegram.now.sender)),
@@ -27,6 +29,7 @@ returns-in_default g c =
     rw (← c.self.view_is) (tries-behind g.S.DeviceStore.store_state _ _ _ c.find.new.self _ _ _ refl
     c.find.ensures.clean
     c.find.ensures.reopenable
+    c.find.ensures.commits
     (λ honest devices has.
     let found = c.in_ok-device.ensures.devices honest devices has in
     let known = sym c.in_default.is ∙ found.0 ∙ ap (device_of devices) c.sender.ensures in
@@ -39,6 +42,7 @@ returns-in_err-done g c =
     let error = err_from_is_err_and c.from_residual-in_err-done.result c.from_residual-in_err-done.ensures.1 in
     rw (← c.self.view_is, error.1, error.2)
     (tries g.S.DeviceStore.store_state _ _ _ _ _ _ _ c.find.ensures.clean c.find.ensures.reopenable
+    (λ honest. no_more_commits 1 (c.find.ensures.commits honest))
     (λ honest devices has.
     let now = known_with c.self.inside.base c.self.inside.mode c.self.inside.counts devices in (
       permitted _ _ (data-need now c.args.telegram.now (device_of devices c.args.telegram.now.sender)),
@@ -49,6 +53,7 @@ pub returns : goal.returns
 returns g c =
     rw (← c.self.view_is) (tries g.S.DeviceStore.store_state _ _ _ _ _ _ _ c.find.ensures.clean
     c.find.ensures.reopenable
+    (λ honest. no_more_commits 1 (c.find.ensures.commits honest))
     (λ honest devices has.
     let found = c.in_ok-device.ensures.devices honest devices has in
     let known = sym c.in-Some.is ∙ found.0 ∙ ap (device_of devices) c.sender.ensures in

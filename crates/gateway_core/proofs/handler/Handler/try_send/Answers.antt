@@ -4,6 +4,7 @@ use Rattle.std.proofs.lemmas.Result.{err_from_is_err_and}
 use Rattle.actuator_commands.specs.Packets.{order_telegram, recipient_id}
 use Rattle.std.specs.Option.{option_copied}
 use Rattle.learned_devices.specs.Devices.{device_of}
+use Rattle.learned_devices.proofs.ForCallers.{no_more_commits}
 use Rattle.gateway_core.specs.Step.{Effect, NeedsStore, recipient_device, send_result_effect}
 use Rattle.gateway_core.specs.private.Attempts.{AppliesOrFails, MatchesEffect, state_of}
 use Rattle.gateway_core.proofs.EffectLemmas.{sends-effect}
@@ -37,6 +38,7 @@ returns-in_err-device g c =
     let some : recipient_id c.args.order.now ≡ Some c.in-Some.id = sym c.recipient_id.ensures ∙ c.in-Some.is in
     rw (← c.self.view_is, error.1, error.2)
     (tries g.S.DeviceStore.store_state _ _ _ _ _ _ _ c.find.ensures.clean c.find.ensures.reopenable
+    (λ honest. no_more_commits 1 (c.find.ensures.commits honest))
     (λ honest devices has.
     let now = known_with c.self.inside.base c.self.inside.mode c.self.inside.counts devices in
     let effect = sends-effect now c.args.order.now c.requires.sends
@@ -52,6 +54,7 @@ returns g c =
     let some : recipient_id c.args.order.now ≡ Some c.in-Some.id = sym c.recipient_id.ensures ∙ c.in-Some.is in
     rw (← c.self.view_is)
     (tries g.S.DeviceStore.store_state _ _ _ _ _ _ _ c.find.ensures.clean c.find.ensures.reopenable
+    (λ honest. no_more_commits 1 (c.find.ensures.commits honest))
     (λ honest devices has.
     let found = c.in_ok-device.ensures.devices honest devices has in
     let now = known_with c.self.inside.base c.self.inside.mode c.self.inside.counts devices in

@@ -1,0 +1,105 @@
+//! A connection that counts its commits, and a registry over it.
+use super::acts::{Act, Many, take_all};
+use super::given::{Fresh, contact, sensor};
+use crate::{RegistryOver, SqlConnection};
+use sqlite::types::ValueRef;
+use sqlite::{Connection, Error, MemStore, Row, Statement};
+use sqlite_schema::schema::Schema;
+use std::alloc::Global;
+use std::test::Fail;
+
+/// A connection, and how many of its calls may have committed. It does not count queries: each that the registry makes
+/// is a SELECT.
+#[derive(Drop)]
+struct Counting<C> {
+    conn: C,
+    commits: u64,
+}
+
+impl<C: SqlConnection> SqlConnection for Counting<C> {
+    ghost use Rattle.std.specs.Prelude.{Some};
+
+    ghost state = { λ counting. C.state counting.conn };
+
+    ghost commits = { λ counting. Some counting.commits };
+
+    fn is_autocommit(&self) -> bool {
+        self.conn.is_autocommit()
+    }
+
+    fn schema(&self) -> &Schema {
+        self.conn.schema()
+    }
+
+    fn prepare(&mut self, sql: &str) -> Result<Statement, Error> {
+        self.conn.prepare(sql)
+    }
+
+    fn execute(&mut self, sql: &str, params: &[ValueRef<'_>]) -> Result<usize, Error> {
+        self.commits = self.commits.saturating_add(1);
+        self.conn.execute(sql, params)
+    }
+
+    fn query_all(&mut self, sql: &str, params: &[ValueRef<'_>]) -> Result<Vec<Row>, Error> {
+        self.conn.query_all(sql, params)
+    }
+
+    fn query_all_prepared(
+        &mut self,
+        statement: &Statement,
+        params: &[ValueRef<'_>],
+    ) -> Result<Vec<Row>, Error> {
+        self.conn.query_all_prepared(statement, params)
+    }
+
+    fn create_tables(&mut self) -> Result<(), Error> {
+        self.commits = self.commits.saturating_add(1);
+        self.conn.create_tables()
+    }
+
+    fn migrate_tables(&mut self) -> Result<(), Error> {
+        self.commits = self.commits.saturating_add(1);
+        self.conn.migrate_tables()
+    }
+
+    ghost settled = { λ counting. C.settled counting.conn };
+}
+
+/// A new registry over a connection that counts.
+fn counted_registry(
+    alloc: Global,
+) -> Result<RegistryOver<Counting<Connection<MemStore>>>, Fail> {
+    let conn = MemStore::fresh(alloc)?;
+    if !conn.is_autocommit() {
+        return Err(Fail::from("a transaction is open"));
+    }
+    match RegistryOver::open_with(alloc, Counting { conn, commits: 0 }, 4) {
+        Ok(registry) => Ok(registry),
+        Err((fault, _)) => Err(fault.into()),
+    }
+}
+
+#[test]
+fn calls_commit_at_most_once(rt: HostRuntime) -> Result<(), Fail> {
+    let acts = [
+        (Act::Finds(5, None), 0),
+        (Act::Learns(contact(5)), 1),
+        (Act::Learns(sensor(5)), 1),
+        (Act::Relabels(5, "Door", true), 1),
+        (Act::Relabels(6, "Hall", false), 0),
+        (Act::Finds(5, Some(sensor(5).labelled("Door"))), 0),
+        (Act::Counts(1), 0),
+        (Act::Forgets(5), 1),
+        (Act::Forgets(6), 1),
+        (Act::Many(Many::LearnsContacts, 1000), 1000),
+        (Act::IsFullFor(contact(1000)), 0),
+        (Act::Learns(sensor(999)), 1),
+    ];
+    let mut registry = counted_registry(rt.alloc())?;
+    for (act, more) in acts {
+        let before = registry.table.conn.commits;
+        take_all(&rt, &mut registry, &[act])?;
+        assert_eq!(rt; registry.table.conn.commits, before.saturating_add(more));
+    }
+    Ok(())
+}
