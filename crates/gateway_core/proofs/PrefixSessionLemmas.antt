@@ -40,7 +40,7 @@ module _ (Before : Devices → Type 0) where
       → IsCrashConsistent Before left devices → ¬ IsSome update
       → IsCrashConsistent Before (after_committed_update left known update) devices
   safe-without_commit left known devices None safe none = safe
-  safe-without_commit left known devices (Some update) safe none = absurd (none tt)
+  safe-without_commit left known devices (Some update) safe none = absurd (none refl)
 
   -- what is crash-consistent stays so, while no update is acknowledged
   safe-unacknowledged : (left : CrashStates) (state : State) (inputs : List Input) (results : List InputResult)
