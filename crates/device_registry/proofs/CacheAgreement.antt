@@ -33,7 +33,8 @@ agrees {s} {entry} clean ready devices has is =
 
 module _ {old new : State} (ready : HasCleanDisk new → AreReady old new) where
   -- an entry with the result of a look-up is correct
-  pub found_recalled : {a b : Option ℕ} → HasCleanDisk new → {entry : Entry} → ((devices : Devices) → HasDevicesIfOpen old devices
+  pub found_recalled : {a b : Option ℕ} → HasCleanDisk new → {entry : Entry}
+      → ((devices : Devices) → HasDevicesIfOpen old devices
       → (entry.1 ≡ device_of devices entry.0) × Keeps (registry_state old a) (registry_state new b) devices)
       → EntryAgrees new entry
   found_recalled clean found =
@@ -42,8 +43,9 @@ module _ {old new : State} (ready : HasCleanDisk new → AreReady old new) where
       agrees clean (ready clean).1 was.held now.1.now now.0
 
   -- a correct entry stays correct if the call keeps the devices
-  pub kept_recalled : {a b : Option ℕ} → HasCleanDisk new → {entry : Entry} {Told : Devices → Type 0} → ((devices : Devices)
-      → HasDevicesIfOpen old devices → Told devices × Keeps (registry_state old a) (registry_state new b) devices)
+  pub kept_recalled : {a b : Option ℕ} → HasCleanDisk new → {entry : Entry} {Told : Devices → Type 0}
+      → ((devices : Devices) → HasDevicesIfOpen old devices
+      → Told devices × Keeps (registry_state old a) (registry_state new b) devices)
       → EntryAgrees old entry → EntryAgrees new entry
   kept_recalled clean keeps right = found_recalled clean (λ devices has. (right.is devices has, (keeps devices has).1))
 

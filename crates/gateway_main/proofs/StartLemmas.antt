@@ -22,7 +22,8 @@ pub idle_at_first : {S : Type 0} (base : ℕ) (registry : S) (new : GatewayValue
 idle_at_first {S} base registry new is = let P : GatewayValue S → Type 0 = λ v. HasNoReadyPacket v in
     subst P (sym is) (record { ready = refl; rest = empty_may_become })
 
-pub starts : {C : Type 0} (state : C → State) (commits : C → Option ℕ) (database registry : C) (base : ℕ) (new : GatewayValue C)
+pub starts : {C : Type 0} (state : C → State) (commits : C → Option ℕ) (database registry : C) (base : ℕ)
+    (new : GatewayValue C)
     → new ≡ new_gateway_value base registry
     → (HasCleanDisk (state registry) → IsOpened (state database) (state registry))
     → HasCleanDisk (state new.handler.registry) → Starts state commits database base new.handler
@@ -40,7 +41,8 @@ starts {C} state commits database registry base new is opened =
       registries = it.registries;
     })
 
-pub new_gateway : {C : Type 0} (state : C → State) (commits : C → Option ℕ) (database registry : C) (base : ℕ) (new : GatewayValue C)
+pub new_gateway : {C : Type 0} (state : C → State) (commits : C → Option ℕ) (database registry : C) (base : ℕ)
+    (new : GatewayValue C)
     → new ≡ new_gateway_value base registry
     → (HasCleanDisk (state registry) → IsOpened (state database) (state registry))
     → HasCleanDisk (state new.handler.registry)

@@ -66,9 +66,7 @@ impl<C: SqlConnection> SqlConnection for Counting<C> {
 }
 
 /// A new registry over a connection that counts.
-fn counted_registry(
-    alloc: Global,
-) -> Result<RegistryOver<Counting<Connection<MemStore>>>, Fail> {
+fn counted_registry(alloc: Global) -> Result<RegistryOver<Counting<Connection<MemStore>>>, Fail> {
     let conn = MemStore::fresh(alloc)?;
     if !conn.is_autocommit() {
         return Err(Fail::from("a transaction is open"));

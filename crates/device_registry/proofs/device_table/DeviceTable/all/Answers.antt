@@ -19,6 +19,7 @@ pub returns-clause-lists : goal.returns-clause-lists
 returns-clause-lists g c =
     let stays = c.list_devices.ensures.stays in
     let listed = c.in_ok-rows.ensures.all in
-    rw (← c.self.view_is) (lists_all stays c.self.invariant c.list_devices.ensures.counted c.decode_all.result (λ clean devices has.
+    rw (← c.self.view_is) (lists_all stays c.self.invariant c.list_devices.ensures.counted
+    c.decode_all.result (λ clean devices has.
     IfOk-weaker c.decode_all.result _ _ (λ all read. read ∙ ap (map shown_device) c.deref.ensures.value
     ∙ reports stays c.self.invariant listed clean devices has) c.decode_all.ensures.listed))

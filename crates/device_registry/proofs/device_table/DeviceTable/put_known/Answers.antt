@@ -34,7 +34,8 @@ returns g c =
     let known = rw (← c.self.view_is) at c.requires.known in
     let turns = makes_update c.args.device c.in_ok-upsert.ensures.turns in
     rw (← c.self.view_is) (record {
-      updates = λ operation makes. updates _ c.self.invariant ready (one_more_commit c.upsert.ensures.counted) _ (turns operation makes)
+      updates = λ operation makes. updates _ c.self.invariant ready
+          (one_more_commit c.upsert.ensures.counted) _ (turns operation makes)
           (g.met.C.SqlConnection.settled c.upsert.new.conn);
       written = λ operation makes clean devices has. record {
         row = device_data c.args.device;

@@ -58,7 +58,8 @@ returns-in-None g c =
     let looks = c.in_ok-known.ensures.looks_up in
     let stored = c.store_new_unless_full.ensures in
     record {
-      learns = learns_then looks.clean looks.commits (λ clean devices has. (looks.devices clean devices has).1) _ stored.learns;
+      learns = learns_then looks.clean looks.commits (λ clean devices has. (looks.devices clean devices has).1) _
+          stored.learns;
       written = λ clean devices has. stored.written clean devices
           (looks.devices (stored.learns.clean clean) devices has).1.now;
     }
