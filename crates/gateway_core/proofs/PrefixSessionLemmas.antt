@@ -94,10 +94,10 @@ safe-prefix start inputs results devices p =
     let after : IsCrashConsistent Before (crash_states left mid p.later_inputs p.later_results) devices =
     elim p.devices_are [
       | inl is ↦ safe-unacknowledged Before left mid p.later_inputs p.later_results devices
-      (subst (IsCrashConsistent Before left)
-      (sym (subst (λ (s : State). devices ≡ s.devices) p.mid_is is)) safe) none
+          (subst (IsCrashConsistent Before left)
+          (sym (subst (λ (s : State). devices ≡ s.devices) p.mid_is is)) safe) none
       | inr fails ↦ safe-failed_next Before left mid p.later_inputs p.later_results devices safe none
-      (subst (λ s. HasFailedNextUpdate s p.later_inputs p.later_results devices) p.mid_is fails)
+          (subst (λ s. HasFailedNextUpdate s p.later_inputs p.later_results devices) p.mid_is fails)
     ] in
     let whole = subst (λ states. IsCrashConsistent Before states devices)
     (sym (crash_states-append nothing_committed_yet start p.earlier_inputs p.later_inputs p.earlier_results

@@ -65,7 +65,10 @@ pub fn start<C: SqlConnection>(
 pub type FileConnection<S> = Connection<FileStore<FileFrom<S>>>;
 
 /// The gateway that a start on two files made, or why it failed, with the connection once the files are open.
-pub type StartedOnFiles<S> = Result<GatewayOver<RegistryOver<FileConnection<S>>>, (Fault, Option<FileConnection<S>>)>;
+pub type StartedOnFiles<S> = Result<
+    GatewayOver<RegistryOver<FileConnection<S>>>,
+    (Fault, Option<FileConnection<S>>),
+>;
 
 /// Opens the database file at this path and its log, or makes them, and starts a gateway over them, as `start` does.
 /// `S` stands for what the two files hold and for what a torn write may leave. A function over `S` is proved for all
