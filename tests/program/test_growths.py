@@ -153,13 +153,13 @@ class Lines(GrowthsTest):
         self.assertEqual(self.growths_by_packet(orders, line, *options), 3 * [self.growths_of_reading()])
 
     def test_the_longest_line_of_readings_is_allocated_at_once(self):
-        """It is that of A5-08-03 at -255 dBm."""
+        """It is that of A5-08-03 at -255 dBm. Its buffer has its length."""
         longest = pieces(telegram(0xA5, bytes.fromhex("65A7010B"), DEVICE, 0, radio(3, ALL, 255)))
         sensor = "add 01800ABC A5-08-03\n"
         self.assert_lines_only(sensor, longest)
-        self.assertEqual(len(text_of(self.replay(script=sensor + longest).stdout).splitlines(keepends=True)[-1]), 276)
+        length = len(text_of(self.replay(script=sensor + longest).stdout).splitlines(keepends=True)[-1])
         few, more = (self.sizes(sensor + times * longest) for times in (1, 2))
-        self.assertEqual(list((more - few).elements()), [276])
+        self.assertEqual((length, list((more - few).elements())), (276, [276]))
 
     def test_packets_of_a_device_that_was_taught_in_over_the_air(self):
         self.assert_lines_only(WINDOWS["on"] + CONTACT, PACKET)
