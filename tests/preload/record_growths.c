@@ -1,5 +1,5 @@
-/* A preloaded library. For each allocation of 32,768 bytes or more it appends a line to the file that RECORD_GROWTHS
-   names: the number of bytes requested. */
+/* A preloaded library. For each allocation of at least RECORD_FROM bytes it appends a line to the file that
+   RECORD_GROWTHS names: the number of bytes requested. */
 #define _GNU_SOURCE
 #include <errno.h>
 #include <fcntl.h>
@@ -14,8 +14,8 @@ void *__libc_memalign(size_t, size_t);
 
 static void record(size_t size)
 {
-    char *records = getenv("RECORD_GROWTHS"), text[32];
-    if (!records || size < 32768)
+    char *records = getenv("RECORD_GROWTHS"), *from = getenv("RECORD_FROM"), text[32];
+    if (!records || !from || size < strtoul(from, NULL, 10))
         return;
     int file = syscall(SYS_openat, AT_FDCWD, records, O_CREAT | O_APPEND | O_WRONLY, 0600);
     int length = snprintf(text, sizeof text, "%zu\n", size);

@@ -49,13 +49,23 @@ def in_little_memory():
     resource.setrlimit(resource.RLIMIT_AS, (20 << 20, 20 << 20))
 
 
-def command(base, database):
-    return [PROGRAM, "replay", "--base", base] + (["--db", database] if database else [])
+REPLAY = ["replay"]
 
 
-def run(script, base="FF800000", database=None, **settings):
+def live(serial=os.devnull, desk="/dev/stdin", turns=8):
+    """The words of a run of `live` that prints its answers. Without other paths its standard input is the desk, of
+    which it reads at most 256 bytes in each turn, and the serial line has no bytes."""
+    return ["live", "--serial", serial, "--desk", desk, "--out", "/dev/stdout", "--turns", str(turns)]
+
+
+def command(base, database, service=REPLAY):
+    return [PROGRAM, *service, "--base", base] + (["--db", database] if database else [])
+
+
+def run(script, base="FF800000", database=None, service=REPLAY, **settings):
     """The text that a run writes to its two streams, and its status. The script comes through a pipe."""
-    done = subprocess.run(command(base, database), input=script, capture_output=True, text=True, **settings)
+    words = command(base, database, service)
+    done = subprocess.run(words, input=script, capture_output=True, text=True, **settings)
     return done.stdout, done.stderr, done.returncode
 
 
@@ -76,17 +86,19 @@ def calls(work, kind, script, database=None, **settings):
     return int(counted.read_text())
 
 
-def refuse_each(work, name, kind, script, case_of, cases, database=None, is_kept=None, first=1, on=False):
+def refuse_each(
+    work, name, kind, script, case_of, cases, database=None, is_kept=None, first=1, on=False, service=REPLAY
+):
     """Each call of this kind fails in turn, from number `first` on, by itself or with all calls after it; in the end
     none fails. Each run is on the database of its number. It ends in a case, `none` if no call fails, and then
     `is_kept` holds for the database. Each of these cases occurs."""
-    last = calls(work, kind, script, database and database(0))
+    last = calls(work, kind, script, database and database(0), service=service)
     preloading(work, REFUSE_CALL)
 
     def differs(number):
         mark, path = work / f"mark_{number}", database and database(number)
         told = {"REFUSE_KIND": kind, "REFUSE_NUMBER": number, "REFUSE_MARK": mark, **({"REFUSE_ON": 1} if on else {})}
-        ended = run(script, database=path, env=preloading(work, REFUSE_CALL, **told))
+        ended = run(script, database=path, service=service, env=preloading(work, REFUSE_CALL, **told))
         case = case_of(ended)
         met.add(case)
         was_refused = mark.exists()

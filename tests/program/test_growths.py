@@ -1,11 +1,12 @@
 """How often the built program allocates memory. A call that asks for memory, or for more of it, counts as one
 allocation. Each query of the database allocates, so a run with no more allocations than another one has no more
 queries."""
+import collections
 import random
 import unittest
 
 from runs import ACCEPTED, ADD, OK, REFUSE_CALL, counts
-from testcase import ProgramTest, text_of
+from testcase import LiveTest, ProgramTest, text_of
 
 from oracle.esp3 import ALL, check8, packet, pieces, radio, telegram
 
@@ -36,10 +37,14 @@ ADD_4BS, ADD_VLD, REMOVE = "add 01800ABC A5-02-05\n", "add 01800ABC D2-01-12\n",
 class GrowthsTest(ProgramTest):
     def growths(self, script, *options):
         """How many allocations a run has, and what it prints."""
+        return self.growths_of(self.replay, *options, script=script)
+
+    def growths_of(self, serve, *options, **settings):
+        """How many allocations a run of this service has, and what it prints."""
         counted = self.work / "counted"
         counted.unlink(missing_ok=True)
         env = self.preloading(REFUSE_CALL, REFUSE_KIND="growth", COUNT_CALLS=counted)
-        run = self.replay(*options, script=script, env=env)
+        run = serve(*options, env=env, **settings)
         self.assertEqual((text_of(run.stderr), run.returncode), ("", 0))
         return int(counted.read_text()), text_of(run.stdout)
 
@@ -89,33 +94,72 @@ class Queries(GrowthsTest):
         self.assertEqual(others, [line, line])
         self.assertGreater(first - line, line)
 
-    def test_1000_devices_and_24_strangers_are_remembered(self):
-        """After each has sent once, three rounds of them in turn have as many allocations as one device and one unknown
-        sender that send as often. So no packet queries the database."""
 
-        def script(senders):
-            senders = [*range(1024), *senders, *senders, *senders]
-            adds = "".join(f"add {sender:08X} D5-00-01\n" for sender in range(1000))
-            return adds + "".join(pieces(telegram(0xD5, b"\x09", sender)) for sender in senders) + "status\n"
+class Remembered(GrowthsTest, LiveTest):
+    """After 1,000 devices and 24 unknown senders have sent once, three rounds of them in turn have as many allocations
+    as one device and one unknown sender that send as often. So no packet queries the database."""
 
-        output = self.assert_alike(script([7] * 1000 + [1000] * 24), script(range(1024)))
-        self.assertEqual(output.count('"type":"reading"'), 4000)
+    ADDS = "".join(f"add {sender:08X} D5-00-01\n" for sender in range(1000))
+
+    def in_replay(self, orders, packets, *options):
+        growths, output = self.growths(orders + pieces(packets) + "status\n", *options)
         self.assertEqual(output.splitlines(keepends=True)[-1], counts(96, 4000))
+        return growths, output
+
+    def in_live(self, orders, packets, *options):
+        """The line has bytes 00 for the turns that read the orders."""
+        self.desk.write_text(orders)
+        self.line.write_bytes(bytes(-(-len(orders) // 256) * 256) + packets)
+        turns = -(-self.line.stat().st_size // 256)
+        growths, _ = self.growths_of(self.live, *options, turns=turns)
+        return growths, self.answers.read_text()
+
+    def assert_remembers(self, serve, orders, *options):
+        """These orders, or an earlier start, add the devices."""
+
+        def served(senders):
+            senders = [*range(1024), *senders, *senders, *senders]
+            return serve(orders, b"".join(telegram(0xD5, b"\x09", sender) for sender in senders), *options)
+
+        (one, _), (other, output) = served([7] * 1000 + [1000] * 24), served(range(1024))
+        self.assertEqual(one, other)
+        self.assertEqual(output.count('"type":"reading"'), 4000)
+
+    def test_senders_are_remembered_in_memory(self):
+        for serve in (self.in_replay, self.in_live):
+            with self.subTest(serve=serve.__name__):
+                self.assert_remembers(serve, self.ADDS)
+
+    def test_senders_are_remembered_with_a_registry_in_a_file(self):
+        in_file = ["--db", self.work / "thousand.db"]
+        self.replay(*in_file, script=self.ADDS)
+        for serve in (self.in_replay, self.in_live):
+            with self.subTest(serve=serve.__name__):
+                self.assert_remembers(serve, "", *in_file)
 
 
 class Lines(GrowthsTest):
     """Packets that need only the memory of their line of output, and so do not query the database."""
+
+    def sizes(self, script):
+        """How many allocations of each size a run has; the sizes are in bytes."""
+        recorded = self.work / "recorded"
+        recorded.unlink(missing_ok=True)
+        self.replay(script=script, env=self.preloading("record_growths.c", RECORD_GROWTHS=recorded, RECORD_FROM=0))
+        return collections.Counter(map(int, recorded.read_text().split()))
 
     def assert_lines_only(self, orders, line, *options):
         """After these orders the packet has as many allocations each time as a reading has."""
         self.assertEqual(self.growths_by_packet(orders, line, *options), 3 * [self.growths_of_reading()])
 
     def test_the_longest_line_of_readings_is_allocated_at_once(self):
-        """It is that of A5-08-03 at -255 dBm."""
+        """It is that of A5-08-03 at -255 dBm. Its buffer has its length."""
         longest = pieces(telegram(0xA5, bytes.fromhex("65A7010B"), DEVICE, 0, radio(3, ALL, 255)))
         sensor = "add 01800ABC A5-08-03\n"
         self.assert_lines_only(sensor, longest)
-        self.assertEqual(len(text_of(self.replay(script=sensor + longest).stdout).splitlines(keepends=True)[-1]), 276)
+        length = len(text_of(self.replay(script=sensor + longest).stdout).splitlines(keepends=True)[-1])
+        few, more = (self.sizes(sensor + times * longest) for times in (1, 2))
+        self.assertEqual((length, list((more - few).elements())), (276, [276]))
 
     def test_packets_of_a_device_that_was_taught_in_over_the_air(self):
         self.assert_lines_only(WINDOWS["on"] + CONTACT, PACKET)
@@ -286,6 +330,11 @@ class Orders(GrowthsTest):
 
     def test_a_second_list_of_two_devices(self):
         self.assert_growths(22, self.TWO + "list\n", "list\n")
+
+    def test_a_list_of_100_devices(self):
+        """Their buffer is allocated at once."""
+        adds = "".join(f"add {sender:08X} D5-00-01\n" for sender in range(100))
+        self.assert_growths(279, adds, "list\n")
 
     def test_a_label(self):
         self.assert_growths(42, self.TWO, self.LABEL)
