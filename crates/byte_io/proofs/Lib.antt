@@ -1,4 +1,3 @@
-pub mod CountLemmas
 pub mod TransferLemmas
 pub mod WriteLemmas
 pub mod ForCallers

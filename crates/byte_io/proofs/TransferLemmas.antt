@@ -1,19 +1,33 @@
--- How the bytes of a source and of a sink grow.
-use Rattle.std.proofs.Common.{◌≡◌, ℕ, List, [], ◌∷◌, ◌++◌, ap, sym, ◌∙◌, append-nil, append_assoc}
+-- How the bytes of a sink grow.
+use Rattle.std.proofs.Common.{◌≡◌, ℕ, List, [], ◌∷◌, ◌++◌, ap, refl, sym, ◌∙◌, append-nil, append_assoc}
+use Rattle.std.specs.Prelude.{unwrap_or}
 use Rattle.std.specs.List.{concat, flat_map}
 use Rattle.std.proofs.KnownBytes.{Appends-nil, Appends-trans}
 use Rattle.std.proofs.lemmas.List.Concat.{concat_is, flat_map-append}
-use Rattle.byte_io.specs.Transfers.{Adds, SinkBytes}
+use Rattle.byte_io.specs.Streams.{SinkValue}
+use Rattle.byte_io.specs.Transfers.{Transfer, bytes_of}
+use Rattle.byte_io.specs.Writes.{Accepts, WritesText}
 
-pub adds-nil : (now : SinkBytes) → Adds now now []
-adds-nil now = (sym (append-nil now.accepted), Appends-nil now.held)
+bytes_of-append : (first second : List Transfer) → bytes_of (first ++ second) ≡ bytes_of first ++ bytes_of second
+bytes_of-append first second = flat_map-append (λ (transfer : Transfer). unwrap_or transfer []) first second
 
-pub adds-trans : (old mid new : SinkBytes) (first second : List ℕ) → Adds old mid first → Adds mid new second
-    → Adds old new (first ++ second)
-adds-trans old mid new first second a b = (
-  b.0 ∙ ap (λ s. s ++ second) a.0 ∙ append_assoc old.accepted first second,
-  Appends-trans old.held mid.held new.held first second a.1 b.1,
-)
+pub accepts-nil : (now : SinkValue) → Accepts now now [] []
+accepts-nil now = record { made = sym (append-nil now.writes); accepted = refl; held = Appends-nil now.held }
+
+pub accepts-trans : (old mid new : SinkValue) (writes more : List Transfer) (first second : List ℕ)
+    → Accepts old mid writes first → Accepts mid new more second → Accepts old new (writes ++ more) (first ++ second)
+accepts-trans old mid new writes more first second a b = record {
+  made = b.made ∙ ap (λ s. s ++ more) a.made ∙ append_assoc old.writes writes more;
+  accepted = bytes_of-append writes more ∙ ap (λ s. s ++ bytes_of more) a.accepted ∙ ap (λ s. first ++ s) b.accepted;
+  held = Appends-trans old.held mid.held new.held first second a.held b.held;
+}
+
+-- all bytes that the sink accepted so far
+pub writes-bytes : (old new : SinkValue) (text : List ℕ) → WritesText old new text
+    → bytes_of new.writes ≡ bytes_of old.writes ++ text
+writes-bytes old new text a =
+    ap bytes_of a.accepts.made ∙ bytes_of-append old.writes a.writes
+    ∙ ap (λ s. bytes_of old.writes ++ s) a.accepts.accepted
 
 pub concat-more : (pieces : List (List ℕ)) (bytes : List ℕ) → concat (pieces ++ bytes ∷ []) ≡ concat pieces ++ bytes
 concat-more pieces bytes =

@@ -1,4 +1,4 @@
-pub mod Counts
 pub mod ReadLimit
 pub mod Transfers
+pub mod Streams
 pub mod Writes

@@ -1,24 +1,31 @@
--- What a source returned and a sink accepted.
-use Rattle.std.specs.Prelude.{◌≡◌, ℕ, List, [], ◌∷◌, ◌++◌, take, Option, Result, MatchResult}
-use Rattle.std.specs.Io.KnownBytes.{Appends, Keeps}
+-- The reads of a source, and the writes of a sink.
+use Rattle.std.specs.Prelude.{◌≡◌, ◌≢◌, ℕ, List, [], ◌++◌, All, take, Option, None, Some, IfSome, IsSomeAnd, unwrap_or}
+use Rattle.std.specs.Prelude.{Result, Ok, Err}
+use Rattle.std.specs.List.{flat_map}
 
--- `returned` lists the bytes of each read that did not fail. One more read, for `Ok(n)`, returned the first n bytes of
--- the buffer, perhaps none.
-abbrev pub ReadIsRecorded : {E : Type 0} → (old new : List (List ℕ)) → Result ℕ E → (buffer : List ℕ) → Type 0
-ReadIsRecorded old new result buffer =
-    MatchResult result (λ n. new ≡ old ++ take n buffer ∷ []) (λ _. new ≡ old)
+-- one read or write: the bytes that it returned or accepted, perhaps none, or `None` if it failed
+abbrev pub Transfer : Type 0
+Transfer = Option (List ℕ)
 
--- the bytes that the writes of a sink accepted so far, and all that it holds, if that is known
-pub record SinkBytes : Type 0 where
-  pub accepted : List ℕ
-  pub held : Option (List ℕ)
+-- the read or write with this result, where `bytes` are those of its buffer or its text
+abbrev pub transfer_of : {E : Type 0} → Result ℕ E → (bytes : List ℕ) → Transfer
+transfer_of (Ok n) bytes = Some (take n bytes)
+transfer_of (Err e) bytes = None
 
--- the writes accepted exactly this text; the sink holds it after what it held, if that is known
-abbrev pub Adds : (old new : SinkBytes) (text : List ℕ) → Type 0
-Adds old new text = (new.accepted ≡ old.accepted ++ text) × Appends old.held new.held text
+-- all bytes that they returned or accepted
+abbrev pub bytes_of : List Transfer → List ℕ
+bytes_of transfers = flat_map (λ transfer. unwrap_or transfer []) transfers
 
--- a write of this text accepted its first n bytes, for `Ok(n)`, and nothing for `Err`
-abbrev pub WriteAdds : {E : Type 0} → (old new : SinkBytes) → Result ℕ E → (text : List ℕ) → Type 0
-WriteAdds old new result text =
-    MatchResult result (λ n. Adds old new (take n text))
-    (λ _. (new.accepted ≡ old.accepted) × Keeps old.held new.held)
+-- it did not fail, and returned or accepted at least one byte
+abbrev pub MovesBytes : Transfer → Type 0
+MovesBytes transfer = IsSomeAnd transfer (λ bytes. bytes ≢ [])
+
+-- it failed, or returned or accepted 0 bytes
+abbrev pub MovesNothing : Transfer → Type 0
+MovesNothing transfer = IfSome transfer (λ bytes. bytes ≡ [])
+
+-- between the two states reads or writes were made, and each of them is so
+pub record EachIs (is : Transfer → Type 0) (old new : List Transfer) : Type 0 where
+  pub transfers : List Transfer
+  pub made : new ≡ old ++ transfers
+  pub each : All is transfers

@@ -1,14 +1,15 @@
-//! Byte strings that only contracts see. They take no memory, and the functions do nothing at run time.
-ghost use Rattle.std.specs.Prelude.{◌≡◌, ℕ, List, [], ◌∷◌, ◌++◌};
+//! Reads or writes that only contracts see. They take no memory, and the functions do nothing at run time.
+ghost use Rattle.std.specs.Prelude.{◌≡◌, List, [], ◌∷◌, ◌++◌};
 ghost use Rattle.std.specs.Borrow.{ftrue};
+ghost use Rattle.byte_io.specs.Transfers.{Transfer, transfer_of};
 
-use std::marker::{Model, PhantomData};
+use crate::failed::Failed;
+use std::marker::Model;
 
-/// The bytes of each call so far, in order: what a read returned, or what a write accepted.
+/// The reads of a source, or the writes of a sink, in order.
 #[derive(Drop)]
 pub(crate) struct History {
-    marker: PhantomData<u8>,
-    pub(crate) ghost pieces: { List (List ℕ) },
+    pub(crate) ghost transfers: { List Transfer },
 }
 
 impl Model for History {
@@ -17,15 +18,15 @@ impl Model for History {
 
 impl History {
     pub(crate) fn new() -> History
-        ensures { result.pieces ≡ [] }
+        ensures { result.transfers ≡ [] }
     {
-        History {
-            marker: PhantomData,
-        }
+        History {}
     }
 
-    /// Adds the bytes of one call.
-    pub(crate) fn note(&mut self, _bytes: &[u8])
-        ensures { self.new.pieces ≡ self.old.pieces ++ _bytes.now ∷ [] }
-    {}
+    /// The history with one more read or write: its result, and its buffer or its text.
+    pub(crate) fn with(&self, _answer: &Result<usize, Failed>, _bytes: &[u8]) -> History
+        ensures { result.transfers ≡ self.now.transfers ++ transfer_of _answer.now _bytes.now ∷ [] }
+    {
+        History {}
+    }
 }

@@ -2,6 +2,8 @@
 use Rattle.std.proofs.Common.{◌≡◌, ℕ, List, [], ◌∷◌, ◌++◌, refl, ap, sym, ◌∙◌, append_assoc}
 use Rattle.std.specs.List.{flat_map}
 use Rattle.gateway_core.specs.Step.{Answer}
+use Rattle.byte_io.specs.Transfers.{bytes_of}
+use Rattle.byte_io.proofs.ForCallers.{writes-bytes}
 use Rattle.gateway_loop.specs.Explained.{DifferByExplanations, DifferByExplanationsAfter, ExplanationsStandApart}
 use Rattle.gateway_loop.specs.Written.{radio_chunk_line}
 
@@ -43,10 +45,11 @@ module _ (before : Answer → List ℕ) where
 pub explanations_stand_apart : ExplanationsStandApart
 explanations_stand_apart = record {
   replay = λ answers old new other first second.
-      behind (λ answer. radio_chunk_line answer.radio) answers old.accepted new.accepted other.accepted first.0
-      second.0;
-  desk = λ answers old new other one two.
-      behind (λ answer. []) answers old.1.bytes.accepted new.1.bytes.accepted other.1.bytes.accepted one.1.text.0
-      two.1.text.0;
-  serial = λ answers old new other one two. one.0.text.0 ∙ sym two.0.text.0;
+      behind (λ answer. radio_chunk_line answer.radio) answers (bytes_of old.writes) (bytes_of new.writes)
+      (bytes_of other.writes) (writes-bytes old new _ first) (writes-bytes old other _ second);
+  desk = λ answers old new other first second.
+      behind (λ answer. []) answers (bytes_of old.1.writes) (bytes_of new.1.writes) (bytes_of other.1.writes)
+      (writes-bytes old.1 new.1 _ first.1) (writes-bytes old.1 other.1 _ second.1);
+  serial = λ answers old new other first second.
+      writes-bytes old.0 new.0 _ first.0 ∙ sym (writes-bytes old.0 other.0 _ second.0);
 }

@@ -3,7 +3,7 @@ use Rattle.std.proofs.Common.{◌≡◌, ◌⊎◌, ◌+◌, inl, inr, ℕ, Bool
 use Rattle.std.proofs.Common.{map, Option, Some, None, Ok, Err, append-nil, append_assoc, refl, sym, ap}
 use Rattle.std.proofs.Common.{subst, ◌∙◌, length-append}
 use Rattle.std.specs.List.{concat, flat_map}
-use Rattle.std.proofs.lemmas.List.{length-map, map-append}
+use Rattle.std.proofs.lemmas.List.{map-append}
 use Rattle.std.proofs.lemmas.List.Concat.{flat_map-append}
 use Rattle.learned_devices.specs.DeviceStoreState.{DeviceStoreState}
 use Rattle.learned_devices.specs.Devices.{Devices}
@@ -14,8 +14,8 @@ use Rattle.gateway_core.specs.Handling.{HandlerValue, Handles, HasState}
 use Rattle.gateway_core.specs.Calls.{GatewayValue}
 use Rattle.gateway_core.specs.Events.{InputEvent, Chunk, Line, new_packets, bytes_in, inputs_of}
 use Rattle.gateway_core.proofs.ForCallers.{new_packets-append, inputs_of-append, sessions_leave_prefixes, safe-weaker}
-use Rattle.byte_io.specs.Transfers.{Adds}
-use Rattle.byte_io.specs.Writes.{AppendsPart}
+use Rattle.byte_io.specs.Streams.{SourceValue, sink_value, source_value}
+use Rattle.byte_io.specs.Writes.{Adds, WritesPart}
 use Rattle.byte_io.specs.declared.sink.Sink as sinks
 use Rattle.byte_io.specs.declared.source.Source as sources
 use Rattle.gateway_loop.specs.declared.run_result.RunFault.{RunFault}
@@ -31,13 +31,12 @@ use Rattle.gateway_loop.specs.Processing.{Breaks, IsWholeOrChunkPrefix}
 use Rattle.gateway_loop.specs.Script.{script, with_lf}
 use Rattle.gateway_loop.specs.ScriptReplay.{Replays, ReplaysEndedLines, ReplaysUntilFault, ReplaysUntilWriteFails}
 use Rattle.gateway_loop.specs.ScriptReplay.{replay_value}
-use Rattle.gateway_loop.specs.Reads.{Returns}
-use Rattle.gateway_loop.specs.Streams.{source_value}
+use Rattle.gateway_loop.specs.Reads.{AllReadsSucceed, LastReadFails, OnlyLastMayFail}
 use Rattle.gateway_loop.specs.Turns.{Turn, desk_reads, events_of_turns, serial_reads, turns_of}
 use Rattle.gateway_loop.specs.LiveOutputs.{radio_bytes, live_output}
 use Rattle.gateway_loop.specs.Written.{AppendsCutReplayText, desk_text, text_of, written}
 use Rattle.gateway_loop.proofs.LineLemmas.{script-behind}
-use Rattle.gateway_loop.proofs.TurnLemmas.{events_of_piece}
+use Rattle.gateway_loop.proofs.TurnLemmas.{events_of_piece, length-desk_reads, length-serial_reads}
 
 -- ---- prefixes
 
@@ -63,7 +62,7 @@ module _ (says : Answer → List ℕ) (answers : List Answer) (last : Answer) wh
 -- ---- turns
 
 same_length : (read : List Turn) → length (serial_reads read) ≡ length (desk_reads read)
-same_length read = length-map read (λ (turn : Turn). turn.chunk) ∙ sym (length-map read (λ (turn : Turn). turn.desk))
+same_length read = length-serial_reads read ∙ sym (length-desk_reads read)
 
 turns_of-reads : (read : List Turn) → turns_of (serial_reads read) (desk_reads read) ≡ read
 turns_of-reads [] = refl
@@ -231,9 +230,9 @@ module _ {S : Type 0} (state : S → DeviceStoreState) where
         let text = written explains its.answers in
         record {
           reads = done.reads;
-          read = done.read;
+          read = inl done.read.returns;
           text = text;
-          text_is_added = its.out;
+          text_is_added = (its.out.writes, its.out.accepts);
           specified = (
             done.ends,
             done.at_end,
@@ -243,9 +242,12 @@ module _ {S : Type 0} (state : S → DeviceStoreState) where
         }
 
     -- some lines that LF ended, and perhaps the beginning of one more
-    ended_lines_replayed : (fault : RunFault) → ReplaysEndedLines state (replay_value source sink) explains old new
+    ended_lines_replayed : (fault : RunFault) (ReadAs : (old new : SourceValue) (reads : List (List ℕ)) → Type 0)
+        → ((reads : List (List ℕ)) → ReadAs (source_value source old.1) (source_value source new.1) reads
+        → OnlyLastMayFail (source_value source old.1) (source_value source new.1) reads)
+        → ReplaysEndedLines state (replay_value source sink) explains ReadAs old new
         → ReplaysAsSpecified state source sink explains (Err fault) old new
-    ended_lines_replayed fault done base found began clean =
+    ended_lines_replayed fault ReadAs read done base found began clean =
         let its = done.processed.processed.answered in
         let text = written explains its.answers in
         let ended = done.processed.ended in
@@ -255,9 +257,9 @@ module _ {S : Type 0} (state : S → DeviceStoreState) where
         ap script done.processed.is.whole ∙ script-behind ended tail done.processed.is.ends in
         record {
           reads = done.reads;
-          read = done.read;
+          read = read done.reads done.read;
           text = text;
-          text_is_added = its.out;
+          text_is_added = (its.out.writes, its.out.accepts);
           specified = played_first base found old.0 new.0.handler began clean (script ended) (script tail)
               (script input)
               whole its.answers (λ answers. IsPrefix text (written explains answers)) its.handled (whole_prefix text);
@@ -265,21 +267,22 @@ module _ {S : Type 0} (state : S → DeviceStoreState) where
 
     -- an answer to an input of one event
     event_broken : (reads : List (List ℕ))
-        → Returns (source_value source old.1) (source_value source new.1) reads → (events : List InputEvent)
+        → AllReadsSucceed (source_value source old.1) (source_value source new.1) reads → (events : List InputEvent)
         (event : InputEvent)
-        → Breaks state old.0 new.0 events event (AppendsCutReplayText explains (sink.bytes old.2) (sink.bytes new.2))
+        → Breaks state old.0 new.0 events event
+        (AppendsCutReplayText explains (sink_value sink old.2) (sink_value sink new.2))
         → (later : List InputEvent) → script (concat reads) ≡ events ++ event ∷ later
         → ReplaysAsSpecified state source sink explains (Err Write) old new
     event_broken reads read events event b later whole base found began clean =
         let its = b.answered in
-        let part : AppendsPart (sink.bytes old.2) (sink.bytes new.2) (written explains its.answers)
+        let part : WritesPart (sink_value sink old.2) (sink_value sink new.2) (written explains its.answers)
         (text_of explains its.last) = its.out in
         let text = written explains its.answers ++ part.part in
         record {
           reads = reads;
-          read = read;
+          read = inl read.returns;
           text = text;
-          text_is_added = part.grown;
+          text_is_added = (part.earlier ++ part.last ∷ [], part.accepts);
           specified = broken_off base found old.0 new.0 events event later (script (concat reads)) began clean whole b
               (λ answers. IsPrefix text (written explains answers))
               (part_prefix (text_of explains) its.answers its.last part.part part.missing part.whole);
@@ -303,9 +306,10 @@ module _ {S : Type 0} (state : S → DeviceStoreState) where
 
     pub replayed_until : (fault : RunFault) → ReplaysUntilFault state (replay_value source sink) explains old new fault
         → ReplaysAsSpecified state source sink explains (Err fault) old new
-    replayed_until Read done = ended_lines_replayed Read done
+    replayed_until Read done = ended_lines_replayed Read LastReadFails (λ reads read. inr read.returns) done
     replayed_until Write done = write_failed done
-    replayed_until TooManyTurns done = ended_lines_replayed TooManyTurns done
+    replayed_until TooManyTurns done =
+        ended_lines_replayed TooManyTurns AllReadsSucceed (λ reads read. inl read.returns) done
 
   -- ---- `live`
 
@@ -323,16 +327,16 @@ module _ {S : Type 0} (state : S → DeviceStoreState) where
         record {
           serial = serial_reads done.read;
           desk = desk_reads done.read;
-          serial_read = done.serial.bytes_read.all;
-          desk_read = done.desk.bytes_read.all;
+          serial_read = inl done.serial.returns;
+          desk_read = inl done.desk.returns;
           alternate = inl (same_length done.read);
           radio_written = radio;
           desk_written = lines;
-          radio_is_added = its.out.0.text;
-          desk_is_added = its.out.1.text;
+          radio_is_added = (its.out.0.writes, its.out.0.accepts);
+          desk_is_added = (its.out.1.writes, its.out.1.accepts);
           specified = (
-            length-map done.read (λ (turn : Turn). turn.chunk) ∙ done.count,
-            length-map done.read (λ (turn : Turn). turn.desk) ∙ done.count,
+            length-serial_reads done.read ∙ done.count,
+            length-desk_reads done.read ∙ done.count,
             subst (λ events. AsSpecified state base found (inputs_of [] events)
                 (λ answers. (radio ≡ all_radio_bytes answers) × (lines ≡ all_desk_text explains answers)) new.0.handler)
                 (sym (events_of-reads done.read None))
@@ -346,8 +350,8 @@ module _ {S : Type 0} (state : S → DeviceStoreState) where
     record PartIsOut (answers : List Answer) (last : Answer) : Type 0 where
       radio : List ℕ
       lines : List ℕ
-      radio_out : Adds (serial_out.bytes old.3) (serial_out.bytes new.3) radio
-      lines_out : Adds (desk_out.bytes old.4) (desk_out.bytes new.4) lines
+      radio_out : Adds (sink_value serial_out old.3) (sink_value serial_out new.3) radio
+      lines_out : Adds (sink_value desk_out old.4) (sink_value desk_out new.4) lines
       radio_is : IsPrefix radio (all_radio_bytes (answers ++ last ∷ []))
       lines_are : IsPrefix lines (all_desk_text explains (answers ++ last ∷ []))
 
@@ -361,36 +365,37 @@ module _ {S : Type 0} (state : S → DeviceStoreState) where
         elim breaks [
           | inl (radio, lines) ↦
               record {
-                radio = all_radio_bytes answers ++ radio.text.part;
+                radio = all_radio_bytes answers ++ radio.part;
                 lines = all_desk_text explains answers;
-                radio_out = radio.text.grown;
-                lines_out = lines.text;
-                radio_is = part_prefix of_radio answers last radio.text.part radio.text.missing radio.text.whole;
+                radio_out = (radio.earlier ++ radio.last ∷ [], radio.accepts);
+                lines_out = (lines.writes, lines.accepts);
+                radio_is = part_prefix of_radio answers last radio.part radio.missing radio.whole;
                 lines_are = fewer_prefix of_lines answers last;
               }
           | inr (radio, lines) ↦
               record {
                 radio = all_radio_bytes (answers ++ last ∷ []);
-                lines = all_desk_text explains answers ++ lines.text.part;
-                radio_out = radio.text;
-                lines_out = lines.text.grown;
+                lines = all_desk_text explains answers ++ lines.part;
+                radio_out = (radio.writes, radio.accepts);
+                lines_out = (lines.earlier ++ lines.last ∷ [], lines.accepts);
                 radio_is = whole_prefix (all_radio_bytes (answers ++ last ∷ []));
-                lines_are = part_prefix of_lines answers last lines.text.part lines.text.missing lines.text.whole;
+                lines_are = part_prefix of_lines answers last lines.part lines.missing lines.whole;
               }
         ]
 
     -- what was read of the two sources before a fault
     abbrev Took : List Turn → Option (List ℕ) → Type 0
     Took read chunk =
-        Returns (source_value serial_in old.1) (source_value serial_in new.1) (serial_reads_and_chunk read chunk)
-        × Returns (source_value desk_in old.2) (source_value desk_in new.2) (desk_reads read)
+        OnlyLastMayFail (source_value serial_in old.1) (source_value serial_in new.1)
+        (serial_reads_and_chunk read chunk)
+        × OnlyLastMayFail (source_value desk_in old.2) (source_value desk_in new.2) (desk_reads read)
 
     abbrev Out : List ℕ → List ℕ → List Answer → Type 0
     Out radio lines answers = IsPrefix radio (all_radio_bytes answers) × IsPrefix lines (all_desk_text explains answers)
 
     until_fault : (fault : RunFault) (count : ℕ) (read : List Turn) (chunk : Option (List ℕ)) (radio lines : List ℕ)
-        → Took read chunk → Adds (serial_out.bytes old.3) (serial_out.bytes new.3) radio
-        → Adds (desk_out.bytes old.4) (desk_out.bytes new.4) lines
+        → Took read chunk → Adds (sink_value serial_out old.3) (sink_value serial_out new.3) radio
+        → Adds (sink_value desk_out old.4) (sink_value desk_out new.4) lines
         → ((base : ℕ) (found : Devices) → IsNew state base found old.0 → (state new.0.handler.registry).honest
         → BrokenOff state base found (inputs_of [] (events_and_chunk read chunk)) (Out radio lines) new.0.handler)
         → ServesAsSpecified state serial_in desk_in serial_out desk_out explains (Err fault) old new count
@@ -414,7 +419,8 @@ module _ {S : Type 0} (state : S → DeviceStoreState) where
     read_failed count done =
         let its = done.processed.answered in
         until_fault Read count done.read done.chunk (all_radio_bytes its.answers) (all_desk_text explains its.answers)
-        (took done.read done.chunk done.fails) its.out.0.text its.out.1.text
+        (took done.read done.chunk done.fails) (its.out.0.writes, its.out.0.accepts)
+        (its.out.1.writes, its.out.1.accepts)
         (λ base found began clean. played_first base found old.0 new.0.handler began clean
         (events_and_chunk done.read done.chunk) [] (events_and_chunk done.read done.chunk)
         (sym (append-nil (events_and_chunk done.read done.chunk))) its.answers _ its.handled
@@ -422,12 +428,12 @@ module _ {S : Type 0} (state : S → DeviceStoreState) where
       where
         took : (read : List Turn) (chunk : Option (List ℕ)) → NextReadFails (at old) (at new) read chunk → Took read
             chunk
-        took read None fails = (fails.0.bytes_read.all, fails.1.bytes_read.all)
-        took read (Some chunk) fails = (fails.0.bytes_read.all, fails.1.bytes_read.all)
+        took read None fails = (inr fails.0.returns, inl fails.1.returns)
+        took read (Some chunk) fails = (inl fails.0.returns, inr fails.1.returns)
 
     write_to_failed : (count : ℕ) → ServesUntilWriteFails state at explains old new
         → ServesAsSpecified state serial_in desk_in serial_out desk_out explains (Err Write) old new count
-    write_to_failed count done = by done.chunk done.serial.bytes_read.all done.broken
+    write_to_failed count done = by done.chunk done.serial done.broken
       where
         breaks : List Answer → Answer → Type 0
         breaks = (live_output explains).breaks (at old).serial_and_desk_sinks (at new).serial_and_desk_sinks
@@ -445,17 +451,17 @@ module _ {S : Type 0} (state : S → DeviceStoreState) where
             clean whole b (Out part.radio part.lines) (part.radio_is, part.lines_are))
 
         by : (chunk : Option (List ℕ))
-            → Returns (source_value serial_in old.1) (source_value serial_in new.1)
+            → AllReadsSucceed (source_value serial_in old.1) (source_value serial_in new.1)
             (serial_reads_and_chunk done.read chunk)
             → BreaksTurn state old.0 new.0 done.read chunk breaks
             → ServesAsSpecified state serial_in desk_in serial_out desk_out explains (Err Write) old new count
         by None serial broken =
             let events = events_and_chunk broken.earlier_turns (Some broken.last.chunk) ++ broken.earlier_events in
             at_event done.read None
-            (serial, done.desk.bytes_read.all) events broken.later_events broken.order broken.whole
+            (inl serial.returns, inl done.desk.returns) events broken.later_events broken.order broken.whole
             broken.broken
         by (Some chunk) serial broken =
-            at_event done.read (Some chunk) (serial, done.desk.bytes_read.all) (events_of_turns done.read) []
+            at_event done.read (Some chunk) (inl serial.returns, inl done.desk.returns) (events_of_turns done.read) []
             (Chunk chunk)
             refl
             broken

@@ -1,6 +1,6 @@
 pub mod ResultLemmas
 pub mod ListLemmas
-pub mod CallCountLemmas
+pub mod TransferLemmas
 pub mod WriteLemmas
 pub mod TextOutputLemmas
 pub mod AnswerLemmas
@@ -15,6 +15,7 @@ pub mod ReadLemmas
 pub mod TurnLemmas
 pub mod LiveOutputsLemmas
 pub mod ScriptReplayLemmas
+pub mod AllTurnsLemmas
 pub mod DeskCutLemmas
 pub mod CutLemmas
 pub mod HeadlineLemmas

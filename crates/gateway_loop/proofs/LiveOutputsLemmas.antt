@@ -1,21 +1,18 @@
 -- What a `Driver` wrote to two sinks, also after the loans of the gateway and of the sinks have ended.
-use Rattle.std.proofs.Common.{◌≡◌, List, inl, inr}
+use Rattle.std.proofs.Common.{◌≡◌, List}
 use Rattle.learned_devices.specs.DeviceStoreState.{DeviceStoreState}
-use Rattle.gateway_core.specs.Step.{Answer}
 use Rattle.gateway_core.specs.Calls.{GatewayValue}
 use Rattle.gateway_core.specs.Events.{InputEvent}
-use Rattle.byte_io.specs.Counts.{CanCountCalls, NoneFailedOrEmpty}
+use Rattle.byte_io.specs.Streams.{SinkValue, sink_value}
 use Rattle.byte_io.specs.declared.sink.Sink as sinks
 use Rattle.gateway_loop.specs.declared.driver.Driver.{Driver}
 use Rattle.gateway_loop.specs.declared.live_outputs.LiveOutputs.{LiveOutputs}
 use Rattle.gateway_loop.specs.OutputSpecs.{OutputSpec}
 use Rattle.gateway_loop.specs.Processing.{Breaks, Processes}
 use Rattle.gateway_loop.specs.LiveGateway.{BreaksAtOrder}
-use Rattle.gateway_loop.specs.Streams.{SinkValue, sink_value}
 use Rattle.gateway_loop.specs.private.DriverSteps.{DriverBreaks, DriverProcesses}
 use Rattle.gateway_loop.specs.Turns.{Turn}
 use Rattle.gateway_loop.specs.LiveOutputs.{live_output_of, live_output}
-use Rattle.gateway_loop.proofs.CallCountLemmas.{not_well}
 
 module _ {R D S : Type 0} (stored : S → DeviceStoreState) (serial_sinks : sinks.Ghosts R) (desk_sinks : sinks.Ghosts D)
     (entry now : Driver (LiveOutputs R D) S) (gateway : GatewayValue S) (serial : R) (desk : D)
@@ -73,14 +70,3 @@ module _ {R D S : Type 0} (stored : S → DeviceStoreState) (serial_sinks : sink
     whole = p.whole;
     broken = breaks_at _ _ p.broken;
   }
-
-  -- if an answer broke off, not all writes succeeded
-  pub not_all_well : (answers : List Answer) (last : Answer)
-      → output.breaks entry.reply_sink now.reply_sink answers last
-      → CanCountCalls old_sinks.0.counts 0 → CanCountCalls old_sinks.1.counts 0
-      → NoneFailedOrEmpty old_sinks.0.counts new_sinks.0.counts
-      → NoneFailedOrEmpty old_sinks.1.counts new_sinks.1.counts → ⊥
-  not_all_well answers last (same, inl broken) room others well wells =
-      not_well old_sinks.0.counts (serial_sinks.counts now.reply_sink.serial.now) room broken.0.calls (rw f at well)
-  not_all_well answers last (same, inr broken) room others well wells =
-      not_well old_sinks.1.counts (desk_sinks.counts now.reply_sink.desk.now) others broken.1.calls (rw h at wells)

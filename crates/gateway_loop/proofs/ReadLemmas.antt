@@ -1,20 +1,21 @@
 -- How the reads of a source continue.
 use Rattle.std.proofs.Common.{◌≡◌, ℕ, ◌+◌, ◌≤◌, List, [], ◌∷◌}
 use Rattle.std.proofs.Common.{◌++◌, length, take, Option, refl, ap, sym, ◌∙◌}
-use Rattle.std.proofs.Common.{append-nil, append_assoc, arith, inl, length-append, subst, None, Some, ◌<◌}
-use Rattle.std.specs.Prelude.{◌≢◌, IfSome, Ok, Err}
+use Rattle.std.proofs.Common.{append-nil, append_assoc, arith, length-append, map, subst, None, Some}
+use Rattle.std.specs.Prelude.{◌≢◌, IfSome, IsSome, Ok}
 use Rattle.std.specs.Io.KnownBytes.{Consumes, IsAtEnd, Keeps, ReadConsumes}
 use Rattle.std.specs.List.{concat}
 use Rattle.std.proofs.KnownBytes.{Consumes-nil, Consumes-trans, Consumes-kept}
-use Rattle.std.proofs.lemmas.List.{length-take}
-use Rattle.byte_io.specs.declared.tally.Failed.{Failed}
-use Rattle.byte_io.specs.Counts.{count_call, saturated_increment}
-use Rattle.byte_io.specs.Transfers.{ReadIsRecorded}
-use Rattle.byte_io.proofs.ForCallers.{concat-more}
-use Rattle.gateway_loop.specs.Reads.{AreReads, IsNextRead, MakesAtMostReads, OneMoreReadFails, AllReadsSucceed}
+use Rattle.std.proofs.lemmas.List.{length-map, length-take, map-append}
+use Rattle.std.proofs.lemmas.List.Elements.{All-map}
+use Rattle.byte_io.specs.declared.failed.Failed.{Failed}
 use Rattle.byte_io.specs.ReadLimit.{max_read}
-use Rattle.gateway_loop.specs.Streams.{SourceValue}
-use Rattle.gateway_loop.proofs.CallCountLemmas.{made_at, made_more, made_none}
+use Rattle.byte_io.specs.Streams.{SourceValue}
+use Rattle.byte_io.specs.Transfers.{EachIs, MovesBytes, Transfer}
+use Rattle.byte_io.proofs.ForCallers.{concat-more}
+use Rattle.gateway_loop.specs.Reads.{AllReadsSucceed, AreReads, IsNextRead, LastReadFails, MakesReads, NoneIsEmpty}
+use Rattle.gateway_loop.specs.Reads.{OnlyLastIsEmpty}
+use Rattle.gateway_loop.proofs.TransferLemmas.{last_not_each}
 
 -- one more read after others
 reads_and : (left : Option (List ℕ)) (before : List ℕ) (reads : List (List ℕ)) (bytes : List ℕ)
@@ -41,37 +42,36 @@ empty_take n buffer within none = let e = ap length none in omega (arith, within
 
 pub reads_none : (source : SourceValue) → AllReadsSucceed source source []
 reads_none source = record {
-  bytes_read = record { all = (sym (append-nil source.returned), Consumes-nil source.unread); each = tt };
-  calls_made = made_none source.counts;
-  none_failed = refl;
+  returns = record { made = sym (append-nil source.reads); consumed = Consumes-nil source.unread };
+  each = tt;
 }
+
+-- a read after others
+one_more : (old mid new : SourceValue) (reads : List (List ℕ)) (last : Transfer) → AllReadsSucceed old mid reads
+    → new.reads ≡ mid.reads ++ last ∷ [] → new.reads ≡ old.reads ++ (map Some reads ++ last ∷ [])
+one_more old mid new reads last p listed =
+    listed ∙ ap (λ rs. rs ++ last ∷ []) p.returns.made ∙ append_assoc old.reads (map Some reads) (last ∷ [])
 
 pub reads_more : (old mid new : SourceValue) (reads : List (List ℕ)) (n : ℕ) (buffer : List ℕ)
     → AllReadsSucceed old mid reads
     → n ≤ length buffer → length buffer ≡ max_read → ReadConsumes {E = Failed} mid.unread new.unread (Ok n) buffer
-    → ReadIsRecorded {E = Failed} mid.returned new.returned (Ok n) buffer
-    → new.counts ≡ count_call {E = Failed} mid.counts (Ok n) → AllReadsSucceed old new (reads ++ take n buffer ∷ [])
-reads_more old mid new reads n buffer p within room (some, end) recorded reported =
+    → new.reads ≡ mid.reads ++ Some (take n buffer) ∷ [] → AllReadsSucceed old new (reads ++ take n buffer ∷ [])
+reads_more old mid new reads n buffer p within room (some, end) listed =
     let bytes = take n buffer in
     let read : IsNextRead old.unread (concat reads) bytes = record {
       short = omega (arith, room, length-take n buffer);
-      empty = λ none. all_read old.unread mid.unread new.unread (concat reads) bytes p.bytes_read.all.1 some none
+      empty = λ none. all_read old.unread mid.unread new.unread (concat reads) bytes p.returns.consumed some none
           (end (empty_take n buffer within none) (omega (arith, room)));
     } in
     record {
-      bytes_read = record {
-        all = (
-          recorded ∙ ap (λ rs. rs ++ bytes ∷ []) p.bytes_read.all.0
-              ∙ append_assoc old.returned reads (bytes ∷ []),
-          subst (Consumes old.unread new.unread) (sym (concat-more reads bytes))
-              (Consumes-trans old.unread mid.unread new.unread (concat reads) bytes p.bytes_read.all.1 some),
-        );
-        each = reads_and old.unread [] reads bytes p.bytes_read.each read;
+      returns = record {
+        made = one_more old mid new reads (Some bytes) p listed
+            ∙ ap (λ rs. old.reads ++ rs) (sym (map-append Some reads (bytes ∷ [])));
+        consumed =
+            subst (Consumes old.unread new.unread) (sym (concat-more reads bytes))
+            (Consumes-trans old.unread mid.unread new.unread (concat reads) bytes p.returns.consumed some);
       };
-      calls_made =
-          made_at old.counts new.counts (length reads + 1) _ (sym (length-append reads (bytes ∷ [])))
-          (made_more old.counts mid.counts new.counts (length reads) p.calls_made (ap (λ t. t.calls) reported));
-      none_failed = ap (λ t. t.failed) reported ∙ p.none_failed;
+      each = reads_and old.unread [] reads bytes p.each read;
     }
 
 -- a read that returned some bytes
@@ -85,39 +85,53 @@ concat-and_empty reads = concat-more reads [] ∙ append-nil (concat reads)
 pub reads_end : (old mid new : SourceValue) (reads : List (List ℕ)) (n : ℕ) (buffer : List ℕ)
     → AllReadsSucceed old mid reads → n ≡ 0 → n ≤ length buffer → length buffer ≡ max_read
     → ReadConsumes {E = Failed} mid.unread new.unread (Ok n) buffer
-    → ReadIsRecorded {E = Failed} mid.returned new.returned (Ok n) buffer
-    → new.counts ≡ count_call {E = Failed} mid.counts (Ok n) → AllReadsSucceed old new (reads ++ [] ∷ [])
-reads_end old mid new reads n buffer p none within room bytes recorded reported =
+    → new.reads ≡ mid.reads ++ Some (take n buffer) ∷ [] → AllReadsSucceed old new (reads ++ [] ∷ [])
+reads_end old mid new reads n buffer p none within room bytes listed =
     subst (λ (part : List ℕ). AllReadsSucceed old new (reads ++ part ∷ [])) (ap (λ k. take k buffer) none)
-    (reads_more old mid new reads n buffer p within room bytes recorded reported)
+    (reads_more old mid new reads n buffer p within room bytes listed)
 
--- one more read, of those that are allowed
-pub one_read_more : (old mid new : SourceValue) (reads : List (List ℕ)) (n turn turns : ℕ) (buffer : List ℕ)
-    → AllReadsSucceed old mid reads → length reads ≡ turn → turn < turns → n ≤ length buffer → length buffer ≡ max_read
-    → ReadConsumes {E = Failed} mid.unread new.unread (Ok n) buffer
-    → ReadIsRecorded {E = Failed} mid.returned new.returned (Ok n) buffer
-    → new.counts ≡ count_call {E = Failed} mid.counts (Ok n)
-    → MakesAtMostReads old new turns
-one_read_more old mid new reads n turn turns buffer p count below within room bytes recorded reported = (
-  reads ++ take n buffer ∷ [],
-  inl (
-    reads_more old mid new reads n buffer p within room bytes recorded reported,
-    omega (arith, count, below, length-append reads (take n buffer ∷ [])),
-  ),
+pub reads_fail : (old mid new : SourceValue) (reads : List (List ℕ)) → AllReadsSucceed old mid reads
+    → Keeps mid.unread new.unread → new.reads ≡ mid.reads ++ None ∷ [] → LastReadFails old new reads
+reads_fail old mid new reads p kept listed = record {
+  returns = record {
+    made = one_more old mid new reads None p listed;
+    consumed = Consumes-kept old.unread mid.unread new.unread (concat reads) p.returns.consumed kept;
+  };
+  each = p.each;
+}
+
+-- ---- how many reads are made
+
+pub makes_reads : (old new : SourceValue) (reads : List (List ℕ)) (n : ℕ) → AllReadsSucceed old new reads
+    → length reads ≡ n → MakesReads old.reads new.reads n
+makes_reads old new reads n p count = (map Some reads, p.returns.made, length-map reads Some ∙ count)
+
+-- one more, whether or not it failed
+pub makes_read_more : (old mid new : SourceValue) (reads : List (List ℕ)) (last : Transfer) (n : ℕ)
+    → AllReadsSucceed old mid reads → length reads ≡ n → new.reads ≡ mid.reads ++ last ∷ []
+    → MakesReads old.reads new.reads (n + 1)
+makes_read_more old mid new reads last n p count listed = (
+  map Some reads ++ last ∷ [],
+  one_more old mid new reads last p listed,
+  length-append (map Some reads) (last ∷ []) ∙ ap (λ k. k + 1) (length-map reads Some ∙ count),
 )
 
-pub reads_fail : (old mid new : SourceValue) (reads : List (List ℕ)) (error : Failed) → AllReadsSucceed old mid reads
-    → Keeps mid.unread new.unread → new.returned ≡ mid.returned
-    → new.counts ≡ count_call {E = Failed} mid.counts (Err error)
-    → OneMoreReadFails old new reads
-reads_fail old mid new reads error p kept recorded reported = record {
-  bytes_read = record {
-    all = (
-      recorded ∙ p.bytes_read.all.0,
-      Consumes-kept old.unread mid.unread new.unread (concat reads) p.bytes_read.all.1 kept,
-    );
-    each = p.bytes_read.each;
-  };
-  calls_made = made_more old.counts mid.counts new.counts (length reads) p.calls_made (ap (λ t. t.calls) reported);
-  failed = ap (λ t. t.failed) reported ∙ ap saturated_increment p.none_failed;
-}
+-- ---- each read
+
+abbrev pub succeed_each : (old new : SourceValue) (reads : List (List ℕ)) → AllReadsSucceed old new reads
+    → EachIs IsSome old.reads new.reads
+succeed_each old new reads p =
+    record { transfers = map Some reads; made = p.returns.made; each = All-map IsSome Some reads (λ k d below. refl) }
+
+abbrev pub move_each : (old new : SourceValue) (reads : List (List ℕ)) → AllReadsSucceed old new reads
+    → NoneIsEmpty reads → EachIs MovesBytes old.reads new.reads
+move_each old new reads p some =
+    record { transfers = map Some reads; made = p.returns.made; each = All-map MovesBytes Some reads some }
+
+pub end_not_each : (old new : SourceValue) (reads : List (List ℕ)) → AllReadsSucceed old new reads
+    → OnlyLastIsEmpty reads → EachIs MovesBytes old.reads new.reads → ⊥
+end_not_each old new reads p ends =
+    last_not_each MovesBytes old.reads new.reads (map Some ends.earlier) (Some [])
+    (p.returns.made ∙ ap (λ rs. old.reads ++ map Some rs) ends.whole
+    ∙ ap (λ rs. old.reads ++ rs) (map-append Some ends.earlier ([] ∷ [])))
+    (λ some. some refl)

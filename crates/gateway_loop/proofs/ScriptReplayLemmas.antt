@@ -5,6 +5,7 @@ use Rattle.std.specs.Str.Lines.{strip_carriage_return}
 use Rattle.learned_devices.specs.DeviceStoreState.{DeviceStoreState}
 use Rattle.gateway_core.specs.Calls.{GatewayValue}
 use Rattle.gateway_core.specs.Events.{InputEvent}
+use Rattle.byte_io.specs.Streams.{sink_value}
 use Rattle.byte_io.specs.declared.sink.Sink as sinks
 use Rattle.gateway_loop.specs.declared.driver.Driver.{Driver}
 use Rattle.gateway_loop.specs.declared.line_splitter.LineSource.TheVariants.{ScriptLines}
@@ -29,16 +30,18 @@ module _ {W S : Type 0} (stored : S → DeviceStoreState) (sink : sinks.Ghosts W
       (f : writer ≡ now.reply_sink.sink.now) where
     pub plays_written : (events : List InputEvent) → DriverProcesses stored output entry now events
         → Processes stored entry.gateway.now gateway events
-        (AppendsReplayText entry.reply_sink.explains (sink.bytes entry.reply_sink.sink.now) (sink.bytes writer))
+        (AppendsReplayText entry.reply_sink.explains (sink_value sink entry.reply_sink.sink.now)
+        (sink_value sink writer))
     plays_written events p = rw (e, f) (record {
-      answered = record { answers = p.answered.answers; handled = p.answered.handled; out = p.answered.out.1.text };
+      answered = record { answers = p.answered.answers; handled = p.answered.handled; out = p.answered.out.1 };
       rest = p.rest;
       idle = p.idle;
     })
 
     broken : (events : List InputEvent) (event : InputEvent) → DriverBreaks stored output entry now events event
         → Breaks stored entry.gateway.now gateway events event
-        (AppendsCutReplayText entry.reply_sink.explains (sink.bytes entry.reply_sink.sink.now) (sink.bytes writer))
+        (AppendsCutReplayText entry.reply_sink.explains (sink_value sink entry.reply_sink.sink.now)
+        (sink_value sink writer))
     broken events event p = rw (e, f) (record {
       begun_event = p.begun_event;
       begun_is_prefix = p.begun_is_prefix;
@@ -52,7 +55,7 @@ module _ {W S : Type 0} (stored : S → DeviceStoreState) (sink : sinks.Ghosts W
         answers = p.answered.answers;
         last = p.answered.last;
         handled = p.answered.handled;
-        out = p.answered.out.1.text;
+        out = p.answered.out.1;
       };
     })
 
@@ -61,7 +64,8 @@ module _ {W S : Type 0} (stored : S → DeviceStoreState) (sink : sinks.Ghosts W
         → script input ≡ events ++ more → DriverProcesses stored output entry old events
         → BreaksAtLastEvent stored old.gateway.now now.gateway.now more (output.breaks old.reply_sink now.reply_sink)
         → BreaksAtLastEvent stored entry.gateway.now gateway (script input)
-        (AppendsCutReplayText entry.reply_sink.explains (sink.bytes entry.reply_sink.sink.now) (sink.bytes writer))
+        (AppendsCutReplayText entry.reply_sink.explains (sink_value sink entry.reply_sink.sink.now)
+        (sink_value sink writer))
     part_at_end old input events more is p q = record {
       events = events ++ q.events;
       event = q.event;
@@ -92,8 +96,8 @@ module _ {W S : Type 0} (stored : S → DeviceStoreState) (sink : sinks.Ghosts W
       -- a fault before the end of a script
       pub plays_ended : TakesEndedLines stored output ScriptLines entry now input
           → ProcessesEndedLines stored entry.driver.gateway.now gateway input
-          (AppendsReplayText entry.driver.reply_sink.explains (sink.bytes entry.driver.reply_sink.sink.now)
-          (sink.bytes writer))
+          (AppendsReplayText entry.driver.reply_sink.explains (sink_value sink entry.driver.reply_sink.sink.now)
+          (sink_value sink writer))
       plays_ended p =
           let ended = flat_map with_lf p.ended in
           let is : script ended ≡ events_by ScriptLines p.ended =
@@ -111,8 +115,8 @@ module _ {W S : Type 0} (stored : S → DeviceStoreState) (sink : sinks.Ghosts W
       -- and a fault at one of its lines
       pub part_at_line : BreaksInBytes stored output ScriptLines entry now input
           → BreaksAtEndedLine stored entry.driver.gateway.now gateway input
-          (AppendsCutReplayText entry.driver.reply_sink.explains (sink.bytes entry.driver.reply_sink.sink.now)
-          (sink.bytes writer))
+          (AppendsCutReplayText entry.driver.reply_sink.explains (sink_value sink entry.driver.reply_sink.sink.now)
+          (sink_value sink writer))
       part_at_line s =
           let ended = flat_map with_lf s.ended in
           record {

@@ -2,21 +2,16 @@
 use Rattle.std.proofs.Common.{◌≡◌, ℕ, Bool, List, [], ◌∷◌, sym, append-nil, subst, Ok, Err}
 use Rattle.std.specs.Prelude.{Result, MatchResult}
 use Rattle.gateway_core.specs.Step.{Answer}
-use Rattle.byte_io.specs.Counts.{CallsMatchResult}
-use Rattle.byte_io.specs.Transfers.{Adds}
-use Rattle.byte_io.specs.Writes.{Writes}
+use Rattle.byte_io.specs.Streams.{SinkValue}
+use Rattle.byte_io.specs.Writes.{Writes, WritesText}
 use Rattle.gateway_loop.specs.OutputSpecs.{PutsOrBreaks, OutputSpec, output_by_flag}
-use Rattle.gateway_loop.specs.Streams.{SinkValue}
 use Rattle.gateway_loop.specs.TextOutput.{PutsText, BreaksText}
 
 pub puts_one : {A E : Type 0} (r : Result A E) (says : Answer → List ℕ) (old new : SinkValue) (answer : Answer)
-    → Writes old.bytes new.bytes r (says answer) → CallsMatchResult r old.counts new.counts
+    → Writes old new r (says answer)
     → MatchResult r (λ _. PutsText says old new (answer ∷ [])) (λ _. BreaksText says old new [] answer)
-puts_one (Ok done) says old new answer text went = record {
-  text = subst (Adds old.bytes new.bytes) (sym (append-nil (says answer))) text;
-  calls = went;
-}
-puts_one (Err failed) says old new answer text went = record { text = text; calls = went }
+puts_one (Ok done) says old new answer text = subst (WritesText old new) (sym (append-nil (says answer))) text
+puts_one (Err failed) says old new answer part = part
 
 -- the flag stays
 pub puts_by : {V A E : Type 0} (output : Bool → OutputSpec V) (r : Result A E) (old new : Bool × V) (answer : Answer)

@@ -6,7 +6,7 @@ use Rattle.std.specs.Prelude.{◌==◌, All}
 use Rattle.std.specs.List.{flat_map, slice_split}
 use Rattle.std.specs.Str.Lines.{strip_carriage_return}
 use Rattle.std.proofs.Math.Seq.{drop-append_seam}
-use Rattle.std.proofs.lemmas.List.{map-append}
+use Rattle.std.proofs.lemmas.List.{length-map, map-append}
 use Rattle.std.proofs.lemmas.List.Concat.{flat_map-append}
 use Rattle.std.proofs.lemmas.List.Elements.{All-append, All-nil}
 use Rattle.std.proofs.lemmas.List.Splits.{slice_split_none, slice_split_at, length-slice_split}
@@ -132,6 +132,12 @@ desk_bytes-more read turn =
     ∙ ap (λ s. desk_bytes read ++ s) (append-nil turn.desk)
 
 -- ---- the reads of one more turn
+
+pub length-serial_reads : (read : List Turn) → length (serial_reads read) ≡ length read
+length-serial_reads read = length-map read (λ (turn : Turn). turn.chunk)
+
+pub length-desk_reads : (read : List Turn) → length (desk_reads read) ≡ length read
+length-desk_reads read = length-map read (λ (turn : Turn). turn.desk)
 
 pub serial_reads-more : (read : List Turn) (turn : Turn)
     → serial_reads (read ++ turn ∷ []) ≡ serial_reads read ++ turn.chunk ∷ []

@@ -1,8 +1,8 @@
 -- The effect of the lines that explain packets on the output.
 use Rattle.std.specs.Prelude.{◌≡◌, ℕ, true, false, List, [], ◌∷◌, ◌++◌}
 use Rattle.gateway_core.specs.Step.{Answer}
-use Rattle.byte_io.specs.Transfers.{SinkBytes}
-use Rattle.gateway_loop.specs.Streams.{SinkValue}
+use Rattle.byte_io.specs.Streams.{SinkValue}
+use Rattle.byte_io.specs.Transfers.{bytes_of}
 use Rattle.gateway_loop.specs.LiveOutputs.{live_output}
 use Rattle.gateway_loop.specs.Written.{AppendsReplayText, radio_chunk_line}
 
@@ -27,14 +27,14 @@ pub record DifferByExplanationsAfter (before : Answer → List ℕ) (answers : L
 -- theorem `explanations_stand_apart`: explaining adds the lines that explain packets, each directly before the text for
 -- the desk, and changes nothing else in what a replay writes, or a live gateway to the desk and to the serial line
 pub record ExplanationsStandApart : Type 0 where
-  pub replay : (answers : List Answer) (old new other : SinkBytes)
+  pub replay : (answers : List Answer) (old new other : SinkValue)
       → AppendsReplayText false old new answers → AppendsReplayText true old other answers
-      → DifferByExplanationsAfter (λ answer. radio_chunk_line answer.radio) answers old.accepted new.accepted
-      other.accepted
+      → DifferByExplanationsAfter (λ answer. radio_chunk_line answer.radio) answers (bytes_of old.writes)
+      (bytes_of new.writes) (bytes_of other.writes)
   pub desk : (answers : List Answer) (old new other : SinkValue × SinkValue)
       → (live_output false).puts old new answers → (live_output true).puts old other answers
-      → DifferByExplanationsAfter (λ answer. []) answers old.1.bytes.accepted new.1.bytes.accepted
-      other.1.bytes.accepted
+      → DifferByExplanationsAfter (λ answer. []) answers (bytes_of old.1.writes) (bytes_of new.1.writes)
+      (bytes_of other.1.writes)
   pub serial : (answers : List Answer) (old new other : SinkValue × SinkValue)
       → (live_output false).puts old new answers → (live_output true).puts old other answers
-      → new.0.bytes.accepted ≡ other.0.bytes.accepted
+      → bytes_of new.0.writes ≡ bytes_of other.0.writes

@@ -12,14 +12,14 @@ use Rattle.gateway_core.specs.Prefixes.{AfterPrefix}
 use Rattle.gateway_core.specs.Handling.{HandlerValue, HasState}
 use Rattle.gateway_core.specs.Calls.{GatewayValue, new_gateway_value}
 use Rattle.gateway_core.specs.Events.{inputs_of}
-use Rattle.byte_io.specs.Transfers.{Adds}
+use Rattle.byte_io.specs.Streams.{sink_value, source_value}
+use Rattle.byte_io.specs.Writes.{Adds}
 use Rattle.byte_io.specs.declared.sink.Sink as sinks
 use Rattle.byte_io.specs.declared.source.Source as sources
 use Rattle.gateway_loop.specs.declared.run_result.RunFault.{RunFault}
 use Rattle.gateway_loop.specs.declared.run_result.Summary.{Summary}
-use Rattle.gateway_loop.specs.Reads.{OnlyLastIsEmpty, Returns}
+use Rattle.gateway_loop.specs.Reads.{OnlyLastIsEmpty, OnlyLastMayFail}
 use Rattle.gateway_loop.specs.Script.{script}
-use Rattle.gateway_loop.specs.Streams.{source_value}
 use Rattle.gateway_loop.specs.Turns.{events_of_turns, turns_of}
 use Rattle.gateway_loop.specs.LiveOutputs.{radio_bytes}
 use Rattle.gateway_loop.specs.Written.{desk_text, written}
@@ -72,17 +72,18 @@ module _ {S : Type 0} (stored : S → DeviceStoreState) where
     pub whole : inputs ≡ handled ++ later
     pub specified : AsSpecified base found handled out new
 
-  -- `replay`, for a new gateway, any reader and any writer. `reads` lists what the reads of this call returned. At `Ok`
-  -- the last read returned 0 bytes, which ends the script, and the writer accepted exactly the text of the answers to
-  -- the inputs of the script. At a fault it accepted a prefix of the text for some prefix of these inputs. (The
-  -- postconditions `err`, `read`, `write` and `too_many` say which prefix, and when each fault is returned.)
+  -- `replay`, for a new gateway, any reader and any writer. `reads` lists what the reads of this call returned; only
+  -- the last read may have failed. At `Ok` the last read returned 0 bytes, which ends the script, and the writer
+  -- accepted exactly the text of the answers to the inputs of the script. At a fault it accepted a prefix of the text
+  -- for some prefix of these inputs. (The postconditions `err` and `too_many` say which prefix, and when each fault is
+  -- returned.)
   pub record ReplaySpecified {R W : Type 0} (source : sources.Ghosts R) (sink : sinks.Ghosts W) (explains : Bool)
       (result : Result Summary RunFault) (base : ℕ) (found : Devices) (old new : GatewayValue S × R × W)
       : Type 0 where
     pub reads : List (List ℕ)
-    pub read : Returns (source_value source old.1) (source_value source new.1) reads
+    pub read : OnlyLastMayFail (source_value source old.1) (source_value source new.1) reads
     pub text : List ℕ
-    pub text_is_added : Adds (sink.bytes old.2) (sink.bytes new.2) text
+    pub text_is_added : Adds (sink_value sink old.2) (sink_value sink new.2) text
     pub specified : MatchResult result
         (λ _. OnlyLastIsEmpty reads × IsAtEnd (source.left new.1)
         × AsSpecified base found (inputs_of [] (script (concat reads))) (λ answers. text ≡ written explains answers)
@@ -107,13 +108,13 @@ module _ {S : Type 0} (stored : S → DeviceStoreState) where
       : Type 0 where
     pub serial : List (List ℕ)
     pub desk : List (List ℕ)
-    pub serial_read : Returns (source_value serial_in old.1) (source_value serial_in new.1) serial
-    pub desk_read : Returns (source_value desk_in old.2) (source_value desk_in new.2) desk
+    pub serial_read : OnlyLastMayFail (source_value serial_in old.1) (source_value serial_in new.1) serial
+    pub desk_read : OnlyLastMayFail (source_value desk_in old.2) (source_value desk_in new.2) desk
     pub alternate : (length serial ≡ length desk) ⊎ (length serial ≡ length desk + 1)
     pub radio_written : List ℕ
     pub desk_written : List ℕ
-    pub radio_is_added : Adds (serial_out.bytes old.3) (serial_out.bytes new.3) radio_written
-    pub desk_is_added : Adds (desk_out.bytes old.4) (desk_out.bytes new.4) desk_written
+    pub radio_is_added : Adds (sink_value serial_out old.3) (sink_value serial_out new.3) radio_written
+    pub desk_is_added : Adds (sink_value desk_out old.4) (sink_value desk_out new.4) desk_written
     pub specified : MatchResult result
         (λ _. (length serial ≡ count) × (length desk ≡ count)
         × AsSpecified base found (inputs_of [] (events_of_turns (turns_of serial desk)))

@@ -1,7 +1,5 @@
 pub mod Script
 pub mod OutputSpecs
-pub mod CallCounts
-pub mod Streams
 pub mod TextOutput
 pub mod Written
 pub mod LiveOutputs

@@ -1,19 +1,19 @@
 -- The bytes and inputs that `live` reads, handles and writes.
-use Rattle.std.specs.Prelude.{◌≡◌, ◌↔◌, ◌+◌, ◌-◌, ◌^◌, min, ℕ, Bool, List, [], ◌∷◌, ◌++◌, length}
-use Rattle.std.specs.Prelude.{Option, None, Some, Result, IsOk}
+use Rattle.std.specs.Prelude.{◌≡◌, ◌↔◌, ◌-◌, ◌^◌, min, ℕ, Bool, List, [], ◌∷◌, ◌++◌, length}
+use Rattle.std.specs.Prelude.{Option, None, Some, IsSome, Result, IsOk}
 use Rattle.learned_devices.specs.DeviceStoreState.{DeviceStoreState}
 use Rattle.gateway_core.specs.Step.{Answer}
 use Rattle.gateway_core.specs.Calls.{GatewayValue}
 use Rattle.gateway_core.specs.Events.{InputEvent, Chunk, inputs_of}
-use Rattle.byte_io.specs.Counts.{CanCountCalls, NoneFailed, NoneFailedOrEmpty}
+use Rattle.byte_io.specs.Streams.{SinkValue, SourceValue, sink_value, source_value}
+use Rattle.byte_io.specs.Transfers.{EachIs, MovesBytes}
 use Rattle.byte_io.specs.declared.sink.Sink as sinks
 use Rattle.byte_io.specs.declared.source.Source as sources
 use Rattle.gateway_loop.specs.declared.run_result.RunFault.{RunFault}
 use Rattle.gateway_loop.specs.declared.run_result.RunFault.TheVariants.{Read, Write, TooManyTurns}
 use Rattle.gateway_loop.specs.declared.run_result.Summary.{Summary}
 use Rattle.gateway_loop.specs.Processing.{Breaks, Processes}
-use Rattle.gateway_loop.specs.Reads.{OneMoreReadFails, AllReadsSucceed}
-use Rattle.gateway_loop.specs.Streams.{SinkValue, SourceValue, sink_value, source_value}
+use Rattle.gateway_loop.specs.Reads.{AllReadsSucceed, LastReadFails}
 use Rattle.gateway_loop.specs.Turns.{Turn, desk_reads, events_of_turns, serial_reads}
 use Rattle.gateway_loop.specs.LiveOutputs.{live_output}
 
@@ -46,28 +46,19 @@ module _ {S : Type 0} (old new : LiveValue S) where
   -- After the turns the next read failed: of the serial line, or, after a chunk, of the desk.
   abbrev pub NextReadFails : List Turn → Option (List ℕ) → Type 0
   NextReadFails turns None =
-      OneMoreReadFails old.serial new.serial (serial_reads turns) × AllReadsSucceed old.desk new.desk (desk_reads turns)
+      LastReadFails old.serial new.serial (serial_reads turns) × AllReadsSucceed old.desk new.desk (desk_reads turns)
   NextReadFails turns (Some chunk) =
       AllReadsSucceed old.serial new.serial (serial_reads turns ++ chunk ∷ [])
-      × OneMoreReadFails old.desk new.desk (desk_reads turns)
+      × LastReadFails old.desk new.desk (desk_reads turns)
 
-  -- this many reads of each source were made, no read failed, and all writes succeeded
+  -- this many reads of each source were made, no read failed, and each write accepted at least one byte
   pub record AllSucceeded (turns : ℕ) : Type 0 where
-    pub serial_reads_made : new.serial.counts.calls ≡ old.serial.counts.calls + turns
-    pub desk_reads_made : new.desk.counts.calls ≡ old.desk.counts.calls + turns
-    pub serial_writes_succeeded : NoneFailedOrEmpty old.serial_and_desk_sinks.0.counts
-        new.serial_and_desk_sinks.0.counts
-    pub desk_writes_succeeded : NoneFailedOrEmpty old.serial_and_desk_sinks.1.counts new.serial_and_desk_sinks.1.counts
-    pub no_serial_read_failed : NoneFailed old.serial.counts new.serial.counts
-    pub no_desk_read_failed : NoneFailed old.desk.counts new.desk.counts
-
--- the counters can count this many more reads of both sources, and, for all four, one more call that fails and one more
--- that returns 0 bytes
-pub record CanCountTurns {S : Type 0} (now : LiveValue S) (turns : ℕ) : Type 0 where
-  pub serial_in : CanCountCalls now.serial.counts turns
-  pub desk_in : CanCountCalls now.desk.counts turns
-  pub serial_out : CanCountCalls now.serial_and_desk_sinks.0.counts 0
-  pub desk_out : CanCountCalls now.serial_and_desk_sinks.1.counts 0
+    pub serial_reads : EachIs IsSome old.serial.reads new.serial.reads
+    pub serial_count : length serial_reads.transfers ≡ turns
+    pub desk_reads : EachIs IsSome old.desk.reads new.desk.reads
+    pub desk_count : length desk_reads.transfers ≡ turns
+    pub serial_writes : EachIs MovesBytes old.serial_and_desk_sinks.0.writes new.serial_and_desk_sinks.0.writes
+    pub desk_writes : EachIs MovesBytes old.serial_and_desk_sinks.1.writes new.serial_and_desk_sinks.1.writes
 
 module _ {S : Type 0} (stored : S → DeviceStoreState) where
   -- an answer to an order of the last turn was not written completely
@@ -126,8 +117,7 @@ module _ {S T : Type 0} (stored : S → DeviceStoreState) (at : T → LiveValue 
   ServesUntilFault old new Write = ServesUntilWriteFails old new
   ServesUntilFault old new TooManyTurns = ⊥
 
-module _ {S T : Type 0} (at : T → LiveValue S) where
-  -- if the calls can be counted, `Ok` is returned exactly when all turns were made and all calls succeeded
-  abbrev pub SucceedsIffAllTurns : {A E : Type 0} → Result A E → (old new : T) (turns : ℕ) → Type 0
-  SucceedsIffAllTurns result old new turns =
-      CanCountTurns (at old) turns → (IsOk result ↔ AllSucceeded (at old) (at new) turns)
+-- `Ok` is returned exactly when all turns were made, no read failed, and no write failed or accepted 0 bytes
+abbrev pub SucceedsIffAllTurns : {A E S T : Type 0} → (T → LiveValue S) → Result A E → (old new : T) (turns : ℕ)
+    → Type 0
+SucceedsIffAllTurns at result old new turns = IsOk result ↔ AllSucceeded (at old) (at new) turns

@@ -1,9 +1,9 @@
 -- The bytes written to the radio and to the desk for answers.
 use Rattle.std.specs.Prelude.{ℕ, Bool, List, [], Option, Some, None}
+use Rattle.byte_io.specs.Streams.{SinkValue, sink_value}
 use Rattle.byte_io.specs.declared.sink.Sink as sinks
 use Rattle.gateway_loop.specs.declared.live_outputs.LiveOutputs.{LiveOutputs}
 use Rattle.gateway_loop.specs.OutputSpecs.{OutputSpec, paired_output, output_by_flag, output_by_view}
-use Rattle.gateway_loop.specs.Streams.{SinkValue, sink_value}
 use Rattle.gateway_loop.specs.TextOutput.{text_output}
 use Rattle.gateway_loop.specs.Written.{desk_text}
 

@@ -1,20 +1,20 @@
 -- The bytes and inputs that `replay` reads, handles and writes.
-use Rattle.std.specs.Prelude.{◌≡◌, ◌↔◌, ◌⊎◌, ◌+◌, ◌-◌, ◌^◌, min, ℕ, Bool, List, length, Result, Err}
+use Rattle.std.specs.Prelude.{◌≡◌, ◌↔◌, ◌⊎◌, ◌-◌, ◌^◌, min, ℕ, Bool, List, length, Result, Err}
 use Rattle.std.specs.Io.KnownBytes.{IsAtEnd}
 use Rattle.std.specs.List.{concat}
 use Rattle.learned_devices.specs.DeviceStoreState.{DeviceStoreState}
 use Rattle.gateway_core.specs.Calls.{GatewayValue}
 use Rattle.gateway_core.specs.Events.{inputs_of}
-use Rattle.byte_io.specs.Counts.{CanCountCalls, OneEmptyNoneFailed, NoneFailedOrEmpty}
+use Rattle.byte_io.specs.Streams.{SinkValue, SourceValue, sink_value, source_value}
+use Rattle.byte_io.specs.Transfers.{EachIs, MovesBytes}
 use Rattle.byte_io.specs.declared.sink.Sink as sinks
 use Rattle.byte_io.specs.declared.source.Source as sources
 use Rattle.gateway_loop.specs.declared.run_result.RunFault.{RunFault}
 use Rattle.gateway_loop.specs.declared.run_result.RunFault.TheVariants.{Read, Write, TooManyTurns}
 use Rattle.gateway_loop.specs.declared.run_result.Summary.{Summary}
 use Rattle.gateway_loop.specs.Processing.{Processes, ProcessesEndedLines, BreaksAtLastEvent, BreaksAtEndedLine}
-use Rattle.gateway_loop.specs.Reads.{OnlyLastIsEmpty, Returns}
+use Rattle.gateway_loop.specs.Reads.{AllReadsSucceed, LastReadFails, NoneIsEmpty, OnlyLastIsEmpty}
 use Rattle.gateway_loop.specs.Script.{script}
-use Rattle.gateway_loop.specs.Streams.{SinkValue, SourceValue, sink_value, source_value}
 use Rattle.gateway_loop.specs.Written.{AppendsReplayText, AppendsCutReplayText}
 
 -- the state of a replay
@@ -33,51 +33,55 @@ module _ {S T : Type 0} (stored : S → DeviceStoreState) (at : T → ReplayValu
   -- answers was written
   pub record Replays (old new : T) (summary : Summary) : Type 0 where
     pub reads : List (List ℕ)
-    pub read : Returns (at old).source (at new).source reads
+    pub read : AllReadsSucceed (at old).source (at new).source reads
     pub ends : OnlyLastIsEmpty reads
     pub at_end : IsAtEnd (at new).source.unread
     pub processed : Processes stored (at old).gateway (at new).gateway (script (concat reads))
-        (AppendsReplayText explains (at old).sink.bytes (at new).sink.bytes)
+        (AppendsReplayText explains (at old).sink (at new).sink)
     pub counted : summary.items ≡ min (length (inputs_of (at old).gateway.rest (script (concat reads)))) (2 ^ 64 - 1)
 
-  -- the lines that LF ends in what was read were replayed
-  pub record ReplaysEndedLines (old new : T) : Type 0 where
+  -- The lines that LF ends in what was read were replayed. Each read in `reads` returned something; `ReadAs` says
+  -- whether one more failed after them.
+  pub record ReplaysEndedLines (ReadAs : (old new : SourceValue) (reads : List (List ℕ)) → Type 0) (old new : T)
+      : Type 0 where
     pub reads : List (List ℕ)
-    pub read : Returns (at old).source (at new).source reads
+    pub read : ReadAs (at old).source (at new).source reads
+    pub some : NoneIsEmpty reads
     pub processed : ProcessesEndedLines stored (at old).gateway (at new).gateway (concat reads)
-        (AppendsReplayText explains (at old).sink.bytes (at new).sink.bytes)
+        (AppendsReplayText explains (at old).sink (at new).sink)
 
-  -- a write failed at a line that LF ends in what was read, and all reads returned something
-  pub record BreaksAtLine (old new : T) (input : List ℕ) : Type 0 where
-    pub reads : NoneFailedOrEmpty (at old).source.counts (at new).source.counts
-    pub broken : BreaksAtEndedLine stored (at old).gateway (at new).gateway input
-        (AppendsCutReplayText explains (at old).sink.bytes (at new).sink.bytes)
+  -- a write went wrong at a line that LF ends in what was read, and each read returned something
+  pub record BreaksAtLine (old new : T) (reads : List (List ℕ)) : Type 0 where
+    pub some : NoneIsEmpty reads
+    pub broken : BreaksAtEndedLine stored (at old).gateway (at new).gateway (concat reads)
+        (AppendsCutReplayText explains (at old).sink (at new).sink)
 
-  -- a write failed at the last event of the script, and one read returned nothing
-  pub record BreaksAtEndOfScript (old new : T) (input : List ℕ) : Type 0 where
-    pub reads : OneEmptyNoneFailed (at old).source.counts (at new).source.counts
+  -- a write went wrong at the last event of the script, and the last read returned nothing
+  pub record BreaksAtEndOfScript (old new : T) (reads : List (List ℕ)) : Type 0 where
+    pub ends : OnlyLastIsEmpty reads
     pub at_end : IsAtEnd (at new).source.unread
-    pub broken : BreaksAtLastEvent stored (at old).gateway (at new).gateway (script input)
-        (AppendsCutReplayText explains (at old).sink.bytes (at new).sink.bytes)
+    pub broken : BreaksAtLastEvent stored (at old).gateway (at new).gateway (script (concat reads))
+        (AppendsCutReplayText explains (at old).sink (at new).sink)
 
-  -- a write failed
+  -- no read failed, and a write failed or accepted 0 bytes
   pub record ReplaysUntilWriteFails (old new : T) : Type 0 where
     pub reads : List (List ℕ)
-    pub read : Returns (at old).source (at new).source reads
-    pub broken : BreaksAtLine old new (concat reads) ⊎ BreaksAtEndOfScript old new (concat reads)
+    pub read : AllReadsSucceed (at old).source (at new).source reads
+    pub broken : BreaksAtLine old new reads ⊎ BreaksAtEndOfScript old new reads
 
   -- what was done before a fault
   abbrev pub ReplaysUntilFault : (old new : T) → RunFault → Type 0
-  ReplaysUntilFault old new Read = ReplaysEndedLines old new
+  ReplaysUntilFault old new Read = ReplaysEndedLines LastReadFails old new
   ReplaysUntilFault old new Write = ReplaysUntilWriteFails old new
-  ReplaysUntilFault old new TooManyTurns = ReplaysEndedLines old new
+  ReplaysUntilFault old new TooManyTurns = ReplaysEndedLines AllReadsSucceed old new
 
-module _ {S T : Type 0} (at : T → ReplayValue S) where
-  -- If the calls can be counted, `TooManyTurns` is returned exactly when this many reads were made and all calls
-  -- succeeded.
-  abbrev pub FailsIffTooManyTurns : {A : Type 0} → Result A RunFault → (old new : T) (turns : ℕ) → Type 0
-  FailsIffTooManyTurns result old new turns =
-      CanCountCalls (at old).source.counts turns → CanCountCalls (at old).sink.counts 0
-      → ((result ≡ Err TooManyTurns) ↔ (((at new).source.counts.calls ≡ (at old).source.counts.calls + turns)
-      × NoneFailedOrEmpty (at old).source.counts (at new).source.counts
-      × NoneFailedOrEmpty (at old).sink.counts (at new).sink.counts))
+-- this many reads were made, and each read and each write moved at least one byte
+pub record UsesAllTurns {S : Type 0} (old new : ReplayValue S) (turns : ℕ) : Type 0 where
+  pub reads : EachIs MovesBytes old.source.reads new.source.reads
+  pub count : length reads.transfers ≡ turns
+  pub writes : EachIs MovesBytes old.sink.writes new.sink.writes
+
+-- `TooManyTurns` is returned exactly when this many reads were made, and no read or write failed or moved 0 bytes
+abbrev pub FailsIffTooManyTurns : {A S T : Type 0} → (T → ReplayValue S) → Result A RunFault → (old new : T) (turns : ℕ)
+    → Type 0
+FailsIffTooManyTurns at result old new turns = (result ≡ Err TooManyTurns) ↔ UsesAllTurns (at old) (at new) turns

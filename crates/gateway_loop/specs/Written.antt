@@ -3,13 +3,11 @@ use Rattle.std.specs.Prelude.{ℕ, Bool, List, [], ◌++◌, codes, Option, Some
 use Rattle.std.specs.List.{flat_map}
 use Rattle.hex.specs.Hex.{encode_lower}
 use Rattle.gateway_core.specs.Step.{Answer}
-use Rattle.byte_io.specs.Transfers.{Adds, SinkBytes}
-use Rattle.byte_io.specs.Writes.{AppendsPart}
+use Rattle.byte_io.specs.Streams.{SinkValue, sink_value}
 use Rattle.byte_io.specs.declared.sink.Sink as sinks
 use Rattle.gateway_loop.specs.declared.replay_output.ReplayOutput.{ReplayOutput}
 use Rattle.gateway_loop.specs.OutputSpecs.{OutputSpec, output_by_flag, output_by_view}
-use Rattle.gateway_loop.specs.Streams.{sink_value}
-use Rattle.gateway_loop.specs.TextOutput.{text_output}
+use Rattle.gateway_loop.specs.TextOutput.{BreaksText, PutsText, text_output}
 
 -- the radio bytes as a serial chunk, if there are any
 abbrev pub radio_chunk_line : Option (List ℕ) → List ℕ
@@ -27,13 +25,12 @@ abbrev pub written : (explains : Bool) → List Answer → List ℕ
 written explains answers = flat_map (text_of explains) answers
 
 -- exactly the text of the answers was written
-abbrev pub AppendsReplayText : (explains : Bool) (old new : SinkBytes) → List Answer → Type 0
-AppendsReplayText explains old new answers = Adds old new (written explains answers)
+abbrev pub AppendsReplayText : (explains : Bool) (old new : SinkValue) → List Answer → Type 0
+AppendsReplayText explains = PutsText (text_of explains)
 
 -- the text of the answers was written, and then only a proper prefix of the last one's
-abbrev pub AppendsCutReplayText : (explains : Bool) (old new : SinkBytes) → List Answer → Answer → Type 0
-AppendsCutReplayText explains old new answers last =
-    AppendsPart old new (written explains answers) (text_of explains last)
+abbrev pub AppendsCutReplayText : (explains : Bool) (old new : SinkValue) → List Answer → Answer → Type 0
+AppendsCutReplayText explains = BreaksText (text_of explains)
 
 -- the text of each answer goes to the sink
 abbrev pub replay_output_of : {W : Type 0} → sinks.Ghosts W → OutputSpec (ReplayOutput W)

@@ -1,6 +1,6 @@
 //! The text of a reply for the desk.
 ghost use Rattle.std.specs.Option.{option_copied};
-ghost use Rattle.byte_io.specs.Counts.{CallsMatchResult};
+ghost use Rattle.byte_io.specs.Streams.{sink_value};
 ghost use Rattle.byte_io.specs.Writes.{Writes};
 ghost use Rattle.gateway_core.specs.Replies.{answer_of};
 ghost use Rattle.gateway_core.specs.Step.{with_packet_line};
@@ -18,9 +18,8 @@ pub fn write_desk_text<W: Sink>(
     line: Option<&PacketLine>,
     reply: &Reply,
 ) -> Result<(), Failed>
-    ensures written { Writes (W.bytes writer.old) (W.bytes writer.new) result
+    ensures written { Writes (sink_value W.Sink writer.old) (sink_value W.Sink writer.new) result
         (desk_text explains (with_packet_line (option_copied line.entry) (answer_of reply.now))) }
-    ensures counted { CallsMatchResult result (W.counts writer.old) (W.counts writer.new) }
 {
     if explains {
         if let Some(line) = line {

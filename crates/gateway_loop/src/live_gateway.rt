@@ -1,8 +1,8 @@
 //! The loop of a live gateway: serves a serial line and a desk.
 ghost use Rattle.std.specs.Prelude.{◌≡◌, ◌+◌, ◌≤◌, ℕ, [], IfErr, IfOk};
-ghost use Rattle.byte_io.specs.Counts.{CallsMade};
 ghost use Rattle.gateway_loop.specs.Headline.{ServesAsSpecified};
 ghost use Rattle.gateway_loop.specs.LiveGateway.{Serves, ServesUntilFault, SucceedsIffAllTurns, live_value};
+ghost use Rattle.gateway_loop.specs.Reads.{MakesReads};
 
 use crate::driver::Driver;
 use crate::line_splitter::{LineSource, LineSplitter};
@@ -48,8 +48,8 @@ pub fn live<P: Source, Q: Source, R: Sink, D: Sink, S: DeviceStore>(
 
     // How many reads are made, and when all turns are.
     ensures reads { (n m : ℕ) × (n ≤ turns) × (m ≤ n) × (n ≤ m + 1)
-        × CallsMade (P.counts serial_in.old) (P.counts serial_in.new) n
-        × CallsMade (Q.counts desk_in.old) (Q.counts desk_in.new) m }
+        × MakesReads (P.reads serial_in.old) (P.reads serial_in.new) n
+        × MakesReads (Q.reads desk_in.old) (Q.reads desk_in.new) m }
     ensures whole { SucceedsIffAllTurns (live_value P.Source Q.Source R.Sink D.Sink) result
         (gateway.old, serial_in.old, desk_in.old, serial_out.old, desk_out.old)
         (gateway.new, serial_in.new, desk_in.new, serial_out.new, desk_out.new) turns }

@@ -1,6 +1,6 @@
 //! The output of a replay: replies as text in one sink.
 ghost use Rattle.std.specs.Prelude.{[], ◌∷◌, ◌≤◌, Some, length};
-ghost use Rattle.byte_io.specs.Counts.{CallsMatchResult};
+ghost use Rattle.byte_io.specs.Streams.{sink_value};
 ghost use Rattle.byte_io.specs.Writes.{Writes};
 ghost use Rattle.gateway_loop.specs.Written.{radio_chunk_line, replay_output_of};
 
@@ -40,8 +40,8 @@ impl<W: Sink> ReplySink for ReplayOutput<'_, W> {
 /// Writes bytes as a serial chunk: `S` and a space, hexadecimal digits, LF.
 fn write_chunk<W: Sink>(writer: &mut W, bytes: &[u8]) -> Result<(), Failed>
     requires { length bytes.now ≤ 64 }
-    ensures written { Writes (W.bytes writer.old) (W.bytes writer.new) result (radio_chunk_line (Some bytes.now)) }
-    ensures counted { CallsMatchResult result (W.counts writer.old) (W.counts writer.new) }
+    ensures written { Writes (sink_value W.Sink writer.old) (sink_value W.Sink writer.new) result
+        (radio_chunk_line (Some bytes.now)) }
 {
     let mut buffer = [0u8; 128];
     let digits = &mut buffer[..2 * bytes.len()];

@@ -1,11 +1,8 @@
 //! The loop that replays a script.
-ghost use Rattle.std.specs.Prelude.{◌≡◌, Err, [], IfErr, IfOk, OnOk};
-ghost use Rattle.byte_io.specs.Counts.{OneEmptyNoneFailed, OneFailedNoneEmpty, NoneFailedOrEmpty};
-ghost use Rattle.gateway_loop.specs.CallCounts.{OneFailedOrEmpty, NoneFailedAtMostOneEmpty};
+ghost use Rattle.std.specs.Prelude.{◌≡◌, ◌≤◌, ℕ, [], IfErr, IfOk};
 ghost use Rattle.gateway_loop.specs.Headline.{ReplaysAsSpecified};
-ghost use Rattle.gateway_loop.specs.Reads.{MakesAtMostReads};
+ghost use Rattle.gateway_loop.specs.Reads.{MakesReads};
 ghost use Rattle.gateway_loop.specs.ScriptReplay.{Replays, ReplaysUntilFault, FailsIffTooManyTurns, replay_value};
-ghost use Rattle.gateway_loop.specs.Streams.{source_value};
 
 use crate::driver::Driver;
 use crate::line_splitter::{LineSource, LineSplitter};
@@ -45,14 +42,8 @@ pub fn replay<R: Source, W: Sink, S: DeviceStore>(
     ensures err { IfErr result (ReplaysUntilFault S.store_state (replay_value R.Source W.Sink) explains
         (gateway.old, reader.old, writer.old) (gateway.new, reader.new, writer.new)) }
 
-    // How the reads and the writes went.
-    ensures reads { MakesAtMostReads (source_value R.Source reader.old) (source_value R.Source reader.new) turns }
-    ensures ended { OnOk result (OneEmptyNoneFailed (R.counts reader.old) (R.counts reader.new)
-        × NoneFailedOrEmpty (W.counts writer.old) (W.counts writer.new)) }
-    ensures read { result ≡ Err RunFault.Read → OneFailedNoneEmpty (R.counts reader.old) (R.counts reader.new)
-        × NoneFailedOrEmpty (W.counts writer.old) (W.counts writer.new) }
-    ensures write { result ≡ Err RunFault.Write → NoneFailedAtMostOneEmpty (R.counts reader.old) (R.counts reader.new)
-        × OneFailedOrEmpty (W.counts writer.old) (W.counts writer.new) }
+    // How many reads are made, and when too few are allowed.
+    ensures reads { (count : ℕ) × (count ≤ turns) × MakesReads (R.reads reader.old) (R.reads reader.new) count }
     ensures too_many { FailsIffTooManyTurns (replay_value R.Source W.Sink) result (gateway.old, reader.old, writer.old)
         (gateway.new, reader.new, writer.new) turns }
 {

@@ -1,10 +1,9 @@
 //! Theorems about the gateway over a registry in SQLite, and about its loops. Each function does nothing: its contract
 //! is the theorem.
 ghost use Rattle.std.specs.Prelude.{Bool};
-ghost use Rattle.byte_io.specs.Transfers.{SinkBytes};
+ghost use Rattle.byte_io.specs.Streams.{SinkValue, sink_value};
 ghost use Rattle.device_registry.specs.Holding.{registry_state_of};
 ghost use Rattle.gateway_core.specs.Handling.{HasStateWhileHonest};
-ghost use Rattle.gateway_loop.specs.Streams.{sink_value};
 ghost use Rattle.gateway_loop.specs.LiveOutputs.{live_output};
 ghost use Rattle.gateway_loop.specs.Written.{AppendsReplayText, AppendsCutReplayText};
 ghost use Rattle.gateway_main.specs.SessionRuns.{BrokenClosedRunsAreSessions, BrokenRunsAreSessions};
@@ -34,9 +33,9 @@ pub fn closes_end_registry_sessions<C: SqlConnection>()
 /// After `replay` or `live`, by a gateway that `start` made, a crash leaves what a session may leave that found the
 /// devices that were committed last and handled the inputs read.
 pub fn crashed_runs_are_sessions<R: Sink, D: Sink, C: SqlConnection>()
-    ensures replay { (explains : Bool) (sink sink_now : SinkBytes)
+    ensures replay { (explains : Bool) (sink sink_now : SinkValue)
         → RunsAreSessions C.state C.commits (AppendsReplayText explains sink sink_now) }
-    ensures broken_replay { (explains : Bool) (sink sink_now : SinkBytes)
+    ensures broken_replay { (explains : Bool) (sink sink_now : SinkValue)
         → BrokenRunsAreSessions C.state C.commits (AppendsCutReplayText explains sink sink_now) }
     ensures live { (explains : Bool) (serial serial_now : R) (desk desk_now : D)
         → RunsAreSessions C.state C.commits ((live_output explains).puts
@@ -51,9 +50,9 @@ pub fn crashed_runs_are_sessions<R: Sink, D: Sink, C: SqlConnection>()
 /// After `replay` or `live`, by a gateway that `start` made and that is then closed, the next open finds what such a
 /// session may leave, which is what was known at its end.
 pub fn closed_runs_are_sessions<R: Sink, D: Sink, C: SqlConnection>()
-    ensures replay { (explains : Bool) (sink sink_now : SinkBytes)
+    ensures replay { (explains : Bool) (sink sink_now : SinkValue)
         → ClosedRunsAreSessions C.state C.commits (AppendsReplayText explains sink sink_now) }
-    ensures broken_replay { (explains : Bool) (sink sink_now : SinkBytes)
+    ensures broken_replay { (explains : Bool) (sink sink_now : SinkValue)
         → BrokenClosedRunsAreSessions C.state C.commits (AppendsCutReplayText explains sink sink_now) }
     ensures live { (explains : Bool) (serial serial_now : R) (desk desk_now : D)
         → ClosedRunsAreSessions C.state C.commits ((live_output explains).puts

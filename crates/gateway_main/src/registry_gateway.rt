@@ -1,13 +1,10 @@
 //! The loops that run a gateway over a registry in SQLite, with their postconditions stated for the registry.
-ghost use Rattle.std.specs.Prelude.{◌≡◌, ◌+◌, ◌≤◌, ℕ, Err, [], IfErr, IfOk, OnOk};
-ghost use Rattle.byte_io.specs.Counts.{CallsMade, OneEmptyNoneFailed, OneFailedNoneEmpty, NoneFailedOrEmpty};
+ghost use Rattle.std.specs.Prelude.{◌≡◌, ◌+◌, ◌≤◌, ℕ, [], IfErr, IfOk};
 ghost use Rattle.device_registry.specs.Holding.{registry_state_of};
-ghost use Rattle.gateway_loop.specs.CallCounts.{OneFailedOrEmpty, NoneFailedAtMostOneEmpty};
 ghost use Rattle.gateway_loop.specs.Headline.{ReplaysAsSpecified, ServesAsSpecified};
 ghost use Rattle.gateway_loop.specs.LiveGateway.{Serves, ServesUntilFault, SucceedsIffAllTurns, live_value};
-ghost use Rattle.gateway_loop.specs.Reads.{MakesAtMostReads};
+ghost use Rattle.gateway_loop.specs.Reads.{MakesReads};
 ghost use Rattle.gateway_loop.specs.ScriptReplay.{Replays, ReplaysUntilFault, FailsIffTooManyTurns, replay_value};
-ghost use Rattle.gateway_loop.specs.Streams.{source_value};
 
 use byte_io::{Sink, Source};
 use device_registry::{RegistryOver, SqlConnection};
@@ -32,14 +29,8 @@ pub fn replay<R: Source, W: Sink, C: SqlConnection>(
     ensures err { IfErr result (ReplaysUntilFault (registry_state_of C.state C.commits) (replay_value R.Source W.Sink)
         explains (gateway.old, reader.old, writer.old) (gateway.new, reader.new, writer.new)) }
 
-    // How the reads and the writes went.
-    ensures reads { MakesAtMostReads (source_value R.Source reader.old) (source_value R.Source reader.new) turns }
-    ensures ended { OnOk result (OneEmptyNoneFailed (R.counts reader.old) (R.counts reader.new)
-        × NoneFailedOrEmpty (W.counts writer.old) (W.counts writer.new)) }
-    ensures read { result ≡ Err RunFault.Read → OneFailedNoneEmpty (R.counts reader.old) (R.counts reader.new)
-        × NoneFailedOrEmpty (W.counts writer.old) (W.counts writer.new) }
-    ensures write { result ≡ Err RunFault.Write → NoneFailedAtMostOneEmpty (R.counts reader.old) (R.counts reader.new)
-        × OneFailedOrEmpty (W.counts writer.old) (W.counts writer.new) }
+    // How many reads are made, and when too few are allowed.
+    ensures reads { (count : ℕ) × (count ≤ turns) × MakesReads (R.reads reader.old) (R.reads reader.new) count }
     ensures too_many { FailsIffTooManyTurns (replay_value R.Source W.Sink) result (gateway.old, reader.old, writer.old)
         (gateway.new, reader.new, writer.new) turns }
 {
@@ -73,8 +64,8 @@ pub fn live<P: Source, Q: Source, R: Sink, D: Sink, C: SqlConnection>(
 
     // How many reads are made, and when all turns are.
     ensures reads { (n m : ℕ) × (n ≤ turns) × (m ≤ n) × (n ≤ m + 1)
-        × CallsMade (P.counts serial_in.old) (P.counts serial_in.new) n
-        × CallsMade (Q.counts desk_in.old) (Q.counts desk_in.new) m }
+        × MakesReads (P.reads serial_in.old) (P.reads serial_in.new) n
+        × MakesReads (Q.reads desk_in.old) (Q.reads desk_in.new) m }
     ensures whole { SucceedsIffAllTurns (live_value P.Source Q.Source R.Sink D.Sink) result
         (gateway.old, serial_in.old, desk_in.old, serial_out.old, desk_out.old)
         (gateway.new, serial_in.new, desk_in.new, serial_out.new, desk_out.new) turns }

@@ -1,8 +1,7 @@
 use Rattle.std.proofs.Common.{◌≡◌, List, length}
-use Rattle.byte_io.specs.Counts.{CallsMade}
+use Rattle.byte_io.specs.Streams.{source_value}
 use Rattle.gateway_loop.specs.Processing.{HasNoReadyPacket}
 use Rattle.gateway_loop.specs.Reads.{AllReadsSucceed}
-use Rattle.gateway_loop.specs.Streams.{source_value}
 use Rattle.gateway_loop.specs.Turns.{Turn, desk_reads, serial_reads}
 use Rattle.gateway_loop.specs.LiveOutputs.{live_output_of}
 use Rattle.gateway_loop.proofs.TurnLemmas.{TakesTurns}
@@ -20,6 +19,4 @@ invariant-loop-turn g l = record {
       × AllReadsSucceed (source_value g.Q.Source l.fn.desk_in) (source_value g.Q.Source l.desk_in) (desk_reads read)
       × TakesTurns g.S.DeviceStore.store_state (live_output_of g.R.Sink g.D.Sink) l.initial.splitter l.splitter
       read;
-  serial_made : CallsMade (g.P.Source.counts l.fn.serial_in) (g.P.Source.counts l.serial_in) l._turn;
-  desk_made : CallsMade (g.Q.Source.counts l.fn.desk_in) (g.Q.Source.counts l.desk_in) l._turn;
 }

@@ -3,20 +3,19 @@ use Rattle.std.proofs.Common.{length-append}
 use Rattle.std.specs.Prelude.{◌≢◌}
 use Rattle.std.specs.List.{concat}
 use Rattle.std.proofs.lemmas.List.Elements.{All-nil, All-push}
-use Rattle.byte_io.specs.declared.tally.Failed.{Failed}
-use Rattle.byte_io.proofs.ForCallers.{concat-more, went_well}
+use Rattle.byte_io.specs.Streams.{source_value}
+use Rattle.byte_io.proofs.ForCallers.{concat-more}
 use Rattle.gateway_loop.specs.Processing.{HasNoReadyPacket}
-use Rattle.gateway_loop.specs.CallCounts.{OneFailedOrEmpty, failed_in_second}
 use Rattle.gateway_loop.specs.declared.line_splitter.LineSource.TheVariants.{ScriptLines}
 use Rattle.gateway_loop.specs.Script.{script}
-use Rattle.gateway_loop.specs.Streams.{source_value}
+use Rattle.gateway_loop.specs.ScriptReplay.{replay_value}
 use Rattle.gateway_loop.specs.Written.{replay_output_of}
 use Rattle.gateway_loop.specs.declared.run_result.RunFault.TheVariants.{Read, TooManyTurns, Write}
+use Rattle.gateway_loop.proofs.AllTurnsLemmas.{ok_not_all, read_not_all, uses_all, write_not_all}
 use Rattle.gateway_loop.proofs.HeadlineLemmas.{replayed, replayed_until}
 use Rattle.gateway_loop.proofs.LineSplitterLemmas.{bytes_none, bytes_behind, first_player, keeps_none, stops_behind}
-use Rattle.gateway_loop.proofs.CallCountLemmas.{wrong_at}
-use Rattle.gateway_loop.proofs.ReadLemmas.{concat-and_empty, one_read_more, reads_end, reads_fail, reads_more}
-use Rattle.gateway_loop.proofs.ReadLemmas.{reads_none, some_taken}
+use Rattle.gateway_loop.proofs.ReadLemmas.{concat-and_empty, makes_read_more, makes_reads, reads_end, reads_fail}
+use Rattle.gateway_loop.proofs.ReadLemmas.{reads_more, reads_none, some_taken}
 use Rattle.gateway_loop.proofs.ScriptReplayLemmas.{part_at_end, part_at_line, plays_ended, plays_written}
 use Rattle.gateway_loop.proofs.ScriptReplayLemmas.{script_of_bytes}
 use Rattle.gateway_loop.proofs.ScriptReplayLemmas.{script_taken}
@@ -38,8 +37,6 @@ loop-turn-init g c =
         bytes_none g.S.DeviceStore.store_state (replay_output_of g.W.Sink) ScriptLines _ [] idle (omega arith)
             (rw c.new.ensures keeps_none),
       );
-      writes = (refl, refl);
-      reads = (refl, refl);
     }
 
 pub returns-in-Err-clause-err : goal.returns-in-Err-clause-err
@@ -47,10 +44,11 @@ returns-in-Err-clause-err g c =
     let (parts, count, well, some, taken) = c.loop-turn.invariant.progress in
     let entry = first_player g.S.DeviceStore.store_state (replay_output_of g.W.Sink) ScriptLines taken in
     let failed = reads_fail (source_value g.R.Source c.args.reader.now) _ (source_value g.R.Source c.read.new.self)
-    parts c.in-Err.field-0 well c.in-Err.ensures.bytes c.in-Err.ensures.recorded c.in-Err.ensures.counted in
+    parts well c.in-Err.ensures.bytes c.in-Err.ensures.listed in
     record {
       reads = parts;
-      read = failed.bytes_read.all;
+      read = failed;
+      some = some;
       processed =
           plays_ended g.S.DeviceStore.store_state g.W.Sink entry c.loop-turn.splitter (concat parts) _ _ (search rules)
           (search rules)
@@ -63,7 +61,8 @@ returns-clause-err g c =
     let entry = first_player g.S.DeviceStore.store_state (replay_output_of g.W.Sink) ScriptLines taken in
     record {
       reads = parts;
-      read = well.bytes_read.all;
+      read = well;
+      some = some;
       processed =
           plays_ended g.S.DeviceStore.store_state g.W.Sink entry c.loop-turn.splitter (concat parts) _ _ (search rules)
           (search rules)
@@ -81,10 +80,10 @@ returns-then-length-eq0-clause-ok g c =
     (c.in-Ok-process_last_script_line.ensures.taken taken.rest taken.keeps) in
     let last = reads_end (source_value g.R.Source c.args.reader.now) (source_value g.R.Source c.loop-turn.reader)
     (source_value g.R.Source c.read.new.self) parts c.in-Ok.length c.read.new.buffer well c.if-length-eq0.true
-    c.in-Ok.ensures.within (omega arith) c.in-Ok.ensures.bytes c.in-Ok.ensures.recorded c.in-Ok.ensures.counted in
+    c.in-Ok.ensures.within (omega arith) c.in-Ok.ensures.bytes c.in-Ok.ensures.listed in
     record {
       reads = parts ++ [] ∷ [];
-      read = last.bytes_read.all;
+      read = last;
       ends = record { earlier = parts; whole = refl; some = some };
       at_end = c.in-Ok.ensures.bytes.1 c.if-length-eq0.true (omega arith);
       processed = rw (concat-and_empty parts)
@@ -93,16 +92,6 @@ returns-then-length-eq0-clause-ok g c =
       counted = rw (concat-and_empty parts) (let counted = done.counted in omega (arith, counted));
     }
 
-pub returns-then-length-eq0-clause-ended : goal.returns-then-length-eq0-clause-ended
-returns-then-length-eq0-clause-ended g c =
-    let (parts, count, well, some, taken) = c.loop-turn.invariant.progress in
-    let done =
-    script_taken g.S.DeviceStore.store_state g.W.Sink _ c.loop-turn.splitter (concat parts)
-    c.process_last_script_line.new.self.driver taken
-    (c.in-Ok-process_last_script_line.ensures.taken taken.rest taken.keeps) in
-    let went = done.processed.answered.out.1.calls in
-    let reads = c.loop-turn.invariant.reads in search rules
-
 pub returns-in_default-clause-err : goal.returns-in_default-clause-err
 returns-in_default-clause-err g c =
     let stored = g.S.DeviceStore.store_state in
@@ -110,40 +99,25 @@ returns-in_default-clause-err g c =
     let entry = first_player g.S.DeviceStore.store_state (replay_output_of g.W.Sink) ScriptLines taken in
     let last = reads_end (source_value g.R.Source c.args.reader.now) (source_value g.R.Source c.loop-turn.reader)
     (source_value g.R.Source c.read.new.self) parts c.in-Ok.length c.read.new.buffer well c.if-length-eq0.true
-    c.in-Ok.ensures.within (omega arith) c.in-Ok.ensures.bytes c.in-Ok.ensures.recorded c.in-Ok.ensures.counted in
+    c.in-Ok.ensures.within (omega arith) c.in-Ok.ensures.bytes c.in-Ok.ensures.listed in
     record {
       reads = parts ++ [] ∷ [];
-      read = last.bytes_read.all;
-      broken = rw (concat-and_empty parts) (inr (record {
-        reads = search rules;
+      read = last;
+      broken = inr (record {
+        ends = record { earlier = parts; whole = refl; some = some };
         at_end = c.in-Ok.ensures.bytes.1 c.if-length-eq0.true (omega arith);
-        broken =
-            part_at_end stored g.W.Sink entry.driver c.process_last_script_line.new.self.driver _ _ (search rules)
+        broken = rw (concat-and_empty parts)
+            (part_at_end stored g.W.Sink entry.driver c.process_last_script_line.new.self.driver _ _ (search rules)
             (search rules)
             c.loop-turn.splitter.driver (concat parts) _ _ (script_of_bytes stored g.W.Sink _ c.loop-turn.splitter
             (concat parts) taken)
-            taken.taken.processed (c.in_default.ensures.taken taken.rest taken.keeps);
-      }));
+            taken.taken.processed (c.in_default.ensures.taken taken.rest taken.keeps));
+      });
     }
-
-pub returns-in_default-clause-write : goal.returns-in_default-clause-write
-returns-in_default-clause-write g c =
-    let counts = g.W.Sink.counts in
-    let (parts, count, well, some, taken) = c.loop-turn.invariant.progress in
-    let last = c.in_default.ensures.taken taken.rest taken.keeps in
-    λ _. (
-      search rules,
-      wrong_at counts c.args.writer.now c.process_last_script_line.new.self.driver.reply_sink.sink.now _ (search rules)
-          (failed_in_second (counts c.args.writer.now) (counts c.loop-turn.splitter.driver.reply_sink.sink.now)
-          (counts c.process_last_script_line.new.self.driver.reply_sink.sink.now)
-          taken.taken.processed.answered.out.1.calls
-          last.broken.answered.out.1.calls),
-    )
 
 pub returns-in_default-process_bytes-clause-err : goal.returns-in_default-process_bytes-clause-err
 returns-in_default-process_bytes-clause-err g c =
     let stored = g.S.DeviceStore.store_state in
-    let reads = g.R.Source.counts in
     let (parts, count, well, some, taken) = c.loop-turn.invariant.progress in
     let entry = first_player g.S.DeviceStore.store_state (replay_output_of g.W.Sink) ScriptLines taken in
     let chunk = take c.in-Ok.length c.read.new.buffer in
@@ -155,49 +129,22 @@ returns-in_default-process_bytes-clause-err g c =
     (c.in_default-process_bytes.ensures.stopped taken.rest taken.keeps) in
     let more = reads_more (source_value g.R.Source c.args.reader.now) _ (source_value g.R.Source c.read.new.self) parts
     c.in-Ok.length c.read.new.buffer well c.in-Ok.ensures.within (omega arith) c.in-Ok.ensures.bytes
-    c.in-Ok.ensures.recorded c.in-Ok.ensures.counted in
+    c.in-Ok.ensures.listed in
     record {
       reads = parts ++ chunk ∷ [];
-      read = more.bytes_read.all;
-      broken = rw (concat-more parts chunk) (inl (record {
-        reads =
-            went_well Failed (reads c.args.reader.now) (reads c.loop-turn.reader) (reads c.read.new.self)
-            c.in-Ok.length c.loop-turn.invariant.reads c.in-Ok.ensures.counted c.if-length-eq0.false;
-        broken =
-            part_at_line stored g.W.Sink entry c.process_bytes.new.self (concat parts ++ chunk) _ _ (search rules)
+      read = more;
+      broken = inl (record {
+        some = All-push (λ (bytes : List ℕ). bytes ≢ []) parts chunk some
+            (some_taken c.in-Ok.length c.read.new.buffer c.in-Ok.ensures.within c.if-length-eq0.false);
+        broken = rw (concat-more parts chunk)
+            (part_at_line stored g.W.Sink entry c.process_bytes.new.self (concat parts ++ chunk) _ _ (search rules)
             (search rules)
-            crash;
-      }));
+            crash);
+      });
     }
-
-pub returns-in_default-process_bytes-clause-write : goal.returns-in_default-process_bytes-clause-write
-returns-in_default-process_bytes-clause-write g c =
-    let (parts, count, well, some, taken) = c.loop-turn.invariant.progress in
-    let crash =
-    stops_behind g.S.DeviceStore.store_state (replay_output_of g.W.Sink) ScriptLines _ c.loop-turn.splitter
-    c.process_bytes.new.self (concat parts)
-    _ taken (c.in_default-process_bytes.ensures.stopped taken.rest taken.keeps) in
-    λ _. (
-      search rules,
-      wrong_at g.W.Sink.counts c.args.writer.now c.process_bytes.new.self.driver.reply_sink.sink.now _ (search rules)
-          crash.broken.answered.out.1.calls,
-    )
-
-pub returns-in_default-process_bytes-clause-too_many : goal.returns-in_default-process_bytes-clause-too_many
-returns-in_default-process_bytes-clause-too_many g c =
-    let counts = g.W.Sink.counts in
-    let (parts, count, well, some, taken) = c.loop-turn.invariant.progress in
-    let crash =
-    stops_behind g.S.DeviceStore.store_state (replay_output_of g.W.Sink) ScriptLines _ c.loop-turn.splitter
-    c.process_bytes.new.self (concat parts)
-    _ taken (c.in_default-process_bytes.ensures.stopped taken.rest taken.keeps) in
-    let wrong : OneFailedOrEmpty (counts c.args.writer.now)
-    (counts c.process_bytes.new.self.driver.reply_sink.sink.now) =
-    crash.broken.answered.out.1.calls in search rules
 
 pub loop-turn-preserved : goal.loop-turn-preserved
 loop-turn-preserved g c =
-    let reads = g.R.Source.counts in
     let before = c.loop-turn.invariant in
     let (parts, count, well, some, taken) = before.progress in
     let chunk = take c.in-Ok.length c.read.new.buffer in
@@ -214,63 +161,105 @@ loop-turn-preserved g c =
         parts ++ chunk ∷ [],
         length-append parts (chunk ∷ []) ∙ ap (λ n. n + 1) count,
         reads_more _ _ _ parts c.in-Ok.length c.read.new.buffer well c.in-Ok.ensures.within (omega arith)
-            c.in-Ok.ensures.bytes c.in-Ok.ensures.recorded c.in-Ok.ensures.counted,
+            c.in-Ok.ensures.bytes c.in-Ok.ensures.listed,
         All-push (λ (bytes : List ℕ). bytes ≢ []) parts chunk some
             (some_taken c.in-Ok.length c.read.new.buffer c.in-Ok.ensures.within c.if-length-eq0.false),
         rw (concat-more parts chunk) now,
       );
-      writes = now.taken.processed.answered.out.1.calls;
-      reads =
-          went_well Failed (reads c.args.reader.now) (reads c.loop-turn.reader) (reads c.read.new.self) c.in-Ok.length
-          before.reads c.in-Ok.ensures.counted c.if-length-eq0.false;
     }
+
+-- ---- how many reads are made
 
 pub returns-in-Err-clause-reads : goal.returns-in-Err-clause-reads
 returns-in-Err-clause-reads g c =
     let (parts, count, well, some, taken) = c.loop-turn.invariant.progress in
-    let below = c.loop-turn-test.true in (
-      parts,
-      inr (
-        reads_fail _ _ _ parts c.in-Err.field-0 well c.in-Err.ensures.bytes c.in-Err.ensures.recorded
-            c.in-Err.ensures.counted,
-        omega (arith, count, below),
-      ),
+    let below = c.loop-turn-test.true in
+    let source = source_value g.R.Source in (
+      c.loop-turn._turn + 1,
+      omega arith,
+      makes_read_more (source c.args.reader.now) (source c.loop-turn.reader)
+          (source c.read.new.self) parts _ _ well count c.in-Err.ensures.listed,
     )
 
 pub returns-then-length-eq0-clause-reads : goal.returns-then-length-eq0-clause-reads
 returns-then-length-eq0-clause-reads g c =
     let (parts, count, well, some, taken) = c.loop-turn.invariant.progress in
-    one_read_more _ _ _ parts c.in-Ok.length c.loop-turn._turn c.args.turns c.read.new.buffer well count
-    c.loop-turn-test.true c.in-Ok.ensures.within (omega arith) c.in-Ok.ensures.bytes c.in-Ok.ensures.recorded
-    c.in-Ok.ensures.counted
+    let below = c.loop-turn-test.true in
+    let source = source_value g.R.Source in (
+      c.loop-turn._turn + 1,
+      omega arith,
+      makes_read_more (source c.args.reader.now) (source c.loop-turn.reader)
+          (source c.read.new.self) parts _ _ well count c.in-Ok.ensures.listed,
+    )
 
 pub returns-in_default-clause-reads : goal.returns-in_default-clause-reads
 returns-in_default-clause-reads g c =
     let (parts, count, well, some, taken) = c.loop-turn.invariant.progress in
-    one_read_more _ _ _ parts c.in-Ok.length c.loop-turn._turn c.args.turns c.read.new.buffer well count
-    c.loop-turn-test.true c.in-Ok.ensures.within (omega arith) c.in-Ok.ensures.bytes c.in-Ok.ensures.recorded
-    c.in-Ok.ensures.counted
+    let below = c.loop-turn-test.true in
+    let source = source_value g.R.Source in (
+      c.loop-turn._turn + 1,
+      omega arith,
+      makes_read_more (source c.args.reader.now) (source c.loop-turn.reader)
+          (source c.read.new.self) parts _ _ well count c.in-Ok.ensures.listed,
+    )
 
 pub returns-in_default-process_bytes-clause-reads : goal.returns-in_default-process_bytes-clause-reads
 returns-in_default-process_bytes-clause-reads g c =
     let (parts, count, well, some, taken) = c.loop-turn.invariant.progress in
-    one_read_more _ _ _ parts c.in-Ok.length c.loop-turn._turn c.args.turns c.read.new.buffer well count
-    c.loop-turn-test.true c.in-Ok.ensures.within (omega arith) c.in-Ok.ensures.bytes c.in-Ok.ensures.recorded
-    c.in-Ok.ensures.counted
+    let below = c.loop-turn-test.true in
+    let source = source_value g.R.Source in (
+      c.loop-turn._turn + 1,
+      omega arith,
+      makes_read_more (source c.args.reader.now) (source c.loop-turn.reader)
+          (source c.read.new.self) parts _ _ well count c.in-Ok.ensures.listed,
+    )
 
 pub returns-clause-reads : goal.returns-clause-reads
 returns-clause-reads g c =
     let (parts, count, well, some, taken) = c.loop-turn.invariant.progress in
-    (parts, inl (well, omega (arith, count)))
+    let source = source_value g.R.Source in
+    let last = c.loop-turn.auto._turn-end in
+    (c.loop-turn._turn, last, makes_reads (source c.args.reader.now) (source c.loop-turn.reader) parts _ well count)
 
-pub returns-clause-ok : goal.returns-clause-ok
-returns-clause-ok g c = search rules
+-- ---- when it returns `TooManyTurns`
 
-pub returns-clause-ended : goal.returns-clause-ended
-returns-clause-ended g c = search rules
+pub returns-in-Err-clause-too_many : goal.returns-in-Err-clause-too_many
+returns-in-Err-clause-too_many g c = (
+  λ e. absurd cc,
+  λ all. absurd (read_not_all g.S.DeviceStore.store_state (replay_value g.R.Source g.W.Sink) c.args.explains _ _ _
+      (returns-in-Err-clause-err g c) all),
+)
+
+pub returns-then-length-eq0-clause-too_many : goal.returns-then-length-eq0-clause-too_many
+returns-then-length-eq0-clause-too_many g c = (
+  λ e. absurd cc,
+  λ all. absurd (ok_not_all g.S.DeviceStore.store_state (replay_value g.R.Source g.W.Sink) c.args.explains _ _ _ _
+      (returns-then-length-eq0-clause-ok g c) all),
+)
+
+pub returns-in_default-clause-too_many : goal.returns-in_default-clause-too_many
+returns-in_default-clause-too_many g c = (
+  λ e. absurd cc,
+  λ all. absurd (write_not_all g.S.DeviceStore.store_state (replay_value g.R.Source g.W.Sink) c.args.explains _ _ _
+      (returns-in_default-clause-err g c) all),
+)
+
+pub returns-in_default-process_bytes-clause-too_many : goal.returns-in_default-process_bytes-clause-too_many
+returns-in_default-process_bytes-clause-too_many g c = (
+  λ e. absurd cc,
+  λ all. absurd (write_not_all g.S.DeviceStore.store_state (replay_value g.R.Source g.W.Sink) c.args.explains _ _ _
+      (returns-in_default-process_bytes-clause-err g c) all),
+)
 
 pub returns-clause-too_many : goal.returns-clause-too_many
-returns-clause-too_many g c = search rules
+returns-clause-too_many g c =
+    let (parts, count, well, some, taken) = c.loop-turn.invariant.progress in
+    let done = c.loop-turn-test.false in
+    let last = c.loop-turn.auto._turn-end in (
+      λ _. uses_all _ _ _ parts _ well some (omega (arith, count, done, last))
+          (returns-clause-err g c).processed.processed.answered.out,
+      λ _. refl,
+    )
 
 -- ---- the headline
 

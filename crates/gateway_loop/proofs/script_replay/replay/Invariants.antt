@@ -1,12 +1,10 @@
-use Rattle.std.proofs.Common.{◌≡◌, List, ℕ, [], length}
-use Rattle.std.specs.Prelude.{◌≢◌, All}
+use Rattle.std.proofs.Common.{◌≡◌, List, ℕ, length}
 use Rattle.std.specs.List.{concat}
-use Rattle.byte_io.specs.Counts.{NoneFailedOrEmpty}
+use Rattle.byte_io.specs.Streams.{source_value}
 use Rattle.gateway_loop.specs.Processing.{HasNoReadyPacket}
 use Rattle.gateway_loop.specs.private.LineSplitting.{TakesEndedLines}
-use Rattle.gateway_loop.specs.Reads.{AllReadsSucceed}
+use Rattle.gateway_loop.specs.Reads.{AllReadsSucceed, NoneIsEmpty}
 use Rattle.gateway_loop.specs.declared.line_splitter.LineSource.TheVariants.{ScriptLines}
-use Rattle.gateway_loop.specs.Streams.{source_value}
 use Rattle.gateway_loop.specs.Written.{replay_output_of}
 use Rattle.gateway_loop.proofs.script_replay.replay.Given as goal
 
@@ -17,10 +15,8 @@ invariant-loop-turn g l = record {
   idle : HasNoReadyPacket l.splitter.driver.gateway.now;
   progress : (parts : List (List ℕ)) × (length parts ≡ l._turn)
       × AllReadsSucceed (source_value g.R.Source l.fn.reader) (source_value g.R.Source l.reader) parts
-      × All (λ bytes. bytes ≢ []) parts
+      × NoneIsEmpty parts
       × TakesEndedLines g.S.DeviceStore.store_state
       (replay_output_of g.W.Sink) ScriptLines l.initial.splitter l.splitter
       (concat parts);
-  writes : NoneFailedOrEmpty (g.W.Sink.counts l.fn.writer) (g.W.Sink.counts l.splitter.driver.reply_sink.sink.now);
-  reads : NoneFailedOrEmpty (g.R.Source.counts l.fn.reader) (g.R.Source.counts l.reader);
 }

@@ -1,15 +1,11 @@
 use Rattle.std.proofs.Common.{◌≡◌, [], ◌++◌, ap, refl, sym, ◌∙◌, subst, Some, None}
 use Rattle.std.specs.Option.{option_copied, option_map}
-use Rattle.std.proofs.lemmas.Result.{err_from_is_err_and}
 use Rattle.gateway_core.specs.Replies.{answer_of}
 use Rattle.gateway_core.specs.Step.{with_packet_line}
-use Rattle.byte_io.specs.Counts.{CallsMatchResult}
-use Rattle.byte_io.specs.Transfers.{Adds}
-use Rattle.byte_io.specs.Writes.{AppendsPart, Writes}
-use Rattle.gateway_loop.specs.Streams.{SinkValue, sink_value}
+use Rattle.byte_io.specs.Streams.{SinkValue, sink_value}
+use Rattle.byte_io.specs.Writes.{Writes, WritesPart, WritesText}
 use Rattle.gateway_loop.specs.TextOutput.{text_output}
 use Rattle.gateway_loop.specs.Written.{desk_text, radio_chunk_line, text_of}
-use Rattle.gateway_loop.proofs.CallCountLemmas.{went_behind}
 use Rattle.gateway_loop.proofs.TextOutputLemmas.{puts_by, puts_one}
 use Rattle.gateway_loop.proofs.WriteLemmas.{part_of_front, writes_behind, writes_part}
 use Rattle.gateway_loop.proofs.replay_output.ReplayOutputReplySink.put.Goals as goal
@@ -23,15 +19,13 @@ returns-in_err-write_chunk-clause-put g c =
     let answer = with_packet_line (option_copied c.args.line) (answer_of c.args.reply.now) in
     let radio : answer.radio ≡ Some c.as_slice.result.now =
     ap (option_map (λ bytes. bytes.items)) c.in-Some.is ∙ ap Some (sym c.as_slice.ensures.value) in
-    let part : AppendsPart old.bytes new.bytes [] (radio_chunk_line answer.radio) =
-    subst (λ r. AppendsPart old.bytes new.bytes [] (radio_chunk_line r))
+    let part : WritesPart old new [] (radio_chunk_line answer.radio) =
+    subst (λ r. WritesPart old new [] (radio_chunk_line r))
     (sym radio) c.in_err-write_chunk.ensures.written in
-    let exit = err_from_is_err_and c.from_residual.result c.from_residual.ensures.1 in
     puts_by (λ flag. text_output (text_of flag)) c.from_residual.result (explains, old) (explains, new) answer refl
     (puts_one c.from_residual.result (text_of explains) old new answer
     (writes_part _ _ _ _ _ c.from_residual.ensures.1
-    (part_of_front old.bytes new.bytes (radio_chunk_line answer.radio) (desk_text explains answer) part))
-    (rw exit.1 c.in_err-write_chunk.ensures.counted))
+    (part_of_front old new (radio_chunk_line answer.radio) (desk_text explains answer) part)))
 
 pub returns-clause-put : goal.returns-clause-put
 returns-clause-put g c =
@@ -42,30 +36,26 @@ returns-clause-put g c =
     let new = sink_value g.W.Sink c.write_desk_text.new.writer in
     let r = c.write_desk_text.result in
     let answer = with_packet_line (option_copied c.args.line) (answer_of c.args.reply.now) in
-    let reported : Writes mid.bytes new.bytes r (desk_text now answer) = c.write_desk_text.ensures.written in
+    let reported : Writes mid new r (desk_text now answer) = c.write_desk_text.ensures.written in
     elim c.match-reply.branch [
       | in-Some+in_ok-write_chunk w ↦
           let same : now ≡ explains = ap (λ script. script.explains) w.self-is in
-          let desk = subst (λ flag. Writes mid.bytes new.bytes r (desk_text flag answer)) same reported in
+          let desk = subst (λ flag. Writes mid new r (desk_text flag answer)) same reported in
           let radio : answer.radio ≡ Some w.as_slice.result.now =
           ap (option_map (λ bytes. bytes.items)) w.in-Some.is ∙ ap Some (sym w.as_slice.ensures.value) in
-          let first : Adds old.bytes mid.bytes (radio_chunk_line answer.radio) =
+          let first : WritesText old mid (radio_chunk_line answer.radio) =
           rw (w.self-is, radio) w.in_ok-write_chunk.ensures.written in
           puts_by (λ flag. text_output (text_of flag)) r (explains, old) (now, new) answer same
           (puts_one r (text_of explains) old new answer
-          (writes_behind old.bytes mid.bytes new.bytes r (radio_chunk_line answer.radio)
-          (desk_text explains answer) first desk)
-          (went_behind r old.counts mid.counts new.counts (rw w.self-is w.in_ok-write_chunk.ensures.counted)
-          c.write_desk_text.ensures.counted))
+          (writes_behind old mid new r (radio_chunk_line answer.radio)
+          (desk_text explains answer) first desk))
       | in_default w ↦
           let same : now ≡ explains = ap (λ script. script.explains) w.self-is in
-          let desk = subst (λ flag. Writes mid.bytes new.bytes r (desk_text flag answer)) same reported in
+          let desk = subst (λ flag. Writes mid new r (desk_text flag answer)) same reported in
           let radio : answer.radio ≡ None = ap (option_map (λ bytes. bytes.items)) w.in_default.is in
           let kept : mid ≡ old = ap (λ script. sink_value g.W.Sink script.sink.now) w.self-is in
           puts_by (λ flag. text_output (text_of flag)) r (explains, old) (now, new) answer same
           (puts_one r (text_of explains) old new answer
-          (subst (λ o. Writes old.bytes new.bytes r (radio_chunk_line o ++ desk_text explains answer)) (sym radio)
-          (subst (λ (sink : SinkValue). Writes sink.bytes new.bytes r (desk_text explains answer)) kept desk))
-          (subst (λ (sink : SinkValue). CallsMatchResult r sink.counts new.counts) kept
-          c.write_desk_text.ensures.counted))
+          (subst (λ o. Writes old new r (radio_chunk_line o ++ desk_text explains answer)) (sym radio)
+          (subst (λ (sink : SinkValue). Writes sink new r (desk_text explains answer)) kept desk)))
     ]
