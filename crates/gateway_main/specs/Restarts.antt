@@ -7,7 +7,7 @@ use Rattle.sqlite.specs.State.{State as ConnectionState, HasCleanDisk}
 use Rattle.sqlite_disk.specs.declared.Disk.{Ghosts}
 use Rattle.sqlite_store.specs.FileStore.{state as stored}
 use Rattle.sqlite_store.specs.declared.store.FileStore.{FileStore}
-use Rattle.sqlite_trees.specs.Tree.{Trees}
+use Rattle.sqlite.specs.Tree.{Trees}
 use Rattle.learned_devices.specs.Devices.{Devices}
 use Rattle.device_registry.specs.Holding.{MayRecover, OpenFinds, registry_state_of, uncounted}
 use Rattle.device_registry.specs.declared.fault.OpenFault.TheVariants.{NotARegistry}
