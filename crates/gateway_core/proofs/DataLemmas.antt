@@ -5,7 +5,7 @@ use Rattle.bit_fields.specs.Bits.{field}
 use Rattle.erp1_telegrams.specs.Telegram.{Telegram}
 use Rattle.profile_rows.specs.Payload.{is_data}
 use Rattle.teach_in.specs.declared.telegrams.Teach.{Teach}
-use Rattle.teach_in.specs.declared.telegrams.Teach.TheVariants.{Plain, Contact, Bare, FourByte, Ute, Answer}
+use Rattle.teach_in.specs.declared.telegrams.Teach.TheVariants.{Plain, Contact, Bare, FourByte, Answer}
 use Rattle.teach_in.specs.Telegrams.{teach_in_of, one_byte_role, four_byte_role, ute_role}
 use Rattle.teach_in.proofs.ForCallers.{either}
 use Rattle.gateway_core.proofs.ByteLemmas.{field-below}

@@ -25,11 +25,9 @@ use Rattle.teach_in.specs.declared.plans.Plan.{Plan}
 use Rattle.teach_in.specs.declared.plans.Plan.TheVariants.{Silent, Add, Forget, Refuse}
 use Rattle.teach_in.specs.declared.telegrams.Teach.{Teach}
 use Rattle.teach_in.specs.declared.telegrams.Teach.TheVariants as teach
-use Rattle.teach_in.specs.FourByte as four_byte
 use Rattle.teach_in.specs.Profiles.{supported}
 use Rattle.teach_in.specs.Telegrams.{teach_in_of}
 use Rattle.teach_in.specs.Plans.{add, add_if_supported, plan_in_mode, can_be_learned_by, ute_plan, plan_of, plan_row_of}
-use Rattle.teach_in.specs.Ute as ute
 use Rattle.teach_in.specs.Ute.{request_in, deletion_request, unused_request}
 use Rattle.teach_in.proofs.ForCallers.{IsOpen, LearnsByTold, either, hears-open, of_plan}
 use Rattle.teach_in.specs.declared.handling_reason.HandlingReason.{HandlingReason}

@@ -1,5 +1,5 @@
 -- Runs of many inputs.
-use Rattle.std.proofs.Common.{◌≡◌, inr, List, [], ◌∷◌, ◌++◌, length, length-append, refl, sym, ap, subst, ◌∙◌}
+use Rattle.std.proofs.Common.{◌≡◌, inr, List, [], ◌∷◌, ◌++◌, length-append, refl, sym, ap, subst, ◌∙◌}
 use Rattle.learned_devices.proofs.ForCallers.{no_more_commits, more_commits_then}
 use Rattle.learned_devices.specs.DeviceStoreState.{DeviceStoreState}
 use Rattle.gateway_core.specs.Step.{State, Input, Answer}

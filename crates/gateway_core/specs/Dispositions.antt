@@ -3,8 +3,6 @@ use Rattle.std.specs.Prelude.{ℕ, ◌==◌, Bool, true, false, List, [], length
 use Rattle.std.specs.Prelude.{Result, Ok, Err}
 use Rattle.std.specs.Option.{option_or}
 use Rattle.esp3_frames.specs.Packet.{Packet}
-use Rattle.erp1_telegrams.specs.declared.address.FilterReason.{FilterReason}
-use Rattle.erp1_telegrams.specs.declared.address.FilterReason.TheVariants as reason
 use Rattle.erp1_telegrams.specs.declared.eep.Eep.{Eep}
 use Rattle.erp1_telegrams.specs.declared.telegram.TelegramFault.{TelegramFault}
 use Rattle.erp1_telegrams.specs.Telegram.{Telegram, telegram_of}
@@ -16,7 +14,6 @@ use Rattle.teach_in.specs.declared.mode.Mode.TheVariants.{Closed}
 use Rattle.teach_in.specs.declared.telegrams.Teach.{Teach}
 use Rattle.teach_in.specs.declared.telegrams.Teach.TheVariants.{FourByte, Ute}
 use Rattle.teach_in.specs.Telegrams.{teach_in_of}
-use Rattle.teach_in.specs.Ute as ute
 use Rattle.json_lines.specs.declared.counts.Counter.{Counter}
 use Rattle.json_lines.specs.declared.counts.Counter.TheVariants as count
 use Rattle.json_lines.specs.declared.packet.PacketLine.{PacketLine}

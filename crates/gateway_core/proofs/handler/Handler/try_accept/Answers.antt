@@ -1,4 +1,4 @@
-use Rattle.std.proofs.Common.{Ok, Some, sym, ap, subst, ◌∙◌}
+use Rattle.std.proofs.Common.{Ok, Some, ap, subst, ◌∙◌}
 use Rattle.std.proofs.lemmas.Result.{err_from_is_err_and}
 use Rattle.teach_in.specs.declared.outcome.Outcome.TheVariants.{Accepted, Full}
 use Rattle.gateway_core.specs.Handling.{HandlerValue}
