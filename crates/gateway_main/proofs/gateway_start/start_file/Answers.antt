@@ -1,7 +1,5 @@
 use Rattle.std.proofs.Common.{subst}
-use Rattle.std.specs.FinMap.{empty}
 use Rattle.sqlite.specs.Files.{file_state}
-use Rattle.learned_devices.specs.Devices.{Devices}
 use Rattle.device_registry.specs.Holding.{registry_state_of, uncounted}
 use Rattle.device_registry.proofs.ForCallers.{found_in_files, found_in_new_file, held_in_files}
 use Rattle.gateway_loop.specs.Headline.{IsNew}
