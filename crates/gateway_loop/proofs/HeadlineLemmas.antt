@@ -21,7 +21,7 @@ use Rattle.byte_io.specs.declared.source.Source as sources
 use Rattle.gateway_loop.specs.declared.run_result.RunFault.{RunFault}
 use Rattle.gateway_loop.specs.declared.run_result.RunFault.TheVariants.{Read, Write, TooManyTurns}
 use Rattle.gateway_loop.specs.declared.run_result.Summary.{Summary}
-use Rattle.gateway_loop.specs.Headline.{AsSpecified, BrokenOff, IsNew, IsPrefix}
+use Rattle.gateway_loop.specs.Headline.{AreWholeLines, AsSpecified, BrokenOff, IsNew, IsPrefix}
 use Rattle.gateway_loop.specs.Headline.{ReplaysAsSpecified, ServesAsSpecified, all_desk_text, all_radio_bytes}
 use Rattle.gateway_loop.specs.LiveGateway.{BreaksTurn, Serves, ServesUntilFault, ServesUntilReadFails}
 use Rattle.gateway_loop.specs.LiveGateway.{ServesUntilWriteFails}
@@ -35,7 +35,6 @@ use Rattle.gateway_loop.specs.Reads.{AllReadsSucceed, LastReadFails, OnlyLastMay
 use Rattle.gateway_loop.specs.Turns.{Turn, desk_reads, events_of_turns, serial_reads, turns_of}
 use Rattle.gateway_loop.specs.LiveOutputs.{radio_bytes, live_output}
 use Rattle.gateway_loop.specs.Written.{AppendsCutReplayText, desk_text, text_of, written}
-use Rattle.gateway_loop.proofs.LineLemmas.{script-behind}
 use Rattle.gateway_loop.proofs.TurnLemmas.{events_of_piece, length-desk_reads, length-serial_reads}
 
 -- ---- prefixes
@@ -230,10 +229,10 @@ module _ {S : Type 0} (state : S → DeviceStoreState) where
         let text = written explains its.answers in
         record {
           reads = done.reads;
-          read = inl done.read.returns;
           text = text;
           text_is_added = (its.out.writes, its.out.accepts);
           specified = (
+            done.read,
             done.ends,
             done.at_end,
             processed base found old.0 new.0.handler began clean (script (concat done.reads)) its.answers
@@ -251,41 +250,45 @@ module _ {S : Type 0} (state : S → DeviceStoreState) where
         let its = done.processed.processed.answered in
         let text = written explains its.answers in
         let ended = done.processed.ended in
-        let tail = done.processed.is.tail in
-        let input = concat done.reads in
-        let whole : script input ≡ script ended ++ script tail =
-        ap script done.processed.is.whole ∙ script-behind ended tail done.processed.is.ends in
         record {
           reads = done.reads;
-          read = read done.reads done.read;
           text = text;
           text_is_added = (its.out.writes, its.out.accepts);
-          specified = played_first base found old.0 new.0.handler began clean (script ended) (script tail)
-              (script input)
-              whole its.answers (λ answers. IsPrefix text (written explains answers)) its.handled (whole_prefix text);
+          specified = (
+            read done.reads done.read,
+            ended,
+            inl (done.processed.is.tail, done.processed.is.whole, done.processed.is.ends),
+            played_first base found old.0 new.0.handler began clean (script ended) [] (script ended)
+                (sym (append-nil (script ended))) its.answers (λ answers. IsPrefix text (written explains answers))
+                its.handled (whole_prefix text),
+          );
         }
 
-    -- an answer to an input of one event
-    event_broken : (reads : List (List ℕ))
-        → AllReadsSucceed (source_value source old.1) (source_value source new.1) reads → (events : List InputEvent)
-        (event : InputEvent)
+    -- an answer to an input of the last event of these lines
+    event_broken : (reads : List (List ℕ)) (lines : List ℕ)
+        → AllReadsSucceed (source_value source old.1) (source_value source new.1) reads → AreWholeLines reads lines
+        → (events : List InputEvent) (event : InputEvent)
         → Breaks state old.0 new.0 events event
         (AppendsCutReplayText explains (sink_value sink old.2) (sink_value sink new.2))
-        → (later : List InputEvent) → script (concat reads) ≡ events ++ event ∷ later
+        → script lines ≡ events ++ event ∷ []
         → ReplaysAsSpecified state source sink explains (Err Write) old new
-    event_broken reads read events event b later whole base found began clean =
+    event_broken reads lines read whole_lines events event b whole base found began clean =
         let its = b.answered in
         let part : WritesPart (sink_value sink old.2) (sink_value sink new.2) (written explains its.answers)
         (text_of explains its.last) = its.out in
         let text = written explains its.answers ++ part.part in
         record {
           reads = reads;
-          read = inl read.returns;
           text = text;
           text_is_added = (part.earlier ++ part.last ∷ [], part.accepts);
-          specified = broken_off base found old.0 new.0 events event later (script (concat reads)) began clean whole b
-              (λ answers. IsPrefix text (written explains answers))
-              (part_prefix (text_of explains) its.answers its.last part.part part.missing part.whole);
+          specified = (
+            inl read,
+            lines,
+            whole_lines,
+            broken_off base found old.0 new.0 events event [] (script lines) began clean whole b
+                (λ answers. IsPrefix text (written explains answers))
+                (part_prefix (text_of explains) its.answers its.last part.part part.missing part.whole),
+          );
         }
 
     write_failed : ReplaysUntilWriteFails state (replay_value source sink) explains old new
@@ -293,23 +296,20 @@ module _ {S : Type 0} (state : S → DeviceStoreState) where
     write_failed done = elim done.broken [
       | inl at_line ↦
           let it = at_line.broken in
-          let whole : script (concat done.reads) ≡ it.events ++ it.event ∷ script it.more =
-          ap script it.whole
-          ∙ script-behind (with_lf it.part) it.more (inr (it.part, refl))
-          ∙ ap (λ (es : List InputEvent). es ++ script it.more) it.is
-          ∙ append_assoc it.events (it.event ∷ []) (script it.more) in
-          event_broken done.reads done.read it.events it.event it.broken (script it.more) whole
+          event_broken done.reads (with_lf it.part) done.read (inl (it.more, it.whole, inr (it.part, refl))) it.events
+          it.event it.broken it.is
       | inr at_end ↦
           let it = at_end.broken in
-          event_broken done.reads done.read it.events it.event it.broken [] it.whole
+          event_broken done.reads (concat done.reads) done.read (inr (at_end.ends, refl)) it.events it.event it.broken
+          it.whole
     ]
 
     pub replayed_until : (fault : RunFault) → ReplaysUntilFault state (replay_value source sink) explains old new fault
         → ReplaysAsSpecified state source sink explains (Err fault) old new
-    replayed_until Read done = ended_lines_replayed Read LastReadFails (λ reads read. inr read.returns) done
+    replayed_until Read done = ended_lines_replayed Read LastReadFails (λ reads read. inr read) done
     replayed_until Write done = write_failed done
     replayed_until TooManyTurns done =
-        ended_lines_replayed TooManyTurns AllReadsSucceed (λ reads read. inl read.returns) done
+        ended_lines_replayed TooManyTurns AllReadsSucceed (λ reads read. inl read) done
 
   -- ---- `live`
 
@@ -327,14 +327,14 @@ module _ {S : Type 0} (state : S → DeviceStoreState) where
         record {
           serial = serial_reads done.read;
           desk = desk_reads done.read;
-          serial_read = inl done.serial.returns;
-          desk_read = inl done.desk.returns;
           alternate = inl (same_length done.read);
           radio_written = radio;
           desk_written = lines;
           radio_is_added = (its.out.0.writes, its.out.0.accepts);
           desk_is_added = (its.out.1.writes, its.out.1.accepts);
           specified = (
+            done.serial,
+            done.desk,
             length-serial_reads done.read ∙ done.count,
             length-desk_reads done.read ∙ done.count,
             subst (λ events. AsSpecified state base found (inputs_of [] events)
@@ -402,16 +402,17 @@ module _ {S : Type 0} (state : S → DeviceStoreState) where
     until_fault fault count read chunk radio lines took radio_out lines_out broken base found began clean = record {
       serial = serial_reads_and_chunk read chunk;
       desk = desk_reads read;
-      serial_read = took.0;
-      desk_read = took.1;
       alternate = alternating read chunk;
       radio_written = radio;
       desk_written = lines;
       radio_is_added = radio_out;
       desk_is_added = lines_out;
-      specified =
-          subst (λ events. BrokenOff state base found (inputs_of [] events) (Out radio lines) new.0.handler)
-          (sym (events_of-reads read chunk)) (broken base found began clean);
+      specified = (
+        took.0,
+        took.1,
+        subst (λ events. BrokenOff state base found (inputs_of [] events) (Out radio lines) new.0.handler)
+            (sym (events_of-reads read chunk)) (broken base found began clean),
+      );
     }
 
     read_failed : (count : ℕ) → ServesUntilReadFails state at explains old new
@@ -428,8 +429,8 @@ module _ {S : Type 0} (state : S → DeviceStoreState) where
       where
         took : (read : List Turn) (chunk : Option (List ℕ)) → NextReadFails (at old) (at new) read chunk → Took read
             chunk
-        took read None fails = (inr fails.0.returns, inl fails.1.returns)
-        took read (Some chunk) fails = (inl fails.0.returns, inr fails.1.returns)
+        took read None fails = (inr fails.0, inl fails.1)
+        took read (Some chunk) fails = (inl fails.0, inr fails.1)
 
     write_to_failed : (count : ℕ) → ServesUntilWriteFails state at explains old new
         → ServesAsSpecified state serial_in desk_in serial_out desk_out explains (Err Write) old new count
@@ -458,10 +459,10 @@ module _ {S : Type 0} (state : S → DeviceStoreState) where
         by None serial broken =
             let events = events_and_chunk broken.earlier_turns (Some broken.last.chunk) ++ broken.earlier_events in
             at_event done.read None
-            (inl serial.returns, inl done.desk.returns) events broken.later_events broken.order broken.whole
+            (inl serial, inl done.desk) events broken.later_events broken.order broken.whole
             broken.broken
         by (Some chunk) serial broken =
-            at_event done.read (Some chunk) (inl serial.returns, inl done.desk.returns) (events_of_turns done.read) []
+            at_event done.read (Some chunk) (inl serial, inl done.desk) (events_of_turns done.read) []
             (Chunk chunk)
             refl
             broken

@@ -18,8 +18,8 @@ use Rattle.byte_io.specs.declared.sink.Sink as sinks
 use Rattle.byte_io.specs.declared.source.Source as sources
 use Rattle.gateway_loop.specs.declared.run_result.RunFault.{RunFault}
 use Rattle.gateway_loop.specs.declared.run_result.Summary.{Summary}
-use Rattle.gateway_loop.specs.Reads.{OnlyLastIsEmpty, OnlyLastMayFail}
-use Rattle.gateway_loop.specs.Script.{script}
+use Rattle.gateway_loop.specs.Reads.{AllReadsSucceed, OnlyLastIsEmpty, OnlyLastMayFail}
+use Rattle.gateway_loop.specs.Script.{script, with_lf}
 use Rattle.gateway_loop.specs.Turns.{events_of_turns, turns_of}
 use Rattle.gateway_loop.specs.LiveOutputs.{radio_bytes}
 use Rattle.gateway_loop.specs.Written.{desk_text, written}
@@ -35,6 +35,12 @@ all_radio_bytes answers = flat_map (λ answer. radio_bytes answer.radio) answers
 
 abbrev pub all_desk_text : (explains : Bool) → List Answer → List ℕ
 all_desk_text explains answers = flat_map (desk_text explains) answers
+
+-- Lines of a script that were read whole: up to an LF, or all of them, if a read of 0 bytes ended the script.
+abbrev pub AreWholeLines : (reads : List (List ℕ)) (lines : List ℕ) → Type 0
+AreWholeLines reads lines =
+    ((more : List ℕ) × (concat reads ≡ lines ++ more) × ((lines ≡ []) ⊎ ((front : List ℕ) × (lines ≡ with_lf front))))
+    ⊎ (OnlyLastIsEmpty reads × (lines ≡ concat reads))
 
 -- `S` is a gateway's device store, and `stored` what it keeps.
 module _ {S : Type 0} (stored : S → DeviceStoreState) where
@@ -72,23 +78,25 @@ module _ {S : Type 0} (stored : S → DeviceStoreState) where
     pub whole : inputs ≡ handled ++ later
     pub specified : AsSpecified base found handled out new
 
-  -- `replay`, for a new gateway, any reader and any writer. `reads` lists what the reads of this call returned; only
-  -- the last read may have failed. At `Ok` the last read returned 0 bytes, which ends the script, and the writer
-  -- accepted exactly the text of the answers to the inputs of the script. At a fault it accepted a prefix of the text
-  -- for some prefix of these inputs. (The postconditions `err` and `too_many` say which prefix, and when each fault is
-  -- returned.)
+  -- `replay`, for a new gateway, any reader and any writer. `reads` lists what the reads of this call returned. At `Ok`
+  -- no read failed, the last one returned 0 bytes, which ends the script, and the writer accepted exactly the text of
+  -- the answers to the inputs of the script. At a fault only the last read may have failed, and the writer accepted a
+  -- prefix of the text for some prefix of the inputs of lines that were read whole. (The postconditions `err` and
+  -- `too_many` say which, and when each fault is returned.)
   pub record ReplaySpecified {R W : Type 0} (source : sources.Ghosts R) (sink : sinks.Ghosts W) (explains : Bool)
       (result : Result Summary RunFault) (base : ℕ) (found : Devices) (old new : GatewayValue S × R × W)
       : Type 0 where
     pub reads : List (List ℕ)
-    pub read : OnlyLastMayFail (source_value source old.1) (source_value source new.1) reads
     pub text : List ℕ
     pub text_is_added : Adds (sink_value sink old.2) (sink_value sink new.2) text
     pub specified : MatchResult result
-        (λ _. OnlyLastIsEmpty reads × IsAtEnd (source.left new.1)
+        (λ _. AllReadsSucceed (source_value source old.1) (source_value source new.1) reads
+        × OnlyLastIsEmpty reads × IsAtEnd (source.left new.1)
         × AsSpecified base found (inputs_of [] (script (concat reads))) (λ answers. text ≡ written explains answers)
         new.0.handler)
-        (λ _. BrokenOff base found (inputs_of [] (script (concat reads)))
+        (λ _. OnlyLastMayFail (source_value source old.1) (source_value source new.1) reads
+        × (lines : List ℕ) × AreWholeLines reads lines
+        × BrokenOff base found (inputs_of [] (script lines))
         (λ answers. IsPrefix text (written explains answers)) new.0.handler)
 
   abbrev pub ReplaysAsSpecified : {R W : Type 0} → sources.Ghosts R → sinks.Ghosts W → (explains : Bool)
@@ -99,28 +107,31 @@ module _ {S : Type 0} (stored : S → DeviceStoreState) where
 
   -- `live`, for a new gateway, any two readers and any two writers. `serial` and `desk` list what the reads of this
   -- call returned. Any of them may have returned 0 bytes, as from a serial line that is silent for a while. At `Ok` all
-  -- turns were made, and the writers accepted exactly the radio bytes and the lines of the answers to the inputs of
-  -- these reads. At a fault they accepted prefixes of these, for some prefix of the inputs; the last turn may lack its
-  -- read of the desk. (The postconditions `err` and `reads` of `live` say which.)
+  -- turns were made, no read failed, and the writers accepted exactly the radio bytes and the lines of the answers to
+  -- the inputs of these reads. At a fault only the last read of a reader may have failed, and the writers accepted
+  -- prefixes of these, for some prefix of the inputs; the last turn may lack its read of the desk. (The postconditions
+  -- `err` and `reads` of `live` say which.)
   pub record LiveSpecified {P Q R D : Type 0} (serial_in : sources.Ghosts P) (desk_in : sources.Ghosts Q)
       (serial_out : sinks.Ghosts R) (desk_out : sinks.Ghosts D) (explains : Bool) (result : Result Summary RunFault)
       (count base : ℕ) (found : Devices) (old new : GatewayValue S × P × Q × R × D)
       : Type 0 where
     pub serial : List (List ℕ)
     pub desk : List (List ℕ)
-    pub serial_read : OnlyLastMayFail (source_value serial_in old.1) (source_value serial_in new.1) serial
-    pub desk_read : OnlyLastMayFail (source_value desk_in old.2) (source_value desk_in new.2) desk
     pub alternate : (length serial ≡ length desk) ⊎ (length serial ≡ length desk + 1)
     pub radio_written : List ℕ
     pub desk_written : List ℕ
     pub radio_is_added : Adds (sink_value serial_out old.3) (sink_value serial_out new.3) radio_written
     pub desk_is_added : Adds (sink_value desk_out old.4) (sink_value desk_out new.4) desk_written
     pub specified : MatchResult result
-        (λ _. (length serial ≡ count) × (length desk ≡ count)
+        (λ _. AllReadsSucceed (source_value serial_in old.1) (source_value serial_in new.1) serial
+        × AllReadsSucceed (source_value desk_in old.2) (source_value desk_in new.2) desk
+        × (length serial ≡ count) × (length desk ≡ count)
         × AsSpecified base found (inputs_of [] (events_of_turns (turns_of serial desk)))
         (λ answers. (radio_written ≡ all_radio_bytes answers) × (desk_written ≡ all_desk_text explains answers))
         new.0.handler)
-        (λ _. BrokenOff base found (inputs_of [] (events_of_turns (turns_of serial desk)))
+        (λ _. OnlyLastMayFail (source_value serial_in old.1) (source_value serial_in new.1) serial
+        × OnlyLastMayFail (source_value desk_in old.2) (source_value desk_in new.2) desk
+        × BrokenOff base found (inputs_of [] (events_of_turns (turns_of serial desk)))
         (λ answers. IsPrefix radio_written (all_radio_bytes answers)
         × IsPrefix desk_written (all_desk_text explains answers)) new.0.handler)
 

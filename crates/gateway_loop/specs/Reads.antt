@@ -24,11 +24,6 @@ pub record Returns (old new : SourceValue) (transfers : List Transfer) (reads : 
   pub made : new.reads ≡ old.reads ++ transfers
   pub consumed : Consumes old.unread new.unread (concat reads)
 
--- these reads were made, and then perhaps one that failed
-abbrev pub OnlyLastMayFail : (old new : SourceValue) (reads : List (List ℕ)) → Type 0
-OnlyLastMayFail old new reads =
-    Returns old new (map Some reads) reads ⊎ Returns old new (map Some reads ++ None ∷ []) reads
-
 -- exactly these reads were made, and none failed
 pub record AllReadsSucceed (old new : SourceValue) (reads : List (List ℕ)) : Type 0 where
   pub returns : Returns old new (map Some reads) reads
@@ -38,6 +33,10 @@ pub record AllReadsSucceed (old new : SourceValue) (reads : List (List ℕ)) : T
 pub record LastReadFails (old new : SourceValue) (reads : List (List ℕ)) : Type 0 where
   pub returns : Returns old new (map Some reads ++ None ∷ []) reads
   pub each : AreReads old.unread [] reads
+
+-- these reads were made, and then perhaps one that failed
+abbrev pub OnlyLastMayFail : (old new : SourceValue) (reads : List (List ℕ)) → Type 0
+OnlyLastMayFail old new reads = AllReadsSucceed old new reads ⊎ LastReadFails old new reads
 
 -- none of these reads returned 0 bytes
 abbrev pub NoneIsEmpty : (reads : List (List ℕ)) → Type 0
