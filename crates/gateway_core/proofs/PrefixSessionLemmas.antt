@@ -1,5 +1,4 @@
--- A run that ends in a crash is a session, if the crash left the devices after a prefix that contains every acknowledged
--- input.
+-- A run that ends in a crash is a session, if the crash left the devices after a prefix with every acknowledged input.
 use Rattle.std.proofs.Common.{◌≡◌, inl, inr, length, List, [], ◌∷◌, ◌++◌, Option, Some, None, IsSome, refl, sym, subst}
 use Rattle.std.proofs.Common.{arith}
 use Rattle.learned_devices.specs.Devices.{Devices, DeviceUpdate}
@@ -89,7 +88,8 @@ safe-prefix start inputs results devices p =
     let Before = λ (found : Devices). found ≡ start.devices in
     let mid = state_after_run start p.earlier_inputs p.earlier_results in
     let left = crash_states nothing_committed_yet start p.earlier_inputs p.earlier_results in
-    let safe = safe-after_run Before nothing_committed_yet start p.earlier_inputs p.earlier_results (inr (refl, refl)) in
+    let safe =
+    safe-after_run Before nothing_committed_yet start p.earlier_inputs p.earlier_results (inr (refl, refl)) in
     let none = subst (λ s. NoUpdateAcknowledged s p.later_inputs p.later_results) p.mid_is p.later_unacknowledged in
     let after : IsCrashConsistent Before (crash_states left mid p.later_inputs p.later_results) devices =
     elim p.devices_are [

@@ -154,8 +154,8 @@ pub fn sessions_leave_prefixes()
     ensures { SessionsLeavePrefixes }
 {}
 
-/// A run is a session, if a crash left the devices after a prefix of its inputs that contains every acknowledged one. So
-/// the theorems about sessions hold of `replay` and `live`, whose postcondition `as_specified` says this.
+/// A run is a session, if a crash left the devices after a prefix of its inputs that contains every acknowledged one.
+/// So the theorems about sessions hold for `replay` and `live`, whose postcondition `as_specified` says this.
 pub fn prefixes_end_sessions()
     ensures { PrefixesEndSessions }
 {}

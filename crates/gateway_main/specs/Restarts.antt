@@ -34,8 +34,9 @@ StartsWith state base devices (Err (fault, None)) = fault ≢ Database NotARegis
 -- A crash of a gateway left these contents in its two files. Any crash leaves devices after a prefix of its inputs that
 -- contains every acknowledged one, as `AsSpecified` says after `replay` and `live`. Then a start on the files has this
 -- result over the devices of such a prefix.
-abbrev pub RestartsAfterPrefix : {D C : Type 0} {g : Ghosts D} → (crashed : Held (FileStore D g)) → (left_in_files : Image)
-    → (C → ConnectionState) → (base : ℕ) → Result (GatewayValue C) (Fault × Option C) → Type 0
+abbrev pub RestartsAfterPrefix : {D C : Type 0} {g : Ghosts D} → (crashed : Held (FileStore D g))
+    → (left_in_files : Image) → (C → ConnectionState) → (base : ℕ) → Result (GatewayValue C) (Fault × Option C)
+    → Type 0
 RestartsAfterPrefix crashed left_in_files state base result =
     (start : State) (inputs : List Input) (results : List InputResult)
     → ((left : Devices) → MayRecover (file_state crashed) left → AfterPrefix start inputs results left)

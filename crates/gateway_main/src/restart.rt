@@ -20,8 +20,9 @@ use std::rt::HostRuntime;
 ///
 /// `crashed` is a gateway after `replay` or `live`, and `contents` stands for what a crash at that moment left in its
 /// files (`image_at`). The start finds the devices after a prefix of the inputs that `crashed` handled. The prefix
-/// contains every acknowledged input. The gateway is new over these devices, so `as_specified` holds for what it handles
-/// next. A start that fails does not report `not a registry`; if it returns the connection, it leaves these devices.
+/// contains every acknowledged input. The gateway is new over these devices, so `as_specified` holds for what it
+/// handles next. A start that fails does not report `not a registry`; if it returns the connection, it leaves these
+/// devices.
 ///
 /// The premise on the disk of `crashed` is that it has returned what was written, also during the rollback by which the
 /// connection is taken apart here. A crash within a call is one of a disk that stops at that moment: the function is

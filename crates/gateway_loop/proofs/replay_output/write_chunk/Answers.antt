@@ -43,6 +43,7 @@ returns g c =
           writes_behind (sink c.args.writer.now) (sink c.write_text.new.writer) (sink c.write_text-3.new.writer)
           c.write_text-3.result (codes "S ") (digits ++ codes "\n") c.in_ok-write_text.ensures.written
           (writes_behind (sink c.write_text.new.writer) (sink c.write_text-2.new.writer)
-          (sink c.write_text-3.new.writer) c.write_text-3.result digits (codes "\n") (rw spelled at c.in_ok-write_text-2.ensures.written)
+          (sink c.write_text-3.new.writer) c.write_text-3.result digits (codes "\n")
+          (rw spelled at c.in_ok-write_text-2.ensures.written)
           c.write_text-3.ensures.written);
     }
