@@ -19,7 +19,8 @@ abbrev pub CrashedFilesHold : {D : Type 0} {g : Ghosts D} → Held (FileStore D 
 CrashedFilesHold stopped = (image : Image) → (stored stopped.store).may_leave image
     → ∥ ((left : Devices) × MayRecover (file_state stopped) left × FilesHold image left) ∥₁
 
--- if the next open finds these devices in whatever a crash leaves, as after a failed start, then the two files hold them
+-- If the next open finds these devices in whatever a crash leaves, the two files hold them. A failed start leaves such
+-- a connection.
 abbrev pub CrashedFilesHoldFound : {D : Type 0} {g : Ghosts D} → Held (FileStore D g) → Type 0
 CrashedFilesHoldFound stopped = (devices : Devices) (image : Image)
     → ((trees : Trees) → (file_state stopped).may_leave trees → OpenFinds trees devices)

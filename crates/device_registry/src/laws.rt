@@ -1,12 +1,12 @@
 //! Theorems about the definitions, and about every registry. Each function does nothing: its contract is the theorem.
-ghost use Rattle.std.specs.Prelude.{◌≡◌};
+ghost use Rattle.std.specs.Prelude.{◌≡◌, ◌↔◌};
 ghost use Rattle.sqlite_trees.specs.View.{IsClean};
 ghost use Rattle.sqlite_store.specs.FileStore.{view};
 ghost use Rattle.device_registry.specs.declared.cache_limits.TheConstants.{MAX_CACHED};
 ghost use Rattle.device_registry.specs.Opening.{max_cached};
 ghost use Rattle.sqlite.specs.Held.{state};
 ghost use Rattle.device_registry.specs.Holding.{HasSomeDevicesIfOpen, HeldDevicesMayBeLeft, SomeDevicesAreLeft};
-ghost use Rattle.device_registry.specs.Holding.{HasDevicesIfOpen, MayRecover};
+ghost use Rattle.device_registry.specs.Holding.{AreVersion2Registries, HasDevicesIfOpen, MayRecover};
 ghost use Rattle.learned_devices.specs.Devices.{Devices};
 ghost use Rattle.sqlite.specs.State.{HasCleanDisk};
 ghost use Rattle.device_registry.specs.Opening.{ClosedFilesAreFound, DevicesAreLimited, FoundDevicesAreUnique};
@@ -66,9 +66,9 @@ pub fn returned_is_found<C: SqlConnection>()
     ensures { ReturnedIsFound C.state }
 {}
 
-/// Whatever a crash leaves in the two files of a registry, they hold devices that this crash could leave. The premise is
-/// that the disk has returned what was written, also during the rollback by which the connection is taken apart here;
-/// that call is the only one of `sqlite` that shows how the pages are numbered.
+/// Whatever a crash leaves in the two files of a registry, they hold devices that this crash could leave. The premise
+/// is that the disk has returned what was written, also during the rollback that takes the connection apart here. No
+/// other call of `sqlite` shows that the pages are numbered.
 pub fn crashed_files_hold_devices<D: Disk + Drop>(
     registry: RegistryOver<Connection<FileStore<D>>>,
 ) -> FileStore<D>
@@ -79,8 +79,8 @@ pub fn crashed_files_hold_devices<D: Disk + Drop>(
     conn.into_store()
 }
 
-/// The same for any connection, as one that a failed start returns, if the next open finds the same devices in whatever a
-/// crash leaves. So the start after it finds them too.
+/// The same for any connection, such as one that a failed start returns, if the next open finds the same devices in
+/// whatever a crash leaves. So the next start finds them too.
 pub fn crashed_files_hold_found<D: Disk + Drop>(conn: Connection<FileStore<D>>) -> FileStore<D>
     ensures { IsClean (view result) → CrashedFilesHoldFound conn }
 {
@@ -102,15 +102,19 @@ pub fn devices_are_held<C: SqlConnection>(registry: &RegistryOver<C>)
     let _conn = &table.conn;
 }
 
-/// A registry is a device store in terms of its connection: it is honest while the disk has returned what was written,
-/// holds devices only if the database does, and may leave all that a crash may leave of the database.
+/// As a device store, a registry is what its connection is: it is honest while the disk has returned what was written,
+/// holds what the database holds, may leave what a crash may leave of the database, and makes the commits that the
+/// connection counts.
 pub fn stores_are_connections<C: SqlConnection>(registry: &RegistryOver<C>)
-    ensures honest { HasCleanDisk (C.state registry.now)
-        → (⟦<RegistryOver<C> as DeviceStore>⟧.store_state registry.now).honest }
+    ensures honest { (⟦<RegistryOver<C> as DeviceStore>⟧.store_state registry.now).honest
+        ↔ HasCleanDisk (C.state registry.now) }
     ensures holds { (devices : Devices) → (⟦<RegistryOver<C> as DeviceStore>⟧.store_state registry.now).holds devices
-        → HasDevicesIfOpen (C.state registry.now) devices }
-    ensures leaves { (left : Devices) → MayRecover (C.state registry.now) left
-        → (⟦<RegistryOver<C> as DeviceStore>⟧.store_state registry.now).may_recover left }
+        ↔ HasDevicesIfOpen (C.state registry.now) devices }
+    ensures leaves { (left : Devices) → (⟦<RegistryOver<C> as DeviceStore>⟧.store_state registry.now).may_recover left
+        ↔ MayRecover (C.state registry.now) left }
+    ensures reopens { (⟦<RegistryOver<C> as DeviceStore>⟧.store_state registry.now).reopenable
+        ↔ AreVersion2Registries (C.state registry.now).may_leave }
+    ensures commits { (⟦<RegistryOver<C> as DeviceStore>⟧.store_state registry.now).commits ≡ C.commits registry.now }
 {}
 
 /// While the disk of a connection of SQLite has returned what was written, crash states exist: a crash leaves the

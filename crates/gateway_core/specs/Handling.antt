@@ -47,7 +47,7 @@ module _ {S : Type 0} (stored : S → DeviceStoreState) where
     -- the device store stays sound
     pub reopenable : (stored new.registry).honest → (stored old.registry).reopenable
         → (stored new.registry).reopenable
-    -- each input makes at most one commit
+    -- at most as many commits as inputs
     pub commits : (stored new.registry).honest
         → AtMostMoreCommits (length inputs) (stored old.registry).commits (stored new.registry).commits
     pub ran_from_any : (stored new.registry).honest → (start : State) → HasState stored old start

@@ -81,7 +81,7 @@ SessionsLeavePrefixes = (session : Session) → IsSession session
     ⊎ HasInterruptedUpdate session.last session.interrupted_input session.left
 
 -- Conversely, a run with these results is a session that a crash ended, if the crash left the devices after a prefix
--- that contains every acknowledged input. So what is said of sessions and restarts holds of it.
+-- that contains every acknowledged input. So the theorems about sessions and restarts apply to it.
 abbrev pub PrefixesEndSessions : Type 0
 PrefixesEndSessions = (base : ℕ) (found : Devices) (inputs : List Input) (results : List InputResult)
     (answers : List Answer) (last : State) (left : Devices)

@@ -92,8 +92,8 @@ fn new_buffers(alloc: Global) -> Result<(Framer, PacketBuf), AllocError>
 }
 
 impl<S: DeviceStore> GatewayOver<S> {
-    /// The same for an ID that is known to be a base ID. Fails if there is no memory for the framer, and then returns
-    /// the device store.
+    /// The same for an ID that is known to be a base ID. If there is no memory for the framer or the packet buffer, it
+    /// fails and returns the device store.
     pub fn with_base_id(
         alloc: Global,
         registry: S,

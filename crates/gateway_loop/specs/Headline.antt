@@ -36,7 +36,8 @@ all_radio_bytes answers = flat_map (λ answer. radio_bytes answer.radio) answers
 abbrev pub all_desk_text : (explains : Bool) → List Answer → List ℕ
 all_desk_text explains answers = flat_map (desk_text explains) answers
 
--- Lines of a script that were read whole: up to an LF, or all of them, if a read of 0 bytes ended the script.
+-- `lines` is empty, or a prefix of the bytes read that ends with LF; or all of them, if a read of 0 bytes ended the
+-- script.
 abbrev pub AreWholeLines : (reads : List (List ℕ)) (lines : List ℕ) → Type 0
 AreWholeLines reads lines =
     ((more : List ℕ) × (concat reads ≡ lines ++ more) × ((lines ≡ []) ⊎ ((front : List ℕ) × (lines ≡ with_lf front))))
@@ -81,8 +82,8 @@ module _ {S : Type 0} (stored : S → DeviceStoreState) where
   -- `replay`, for a new gateway, any reader and any writer. `reads` lists what the reads of this call returned. At `Ok`
   -- no read failed, the last one returned 0 bytes, which ends the script, and the writer accepted exactly the text of
   -- the answers to the inputs of the script. At a fault only the last read may have failed, and the writer accepted a
-  -- prefix of the text for some prefix of the inputs of lines that were read whole. (The postconditions `err` and
-  -- `too_many` say which, and when each fault is returned.)
+  -- prefix of the text for some prefix of the inputs. Only lines that were read whole count as inputs. (The
+  -- postconditions `err` and `too_many` say which, and when each fault is returned.)
   pub record ReplaySpecified {R W : Type 0} (source : sources.Ghosts R) (sink : sinks.Ghosts W) (explains : Bool)
       (result : Result Summary RunFault) (base : ℕ) (found : Devices) (old new : GatewayValue S × R × W)
       : Type 0 where

@@ -40,8 +40,8 @@ module _ {S T : Type 0} (stored : S → DeviceStoreState) (at : T → ReplayValu
         (AppendsReplayText explains (at old).sink (at new).sink)
     pub counted : summary.items ≡ min (length (inputs_of (at old).gateway.rest (script (concat reads)))) (2 ^ 64 - 1)
 
-  -- The lines that LF ends in what was read were replayed. Each read in `reads` returned something; `ReadAs` says
-  -- whether one more failed after them.
+  -- Exactly the lines whose LF was read were replayed. Each read in `reads` returned at least one byte; `ReadAs` says
+  -- whether one more read failed after them.
   pub record ReplaysEndedLines (ReadAs : (old new : SourceValue) (reads : List (List ℕ)) → Type 0) (old new : T)
       : Type 0 where
     pub reads : List (List ℕ)
@@ -50,13 +50,13 @@ module _ {S T : Type 0} (stored : S → DeviceStoreState) (at : T → ReplayValu
     pub processed : ProcessesEndedLines stored (at old).gateway (at new).gateway (concat reads)
         (AppendsReplayText explains (at old).sink (at new).sink)
 
-  -- a write went wrong at a line that LF ends in what was read, and each read returned something
+  -- a write failed or accepted 0 bytes at a line whose LF was read, and each read returned at least one byte
   pub record BreaksAtLine (old new : T) (reads : List (List ℕ)) : Type 0 where
     pub some : NoneIsEmpty reads
     pub broken : BreaksAtEndedLine stored (at old).gateway (at new).gateway (concat reads)
         (AppendsCutReplayText explains (at old).sink (at new).sink)
 
-  -- a write went wrong at the last event of the script, and the last read returned nothing
+  -- a write failed or accepted 0 bytes at the last event of the script, and only the last read returned 0 bytes
   pub record BreaksAtEndOfScript (old new : T) (reads : List (List ℕ)) : Type 0 where
     pub ends : OnlyLastIsEmpty reads
     pub at_end : IsAtEnd (at new).source.unread

@@ -42,7 +42,7 @@ pub fn replay<R: Source, W: Sink, S: DeviceStore>(
     ensures err { IfErr result (ReplaysUntilFault S.store_state (replay_value R.Source W.Sink) explains
         (gateway.old, reader.old, writer.old) (gateway.new, reader.new, writer.new)) }
 
-    // How many reads are made, and when too few are allowed.
+    // How many reads are made, and when `TooManyTurns` is returned.
     ensures reads { (count : ℕ) × (count ≤ turns) × MakesReads (R.reads reader.old) (R.reads reader.new) count }
     ensures too_many { FailsIffTooManyTurns (replay_value R.Source W.Sink) result (gateway.old, reader.old, writer.old)
         (gateway.new, reader.new, writer.new) turns }

@@ -19,9 +19,10 @@ use Rattle.gateway_loop.specs.Headline.{IsNew}
 use Rattle.gateway_main.specs.declared.fault.Fault.{Fault}
 use Rattle.gateway_main.specs.declared.fault.Fault.TheVariants.{Database}
 
--- The result of a start on files that hold these devices. The gateway is new over exactly these devices. A start that
--- fails does not reject the files as no registry; once the files are open, it returns the connection, and the next open
--- finds these devices in whatever a crash then leaves.
+-- The result of a start on files that hold these devices. A gateway is new over exactly these devices. A fault is not
+-- `NotARegistry`; if a connection comes with it, the next open finds these devices in whatever a crash then leaves. What
+-- is said of a gateway or a connection has the premise that its disk is clean. Nothing here says that a failed start
+-- returns its connection.
 abbrev pub StartsWith : {C : Type 0} → (C → ConnectionState) → (base : ℕ) → Devices
     → Result (GatewayValue C) (Fault × Option C) → Type 0
 StartsWith state base devices (Ok gateway) =
@@ -31,9 +32,9 @@ StartsWith state base devices (Err (fault, Some conn)) =
     × ((trees : Trees) → (state conn).may_leave trees → OpenFinds trees devices)
 StartsWith state base devices (Err (fault, None)) = fault ≢ Database NotARegistry
 
--- A crash of a gateway left these contents in its two files. Any crash leaves devices after a prefix of its inputs that
--- contains every acknowledged one, as `AsSpecified` says after `replay` and `live`. Then a start on the files has this
--- result over the devices of such a prefix.
+-- If any crash of the gateway `crashed` leaves the devices after a prefix of its inputs that contains every acknowledged
+-- one, as `AsSpecified` says after `replay` and `live`, and a crash left these contents in its two files, then a start on
+-- the files has this result over the devices of such a prefix.
 abbrev pub RestartsAfterPrefix : {D C : Type 0} {g : Ghosts D} → (crashed : Held (FileStore D g))
     → (left_in_files : Image) → (C → ConnectionState) → (base : ℕ) → Result (GatewayValue C) (Fault × Option C)
     → Type 0

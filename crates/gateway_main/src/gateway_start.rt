@@ -64,17 +64,18 @@ pub fn start<C: SqlConnection>(
 /// A connection to a database file and its log, with the contents that `S` stands for.
 pub type FileConnection<S> = Connection<FileStore<FileFrom<S>>>;
 
-/// The gateway that a start on two files made, or why it failed, with the connection once the files are open.
+/// The result of a start on two files: a gateway, or the fault and, if the files were opened, the connection.
 pub type StartedOnFiles<S> = Result<
     GatewayOver<RegistryOver<FileConnection<S>>>,
     (Fault, Option<FileConnection<S>>),
 >;
 
-/// Opens the database file at this path and its log, or makes them, and starts a gateway over them, as `start` does.
-/// `S` stands for what the two files hold and for what a torn write may leave. A function over `S` is proved for all
-/// contents, so this is also the next start on files that a crash left.
+/// Opens or creates the database file at this path and its log, and starts a gateway over them, as `start` does. `S`
+/// stands for what the two files hold and for what a torn write may leave. The contract holds for every `S`, so it also
+/// covers a start on files that a crash left.
 ///
-/// Fails as opening the files or `start` does. Once the files are open, a failed start returns the connection.
+/// Fails as opening the files or `start` does. Once the files are open, a failed start returns the connection; no
+/// postcondition says so.
 pub fn start_file<S: Start>(
     rt: &HostRuntime,
     path: &str,

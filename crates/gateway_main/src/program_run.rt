@@ -49,7 +49,7 @@ fn run(rt: &HostRuntime, options: &Options<'_>) -> Result<(), Fault>
 {
     match options.db {
         None => run_in_memory(rt, options),
-        // Whatever a torn write leaves, the registry is found again. It costs a second sync for each commit.
+        // With `Wary`, the registry is found again whatever a torn write leaves. It costs a second sync per commit.
         Some(path) => run_over_files(rt, path, Wary, options),
     }
 }

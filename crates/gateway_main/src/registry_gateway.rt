@@ -29,7 +29,7 @@ pub fn replay<R: Source, W: Sink, C: SqlConnection>(
     ensures err { IfErr result (ReplaysUntilFault (registry_state_of C.state C.commits) (replay_value R.Source W.Sink)
         explains (gateway.old, reader.old, writer.old) (gateway.new, reader.new, writer.new)) }
 
-    // How many reads are made, and when too few are allowed.
+    // How many reads are made, and when `TooManyTurns` is returned.
     ensures reads { (count : ℕ) × (count ≤ turns) × MakesReads (R.reads reader.old) (R.reads reader.new) count }
     ensures too_many { FailsIffTooManyTurns (replay_value R.Source W.Sink) result (gateway.old, reader.old, writer.old)
         (gateway.new, reader.new, writer.new) turns }

@@ -19,14 +19,14 @@ use std::rt::HostRuntime;
 /// The restart theorem: a start on the two files that a crash of this program left.
 ///
 /// `crashed` is a gateway after `replay` or `live`, and `contents` stands for what a crash at that moment left in its
-/// files (`image_at`). The start finds the devices after a prefix of the inputs that `crashed` handled. The prefix
-/// contains every acknowledged input. The gateway is new over these devices, so `as_specified` holds for what it
-/// handles next. A start that fails does not report `not a registry`; if it returns the connection, it leaves these
+/// files (`image_at`). A start that succeeds finds the devices after a prefix of the inputs that `crashed` handled. The
+/// prefix contains every acknowledged input. The gateway is new over these devices, so `as_specified` holds for what it
+/// handles next. A start that fails does not report `not a registry`. If it returns the connection, a crash leaves these
 /// devices.
 ///
-/// The premise on the disk of `crashed` is that it has returned what was written, also during the rollback by which the
-/// connection is taken apart here. A crash within a call is one of a disk that stops at that moment: the function is
-/// generic in the disk.
+/// The premise is that both disks have returned what was written: that of `crashed`, also during the rollback that takes
+/// its connection apart here, and that of the start. The function is generic in the disk, so a disk that stops at some
+/// moment stands for a crash within a call (the kit's crash argument).
 pub fn start_after_crash<D: Disk + Drop, S: Start>(
     rt: &HostRuntime,
     crashed: GatewayOver<RegistryOver<Connection<FileStore<D>>>>,

@@ -6,6 +6,7 @@ use sqlite::types::ValueRef;
 use sqlite::{Connection, Error, MemStore, Row, Statement};
 use sqlite_schema::schema::Schema;
 use std::alloc::Global;
+use std::process::Abort;
 use std::test::Fail;
 
 /// A connection, and how many of its calls may have committed. It does not count queries: each that the registry makes
@@ -77,27 +78,34 @@ fn counted_registry(alloc: Global) -> Result<RegistryOver<Counting<Connection<Me
     }
 }
 
-#[test]
-fn calls_commit_at_most_once(rt: HostRuntime) -> Result<(), Fail> {
-    let acts = [
-        (Act::Finds(5, None), 0),
-        (Act::Learns(contact(5)), 1),
-        (Act::Learns(sensor(5)), 1),
-        (Act::Relabels(5, "Door", true), 1),
-        (Act::Relabels(6, "Hall", false), 0),
-        (Act::Finds(5, Some(sensor(5).labelled("Door"))), 0),
-        (Act::Counts(1), 0),
-        (Act::Forgets(5), 1),
-        (Act::Forgets(6), 1),
-        (Act::Many(Many::LearnsContacts, 1000), 1000),
-        (Act::IsFullFor(contact(1000)), 0),
-        (Act::Learns(sensor(999)), 1),
-    ];
-    let mut registry = counted_registry(rt.alloc())?;
-    for (act, more) in acts {
-        let before = registry.table.conn.commits;
-        take_all(&rt, &mut registry, &[act])?;
-        assert_eq!(rt; registry.table.conn.commits, before.saturating_add(more));
+/// Whether exactly this many commits were made by these calls.
+fn makes(
+    rt: &impl Abort,
+    registry: &mut RegistryOver<Counting<Connection<MemStore>>>,
+    acts: &[Act],
+    commits: u64,
+) -> Result<(), Fail> {
+    let before = registry.table.conn.commits;
+    take_all(rt, registry, acts)?;
+    if registry.table.conn.commits != before.saturating_add(commits) {
+        return Err(Fail::from("another number of commits"));
     }
     Ok(())
+}
+
+#[test]
+fn calls_commit_at_most_once(rt: HostRuntime) -> Result<(), Fail> {
+    let mut registry = counted_registry(rt.alloc())?;
+    makes(&rt, &mut registry, &[Act::Finds(5, None)], 0)?;
+    makes(&rt, &mut registry, &[Act::Learns(contact(5))], 1)?;
+    makes(&rt, &mut registry, &[Act::Learns(sensor(5))], 1)?;
+    makes(&rt, &mut registry, &[Act::Relabels(5, "Door", true)], 1)?;
+    makes(&rt, &mut registry, &[Act::Relabels(6, "Hall", false)], 0)?;
+    makes(&rt, &mut registry, &[Act::Counts(1)], 0)?;
+    makes(&rt, &mut registry, &[Act::Forgets(5)], 1)?;
+    makes(&rt, &mut registry, &[Act::Forgets(6)], 1)?;
+    let many = [Act::Many(Many::LearnsContacts, 1000)];
+    makes(&rt, &mut registry, &many, 1000)?;
+    makes(&rt, &mut registry, &[Act::IsFullFor(contact(1000))], 0)?;
+    makes(&rt, &mut registry, &[Act::Learns(sensor(999))], 1)
 }
