@@ -153,7 +153,7 @@ class Lines(GrowthsTest):
         self.assertEqual(self.growths_by_packet(orders, line, *options), 3 * [self.growths_of_reading()])
 
     def test_the_longest_line_of_readings_is_allocated_at_once(self):
-        """It is that of A5-08-03 at -255 dBm. Its buffer has its length."""
+        """The longest line is a reading of A5-08-03 at -255 dBm. Its buffer has exactly its length."""
         longest = pieces(telegram(0xA5, bytes.fromhex("65A7010B"), DEVICE, 0, radio(3, ALL, 255)))
         sensor = "add 01800ABC A5-08-03\n"
         self.assert_lines_only(sensor, longest)
