@@ -6,7 +6,8 @@ use crate::scripts::row;
 use anyhow::Result;
 use device_registry::Registry;
 use gateway_core::{DeviceStore, GatewayOver};
-use gateway_main::{OverRead, OverWrite, replay};
+use gateway_loop::replay;
+use gateway_main::{OverRead, OverWrite};
 use sqlite::Connection;
 use std::alloc::Global;
 

@@ -3,8 +3,9 @@ use crate::report::Report;
 use anyhow::{Result, bail};
 use device_registry::{MAX_CACHED, Registry, RegistryOver, SqlConnection};
 use gateway_core::{DeviceStore, Gateway, GatewayOver, Reply, StartFault};
+use gateway_loop::{live, replay};
 use gateway_main::fault::Fault;
-use gateway_main::{OverRead, OverWrite, RunFault, Sink, Source, Summary, live, replay, start};
+use gateway_main::{OverRead, OverWrite, RunFault, Sink, Source, Summary, start};
 use sqlite::{Connection, MemStore};
 use std::alloc::Global;
 

@@ -4,7 +4,8 @@ use crate::gateways::{fresh, serve_new};
 use crate::report::Report;
 use anyhow::{Result, bail};
 use gateway_core::{DeviceStore, GatewayOver};
-use gateway_main::{OverRead, OverWrite, RunFault, Summary, live};
+use gateway_loop::live;
+use gateway_main::{OverRead, OverWrite, RunFault, Summary};
 use std::alloc::Global;
 
 const OK: &[u8] = b"{\"type\":\"ok\"}\n";

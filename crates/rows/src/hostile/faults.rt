@@ -8,7 +8,8 @@ use crate::report::Report;
 use anyhow::{Result, bail};
 use device_registry::{MAX_CACHED, RegistryOver, SqlConnection};
 use gateway_core::{DeviceStore, GatewayOver};
-use gateway_main::{OverRead, OverWrite, RunFault, Summary, replay, start};
+use gateway_loop::replay;
+use gateway_main::{OverRead, OverWrite, RunFault, Summary, start};
 use std::alloc::Global;
 
 /// More reads than these scripts need.
