@@ -5,7 +5,8 @@ from typing import NamedTuple
 
 from mutation.sources import Function, functions_of
 
-GHOSTS = re.compile(r"^ *(?:ghost\b|//).*\n?", re.M)
+# A ghost member of an `impl`, as `ghost state = { .. };`, is a definition, and stays.
+GHOSTS = re.compile(r"^ *(?:ghost\b(?! \w+ = \{)|//).*\n?", re.M)
 CLAUSES = re.compile(r"\s*\b(?:requires|ensures)\b.*", re.S)
 
 
@@ -91,7 +92,7 @@ def changed_function(folder, edits):
 
 
 def code(text):
-    """The text without its ghost lines and comments."""
+    """The text without comments and ghost lines, except for ghost members of an `impl`."""
     return GHOSTS.sub("", text).strip()
 
 

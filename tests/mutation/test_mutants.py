@@ -82,6 +82,11 @@ class Mutants(InFolder):
         ):
             self.assertIn("changes no code", self.mutant(edit(path, pair)).fault, pair)
 
+    def test_a_ghost_member_is_a_definition(self):
+        self.write("src/lib.rt", "impl A for B {\n    ghost state = { held };\n\n    fn f(&self) {}\n}\n")
+        it = self.mutant(edit("src/lib.rt", ("{ held }", "{ lost }")))
+        self.assertEqual((it.function, it.fault), (None, ""))
+
     def test_an_empty_new_text_removes(self):
         it = self.mutant("file: src/lib.rt\nold:     once(once(a))\nnew:\n")
         self.assertEqual((it.function.name, it.edits), ("twice", (("src/lib.rt", "    once(once(a))", ""),)))
