@@ -97,8 +97,8 @@ def refuse_each(
 
     def differs(number):
         mark, path = work / f"mark_{number}", database and database(number)
-        told = {"REFUSE_KIND": kind, "REFUSE_NUMBER": number, "REFUSE_MARK": mark, **({"REFUSE_ON": 1} if on else {})}
-        ended = run(script, database=path, service=service, env=preloading(work, REFUSE_CALL, **told))
+        call = {"REFUSE_KIND": kind, "REFUSE_NUMBER": number, "REFUSE_MARK": mark, **({"REFUSE_ON": 1} if on else {})}
+        ended = run(script, database=path, service=service, env=preloading(work, REFUSE_CALL, **call))
         case = case_of(ended)
         met.add(case)
         was_refused = mark.exists()

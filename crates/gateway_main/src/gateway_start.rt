@@ -61,7 +61,7 @@ pub fn start<C: SqlConnection>(
     }
 }
 
-/// A connection to a database file and its log, with the contents that `S` stands for.
+/// A connection to a database file and its log. `S` is the type that represents their contents.
 pub type FileConnection<S> = Connection<FileStore<FileFrom<S>>>;
 
 /// The result of a start on two files: a gateway, or the fault and, if the files were opened, the connection.
@@ -71,8 +71,8 @@ pub type StartedOnFiles<S> = Result<
 >;
 
 /// Opens or creates the database file at this path and its log, and starts a gateway over them, as `start` does. `S`
-/// stands for what the two files hold and for what a torn write may leave. The contract holds for every `S`, so it also
-/// covers a start on files that a crash left.
+/// represents what the two files hold and what an interrupted write may leave. The contract holds for every `S`, so it
+/// also covers a start on files that a crash left.
 ///
 /// Fails as opening the files or `start` does. Once the files are open, a failed start returns the connection; no
 /// postcondition says so.

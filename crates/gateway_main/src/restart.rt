@@ -18,7 +18,7 @@ use std::rt::HostRuntime;
 
 /// The restart theorem: a start on the two files that a crash of this program left.
 ///
-/// `crashed` is a gateway after `replay` or `live`, and `contents` stands for what a crash at that moment left in its
+/// `crashed` is a gateway after `replay` or `live`, and `contents` represents what a crash at that moment left in its
 /// files (`image_at`). A start that succeeds finds the devices after a prefix of the inputs that `crashed` handled. The
 /// prefix contains every acknowledged input. The gateway is new over these devices, so `as_specified` holds for what it
 /// handles next. A start that fails does not report `not a registry`. If it returns the connection, a crash leaves these
@@ -26,7 +26,7 @@ use std::rt::HostRuntime;
 ///
 /// The premise is that both disks have returned what was written: that of `crashed`, also during the rollback that takes
 /// its connection apart here, and that of the start. The function is generic in the disk, so a disk that stops at some
-/// moment stands for a crash within a call (the kit's crash argument).
+/// moment represents a crash within a call (the kit's crash argument).
 pub fn start_after_crash<D: Disk + Drop, S: Start>(
     rt: &HostRuntime,
     crashed: GatewayOver<RegistryOver<Connection<FileStore<D>>>>,
