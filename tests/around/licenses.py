@@ -9,6 +9,8 @@ import sys
 
 kit = pathlib.Path(sys.argv[1])
 root = pathlib.Path(__file__).resolve().parents[2]
+# For each license whose text the package contains: how the text begins, after the notices of a crate.
+BEGINNINGS = {"Expat": "Permission is hereby granted", "BSD-3-Clause": "Redistribution and use"}
 paragraphs = re.split(r"\n\n+", (root / "packaging/debian/copyright").read_text())
 fields = [dict(re.findall(r"^([A-Z]\w+):((?:.*\n?)(?:[ \t].*\n?)*)", text + "\n", re.MULTILINE)) for text in paragraphs]
 
@@ -44,12 +46,14 @@ wrong = []
 for crate in all_crates():
     for license in sorted((kit / crate).glob("LICENSE*")):
         text = license.read_text()
-        if "Apache License" in text:
-            kind, notices = "Apache-2.0", []
-        else:
-            kind, notices = "Expat", [line.strip() for line in text.split("\n") if line.startswith("Copyright")]
-            if plain(text[text.index("Permission is hereby"):]) != texts.get("Expat"):
+        kind = next((name for name, beginning in BEGINNINGS.items() if beginning in text), "Apache-2.0")
+        notices = []
+        if kind in BEGINNINGS:
+            notices = [line.strip() for line in text.split("\n") if line.startswith("Copyright")]
+            if plain(text[text.index(BEGINNINGS[kind]):]) != texts.get(kind):
                 wrong.append(f"{crate}: {license.name} has another text")
+        elif "Apache License" not in text:
+            wrong.append(f"{crate}: {license.name} is no license that this script knows")
         own = [field for field in fields if field.get("Files", "").strip() == f"rattle/{crate}/*"]
         if not own or kind not in own[0]["License"]:
             wrong.append(f"{crate}: no paragraph with the license {kind}")

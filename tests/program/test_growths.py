@@ -152,14 +152,17 @@ class Lines(GrowthsTest):
         """After these orders the packet has as many allocations each time as a reading has."""
         self.assertEqual(self.growths_by_packet(orders, line, *options), 3 * [self.growths_of_reading()])
 
-    def test_the_longest_line_of_readings_is_allocated_at_once(self):
-        """The longest line is a reading of A5-08-03 at -255 dBm. Its buffer has exactly its length."""
+    def test_a_line_of_readings_begins_with_128_bytes_and_is_doubled(self):
+        """The longest line is a reading of A5-08-03 at -255 dBm."""
         longest = pieces(telegram(0xA5, bytes.fromhex("65A7010B"), DEVICE, 0, radio(3, ALL, 255)))
-        sensor = "add 01800ABC A5-08-03\n"
-        self.assert_lines_only(sensor, longest)
-        length = len(text_of(self.replay(script=sensor + longest).stdout).splitlines(keepends=True)[-1])
-        few, more = (self.sizes(sensor + times * longest) for times in (1, 2))
-        self.assertEqual((length, list((more - few).elements())), (276, [276]))
+        for orders, packet_line, length, buffers in (
+            (ADD, PACKET, 105, [128]),
+            ("add 01800ABC A5-08-03\n", longest, 276, [128, 256, 512]),
+        ):
+            with self.subTest(length=length):
+                line = text_of(self.replay(script=orders + packet_line).stdout).splitlines(keepends=True)[-1]
+                few, more = (self.sizes(orders + times * packet_line) for times in (1, 2))
+                self.assertEqual((len(line), sorted((more - few).elements())), (length, buffers))
 
     def test_packets_of_a_device_that_was_taught_in_over_the_air(self):
         self.assert_lines_only(WINDOWS["on"] + CONTACT, PACKET)

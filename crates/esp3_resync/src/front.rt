@@ -56,7 +56,7 @@ fn may_begin(window: &Window) -> bool
 fn front(window: &Window) -> Option<WindowFront>
     ensures { MatchOption result (front_of window.now ≡ Never) (λ front. IsWindowFront front window.now) }
 {
-    let Some(first_six) = window.as_slice().first_chunk::<6>() else {
+    let Some(first_six) = window.first_six() else {
         return if window.is_empty() {
             Some(WindowFront::Empty)
         } else if may_begin(window) {
@@ -65,7 +65,7 @@ fn front(window: &Window) -> Option<WindowFront>
             None
         };
     };
-    let Ok(header) = read_header(first_six) else {
+    let Ok(header) = read_header(&first_six) else {
         return None;
     };
     if window.len() < announced_data_len(header) + 7 {

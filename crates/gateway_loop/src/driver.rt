@@ -11,7 +11,6 @@ ghost use Rattle.gateway_loop.specs.OutputSpecs.{PutsOrBreaks};
 ghost use Rattle.gateway_loop.specs.Processing.{HasJustHandled, HasNoReadyPacket};
 ghost use Rattle.gateway_loop.specs.Script.{event_of_script_line, chunk_if_decoded};
 
-use crate::digits::try_decode_hex;
 use crate::line_limits::MAX_SCRIPT_CHUNK;
 use crate::reply_sink::ReplySink;
 use byte_io::Failed;
@@ -124,7 +123,7 @@ impl<O: ReplySink, S: DeviceStore> Driver<'_, O, S> {
         let digits = &line[2..];
         let mut bytes = [0u8; MAX_SCRIPT_CHUNK];
         let chunk = &mut bytes[..digits.len() / 2];
-        if try_decode_hex(digits, chunk) {
+        if hex::decode_to_slice(digits, chunk).is_ok() {
             self.process_chunk(chunk)
         } else {
             self.process_order(line)

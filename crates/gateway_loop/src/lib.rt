@@ -2,7 +2,6 @@
 #![tactic(auto)]
 
 mod desk_text;
-mod digits;
 mod driver;
 pub mod laws;
 mod line_limits;

@@ -4,7 +4,7 @@ pub mod HexTexts
 pub mod LineTexts
 pub mod PacketTextsInjective
 pub mod PacketTexts
-pub mod ReadingTexts
+pub mod Sent
 pub mod Distinguishable
 pub mod TeachTextsInjective
 pub mod TeachTextOutcome

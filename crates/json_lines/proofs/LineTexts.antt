@@ -1,17 +1,20 @@
 -- The JSON values of the lines have the texts of the lines, and contain no float; so serde_json writes the line's text
 -- for what a line sends.
-use Rattle.std.proofs.Common.{◌≡◌, ℕ, zero, suc, List, [], ◌∷◌, ◌++◌, map, codes, decimal}
+use Rattle.std.proofs.Common.{◌≡◌, ℕ, zero, suc, ℤ, pos, negsuc, ◌-ℤ◌, List, [], ◌∷◌, ◌++◌, map, codes, decimal}
 use Rattle.std.proofs.Common.{true, false}
-use Rattle.std.proofs.Common.{slice_get, Option, Some, None, refl, sym, ap, ◌∙◌, append_assoc}
-use Rattle.std.specs.List.{AllByRecursion, flat_map}
+use Rattle.std.proofs.Common.{slice_get, Option, Some, None, refl, sym, ap, ap₂, ◌∙◌, append_assoc}
+use Rattle.std.specs.Fmt.{signed_decimal}
+use Rattle.std.specs.List.{AllByRecursion, join_by, flat_map}
 use Rattle.json.specs.Print.{quoted}
 use Rattle.serde_json.specs.Data.{Data, string}
 use Rattle.serde_json.specs.Events.{SendsValue}
-use Rattle.serde_json.specs.Written.{compact_text, members_text, has_float}
+use Rattle.serde_json.specs.Written.{number_text, compact_text, items_text, members_text, has_float, items_have_float}
+use Rattle.serde_json.specs.Find.{of_integer, is_float}
 use Rattle.serde_json.proofs.FreeTexts.{text_of_value}
 use Rattle.serde_json.proofs.OnLiterals.{serde_json_on_literals}
 use Rattle.hex.specs.Hex.{encode_upper, IsBytes}
 use Rattle.erp1_telegrams.specs.declared.eep.Eep.{Eep}
+use Rattle.profile_rows.specs.Reading.{Meaning, value, word, raw, out_of_range, Entry}
 use Rattle.learned_devices.specs.declared.Device.{Device}
 use Rattle.teach_in.specs.declared.mode.Mode.{Mode}
 use Rattle.teach_in.specs.declared.mode.Mode.TheVariants.{Closed, Learn, LearnAnswer, LearnAs}
@@ -28,6 +31,9 @@ use Rattle.json_lines.specs.private.LineData.{number_data}
 use Rattle.json_lines.specs.private.LineData.{profile_data}
 use Rattle.json_lines.specs.private.LineData.{teach_members, device_members, list_end_members, status_members}
 use Rattle.json_lines.specs.private.LineData.{response_members}
+use Rattle.json_lines.specs.Lines.{ReadingLine, Reading, dbm_text, reading_text, entry_object_text}
+use Rattle.json_lines.specs.private.LineData.{dbm_data, named_members, named_data, entry_data, entries_data}
+use Rattle.json_lines.specs.private.LineData.{reading_members}
 use Rattle.json_lines.proofs.HexTexts.{plain-id, plain-eep, plain-learn_as_text, plain_bytes}
 
 -- ---- an object
@@ -84,6 +90,21 @@ no_float-or_null : {A : Type 0} (data_of : A → Data) → ((known : A) → has_
 no_float-or_null data_of whole None = refl
 no_float-or_null data_of whole (Some known) = whole known
 
+-- an integer's text is its digits
+digits_of : (z : ℤ) → number_text (of_integer z) ≡ signed_decimal z
+digits_of (pos n) = refl
+digits_of (negsuc n) = refl
+
+no_float-integer : (z : ℤ) → is_float (of_integer z) ≡ false
+no_float-integer (pos n) = refl
+no_float-integer (negsuc n) = refl
+
+text-dbm : (dbm : Option ℕ) → compact_text (data_or_null dbm_data dbm) ≡ text_or_null dbm_text dbm
+text-dbm = text-or_null dbm_data dbm_text (λ byte. digits_of (pos 0 -ℤ pos byte))
+
+no_float-dbm : (dbm : Option ℕ) → has_float (data_or_null dbm_data dbm) ≡ false
+no_float-dbm = no_float-or_null dbm_data (λ byte. no_float-integer (pos 0 -ℤ pos byte))
+
 text-maker : (maker : Option ℕ) → compact_text (data_or_null number_data maker) ≡ text_or_null decimal maker
 text-maker = text-or_null number_data decimal (λ maker. refl)
 
@@ -130,7 +151,60 @@ text-name (suc (suc (suc (suc (suc code))))) = refl
 no_float-name : (name : Option (List ℕ)) → has_float (data_or_null string name) ≡ false
 no_float-name = no_float-or_null string (λ name. refl)
 
+-- ---- the list of readings
+
+text-named : (name : List ℕ) (meaning : Meaning) → compact_text (named_data name meaning) ≡ reading_text name meaning
+unfolding serde_json_on_literals
+text-named name (value ratio unit) =
+    let ms : List (List ℕ × Data) = named_members name (value ratio unit) in
+    let same : object_text (named_texts ms) ≡ reading_text name (value ratio unit) = rw (digits_of ratio.num) refl in
+    object_written ms (refl, (refl, (refl, (refl, tt)))) ∙ same
+text-named name (word text) = object_written (named_members name (word text)) (refl, (refl, tt))
+text-named name (raw n) = object_written (named_members name (raw n)) (refl, (refl, tt))
+text-named name (out_of_range n) = object_written (named_members name (out_of_range n)) (refl, (refl, tt))
+
+text-entry : (entry : Entry) → compact_text (entry_data entry) ≡ entry_object_text entry
+text-entry entry = text-named entry.name entry.meaning
+
+no_float-entry : (entry : Entry) → has_float (entry_data entry) ≡ false
+no_float-entry entry = one entry.name entry.meaning
+  where
+    one : (name : List ℕ) (meaning : Meaning) → has_float (named_data name meaning) ≡ false
+    one name (value ratio unit) = rw (no_float-integer ratio.num) refl
+    one name (word text) = refl
+    one name (raw n) = refl
+    one name (out_of_range n) = refl
+
+-- the entries after the first, each with a comma before it
+text-rest : (list : List Entry)
+    → items_text true (entries_data list) ≡ flat_map (λ entry. codes "," ++ entry_object_text entry) list ++ codes "]"
+text-rest [] = refl
+text-rest (entry ∷ list) =
+    ap₂ (λ text rest. codes "," ++ (text ++ rest)) (text-entry entry) (text-rest list)
+    ∙ sym (append_assoc (codes "," ++ entry_object_text entry) _ _)
+
+text-items : (list : List Entry)
+    → items_text false (entries_data list) ≡ join_by entry_object_text (codes ",") list ++ codes "]"
+text-items [] = refl
+text-items (entry ∷ list) =
+    ap₂ (λ text rest. text ++ rest) (text-entry entry) (text-rest list)
+    ∙ sym (append_assoc (entry_object_text entry) _ _)
+
+no_float-items : (list : List Entry) → items_have_float (entries_data list) ≡ false
+no_float-items [] = refl
+no_float-items (entry ∷ list) = rw (no_float-entry entry) (no_float-items list)
+
 -- ---- the lines
+
+pub reading_written : (line : ReadingLine) (bytes : List ℕ)
+    → IsLineOf (SendsValue (object_of (reading_members line))) bytes → bytes ≡ text (Reading line)
+unfolding serde_json_on_literals
+reading_written line bytes sent =
+    let same : object_text (named_texts (reading_members line)) ++ codes "\n" ≡ text (Reading line) =
+    rw (text-dbm line.dbm, plain-eep line.eep, plain-id line.id, text-items line.readings) refl in
+    let whole : has_float (object_of (reading_members line)) ≡ false =
+    rw (no_float-dbm line.dbm, no_float-items line.readings) refl in
+    line_written (reading_members line) bytes (refl, (refl, (refl, (refl, (refl, tt))))) whole sent ∙ same
 
 pub teach_written : (line : TeachLine) (bytes : List ℕ) → IsLineOf (SendsValue (object_of (teach_members line))) bytes
     → bytes ≡ text (Teach line)

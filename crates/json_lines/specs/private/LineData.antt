@@ -1,14 +1,19 @@
 -- For private postconditions: the JSON values whose texts the lines are, and the bytes that serde_json makes of one.
-use Rattle.std.specs.Prelude.{◌≡◌, ℕ, List, [], ◌∷◌, ◌++◌, slice_get, codes, Option, Some, None}
+use Rattle.std.specs.Prelude.{◌≡◌, ℕ, pos, ◌-ℤ◌, List, [], ◌∷◌, ◌++◌, map, slice_get, codes, Option, Some, None}
 use Rattle.json.specs.Print.{escape}
 use Rattle.serde.specs.Event.{Log}
-use Rattle.serde_json.specs.Data.{Data, unsigned, null, number, string, object, Members, member, no_members}
+use Rattle.serde_json.specs.Data.{Data, unsigned, null, number, string, array, object, Items, Members, member}
+use Rattle.serde_json.specs.Data.{no_members}
+use Rattle.serde_json.specs.Find.{of_integer}
 use Rattle.serde_json.specs.Sent.{IsTextOf}
+use Rattle.serde_json.specs.View.{items_of}
 use Rattle.erp1_telegrams.specs.declared.eep.Eep.{Eep}
+use Rattle.profile_rows.specs.Reading.{Meaning, value, word, raw, out_of_range, Entry}
 use Rattle.learned_devices.specs.declared.Device.{Device}
 use Rattle.teach_in.specs.declared.mode.Mode.{Mode}
 use Rattle.json_lines.specs.declared.counts.Counts.{Counts}
-use Rattle.json_lines.specs.Lines.{TeachLine, id_text, eep_text, outcome_word, mode_word, return_code_names}
+use Rattle.json_lines.specs.Lines.{ReadingLine, TeachLine, id_text, eep_text, outcome_word, mode_word}
+use Rattle.json_lines.specs.Lines.{return_code_names}
 
 -- the text appears in a JSON string unchanged, with no escape
 abbrev pub NeedsNoEscape : (text : List ℕ) → Type 0
@@ -46,7 +51,44 @@ id_data id = string (id_text id)
 abbrev pub profile_data : Eep → Data
 profile_data eep = string (eep_text eep)
 
+-- the signal strength
+abbrev pub dbm_data : (byte : ℕ) → Data
+dbm_data byte = number (of_integer (pos 0 -ℤ pos byte))
+
+-- a name, and a value under a key
+abbrev pub pair_members : (name key : List ℕ) → Data → List (List ℕ × Data)
+pair_members name key said = (codes "name", string name) ∷ (key, said) ∷ []
+
+-- what is read under a name
+abbrev pub named_members : (name : List ℕ) → Meaning → List (List ℕ × Data)
+named_members name (value ratio unit) =
+    (codes "den", number_data ratio.den)
+    ∷ (codes "name", string name)
+    ∷ (codes "num", number (of_integer ratio.num))
+    ∷ (codes "unit", string unit) ∷ []
+named_members name (word text) = pair_members name (codes "word") (string text)
+named_members name (raw n) = pair_members name (codes "raw") (number_data n)
+named_members name (out_of_range n) = pair_members name (codes "out_of_range") (number_data n)
+
+abbrev pub named_data : (name : List ℕ) → Meaning → Data
+named_data name meaning = object_of (named_members name meaning)
+
+abbrev pub entry_data : Entry → Data
+entry_data entry = named_data entry.name entry.meaning
+
+-- the entries in their order
+abbrev pub entries_data : List Entry → Items
+entries_data list = items_of (map entry_data list)
+
 -- ---- the members of the lines
+
+abbrev pub reading_members : ReadingLine → List (List ℕ × Data)
+reading_members line =
+    (codes "dbm", value_or_null dbm_data line.dbm)
+    ∷ (codes "eep", profile_data line.eep)
+    ∷ (codes "id", id_data line.id)
+    ∷ (codes "readings", array (entries_data line.readings))
+    ∷ (codes "type", string (codes "reading")) ∷ []
 
 abbrev pub teach_members : TeachLine → List (List ℕ × Data)
 teach_members line =

@@ -1,17 +1,16 @@
-use Rattle.json_lines.proofs.ReadingTexts.{line_pieces}
+use Rattle.std.proofs.lemmas.Result.{IfOk-weaker}
+use Rattle.profile_rows.specs.Reading.{entries}
+use Rattle.json_lines.specs.Lines.{ReadingLine}
+use Rattle.json_lines.proofs.LineTexts.{reading_written}
 use Rattle.json_lines.proofs.reading.reading_line.Goals as goal
 
 pub returns : goal.returns
-returns c = rw (
-  c.new.ensures,
-  c.in_ok-extend_from_slice-3.ensures.items,
-  c.in_ok-put_joined_readings.ensures,
-  c.in_ok-extend_from_slice-2.ensures.items,
-  c.in_ok-put_dbm.ensures,
-  c.in_ok-extend_from_slice.ensures.items,
-  c.in_ok-line.ensures.items,
-  c.eep_and_id_part.ensures,
-  c.dbm.ensures,
-  c.sender.ensures,
-  c.as_slice.ensures.value,
-) (line_pieces _ _ _ _)
+returns c =
+    let line : ReadingLine = record {
+      dbm = c.args.telegram.now.dbm;
+      eep = c.args.eep;
+      id = c.args.telegram.now.sender;
+      readings = entries c.args.readings.now.items;
+    } in
+    IfOk-weaker c.line_of.result _ _ (λ bytes h.
+    reading_written line bytes (rw (c.dbm.ensures, c.sender.ensures, c.as_slice.ensures.value) at h)) c.line_of.ensures

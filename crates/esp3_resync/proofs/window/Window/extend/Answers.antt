@@ -1,50 +1,59 @@
-use Rattle.std.proofs.Common.{◌≡◌, ℕ, ◌+◌, ◌≤◌, true, List, ◌++◌, length, drop, sym, subst, ap, ◌∙◌, arith}
-use Rattle.std.proofs.Common.{length-append, length-drop}
+use Rattle.std.proofs.Common.{◌≡◌, ℕ, ◌+◌, List, ◌++◌, length, drop, sym, subst, ap, ◌∙◌, arith}
+use Rattle.std.proofs.Common.{length-append}
 use Rattle.std.proofs.Math.Seq.{take_at}
-use Rattle.std.specs.Result.{is_ok}
-use Rattle.std.proofs.lemmas.Bool.{cond-true}
+use Rattle.std.proofs.lemmas.List.{take_all}
+use Rattle.circular_buffer.specs.Buffer.{Buffer, buffer}
 use Rattle.esp3_resync.specs.private.RunningCrcs.{HasRunningCrcs}
+use Rattle.esp3_resync.proofs.RunningCrcLemmas.{noted_moved}
 use Rattle.esp3_resync.proofs.window.Window.extend.Goals as goal
 
 pub invariant_of-self : goal.invariant_of-self
 invariant_of-self c =
     let t = c.args.bytes.now in
-    let made = c.make_room-self-inside in
-    let b = made.new.bytes.items in
-    let r = made.ensures.running in
-    let room = made.ensures.room in
-    let added = c.extend_from_slice-has_room in
-    let some : is_ok added.result ≡ true = added.ensures.succeeds (omega (arith, r.has_capacity.0, room)) in
-    let items : added.new.self.items ≡ b ++ t = added.ensures.items ∙ cond-true (is_ok added.result) _ _ some in
-    let size : length added.new.self.items ≡ length b + length t = omega (arith, ap length items, length-append b t) in
-    let held : length b ≤ made.result + length c.args.self.now =
-    omega (arith, r.within.0, ap length (made.ensures.same ∙ c.self.view_is), length-drop made.result b) in
+    let b = c.self.inside.bytes in
+    let r = c.self.invariant in
+    let room = c.make_room-self-inside in
+    let slots = c.make_crc_slots in
     let d : List ℕ = c.record_crcs.new.crcs in
     let before = c.deref_mut.ensures in
-    let places = c.make_crc_slots in
-    let e = places.new.crcs.items in
-    let same : length d ≡ places.new.crcs.len = omega (arith, c.record_crcs.ensures.len, before.len) in
-    let crcs = take_at d (drop (length d) e) places.new.crcs.len same in
-    let noted : HasRunningCrcs r.dropped b e = λ i within. places.ensures.same i (omega (arith, r.enough_slots))
-    ∙ r.noted i within in
+    let e = slots.new.crcs.items in
+    let filled = c.fill_from_slice-all in
+    let all : filled.result ≡ length t =
+    omega (arith, filled.ensures.count, r.has_capacity.0, c.requires, ap length c.self.view_is) in
+    let is : filled.new.self ≡ buffer (b.items ++ t) b.capacity =
+    filled.ensures.items
+    ∙ ap (λ (y : List ℕ). buffer (b.items ++ y) b.capacity) (take_all filled.result t (omega (arith, all))) in
+    let items : filled.new.self.items ≡ b.items ++ t = ap (λ (y : Buffer ℕ). y.items) is in
+    let size : length filled.new.self.items ≡ length b.items + length t =
+    omega (arith, ap length items, length-append b.items t) in
+    let same : length d ≡ slots.new.crcs.len = omega (arith, c.record_crcs.ensures.len, before.len) in
+    let crcs = take_at d (drop (length d) e) slots.new.crcs.len same in
+    let moved : HasRunningCrcs r.dropped b.items room.result room.new.crcs.items =
+    noted_moved r.dropped b.items c.self.inside.crcs.items room.new.crcs.items c.self.inside.start room.result
+    (λ i within. room.ensures.same i (omega (arith, c.len-held.ensures.len))) r.noted in
+    let noted : HasRunningCrcs r.dropped b.items room.result e = λ i within.
+    slots.ensures.same (room.result + i) (omega (arith, room.ensures.slots, c.len-held.ensures.len)) ∙ moved i within in
     record {
       has_capacity = (
-        omega (arith, r.has_capacity.0, added.ensures.capacity),
-        omega (arith, r.has_capacity.1, places.ensures.capacity),
+        ap (λ (y : Buffer ℕ). y.capacity) is ∙ r.has_capacity.0,
+        omega (arith, r.has_capacity.1, room.ensures.capacity, slots.ensures.capacity),
       );
-      within = (omega (arith, r.within.0), omega (arith, room));
-      at_most_one_packet = omega (arith, c.requires);
+      within = (
+        omega (arith, size, c.requires, ap length c.self.view_is),
+        omega (arith, size, room.ensures.room, c.len-held.ensures.len),
+      );
       enough_slots = omega (
         arith,
+        size,
         ap length crcs,
         c.record_crcs.ensures.len,
         ap length before.value,
-        places.ensures.enough,
-        c.len.ensures,
+        slots.ensures.enough,
+        c.len-held.ensures.len,
       );
       dropped = r.dropped;
-      noted = subst (HasRunningCrcs r.dropped added.new.self.items) (sym crcs)
-          (subst (λ (y : List ℕ). HasRunningCrcs r.dropped y d) (sym items)
-          (c.record_crcs.ensures.noted r.dropped b (omega (arith, c.len.ensures))
-          (subst (HasRunningCrcs r.dropped b) (sym before.value) noted)));
+      noted = subst (HasRunningCrcs r.dropped filled.new.self.items room.result) (sym crcs)
+          (subst (λ (y : List ℕ). HasRunningCrcs r.dropped y room.result d) (sym items)
+          (c.record_crcs.ensures.noted r.dropped b.items room.result (omega (arith, c.len-held.ensures.len))
+          (subst (HasRunningCrcs r.dropped b.items room.result) (sym before.value) noted)));
     }
