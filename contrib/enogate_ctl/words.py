@@ -19,7 +19,7 @@ ADVICE = {
     "unknown_device": "no device with this ID is learned: check the ID with `list`, or learn the device with `add`",
     "wrong_profile": "the order does not apply to the profile of this device: check the profile with `list`",
     "full": "1,000 devices are learned: `remove` one that is gone",
-    "memory": "the gateway was out of memory, and changed nothing: give the order again",
+    "memory": "the gateway was out of memory, and the order was not carried out: give the order again",
     "store": "the database failed, and the order was not carried out: check the disk with enogate-check, and give the "
              "order again",
 }
