@@ -1,6 +1,7 @@
 """The connection to the broker, with python3-paho-mqtt, 1.6 or 2."""
 from __future__ import annotations
 
+import contextlib
 import logging
 import random
 from dataclasses import dataclass
@@ -28,6 +29,10 @@ NOT_ACCEPTED = 128
 CONNECT = 1
 # So many packets are handled in one turn, if there are so many.
 MAX_LOOPS = 100
+# So much of the text of an exception is logged.
+SHOWN_OF_AN_ERROR = 100
+# The number of a message that could not be sent; those of paho are positive.
+NOT_SENT = -1
 
 
 class Lost(Exception):
@@ -58,6 +63,9 @@ class Connection:
         self.name = f"enogate-{topics.name}" + (".reader" if is_reader else "")
         self.is_open, self.refusal, self.complaint = False, "", ""
         self.is_unsupported = self.is_taken_over = False
+        # why a message could not be sent, and the last exception of a callback
+        self.failure = ""
+        self.fault: Exception | None = None
         self.received: list[Received] = []
         # the numbers of messages, and of requests for (un)subscription, that the broker has not acknowledged
         self.unacknowledged: set[int] = set()
@@ -89,13 +97,23 @@ class Connection:
             client.tls_set_context(login.tls)
         if not self.is_reader:
             client.will_set(self.topics.status, "offline", qos=1, retain=True)
-        client.on_connect = lambda client, _data, _flags, code, *_: self.on_connect(client, code)
-        client.on_disconnect = lambda _client, _data, *rest: self.on_disconnect(rest)
-        client.on_message = lambda _client, _data, message: self.on_message(message)
-        client.on_publish = lambda _client, _data, number, *_: self.on_answer(self.unacknowledged, number)
-        client.on_subscribe = lambda _client, _data, number, codes, *_: self.on_subscribe(number, codes)
-        client.on_unsubscribe = lambda _client, _data, number, *_: self.on_answer(self.unanswered, number)
+        client.on_connect = self.noting(lambda client, _data, _flags, code, *_: self.on_connect(client, code))
+        client.on_disconnect = self.noting(lambda _client, _data, *rest: self.on_disconnect(rest))
+        client.on_message = self.noting(lambda _client, _data, message: self.on_message(message))
+        client.on_publish = self.noting(lambda _c, _data, number, *_: self.on_answer(self.unacknowledged, number))
+        client.on_subscribe = self.noting(lambda _c, _data, number, codes, *_: self.on_subscribe(number, codes))
+        client.on_unsubscribe = self.noting(lambda _c, _data, number, *_: self.on_answer(self.unanswered, number))
         return client
+
+    def noting(self, callback: Callable[..., None]) -> Callable[..., None]:
+        """This callback. What it raises passes through paho, and is noted: it is not an exception of paho."""
+        def call(*arguments: Any) -> None:
+            try:
+                callback(*arguments)
+            except Exception as error:
+                self.fault = error
+                raise
+        return call
 
     def connect_options(self) -> dict[str, Any]:
         """With MQTT 5 the session ends with the connection, and large messages are not sent to the bridge."""
@@ -111,7 +129,7 @@ class Connection:
             return
         if value_of(code) == 0:
             filters = [*self.topics.commands, self.topics.status]
-            self.orders_request = client.subscribe([(topic, 1) for topic in filters])[1]
+            self.orders_request = sent(client.subscribe, [(topic, 1) for topic in filters])[1]
             return
         self.is_unsupported = self.is_five and value_of(code) in (1, 132)
         text = self.paho.connack_string(code) if isinstance(code, int) else str(code)
@@ -143,9 +161,11 @@ class Connection:
 
     def turn(self, seconds: float) -> None:
         """Does the network's work: waits for at most so many seconds, and handles what has arrived. Or raises Lost."""
+        if self.failure:
+            raise Lost(self.failure)
         for number in range(MAX_LOOPS):
             before = self.arrived
-            status = self.client.loop(0 if number else seconds)
+            status = self.loop(0 if number else seconds)
             if status != 0 or self.arrived == before:
                 break
         if self.is_unsupported:
@@ -161,21 +181,41 @@ class Connection:
         if self.unacknowledged and self.clock() > self.acknowledged_at + ACKNOWLEDGE_WITHIN:
             raise Lost("the broker acknowledges nothing")
 
+    def loop(self, seconds: float) -> int:
+        """Calls paho's loop. It raises all kinds of exceptions if the broker sends malformed packets, and those of ssl
+        if TLS fails. Each of them is Lost, but not those that a callback has raised: these are errors of the bridge."""
+        try:
+            return int(self.client.loop(seconds))
+        except Exception as error:
+            if error is self.fault:
+                raise
+            if isinstance(error, OSError):
+                raise Lost(reason(error)[:SHOWN_OF_AN_ERROR]) from error
+            text = f"{type(error).__name__}: {str(error)[:SHOWN_OF_AN_ERROR]}"
+            raise Lost(f"invalid packet from the broker ({text})") from error
+
     def publish(self, message: Message) -> int:
-        """Publishes a message. Its number is in `unacknowledged` until it is acknowledged."""
+        """Publishes a message. Its number is in `unacknowledged` until it is acknowledged. If it cannot be sent, the
+        next turn raises Lost."""
         if not self.unacknowledged:
             self.acknowledged_at = self.clock()
-        sent = self.client.publish(message.topic, message.payload, qos=1, retain=message.retained)
-        self.unacknowledged.add(sent.mid)
-        return int(sent.mid)
+        number = NOT_SENT
+        if not self.failure:
+            try:
+                options = {"qos": 1, "retain": message.retained}
+                number = int(sent(self.client.publish, message.topic, message.payload, **options).mid)
+            except Lost as lost:
+                self.failure = str(lost)
+        self.unacknowledged.add(number)
+        return number
 
     def request(self, filters: list[str]) -> int:
         """Subscribes to these, to get what the broker retains. The number is in `unanswered` until it is answered."""
-        return self.ask(*self.client.subscribe([(topic, 0) for topic in filters]))
+        return self.ask(*sent(self.client.subscribe, [(topic, 0) for topic in filters]))
 
     def cancel(self, filters: list[str]) -> int:
         """Ends these subscriptions. What the broker retains arrives before the answer."""
-        return self.ask(*self.client.unsubscribe(filters))
+        return self.ask(*sent(self.client.unsubscribe, filters))
 
     def ask(self, status: int, number: int | None) -> int:
         """Notes a request that paho has sent, or raises Lost if it could not."""
@@ -190,14 +230,24 @@ class Connection:
         try:
             while self.unacknowledged and self.clock() < until:
                 self.turn(0.1)
-            self.client.disconnect()
+            sent(self.client.disconnect)
         except Lost:
             pass
 
     def close(self) -> None:
         """Closes a connection that is lost."""
-        if self.client.socket():
-            self.client.socket().close()
+        with contextlib.suppress(OSError):
+            if self.client.socket():
+                self.client.socket().close()
+
+
+def sent(call: Callable[..., Any], *arguments: Any, **named: Any) -> Any:
+    """The result of this call of paho, which sends something. Unlike other faults of the network, those of TLS are
+    exceptions: they are Lost."""
+    try:
+        return call(*arguments, **named)
+    except OSError as error:
+        raise Lost(reason(error)[:SHOWN_OF_AN_ERROR]) from error
 
 
 def value_of(code: Any) -> int:

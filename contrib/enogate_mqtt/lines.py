@@ -10,6 +10,14 @@ from typing import Any, Union
 
 SIX_DIGITS = 6
 SHOWN_OF_A_LINE = 60
+# What a gateway writes is within these bounds. Texts are printable ASCII: labels have at most 32 characters
+# (docs/guide/orders.md), and names, words and units are shorter. A signal strength is a negated byte.
+MAX_TEXT, MAX_READINGS, MAX_MAKER, MAX_BYTE = 32, 64, 2047, 255
+MAX_SIGNED, MAX_UNSIGNED = 2 ** 63 - 1, 2 ** 64 - 1
+TEXT, TEXT_OR_NOTHING = f"[ -~]{{1,{MAX_TEXT}}}", f"[ -~]{{0,{MAX_TEXT}}}"
+# A name is part of a topic, so it may contain only letters, digits and _.
+NAME = f"[A-Za-z0-9_]{{1,{MAX_TEXT}}}"
+PROFILE = "[0-9A-F]{2}-[0-9A-F]{2}-[0-9A-F]{2}"
 
 
 class BadLine(Exception):
@@ -91,7 +99,7 @@ class Other:
 
 @dataclass(frozen=True)
 class Strange:
-    """A line of a known type with unexpected members."""
+    """A line of a known type with unexpected members: some are missing, of another kind, or beyond their bounds."""
     complaint: str
 
 
@@ -118,7 +126,7 @@ def content_of_members(members: dict[str, Any], line: bytes) -> Content:
     """The contents of a line with these members."""
     try:
         return content_by_type(members["type"], members)
-    except (ValueError, TypeError, KeyError, ZeroDivisionError):
+    except (ValueError, TypeError, KeyError):
         return Strange(f"line with unexpected members, not decoded: {line[:SHOWN_OF_A_LINE]!r}")
 
 
@@ -126,35 +134,42 @@ def content_by_type(kind: str, members: dict[str, Any]) -> Content:
     """The contents of a line of this type."""
     match kind, members.get("result"):
         case "reading", _:
-            readings = tuple(map(reading_of, members["readings"]))
-            return Telegram(device_of(members), eep_of(members), number_or_none(members["dbm"]), readings)
+            return Telegram(device_of(members), eep_of(members), dbm_of(members), readings_of(members["readings"]))
         case "teach", "accepted":
-            return Learned(device_of(members), eep_of(members), number_or_none(members["maker"]))
+            return Learned(device_of(members), eep_of(members), maker_of(members))
         case "teach", "deleted":
             return Deleted(device_of(members))
         case "device", _:
-            label, maker = text(members["label"], ".*"), number_or_none(members["maker"])
-            return Listed(device_of(members), eep_of(members), label, maker)
+            return Listed(device_of(members), eep_of(members), text(members["label"], TEXT_OR_NOTHING),
+                          maker_of(members))
         case "list", _:
-            return EndOfList(number(members["count"]))
+            return EndOfList(count(members["count"]))
         case "status", _:
-            return Status(text(members["mode"], ".+"), {name: number(members[name]) for name in COUNTERS})
+            return Status(text(members["mode"], TEXT), {name: count(members[name]) for name in COUNTERS})
         case "response", _:
-            return Response(number(members["code"]), text(members["data"], "(?:[0-9A-F]{2})*"))
+            return Response(number(members["code"], 0, MAX_BYTE), text(members["data"], "(?:[0-9A-F]{2})*"))
     return Other()
 
 
+def readings_of(members: Any) -> tuple[Reading, ...]:
+    """The readings of a telegram."""
+    if not isinstance(members, list) or len(members) > MAX_READINGS:
+        raise Unfitting
+    return tuple(map(reading_of, members))
+
+
 def reading_of(members: dict[str, Any]) -> Reading:
-    """A reading of a telegram. Its name is part of a topic, so it may contain only letters, digits and _."""
-    name = text(members["name"], "[A-Za-z0-9_]+")
+    """A reading of a telegram."""
+    name = text(members["name"], NAME)
     if "num" in members:
-        value = Fraction(number(members["num"]), number(members["den"]))
-        return Reading(name, text(members["unit"], ".*"), decimal(value), None)
+        value = Fraction(number(members["num"], -MAX_SIGNED - 1, MAX_SIGNED), number(members["den"], 1, MAX_SIGNED))
+        return Reading(name, text(members["unit"], TEXT_OR_NOTHING), decimal(value), None)
     if "word" in members:
-        return Reading(name, "", text(members["word"], ".*"), None)
+        return Reading(name, "", text(members["word"], TEXT), None)
     if "raw" in members:
-        return Reading(name, "", str(number(members["raw"])), number(members["raw"]))
-    number(members["out_of_range"])
+        raw = count(members["raw"])
+        return Reading(name, "", str(raw), raw)
+    count(members["out_of_range"])
     return Reading(name, "", "out_of_range", None)
 
 
@@ -178,7 +193,15 @@ def device_of(members: dict[str, Any]) -> str:
 
 
 def eep_of(members: dict[str, Any]) -> str:
-    return text(members["eep"], "[0-9A-F]{2}-[0-9A-F]{2}-[0-9A-F]{2}")
+    return text(members["eep"], PROFILE)
+
+
+def maker_of(members: dict[str, Any]) -> int | None:
+    return None if members["maker"] is None else number(members["maker"], 0, MAX_MAKER)
+
+
+def dbm_of(members: dict[str, Any]) -> int | None:
+    return None if members["dbm"] is None else number(members["dbm"], -MAX_BYTE, 0)
 
 
 def text(value: Any, shape: str) -> str:
@@ -188,12 +211,12 @@ def text(value: Any, shape: str) -> str:
     return value
 
 
-def number(value: Any) -> int:
-    """An integer."""
-    if not isinstance(value, int) or isinstance(value, bool):
+def number(value: Any, least: int, greatest: int) -> int:
+    """An integer within these bounds."""
+    if not isinstance(value, int) or isinstance(value, bool) or not least <= value <= greatest:
         raise Unfitting
     return value
 
 
-def number_or_none(value: Any) -> int | None:
-    return None if value is None else number(value)
+def count(value: Any) -> int:
+    return number(value, 0, MAX_UNSIGNED)

@@ -6,11 +6,13 @@ from __future__ import annotations
 import json
 import logging
 import os
+import re
 import sqlite3
 from typing import Iterable
 
 from .devices import Device
 from .follow import Place
+from .lines import NAME
 
 # The version of the tables, in PRAGMA user_version. A file of another version is replaced.
 VERSION = 2
@@ -24,6 +26,8 @@ CREATE TABLE IF NOT EXISTS removed (topic TEXT PRIMARY KEY);
 PRAGMA user_version = {VERSION};
 COMMIT;
 """
+# The place of a reading below the topic of its device.
+TOLD = re.compile(f"{NAME}(?:/[0-9]{{1,20}})?")
 
 
 class Foreign(Exception):
@@ -100,5 +104,9 @@ def told_of(text: str) -> dict[str, str]:
     told = json.loads(text)
     if not isinstance(told, dict) or not all(isinstance(value, str) for value in told.values()):
         raise Foreign("readings of an unknown form")
+    for place, value in told.items():
+        # an earlier version accepted lines with such readings, which cannot be published
+        if not TOLD.fullmatch(place) or any("\ud800" <= character <= "\udfff" for character in value):
+            raise Foreign("readings that cannot be published")
     return told
 

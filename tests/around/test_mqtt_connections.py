@@ -1,11 +1,18 @@
 """The bridge at a broker: connections with TLS, and what it does if there is no connection."""
 from __future__ import annotations
 
+import os
 import socket
+import subprocess
+import unittest
 
-from bridge_testcase import OWN, BridgeTest
+from bridge_testcase import MAY_SKIP, OWN, PYTHON, BridgeTest, is_missing
 from broker import PEOPLE, Certificates, free_ports
 from programs import WITHIN, lines_of
+from services import CONTRIB, ROOT
+
+# An acceptance of the connection whose properties are longer than the packet, and one of subscriptions that ends early.
+MALFORMED = (b"\x20\x03\x00\x00\x7f", b"\x90\x01\x00")
 
 
 class Connections(BridgeTest):
@@ -38,6 +45,32 @@ class Connections(BridgeTest):
         self.bridge.start(**self.secure("other.crt"))
         self.assert_retries(f"{self.broker.tls_port}: [SSL: CERTIFICATE_VERIFY_FAILED]", "alert unknown ca")
 
+    def test_a_missing_certificate(self):
+        settings = self.secure("ca.crt") | {"MQTT_CERT_FILE": "", "MQTT_KEY_FILE": ""}
+        self.bridge.start(**settings)
+        self.assert_rejected("peer did not return a certificate")
+        # the reason depends on whether the bridge reads the answer of the broker, or writes, after it was rejected
+        self.assert_seen([line for line in self.bridge.journal()[1:] if "no connection to localhost" not in line], [])
+        self.assert_logged(f"no connection to localhost:{self.broker.tls_port}: ")
+
+    def test_malformed_packets(self):
+        """The bridge logs them once, and connects again, but not at once."""
+        with socket.create_server(("127.0.0.1", 0)) as server:
+            server.settimeout(WITHIN)
+            port = server.getsockname()[1]
+            self.bridge.start(MQTT_PORT=str(port))
+            for packet in MALFORMED:
+                client = server.accept()[0]
+                with client:
+                    client.settimeout(WITHIN)
+                    client.recv(1000)
+                    client.sendall(packet)
+                    self.assert_seen(client.recv(1000), b"")
+            server.accept()[0].close()
+        reason = f"enogate-mqtt: no connection to localhost:{port}: invalid packet from the broker ("
+        journal = [line for line in self.bridge.journal() if "cannot open" not in line]
+        self.assert_seen([line[:len(reason)] for line in journal[:len(MALFORMED)]], [reason] * len(MALFORMED))
+
     def test_a_wrong_password(self):
         wrong = self.work / "wrong.password"
         wrong.write_text(f"{PEOPLE[1]}\n")
@@ -55,5 +88,20 @@ class Connections(BridgeTest):
     def assert_retries(self, reason: str, rejected: str) -> None:
         """The journal has this reason, only once, and the broker rejects the bridge again, with this text."""
         self.assert_logged(f"no connection to localhost:{reason}")
-        self.assert_soon(lambda: [rejected for line in self.broker.journal() if rejected in line][:2], [rejected] * 2)
+        self.assert_rejected(rejected)
         self.assert_seen(len([line for line in self.bridge.journal() if "no connection" in line]), 1)
+
+    def assert_rejected(self, text: str) -> None:
+        """The broker rejects the bridge twice, with this text in its journal."""
+        self.assert_soon(lambda: [text for line in self.broker.journal() if text in line][:2], [text] * 2)
+
+
+class Packets(unittest.TestCase):
+    """The connection of the bridge, without a broker."""
+
+    @unittest.skipIf(MAY_SKIP and is_missing(), is_missing())
+    def test_random_packets(self):
+        path = f"{CONTRIB}:{os.environ.get('PAHO', '')}"
+        run = subprocess.run([PYTHON, "-B", ROOT / "tests" / "bridge" / "fuzz_packets.py"], capture_output=True,
+                             text=True, env={**os.environ, "PYTHONPATH": path})
+        self.assertEqual(run.returncode, 0, run.stderr)

@@ -1,4 +1,7 @@
 """The connection to the broker, over stand-ins for paho 1.6 and paho 2."""
+import random
+import ssl
+import struct
 import tracemalloc
 import types
 import unittest
@@ -75,6 +78,12 @@ def paho(version):
         return module.clients[-1]
     module.Client = client
     return module
+
+
+def subclasses(kind):
+    """The kinds of exceptions that are built in, and those of this kind."""
+    found = [one for one in kind.__subclasses__() if one.__module__ in ("builtins", "ssl", "struct", "socket")]
+    return found + [below for one in found for below in subclasses(one)]
 
 
 def message(topic, payload, retain=False):
@@ -322,6 +331,96 @@ class Connecting(Case):
         found.end(2)
         self.assertEqual(self.client.called("disconnect"), [])
 
+    def raising(self, error):
+        """A call of paho, or a callback, that raises this."""
+        return unittest.mock.Mock(side_effect=error)
+
+    def test_what_paho_raises_is_a_loss(self):
+        """On packets that are malformed, and on faults of TLS."""
+        for error, text in ((IndexError("bytearray index out of range"), "IndexError: bytearray index out of range"),
+                            (KeyError(200), "KeyError: 200"), (struct.error("bad"), "error: bad"),
+                            (AssertionError(), "AssertionError: "),
+                            (ValueError("x" * 1000), "ValueError: " + "x" * 100),
+                            (UnicodeDecodeError("utf-8", b"\xff", 0, 1, "bad"), "UnicodeDecodeError: .*"),
+                            (RecursionError("deep"), "RecursionError: deep")):
+            found = self.connect()
+            self.client.steps = [self.raising(error)]
+            with self.assertRaisesRegex(Lost, f"^invalid packet from the broker \\({text}\\)$"):
+                found.turn(0)
+        for error in (ssl.SSLError(1, "certificate required"), OSError(1, "certificate required")):
+            found = self.connect()
+            self.client.steps = [self.raising(error)]
+            with self.assertRaisesRegex(Lost, "^certificate required$"):
+                found.turn(0)
+
+    def test_an_error_in_a_callback_is_not_a_loss(self):
+        """It is an error of the bridge, which has to be seen."""
+        callbacks = {"on_connect": ({}, 0), "on_disconnect": (7,), "on_message": (message("a", b""),),
+                     "on_publish": (1,), "on_subscribe": (1, [0]), "on_unsubscribe": (1,)}
+        for name, arguments in callbacks.items():
+            for error in (IndexError("a mistake"), OSError(1, "a mistake")):
+                found = self.connect()
+                for method in ("on_connect", "on_disconnect", "on_message", "on_answer", "on_subscribe"):
+                    setattr(found, method, self.raising(error))
+                self.client.steps = [lambda: getattr(self.client, name)(self.client, None, *arguments)]
+                with self.subTest(name), self.assertRaises(type(error)) as raised:
+                    found.turn(0)
+                self.assertIs(raised.exception, error)
+
+    def test_a_network_that_fails_while_something_is_sent(self):
+        """Nothing more is sent on this connection, and what was published is not acknowledged."""
+        found = self.connect()
+        one = found.publish(Message("a", "x", True))
+        self.client.publish = self.raising(ssl.SSLError(1, "alert"))
+        two, three = (found.publish(Message("b", "x", True)) for _ in range(2))
+        self.client.on_publish(self.client, None, one)
+        self.assertEqual((found.unacknowledged, self.client.publish.call_count), ({two, three}, 1))
+        with self.assertRaisesRegex(Lost, "^alert$"):
+            found.turn(0)
+        self.assertEqual(self.client.called("loop"), [])
+
+    def test_a_network_that_fails_during_requests(self):
+        found = self.connect()
+        for name, call in (("subscribe", found.request), ("unsubscribe", found.cancel)):
+            setattr(self.client, name, self.raising(ssl.SSLError(1, "alert")))
+            with self.assertRaisesRegex(Lost, "^alert$"):
+                call(["a"])
+        self.client.steps = [lambda: self.client.on_connect(self.client, None, {}, 0)]
+        with self.assertRaisesRegex(Lost, "^alert$"):
+            found.turn(0)
+
+    def test_a_network_that_fails_at_the_end(self):
+        found = self.connect()
+        self.client.disconnect = self.raising(ssl.SSLError(1, "alert"))
+        found.end(2)
+        self.assertEqual(self.client.disconnect.call_count, 1)
+        self.client.socket = lambda: types.SimpleNamespace(close=self.raising(OSError()))
+        found.close()
+
+    def test_wrong_arguments_are_not_a_loss(self):
+        found = self.connect()
+        for name, call in (("publish", lambda: found.publish(Message("+", "x", True))),
+                           ("subscribe", lambda: found.request([]))):
+            setattr(self.client, name, self.raising(ValueError("Invalid topic.")))
+            with self.assertRaisesRegex(ValueError, "^Invalid topic.$"):
+                call()
+
+    def test_random_errors_of_paho(self):
+        chance = random.Random(76)
+        kinds = [kind for kind in subclasses(Exception) if not issubclass(kind, ExceptionGroup)]
+        self.assertGreater(len(kinds), 50)
+        for _ in range(3000):
+            found = self.connect(chance.choice((4, 5)))
+            kind, text = chance.choice(kinds), "".join(chance.choices("abc \n\0\ud800", k=chance.randrange(200)))
+            error = kind.__new__(kind, text)
+            self.client.steps = [lambda: None, self.raising(error)]
+            if chance.random() < 0.5:
+                self.client.steps[0] = lambda: self.client.on_connect(self.client, None, {}, 0)
+            with self.assertRaises(Lost) as lost:
+                found.turn(0)
+                found.turn(0)
+            self.assertLess(len(str(lost.exception)), 250)
+
     def test_close(self):
         found = self.connect()
         found.close()
@@ -429,6 +528,23 @@ class Brokers(Case):
             self.broker.turn(0.1)
         pauses = [round(later - sooner) for sooner, later in zip(self.times, self.times[1:])]
         self.assertEqual(pauses, [1, 2, 4, 8, 16, 32, 60, 60, 60])
+
+    def test_malformed_packets_have_growing_pauses(self):
+        """The journal has the reason once."""
+        module = paho(1)
+
+        def connect(version, is_reader):
+            self.times = getattr(self, "times", []) + [self.clock()]
+            found = Connection(module, Login("h", 1883, None, None, None), TOPICS, version, self.clock, is_reader)
+            module.clients[-1].steps = [unittest.mock.Mock(side_effect=struct.error("unpack requires 2 bytes"))]
+            return found
+        self.broker.connect = connect
+        while len(getattr(self, "times", [])) < 9:
+            self.broker.turn(0.1)
+        pauses = [round(later - sooner) for sooner, later in zip(self.times, self.times[1:])]
+        self.assertEqual(pauses, [1, 2, 4, 8, 16, 32, 60, 60])
+        self.assertEqual(self.logged, ["WARNING: no connection to h:1883: invalid packet from the broker "
+                                       "(error: unpack requires 2 bytes)"])
 
     def test_half_of_a_pause_is_random(self):
         self.random = 0.0

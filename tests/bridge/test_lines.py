@@ -1,4 +1,5 @@
 """The contents of lines."""
+import json
 import unittest
 from fractions import Fraction
 
@@ -9,6 +10,10 @@ from enogate_mqtt.lines import Telegram, content_of, decimal
 
 CONTACT = ('{"dbm":-45,"eep":"D5-00-01","id":"01800ABC","readings":[{"name":"CO","word":"closed"}],'
            '"type":"reading"}')
+VALUE = CONTACT.replace('"word":"closed"', '"den":51,"num":1024,"unit":"C"')
+TAUGHT = '{"eep":"D5-00-01","id":"01800ABC","maker":70,"result":"accepted","type":"teach"}'
+DEVICE = '{"eep":"D5-00-01","id":"01800ABC","label":"Door","maker":70,"type":"device"}'
+STATUS = '{"ignored":1,"mode":"on","readings":2,"refused":3,"responses":4,"teach":5,"type":"status"}'
 
 
 class Decimals(unittest.TestCase):
@@ -82,6 +87,42 @@ class Contents(unittest.TestCase):
                      b'{"code":0,"data":"F","type":"response"}', b'{"code":0,"data":"ff","type":"response"}'):
             with self.subTest(line):
                 self.assertIsInstance(content_of(line), (Strange, Other))
+
+    def assert_bounds(self, line, name, within, beyond):
+        """The line is decoded with these values of the member, and strange with those."""
+        for value in within + beyond:
+            members = json.loads(line)
+            place = members if name in members else members["readings"][0]
+            place[name] = value
+            with self.subTest(name=name, value=str(value)[:40]):
+                content = content_of(json.dumps(members).encode())
+                self.assertEqual(isinstance(content, Strange), value in beyond)
+
+    def test_bounds_of_texts(self):
+        """Printable ASCII: others cannot be published, or are not what a gateway writes."""
+        bad = ["\ud800", "\udfffx", "\0", "a\n", "\x7f", "ä", "x" * 33, "x" * 70_000]
+        self.assert_bounds(DEVICE, "label", ["", " ~", "x" * 32], bad)
+        self.assert_bounds(CONTACT, "word", [" ~", "x" * 32], ["", *bad])
+        self.assert_bounds(VALUE, "unit", ["", "%", "x" * 32], bad)
+        self.assert_bounds(VALUE, "name", ["x" * 32], ["", "a b", *bad])
+        self.assert_bounds(STATUS, "mode", ["closed", "as F6-02-01"], ["", *bad])
+
+    def test_bounds_of_numbers(self):
+        for line in (DEVICE, TAUGHT):
+            self.assert_bounds(line, "maker", [None, 0, 2047], [-1, 2048, 2 ** 70])
+        self.assert_bounds(CONTACT, "dbm", [None, 0, -255], [1, -256, 2 ** 70])
+        self.assert_bounds(VALUE, "num", [0, 2 ** 63 - 1, -2 ** 63], [2 ** 63, -2 ** 63 - 1, 10 ** 4000])
+        self.assert_bounds(VALUE, "den", [1, 2 ** 63 - 1], [0, -1, 2 ** 63])
+        for name in ("raw", "out_of_range"):
+            line = CONTACT.replace('"word":"closed"', f'"{name}":1')
+            self.assert_bounds(line, name, [0, 2 ** 64 - 1], [-1, 2 ** 64, 10 ** 4000])
+        self.assert_bounds('{"count":2,"type":"list"}', "count", [0, 2 ** 64 - 1], [-1, 2 ** 64])
+        self.assert_bounds(STATUS, "teach", [0, 2 ** 64 - 1], [-1, 2 ** 64])
+        self.assert_bounds('{"code":0,"data":"","name":"OK","type":"response"}', "code", [0, 255], [-1, 256])
+
+    def test_bounds_of_readings(self):
+        one = {"name": "CO", "word": "closed"}
+        self.assert_bounds(CONTACT, "readings", [[], [one] * 64], [[one] * 65])
 
     def test_a_complaint_shows_the_beginning(self):
         line = b'{"count":"' + b"2" * 100 + b'","type":"list"}'

@@ -139,12 +139,19 @@ class Stores(Case):
         self.is_replaced("no such column")
 
     def test_readings_of_another_form(self):
-        for told in ("no JSON", "[]", '{"CO": 3}', "3"):
-            with self.subTest(told):
+        long = f'{{"{"x" * 70_000}": ""}}'
+        for told in ("no JSON", "[]", '{"CO": 3}', "3", '{"CO": "\\ud800"}', '{"C/O": ""}', long):
+            with self.subTest(told[:40]):
                 self.setUp()
                 self.open()
                 self.sql(f"INSERT INTO device VALUES ('01800ABC', 'D5-00-01', '', NULL, '{told}')")
                 self.is_replaced("")
+
+    def test_readings_of_each_form_are_kept(self):
+        told = {"CO": "open", "MR_l_s/0": "0.5", "OV/18446744073709551615": "1", "last_seen": "ä \U0001f600"}
+        self.open().save(PLACE, ["01800ABC"], {"01800ABC": Device("01800ABC", "D5-00-01", told=told)}, set())
+        self.assertEqual(self.open().devices[0].told, told)
+        self.assertEqual(self.logged, [])
 
     def test_a_file_that_cannot_be_opened_is_left(self):
         self.path.mkdir()

@@ -123,6 +123,8 @@ class Shown(Site):
     def test_a_list(self):
         self.write(reading("01800ABC"), reading("01800ABD", "A5-02-05", TEMPERATURE, None), reading("01800ABE"))
         bridge(self, "01800ABC", NOW - timedelta(minutes=5))
+        # no label that a gateway writes has control characters
+        self.enterContext(mock.patch("enogate_mqtt.lines.TEXT_OR_NOTHING", ".*"))
         self.assertEqual(self.shown(device("01800ABC", "Do\x1bor"), device("01800ABD", eep="A5-02-05"),
                                     device("01800ABE", eep="F6-02-01"), end_of_list(3)), """\
 LABEL  ID        PROFILE   NAME                      LAST READINGS         SIGNAL   LAST SEEN
