@@ -262,7 +262,7 @@ class Bridge:
         """Passes the orders of a message to the gateway."""
         try:
             orders = orders_of(self.topics, message.topic, message.payload)
-            self.desk.append(orders)
+            left_out = self.desk.give(orders, len(self.devices.known))
         except Refused as refused:
             self.seldom.warning("refused", f"message on {message.topic!r} ignored: {refused}")
             return
@@ -270,6 +270,9 @@ class Bridge:
             lost = f"message on {message.topic!r} lost: {self.desk.path}: {error.strerror or error}"
             self.seldom.warning("lost", lost)
             return
+        if left_out:
+            left_out_of = f"message on {message.topic!r}: {left_out} orders not passed on: "
+            self.seldom.warning("left out", left_out_of + "an earlier list or status is not answered yet")
         self.requests.command(orders)
         if self.requests.gateway.is_online is False:
             may_be_lost = f"message on {message.topic!r}: the gateway does not answer, orders may be lost"

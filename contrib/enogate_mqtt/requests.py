@@ -7,7 +7,7 @@ import math
 from dataclasses import dataclass
 from typing import Callable
 
-from .desk import Desk, News
+from .desk import LIST, STATUS, Desk, News
 from .lines import Content, EndOfList, Response, Status
 
 # The pauses between two unanswered requests for the list, in seconds: the first, and the longest.
@@ -125,10 +125,12 @@ class Requests:
                 if self.gateway.is_online is False:
                     logging.info("the gateway answers again")
                 self.gateway.answer()
+                self.desk.unanswered.answer(STATUS)
                 self.status, self.change = content, None
             case Response():
                 self.module.answer()
             case EndOfList():
+                self.desk.unanswered.answer(LIST)
                 self.gateway.due = min(self.gateway.due, self.clock())
 
     def command(self, orders: bytes) -> None:
@@ -149,7 +151,7 @@ class Requests:
     def give(self, order: bytes) -> bool:
         """Gives an order; without a desk, or if it takes none now, nothing is lost, since all of these are repeated."""
         try:
-            self.desk.append(order, is_own=True)
+            self.desk.append(order)
         except OSError:
             return False
         return True

@@ -255,12 +255,48 @@ class Bridging(Case):
 
     def test_the_longest_message(self):
         """16,384 bytes are passed on at once, also if the last line has no end."""
-        for payload in (b"status\n" * 2340 + b"base", b"status\n" * 2340 + b"dim\n"):
+        for payload in (b"teach 5\n" * 2047 + b"teach 55", b"teach 5\n" * 2048):
             self.setUp()
             self.start()
             self.site.send(HALL + "orders", payload)
             self.site.turns()
-            self.assertEqual((len(payload), len(self.site.orders()), self.logged), (16384, 2 + 2341, []))
+            self.assertEqual((len(payload), len(self.site.orders()), self.logged), (16384, 2 + 2048, []))
+
+    def test_lists_and_states_of_others_wait_for_the_answer_of_the_first(self):
+        self.start()
+        self.site.tell(*listing(*DEVICES), status())
+        self.site.turns(2, 1)
+        given = len(self.site.orders())
+        for order, answer in (("list", listing(*DEVICES)), ("status", [status()])):
+            for _ in range(2):
+                self.site.send(HALL + "orders", f"{order}\n".encode() * 400)
+                self.site.turns(2)
+                self.site.send(HALL + "orders", f"{order}\nteach 5\n".encode())
+                self.site.turns(2)
+                self.assertEqual(self.site.orders()[given:], [order, "teach 5"])
+                self.site.tell(*answer)
+                # the bridge asks for the status after a list
+                self.site.turns(2)
+                self.site.tell(status())
+                self.site.turns(2)
+                given = len(self.site.orders())
+        self.assert_logged("message on 'enogate/hall/orders': 399 orders not passed on: ", 4)
+        self.assert_logged("message on 'enogate/hall/orders': 1 orders not passed on: an earlier list or status is not "
+                           "answered yet", 4)
+
+    def test_a_list_counts_the_devices(self):
+        devices = [(f"{0x01800000 + number:08X}", "A5-02-05", "") for number in range(1000)]
+        self.start()
+        self.site.tell(*listing(*devices))
+        self.site.turns(3)
+        for number in range(8):
+            self.site.send(HALL + "orders", b"list")
+            self.site.turns(2, 0.01)
+            self.site.tell(*listing(*devices))
+            self.site.turns(2, 0.01)
+        self.assertEqual(self.site.orders().count("list"), 1 + 3)
+        self.assert_logged("message on 'enogate/hall/orders' lost: "
+                           f"{self.site.desk}: too many orders in a short time", 5)
 
     def test_messages_that_are_ignored(self):
         self.start()

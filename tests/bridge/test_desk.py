@@ -5,7 +5,7 @@ import signal
 import unittest
 from unittest import mock
 
-from enogate_mqtt.desk import BYTES_PER_SECOND, MAX_BURST, MAX_SIZE, Desk, News
+from enogate_mqtt.desk import ANSWER_WITHIN, BYTES_PER_SECOND, LINE, MAX_BURST, MAX_SIZE, Desk, News
 from fakes import Case, Clock, Site
 
 
@@ -19,6 +19,10 @@ class Desks(Case):
     def write(self, text, mode="a"):
         with self.path.open(mode) as file:
             file.write(text)
+
+    def give(self, orders, devices=0):
+        """Others give these orders to a gateway with so many devices."""
+        return self.desk.give(orders, devices)
 
     def test_orders_are_appended(self):
         self.write("list\n")
@@ -78,30 +82,132 @@ class Desks(Case):
 
     def test_too_many_orders(self):
         message = b"x\n" * (MAX_BURST // 2)
-        self.desk.append(message)
+        self.give(message)
         with self.assertRaisesRegex(OSError, "^too many orders in a short time$"):
-            self.desk.append(b"x\n")
+            self.give(b"x\n")
         self.clock.now += 11 / BYTES_PER_SECOND
-        self.desk.append(b"x\n" * 5)
+        self.give(b"x\n" * 5)
         with self.assertRaises(OSError):
-            self.desk.append(b"x\n")
+            self.give(b"x\n")
         self.clock.now += 1000
-        self.desk.append(message)
+        self.give(message)
         with self.assertRaises(OSError):
-            self.desk.append(b"x\n")
+            self.give(b"x\n")
         self.assertEqual((MAX_BURST, BYTES_PER_SECOND), (16384, 2000))
 
     def test_own_orders_are_not_limited(self):
-        self.desk.append(b"x\n" * (MAX_BURST // 2))
-        self.desk.append(b"list\n", is_own=True)
+        self.give(b"x\n" * (MAX_BURST // 2))
+        self.desk.append(b"list\n")
         self.assertTrue(self.path.read_bytes().endswith(b"list\n"))
+
+    def lines(self):
+        return self.path.read_text().split("\n")[:-1]
+
+    def test_one_list_of_others_waits_for_its_answer(self):
+        for order in (b"list", b"status"):
+            with self.subTest(order):
+                self.setUp()
+                self.assertEqual(self.give((order + b"\n") * 400), 399)
+                self.assertEqual(self.lines(), [order.decode()])
+                self.assertEqual(self.give(order + b"\nbase\n" + order + b"\n"), 2)
+                self.assertEqual(self.lines()[1:], ["base"])
+                self.desk.unanswered.answer(order)
+                self.assertEqual(self.give(b"base\n" + order + b"\n"), 0)
+                self.assertEqual(self.lines()[2:], ["base", order.decode()])
+
+    def test_list_and_status_do_not_wait_for_each_other(self):
+        self.give(b"list\nstatus\n")
+        self.desk.unanswered.answer(b"status")
+        self.assertEqual(self.give(b"status\nlist\n"), 1)
+        self.assertEqual(self.lines(), ["list", "status", "status"])
+
+    def test_other_orders_are_all_passed_on(self):
+        orders = b"lists\nlist\r\r\nlist \nLIST\nbase\nlearn on\n" * 2
+        self.assertEqual(self.give(orders), 0)
+        self.assertEqual(self.path.read_bytes(), orders)
+
+    def test_orders_that_are_all_left_out_are_no_write(self):
+        self.give(b"list\n")
+        with mock.patch("os.write") as write:
+            self.assertEqual(self.give(b"list\nlist\n"), 2)
+        self.assertEqual(write.call_count, 0)
+
+    def test_answers_come_in_the_sequence_of_the_orders(self):
+        """The bridge gives its own orders always, and the list of others waits only for their own answer."""
+        self.desk.append(b"list\n")
+        self.assertEqual(self.give(b"list\n"), 0)
+        self.desk.append(b"list\n")
+        for _ in range(2):
+            self.assertEqual(self.give(b"list\n"), 1)
+            self.desk.unanswered.answer(b"list")
+        self.assertEqual(self.give(b"list\n"), 0)
+        self.assertEqual(self.lines(), ["list"] * 4)
+
+    def test_answers_to_orders_of_another_program(self):
+        for _ in range(2):
+            self.desk.unanswered.answer(b"list")
+        self.give(b"list\n")
+        self.assertEqual(self.give(b"list\n"), 1)
+
+    def test_an_answer_that_never_comes(self):
+        self.desk.append(b"list\n")
+        self.give(b"list\n")
+        self.clock.now += ANSWER_WITHIN
+        self.assertEqual(self.give(b"list\n"), 1)
+        self.clock.now += 0.1
+        self.assertEqual(self.give(b"list\n"), 0)
+        self.assertEqual(ANSWER_WITHIN, 60)
+
+    def test_a_gateway_that_does_not_answer_for_days(self):
+        for _ in range(3000):
+            self.desk.append(b"status\n")
+            self.clock.now += 60
+        self.assertEqual(len(self.desk.unanswered.given[b"status"]), 100)
+
+    def test_a_gateway_that_was_started_answers_no_order_of_before(self):
+        self.desk.news()
+        self.give(b"list\nstatus\n")
+        self.desk.news()
+        self.assertEqual(self.give(b"list\n"), 1)
+        self.write("", "w")
+        self.assertIs(self.desk.news(), News.TRUNCATED)
+        self.assertEqual(self.give(b"list\nstatus\n"), 0)
+
+    def test_a_list_counts_a_line_for_each_device(self):
+        """Each line of its answer counts like the shortest order."""
+        self.assertEqual(LINE, 5)
+        passed = []
+        for second in range(20):
+            try:
+                self.give(b"list\n", devices=1000)
+                self.desk.unanswered.answer(b"list")
+                passed.append(second)
+            except OSError as error:
+                self.assertEqual(str(error), "too many orders in a short time")
+            self.clock.now += 1
+        self.assertEqual(passed, [0, 1, 2, 3, 5, 7, 10, 12, 15, 17])
+        self.assertEqual(self.lines(), ["list"] * len(passed))
+
+    def test_other_orders_count_their_bytes_only(self):
+        self.give(b"x\n" * (MAX_BURST // 2), devices=1000)
+
+    def test_a_list_is_passed_on_however_many_devices_there_are(self):
+        self.give(b"list\n", devices=10 * MAX_BURST)
+        self.assertEqual(self.lines(), ["list"])
+
+    def test_a_list_that_could_not_be_appended_does_not_wait(self):
+        self.path.unlink()
+        with self.assertRaises(FileNotFoundError):
+            self.give(b"list\n")
+        self.path.touch()
+        self.assertEqual(self.give(b"list\n"), 0)
 
     def test_what_could_not_be_appended_does_not_count(self):
         self.path.unlink()
         with self.assertRaises(FileNotFoundError):
-            self.desk.append(b"x\n" * (MAX_BURST // 2))
+            self.give(b"x\n" * (MAX_BURST // 2))
         self.path.touch()
-        self.desk.append(b"x\n" * (MAX_BURST // 2))
+        self.give(b"x\n" * (MAX_BURST // 2))
 
     def test_a_word_that_was_seen(self):
         self.write("list\nlabel ")
