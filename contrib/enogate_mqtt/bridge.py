@@ -16,7 +16,7 @@ from .log import Seldom
 from .orders import DEVICE, Refused, orders_of
 from .outbox import Outbox
 from .reconcile import Part, Reconciler
-from .requests import ListRequest, Requests
+from .requests import ListRequest, Requests, opens_window
 from .store import Store
 from .topics import Message, Topics
 
@@ -260,8 +260,14 @@ class Bridge:
 
     def give(self, message: Received) -> None:
         """Passes the orders of a message to the gateway."""
+        window = self.requests.window
         try:
             orders = orders_of(self.topics, message.topic, message.payload)
+            if opens_window(orders):
+                # this is saved first: if the bridge is killed after it has given the order, its next run closes the
+                # learn window
+                self.requests.open_window(self.requests.learn_for)
+                self.save()
             left_out = self.desk.give(orders, len(self.devices.known))
         except Refused as refused:
             self.seldom.warning("refused", f"message on {message.topic!r} ignored: {refused}")
@@ -269,6 +275,7 @@ class Bridge:
         except OSError as error:
             lost = f"message on {message.topic!r} lost: {self.desk.path}: {error.strerror or error}"
             self.seldom.warning("lost", lost)
+            self.requests.window = window
             return
         if left_out:
             left_out_of = f"message on {message.topic!r}: {left_out} orders not passed on: "
@@ -303,11 +310,14 @@ class Bridge:
         self.devices.removed -= done
 
     def save(self) -> None:
-        """Saves the state if it has changed: how far the broker has acknowledged the lines, and the devices."""
+        """Saves the state if it has changed: how far the broker has acknowledged the lines, the devices, and the end of
+        the learn window."""
         place = self.outbox.place(self.follower.place)
         self.saved_at = self.clock()
         changed, removed, may_adopt = self.devices.changed, self.devices.removed, self.devices.may_adopt
-        if place == self.saved and not changed and removed == self.store.removed and may_adopt == self.store.may_adopt:
+        learn_until = self.requests.window.end if self.requests.window else None
+        now = place, removed, may_adopt, learn_until
+        if not changed and now == (self.saved, self.store.removed, self.store.may_adopt, self.store.learn_until):
             return
-        if self.store.save(place, changed, self.devices.known, removed, may_adopt):
+        if self.store.save(place, changed, self.devices.known, removed, may_adopt, learn_until):
             self.saved, self.devices.changed = place, set()

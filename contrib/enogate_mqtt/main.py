@@ -55,7 +55,7 @@ def run(words: Words, options: Options) -> None:
     devices = Devices(topics, Table(), options.expire_after, store.devices, store.removed | old_topics(topics, store),
                       may_adopt=store.may_adopt)
     desk = Desk(words.desk, clock)
-    requests = Requests(desk, clock, options.learn_for)
+    requests = Requests(desk, clock, time.time, options.learn_for, store.learn_until)
     follower = Follower(words.lines, store.place)
     bridge = Bridge(topics, broker, devices, follower, desk, requests, store, clock, time.time)
 

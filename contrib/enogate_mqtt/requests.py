@@ -4,6 +4,7 @@ from __future__ import annotations
 
 import logging
 import math
+import re
 from dataclasses import dataclass
 from typing import Callable
 
@@ -14,6 +15,14 @@ from .lines import Content, EndOfList, Response, Status
 FIRST_PAUSE, MAX_PAUSE = 5.0, 600.0
 # How often the gateway and the module are asked, and how long they may take to answer, in seconds.
 STATUS_EVERY, MODULE_EVERY, ANSWER_WITHIN = 60.0, 600.0, 15.0
+# The orders that open the learn window (docs/guide/orders.md), and the one that closes it.
+OPENING = re.compile(rb"learn (?:on|on answer|as [0-9A-Fa-f]{2}-[0-9A-Fa-f]{2}-[0-9A-Fa-f]{2})")
+CLOSING = b"learn off"
+
+
+def opens_window(orders: bytes) -> bool:
+    """Whether one of these orders opens the learn window."""
+    return any(OPENING.fullmatch(line) for line in orders.split(b"\n"))
 
 
 class ListRequest:
@@ -69,16 +78,28 @@ class Check:
         return True
 
 
+@dataclass(frozen=True)
+class Window:
+    """When a learn window is to be closed: by the clock, and in seconds since 1970, for a bridge that starts later."""
+    until: float
+    end: float
+
+
 class Requests:
     """Gives these orders at the desk of the gateway. `learn_for` is the time after which a learn window that was opened
-    with a command closes, in seconds."""
+    through the bridge closes, in seconds, and `learn_until` the end of one that an earlier run opened and did not
+    close, in seconds since 1970."""
 
-    def __init__(self, desk: Desk, clock: Callable[[], float], learn_for: float):
-        self.desk, self.clock, self.learn_for = desk, clock, learn_for
+    def __init__(self, desk: Desk, clock: Callable[[], float], wall: Callable[[], float], learn_for: float,
+                 learn_until: float | None = None):
+        self.desk, self.clock, self.wall, self.learn_for = desk, clock, wall, learn_for
         self.list = ListRequest()
         self.gateway, self.module = Check(STATUS_EVERY), Check(MODULE_EVERY)
         self.status: Status | None = None
-        self.learn_until = math.inf
+        self.window: Window | None = None
+        if learn_until is not None:
+            # if the time of day was set back, a window is not open for longer than a new one
+            self.open_window(min(max(learn_until - wall(), 0.0), learn_for))
         self.change: News | None = None
 
     def turn(self, needs_list: bool) -> None:
@@ -94,7 +115,7 @@ class Requests:
         # the order `base` has the response of the module as its answer
         if self.gateway.is_online and self.module.is_due(now):
             self.give(b"base\n")
-        if now >= self.learn_until:
+        if self.window and now >= self.window.until:
             self.close_window()
         if self.gateway.is_late(now):
             self.report_silence()
@@ -134,19 +155,24 @@ class Requests:
                 self.gateway.due = min(self.gateway.due, self.clock())
 
     def command(self, orders: bytes) -> None:
-        """Remembers a command for the learn window that was passed on, and asks for the status after it."""
-        if orders == b"learn on\n":
-            self.learn_until = self.clock() + self.learn_for
-        elif orders == b"learn off\n":
-            self.learn_until = math.inf
-        else:
-            return
-        self.gateway.due = self.clock()
+        """Remembers commands for the learn window that were passed on, and asks for the status after them."""
+        for line in orders.split(b"\n"):
+            if OPENING.fullmatch(line):
+                self.open_window(self.learn_for)
+            elif line == CLOSING:
+                self.window = None
+            else:
+                continue
+            self.gateway.due = self.clock()
+
+    def open_window(self, seconds: float) -> None:
+        """Closes the learn window after so many seconds."""
+        self.window = Window(self.clock() + seconds, self.wall() + seconds)
 
     def close_window(self) -> None:
-        """Closes the learn window, if the bridge opened it."""
-        if self.learn_until < math.inf and self.give(b"learn off\n"):
-            self.learn_until, self.gateway.due = math.inf, self.clock()
+        """Closes the learn window, if it was opened through the bridge."""
+        if self.window and self.give(CLOSING + b"\n"):
+            self.window, self.gateway.due = None, self.clock()
 
     def give(self, order: bytes) -> bool:
         """Gives an order; without a desk, or if it takes none now, nothing is lost, since all of these are repeated."""

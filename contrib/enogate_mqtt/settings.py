@@ -10,7 +10,7 @@ from typing import Mapping, NoReturn, Sequence
 from . import VERSION
 
 STATUS = 2
-# How long a learn window stays open that was opened with a command, in seconds.
+# How long a learn window stays open that was opened through the bridge, in seconds.
 LEARN_FOR = 120
 
 
@@ -41,7 +41,7 @@ class Login:
 @dataclass(frozen=True)
 class Options:
     """The topic prefix of Home Assistant's discovery, or an empty string; how long a learn window stays open that was
-    opened with a command, and after which time without a telegram a sensor is unavailable, in seconds."""
+    opened through the bridge, and after which time without a telegram a sensor is unavailable, in seconds."""
     discovery: str
     learn_for: int
     expire_after: int | None

@@ -1,6 +1,6 @@
 """The state of the bridge across restarts, in an SQLite file: how far the lines were read, the devices with their last
-readings, and the topics whose retained messages are still to be deleted. All is written in one transaction, so it is
-consistent even after a power failure."""
+readings, the topics whose retained messages are still to be deleted, and the end of the learn window, if it is open.
+All is written in one transaction, so it is consistent even after a power failure."""
 from __future__ import annotations
 
 import json
@@ -14,7 +14,8 @@ from .devices import Device
 from .follow import Place
 from .lines import NAME
 
-# The version of the tables, in PRAGMA user_version. A file of another version is replaced.
+# The version of the tables, in PRAGMA user_version. A file of another version is replaced. The table `learn` was added
+# without another version: programs that do not know it can use the file.
 VERSION = 2
 TABLES = f"""
 PRAGMA journal_mode = WAL;
@@ -23,6 +24,7 @@ BEGIN;
 CREATE TABLE IF NOT EXISTS place (inode INTEGER, offset INTEGER, last BLOB, discovery TEXT, may_adopt INTEGER);
 CREATE TABLE IF NOT EXISTS device (id TEXT PRIMARY KEY, eep TEXT, label TEXT, maker INTEGER, told TEXT);
 CREATE TABLE IF NOT EXISTS removed (topic TEXT PRIMARY KEY);
+CREATE TABLE IF NOT EXISTS learn (until REAL);
 PRAGMA user_version = {VERSION};
 COMMIT;
 """
@@ -69,15 +71,24 @@ class Store:
         self.old_discovery = row[3] if row else self.discovery
         # until the broker was asked for everything, it may know more than a new state file
         self.may_adopt = bool(row[4]) if row else True
+        row = self.connection.execute("SELECT until FROM learn").fetchone()
+        # in seconds since 1970
+        self.learn_until: float | None = row[0] if row else None
+        if row and not isinstance(row[0], float):
+            raise Foreign("learn window of an unknown form")
 
     def save(self, place: Place, changed: Iterable[str], known: dict[str, Device], removed: set[str],
-             may_adopt: bool = False) -> bool:
-        """Saves this place, the changed devices, and the topics to be deleted. Returns whether it succeeded."""
+             may_adopt: bool = False, learn_until: float | None = None) -> bool:
+        """Saves this place, the changed devices, the topics to be deleted, and the end of the learn window. Returns
+        whether it succeeded."""
         try:
             with self.connection:
                 self.connection.execute("DELETE FROM place")
                 values = (place.inode, place.offset, place.last, self.discovery, may_adopt)
                 self.connection.execute("INSERT INTO place VALUES (?, ?, ?, ?, ?)", values)
+                self.connection.execute("DELETE FROM learn")
+                if learn_until is not None:
+                    self.connection.execute("INSERT INTO learn VALUES (?)", (learn_until,))
                 for name in changed:
                     self.save_device(name, known.get(name))
                 if removed != self.removed:
@@ -88,7 +99,7 @@ class Store:
                 logging.error("cannot save the state: %s", error)
             self.is_failing = True
             return False
-        self.is_failing, self.removed, self.may_adopt = False, set(removed), may_adopt
+        self.is_failing, self.removed, self.may_adopt, self.learn_until = False, set(removed), may_adopt, learn_until
         return True
 
     def save_device(self, name: str, device: Device | None) -> None:

@@ -3,8 +3,9 @@ from __future__ import annotations
 
 import signal
 
-from bridge_testcase import OFFLINE, ONLINE, OWN
+from bridge_testcase import OFFLINE, ONLINE, OWN, GatewayTest
 from kinds import END_OF_LIST, KindsTest
+from programs import lines_of
 
 
 class Stops(KindsTest):
@@ -98,3 +99,29 @@ class Stops(KindsTest):
 
     def assert_no_connection(self) -> None:
         self.assert_logged(f"no connection to localhost:{self.broker.port}: ")
+
+
+class LearnWindow(GatewayTest):
+    """A gateway, and a bridge that closes the learn window after five seconds."""
+
+    def learn_orders(self) -> list[str]:
+        return [order for order in lines_of(self.gateway.desk) if order.startswith("learn ")]
+
+    def test_it_is_closed_after_its_time(self):
+        """Also if it was opened by one of several orders in a message."""
+        self.start_bridge(MQTT_LEARN_SECONDS="5")
+        self.broker.publish(f"{OWN}/orders", "learn on answer\nstatus")
+        self.assert_published(f"{OWN}/learn ON")
+        self.assert_soon(self.learn_orders, ["learn on answer", "learn off"])
+        self.assert_soon(lambda: self.retained()[f"{OWN}/learn"], "OFF")
+
+    def test_it_is_closed_after_the_bridge_was_killed(self):
+        """The bridge is killed as soon as the order is at the desk."""
+        self.start_bridge(MQTT_LEARN_SECONDS="5")
+        self.broker.publish(f"{OWN}/orders", "learn as F6-02-01\nstatus")
+        self.assert_soon(self.learn_orders, ["learn as F6-02-01"])
+        self.bridge.end(signal.SIGKILL)
+        self.start_bridge(MQTT_LEARN_SECONDS="5")
+        self.assert_soon(self.learn_orders, ["learn as F6-02-01", "learn off"])
+        self.assert_soon(lambda: self.retained()[f"{OWN}/learn"], "OFF")
+        self.assert_seen('"mode":"closed"' in self.published_lines("status")[-1], True)

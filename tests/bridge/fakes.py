@@ -138,7 +138,7 @@ class Site:
         self.folder = pathlib.Path(folder.name)
         self.lines, self.desk = self.folder / "hall.lines", self.folder / "desk"
         self.state = self.folder / "hall.db"
-        self.clock, self.broker = Clock(), FakeBroker()
+        self.clock, self.wall, self.broker = Clock(), Clock(1_800_000_000.0), FakeBroker()
         self.topics = Topics("hall", "homeassistant")
         self.lines.touch()
         self.desk.touch()
@@ -148,12 +148,17 @@ class Site:
         store = Store(str(self.state), self.topics.discovery)
         devices = Devices(self.topics, Table(), None, store.devices, store.removed, may_adopt=store.may_adopt)
         desk = Desk(str(self.desk), self.clock)
-        requests = Requests(desk, self.clock, learn_for)
+        requests = Requests(desk, self.clock, self.wall, learn_for, store.learn_until)
         follower = Follower(str(self.lines), store.place)
         self.bridge = Bridge(self.topics, self.broker, devices, follower, desk, requests, store, self.clock,
-                             lambda: 1_800_000_000.0)
+                             self.wall)
         self.bridge.read_earlier_lines()
         return self.bridge
+
+    def kill(self) -> None:
+        """The bridge is killed. The clock of the next one may begin anywhere."""
+        self.broker.lose()
+        self.clock.now += 12345.0
 
     def stop(self) -> None:
         """The end of the bridge, as a signal ends it."""

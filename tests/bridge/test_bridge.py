@@ -1,10 +1,12 @@
 """The bridge, with files of a gateway and a broker that is a stand-in."""
 import json
+import sqlite3
 import unittest
 from unittest import mock
 
 from enogate_mqtt import bridge
 from enogate_mqtt.connection import Lost
+from enogate_mqtt.store import Store
 from fakes import OK, Case, Site, learned, listing, reading, status
 
 HALL = "enogate/hall/"
@@ -383,6 +385,92 @@ class Bridging(Case):
         self.site.turns(1)
         self.site.stop()
         self.assertEqual(self.site.orders()[-1], "learn off")
+
+    def opened(self, orders=b"status\nlearn on answer\n"):
+        """A bridge that has just given these orders."""
+        self.start()
+        self.site.send(HALL + "orders", orders)
+        self.site.turns(1)
+        self.assertEqual(self.site.orders()[2:4], orders.decode().split("\n")[:2])
+
+    def restarted(self, seconds=0):
+        """The orders that a bridge gives in the turns after a kill, until the learn window is closed, or for four
+        minutes, and the second in which it gives the last one. This is some seconds after the last turn."""
+        self.site.kill()
+        self.site.wall.now += seconds
+        self.site.start()
+        before = len(self.site.orders())
+        for second in range(240):
+            self.site.turns(1, 1)
+            if "learn off" in self.site.orders()[before:]:
+                return second
+        return None
+
+    def test_the_learn_window_of_a_bridge_that_was_killed(self):
+        for seconds, expected in ((0, 120), (50, 70), (119, 1), (120, 0), (1000, 0)):
+            with self.subTest(seconds):
+                self.setUp()
+                self.opened()
+                self.assertEqual(self.restarted(seconds), expected)
+                self.site.turns(30)
+                self.assertIsNone(self.restarted())
+
+    def test_the_learn_window_of_a_bridge_that_was_killed_twice(self):
+        self.opened()
+        self.site.kill()
+        self.site.wall.now += 20
+        self.site.start()
+        self.site.turns(3)
+        self.assertEqual(self.restarted(30), 70)
+
+    def test_the_learn_window_is_saved_before_the_order_is_given(self):
+        self.start()
+        seen = []
+        with mock.patch.object(self.site.bridge.desk, "give", lambda *_: seen.append(
+                Store(str(self.site.state), "homeassistant").learn_until) or 0):
+            self.site.send(HALL + "learn/set", b"ON")
+            self.site.turns(1)
+        self.assertEqual(seen, [self.site.wall() + 120])
+
+    def test_a_learn_window_that_is_closed_is_not_closed_again(self):
+        for orders in (b"learn on\nlearn off\n", b"learn as F6-02-01\nlearn off\n"):
+            self.setUp()
+            self.opened(orders)
+            self.site.turns(30)
+            self.assertIsNone(self.restarted())
+
+    def test_a_learn_window_that_could_not_be_opened(self):
+        self.start()
+        self.site.desk.unlink()
+        self.site.send(HALL + "orders", b"learn on")
+        self.site.turns(30)
+        self.assertIsNone(self.site.bridge.requests.window)
+        self.site.desk.touch()
+        self.assertIsNone(self.restarted())
+
+    def test_a_learn_window_that_could_not_be_extended(self):
+        self.opened()
+        self.site.desk.unlink()
+        self.site.send(HALL + "orders", b"learn on")
+        self.site.wall.now += 50
+        self.site.turns(1)
+        self.site.desk.touch()
+        self.assertEqual(self.site.bridge.requests.window.end, self.site.wall() + 70)
+
+    def test_a_learn_window_without_a_state_file_that_can_be_written(self):
+        self.start()
+        with mock.patch.object(self.site.bridge.store, "save_device", side_effect=sqlite3.OperationalError("full")):
+            self.site.tell(reading("01800ABC"))
+            self.site.turns(1)
+            self.site.send(HALL + "orders", b"learn on")
+            self.site.turns(2, 121)
+        self.assertEqual([order for order in self.site.orders() if "learn" in order], ["learn on", "learn off"])
+
+    def test_a_stop_closes_the_learn_window_once(self):
+        self.opened()
+        self.site.stop()
+        self.assertEqual(self.site.orders()[-1], "learn off")
+        self.assertIsNone(self.restarted())
 
     def test_another_bridge_of_before_is_found_dead(self):
         self.start()

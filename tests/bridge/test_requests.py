@@ -1,10 +1,9 @@
 """The orders that the bridge gives by itself."""
-import math
 import unittest
 
 from enogate_mqtt.desk import Desk
 from enogate_mqtt.lines import EndOfList, Response, Status
-from enogate_mqtt.requests import ANSWER_WITHIN, MAX_PAUSE, MODULE_EVERY, STATUS_EVERY, Requests
+from enogate_mqtt.requests import ANSWER_WITHIN, MAX_PAUSE, MODULE_EVERY, STATUS_EVERY, Requests, opens_window
 from fakes import Case, Site
 
 STATUS = Status("closed", {})
@@ -15,7 +14,10 @@ class Asking(Case):
         super().setUp()
         self.site = Site(self)
         self.clock = self.site.clock
-        self.requests = Requests(Desk(str(self.site.desk), self.clock), self.clock, 120)
+        self.requests = self.make()
+
+    def make(self, learn_until=None):
+        return Requests(Desk(str(self.site.desk), self.clock), self.clock, self.site.wall, 120, learn_until)
 
     def turn(self, seconds=0.0, needs_list=False):
         """The orders that are given after this many seconds."""
@@ -190,13 +192,44 @@ class Asking(Case):
         self.requests.command(b"learn on\n")
         self.requests.command(b"learn off\n")
         self.assertEqual(self.times("learn off", 300), [])
-        self.assertEqual(self.requests.learn_until, math.inf)
+        self.assertIsNone(self.requests.window)
+
+    def test_each_order_that_opens_a_window(self):
+        """Also if it is one of several lines."""
+        for orders in (b"learn on\n", b"learn on answer\n", b"learn as F6-02-01\n", b"learn as d5-00-01\n",
+                       b"learn on\nstatus\n", b"status\nlearn on answer\nlist\n", b"learn off\nlearn on\n"):
+            with self.subTest(orders):
+                self.setUp()
+                self.turn()
+                self.requests.take(STATUS)
+                self.assertTrue(opens_window(orders))
+                self.requests.command(orders)
+                self.assertEqual(self.requests.window.end, self.site.wall() + 120)
+                self.assertIn("status", self.turn(1))
+                self.assertEqual(self.times("learn off", 300), [118])
+                self.assertIsNone(self.requests.window)
 
     def test_other_orders_open_no_window(self):
         self.turn()
-        for orders in (b"learn on\nlist\n", b"learn as F6-02-01\n", b"list\n", b""):
+        for orders in (b"learn off\n", b"learn\n", b"learn as\n", b"learn as F6-02\n", b"learn on x\n",
+                       b"learn off x\n", b" learn on\n", b"relearn on\n", b"learn on\r\r\n", b"LEARN ON\n", b"list\n",
+                       b"\n", b""):
+            self.assertFalse(opens_window(orders))
             self.requests.command(orders)
+        self.requests.command(b"learn on\nlearn as F6-02-01\nlearn off\nlist\n")
         self.assertEqual(self.times("learn off", 300), [])
+
+    def test_a_window_of_an_earlier_run(self):
+        """It is closed at its time, or at once if this has passed. If the time of day was set back, it is not open for
+        longer than a window that is opened now."""
+        for seconds, expected in ((-1e9, 0), (-1, 0), (0, 0), (50, 50), (120, 120), (121, 120), (1e9, 120)):
+            with self.subTest(seconds):
+                self.setUp()
+                self.requests = self.make(self.site.wall() + seconds)
+                self.assertEqual(self.requests.window.end, self.site.wall() + expected)
+                is_closed = "learn off" in self.turn()
+                self.assertEqual(is_closed, expected == 0)
+                self.assertEqual(self.times("learn off", 300), [expected - 1] if expected else [])
 
     def test_the_window_is_closed_at_the_end(self):
         self.requests.close_window()

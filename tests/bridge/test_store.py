@@ -77,6 +77,35 @@ class Stores(Case):
         self.open().save(PLACE, [], {}, set(), False)
         self.assertFalse(self.open().may_adopt)
 
+    def test_a_learn_window(self):
+        self.assertIsNone(self.open().learn_until)
+        self.open().save(PLACE, [], {}, set(), False, 1_800_000_000.125)
+        store = self.open()
+        self.assertEqual((store.learn_until, store.place), (1_800_000_000.125, PLACE))
+        self.assertTrue(store.save(PLACE, [], {}, set()))
+        self.assertEqual((store.learn_until, self.open().learn_until), (None, None))
+        with mock.patch.object(store, "save_device", side_effect=sqlite3.OperationalError("disk full")):
+            store.save(PLACE, ["01800ABC"], {}, set(), False, 1.0)
+        self.assertEqual((store.learn_until, self.open().learn_until), (None, None))
+
+    def test_a_file_without_the_table_for_the_learn_window(self):
+        """A file of this version may lack it: it was added without another version."""
+        self.open().save(PLACE, ["01800ABC"], {"01800ABC": self.device}, {"a"})
+        self.sql("DROP TABLE learn")
+        store = self.open()
+        self.assertEqual((store.place, store.devices, store.removed, store.learn_until),
+                         (PLACE, [self.device], {"a"}, None))
+        self.assertTrue(store.save(PLACE, [], {}, set(), False, 1.0))
+        self.assertEqual((self.open().learn_until, self.logged), (1.0, []))
+
+    def test_a_learn_window_of_another_form(self):
+        for value in ("NULL", "'soon'", "x'00'"):
+            with self.subTest(value):
+                self.setUp()
+                self.open()
+                self.sql(f"INSERT INTO learn VALUES ({value})")
+                self.is_replaced("learn window of an unknown form")
+
     def test_an_inode_that_is_too_large(self):
         self.assertFalse(self.open().save(Place(2 ** 64, 0, b""), [], {}, set()))
         self.assert_logged("cannot save the state")
