@@ -7,6 +7,7 @@ import time
 from typing import Callable, Sequence
 
 from enogate_mqtt.follow import Follower, end_of
+from enogate_tools.files import Unsafe, open_file
 
 from .answers import Answer, AnswerFinder, is_of_order
 from .desk_file import DeskFile, Unusable
@@ -40,10 +41,12 @@ class Lines:
 
     def __init__(self, path: str):
         try:
-            os.close(os.open(path, os.O_RDONLY | os.O_CLOEXEC))
+            os.close(open_file(path))
         except FileNotFoundError:
             # The file appears with the first line.
             pass
+        except Unsafe as error:
+            raise Unusable(f"the lines {path} cannot be read: {error.strerror}") from error
         except OSError as error:
             raise Unusable(f"the lines {path} cannot be read: {error.strerror}; become root, or a member of the group "
                            "enogate (log in again afterwards)") from error

@@ -3,7 +3,9 @@ from __future__ import annotations
 
 import fcntl
 import os
-import stat
+
+from enogate_mqtt.desk import INVALID_END, is_written
+from enogate_tools.files import IRREGULAR, Unsafe, open_file
 
 from .stops import held
 
@@ -19,17 +21,19 @@ class DeskFile:
     def __init__(self, path: str):
         self.path, self.text, self.start = path, b"", 0
         try:
-            flags = os.O_RDWR | os.O_APPEND | os.O_NONBLOCK | os.O_NOCTTY | os.O_CLOEXEC
-            self.file = os.open(path, flags)
+            self.file = open_file(path, os.O_RDWR | os.O_APPEND)
         except FileNotFoundError as error:
             raise Unusable(f"there is no desk {path}: correct the name of the gateway, or start it; its unit "
                            "makes the desk") from error
+        except Unsafe as error:
+            if error.strerror == IRREGULAR:
+                raise Unusable(f"the desk {path} is not a file: this command cannot use terminals and pipes") from error
+            raise Unusable(f"the desk {path} is not used, because {error.strerror}: it must be a regular file with one "
+                           "name, which belongs to the owner of its directory; delete it, and restart the gateway"
+                           ) from error
         except OSError as error:
             raise Unusable(f"the desk {path} cannot be opened: {error.strerror}; become root, or a member of the group "
                            "enogate (log in again afterwards)") from error
-        if not stat.S_ISREG(os.fstat(self.file).st_mode):
-            os.close(self.file)
-            raise Unusable(f"the desk {path} is not a file: this command cannot use terminals and pipes")
 
     def lock(self) -> bool:
         """Locks the desk, unless another program has locked it. Returns whether it is locked now."""
@@ -44,17 +48,18 @@ class DeskFile:
         return os.pread(self.file, self.start if self.text else os.fstat(self.file).st_size, 0)
 
     def append(self, text: bytes) -> None:
-        """Appends this text in a single write. If the file ends with an incomplete line, that line is ended first."""
+        """Appends this text in a single write. If the file ends with an incomplete line, that line is made invalid
+        first."""
         size = os.fstat(self.file).st_size
-        end = b"" if size == 0 or os.pread(self.file, 1, size - 1) == b"\n" else b"\n"
+        end = b"" if size == 0 or os.pread(self.file, 1, size - 1) == b"\n" else INVALID_END
         try:
             with held():
-                written = os.write(self.file, end + text)
+                is_whole = is_written(self.file, end + text)
                 self.text = end + text
-                self.start = os.lseek(self.file, 0, os.SEEK_CUR) - written
+                self.start = os.lseek(self.file, 0, os.SEEK_CUR) - len(self.text)
         except OSError as error:
             raise Unusable(f"the desk {self.path} cannot be written: {error.strerror}") from error
-        if written != len(self.text):
+        if not is_whole:
             raise Unusable(f"the desk {self.path} could only be written in part, because its file system is full: "
                            "restart the gateway, which empties the desk")
 

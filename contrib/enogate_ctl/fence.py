@@ -18,6 +18,8 @@ from __future__ import annotations
 
 import re
 
+from enogate_mqtt.desk import INVALID_END
+
 from .answers import LEAST, REFUSALS, SHARED
 
 # The maximum number of fences before an order. With them, one order and its last fence fit in one read of the desk.
@@ -31,6 +33,7 @@ def needed(desk: bytes, with_errors: bool = False) -> int:
     """The number of status lines in a row which shows that the next order that is not `status` is that of the command,
     if its fences follow what is on the desk. `with_errors`: errors `memory` or `store` are between the status lines."""
     start = max((found.end() for found in TEXT_END.finditer(desk)), default=0)
+    desk += b"" if desk[-1:] in (b"", b"\n") else INVALID_END
     row = longest = 0
     for order in desk[start:].removesuffix(b"\n").split(b"\n"):
         if order.removesuffix(b"\r") == b"status":
@@ -45,4 +48,4 @@ def needed(desk: bytes, with_errors: bool = False) -> int:
 def is_longest(fences: int, desk: bytes, text: bytes) -> bool:
     """Whether this number of fences is enough for a text that follows what is on the desk, and whether the first fence
     is a line of its own."""
-    return needed(desk) <= fences and (desk[-1:] in (b"", b"\n") or text[:1] == b"\n")
+    return needed(desk) <= fences and (desk[-1:] in (b"", b"\n") or text.startswith(INVALID_END))

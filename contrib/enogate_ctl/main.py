@@ -9,7 +9,7 @@ from datetime import datetime, timezone
 from typing import Sequence
 
 from enogate_mqtt.lines import Listed
-from enogate_tools import port as ports
+from enogate_tools import files, port as ports
 
 from . import recorded, sheet, words
 from .answers import SHARED, Answer
@@ -68,6 +68,8 @@ def run(command: Command, stops: Stops) -> int:
         case ShowPaths():
             print(json.dumps(paths(), separators=(",", ":"), sort_keys=True))
             return OK
+    become_owner(command.places)
+    match command:
         case ShowRecorded(places, is_json):
             return show_recorded(places, is_json)
         case Export(places, timeout):
@@ -87,6 +89,15 @@ def run(command: Command, stops: Stops) -> int:
         LearnWindow(desk, give, report, stops, command.is_json).open_for(command.order, command.seconds)
         return OK
     return give_order(desk, command)
+
+
+def become_owner(places: Places) -> None:
+    """As root, takes on the rights of the user of the gateway, or raises NoAnswer."""
+    folders = [os.path.dirname(path) for path in (places.desk, places.lines)]
+    try:
+        files.become_owner(*folders)
+    except OSError as error:
+        raise NoAnswer(f"the rights of the owner of {folders[0]} cannot be taken on: {error.strerror}") from error
 
 
 def give_order(desk: Desk, command: Give) -> int:

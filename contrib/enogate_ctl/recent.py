@@ -13,6 +13,7 @@ from typing import BinaryIO, Iterator
 from enogate_mqtt.devices import LAST_SEEN
 from enogate_mqtt.follow import Follower, Place, files_of
 from enogate_mqtt.lines import BadLine, Telegram, content_of
+from enogate_tools.files import is_safe, open_file
 
 # How much of the lines is read for the last readings, how much at once, and the end of a line with readings.
 MOST_READ = 1 << 20
@@ -46,7 +47,7 @@ def last_lines(path: str, most: int) -> Iterator[bytes]:
     incomplete, and is then not valid."""
     for name in reversed(files_of(path)):
         try:
-            file = open(name, "rb")
+            file = os.fdopen(open_file(name), "rb")
         except OSError:
             continue
         with file:
@@ -78,7 +79,7 @@ def last_times(path: str, lines: str, most: int = MOST_READ) -> dict[str, dateti
     """When the bridge with this state file received the last telegram of each device. Devices with a later telegram,
     which the bridge has not read yet, are left out. Empty if the bridge does not run, or if this user may not read its
     state."""
-    if not os.path.exists(f"{path}-wal"):
+    if not (is_safe(path) and is_safe(f"{path}-wal")):
         return {}
     try:
         address = f"file:{urllib.parse.quote(path)}?mode=ro"

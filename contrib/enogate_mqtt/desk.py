@@ -1,6 +1,7 @@
 """The desk of a gateway: the file to which orders are appended."""
 from __future__ import annotations
 
+import contextlib
 import enum
 import os
 import stat
@@ -21,6 +22,9 @@ ANSWER_WITHIN = 60.0
 # So many orders that are not answered are noted; the bridge gives far fewer in that time.
 MAX_UNANSWERED = 100
 LABEL = b"\nlabel "
+# Ends an incomplete line. It may be the beginning of an order, of which a full file system has cut off the rest, and
+# could be another order: with the control character NAK it is none.
+INVALID_END = b"\x15\n"
 
 
 class News(enum.Enum):
@@ -99,7 +103,8 @@ class Desk:
 
     def append(self, orders: bytes, cost: int | None = None) -> None:
         """Appends these orders in a single write, or raises OSError. If the file ends with an incomplete line, that
-        line is ended first. Orders that the bridge gives by itself are few: they have no cost, and are not limited."""
+        line is made invalid first. Orders that the bridge gives by itself are few: they have no cost, and are not
+        limited."""
         flags = os.O_WRONLY | os.O_APPEND | os.O_NONBLOCK | os.O_NOCTTY | os.O_CLOEXEC
         file = os.open(self.path, flags)
         try:
@@ -108,8 +113,8 @@ class Desk:
                 raise OSError("file is full until the gateway restarts")
             if cost is not None:
                 self.take_allowance(cost)
-            text = orders if size == 0 or self.ends_with_line(size) else b"\n" + orders
-            if os.write(file, text) != len(text):
+            text = orders if size == 0 or self.ends_with_line(size) else INVALID_END + orders
+            if not is_written(file, text):
                 raise OSError("incomplete write")
             self.unanswered.add(orders, is_own=cost is None)
         finally:
@@ -161,3 +166,13 @@ class Desk:
         except OSError:
             return 0, 0
         return (found.st_ino, found.st_size) if stat.S_ISREG(found.st_mode) else (0, 0)
+
+
+def is_written(file: int, text: bytes) -> bool:
+    """Writes a text to a desk in a single write. Returns whether all of it was written. If the last line was not, it is
+    made invalid; if there is no space for that, the program that writes next does it."""
+    written = os.write(file, text)
+    if 0 < written < len(text) and text[written - 1:written] != b"\n":
+        with contextlib.suppress(OSError):
+            os.write(file, INVALID_END)
+    return written == len(text)

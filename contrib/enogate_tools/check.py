@@ -4,22 +4,28 @@ from __future__ import annotations
 import argparse
 import os
 import re
-import shlex
-import shutil
 import signal
 import sqlite3
 import stat
 import tempfile
 import time
 
-from . import VERSION, port as ports
+from . import VERSION, files, port as ports
 from .system import OpenFile, System, is_same
 
 OK, FAULT, UNCHECKED = "ok", "fault", "not checked"
 MEGABYTE = 1024 * 1024
 # The write-ahead log of the database grows to 4.3 MB.
 LEAST_SPACE = {"/var/lib": 5 * MEGABYTE, "/var/log": MEGABYTE}
+# How much is copied of the database and of its log, and how many instructions SQLite may execute for a question: the
+# user of the service could make files that fill the disk, or never answer.
+MOST_COPIED, MOST_STEPS = 64 * MEGABYTE, 100_000_000
 TABLES = {1: "enogate_device", 2: "enogate_device_v2"}
+# The parts of a file with settings: what is before a key, a key, a value in quotes, and the rest of a value.
+SKIPPED = re.compile(r"(?:[ \t\n\r]|[#;][^\n\r]*)*")
+KEY = re.compile(r"([^=\n\r]*?)[ \t]*(=|[\n\r]|\Z)")
+QUOTED = re.compile(r"""[ \t]*(?:'([^']*)'|"((?:[^"\\]|\\.)*)")""", re.DOTALL)
+PLAIN = re.compile(r"[ \t]*((?:[^\n\r\\]|\\.?)*?)[ \t]*(?=[\n\r]|\Z)", re.DOTALL)
 NAME = re.compile(r"(?!mqtt)[A-Za-z0-9_-]+")
 
 
@@ -32,12 +38,50 @@ def exists(path: str) -> bool:
         return False
 
 
-def unquoted(value: str) -> str:
-    """A value without its quotes; unchanged if one of them has no partner."""
+def is_odd(path: str) -> bool:
+    """Whether this is a file, but not a regular file with one name."""
     try:
-        return "".join(shlex.split(value)[:1])
-    except ValueError:
-        return value
+        status = os.lstat(path)
+    except (FileNotFoundError, NotADirectoryError):
+        return False
+    return not stat.S_ISREG(status.st_mode) or status.st_nlink > 1
+
+
+def copy(path: str, new: str) -> bool:
+    """Copies a file of the service, as long as it is now. Returns whether it is small enough for that."""
+    with os.fdopen(files.open_file(path), "rb") as old, open(new, "wb") as made:
+        size = os.fstat(old.fileno()).st_size
+        if size > MOST_COPIED:
+            return False
+        while size and (part := old.read(min(size, MEGABYTE))):
+            made.write(part)
+            size -= len(part)
+    return True
+
+
+def settings_in(text: str) -> dict[str, str]:
+    """The settings in a file, as systemd reads them (systemd.exec(5), EnvironmentFile=): a comment is a line of its
+    own. If a quotation mark has no partner, its line is the value, and the rest of the file is not read."""
+    found, place = {}, 0
+    while (place := SKIPPED.match(text, place).end()) < len(text):
+        key, value = KEY.match(text, place), ""
+        place = key.end()
+        if key[2] != "=":
+            continue
+        while quoted := QUOTED.match(text, place):
+            value += re.sub(r'\\(["\\`$\n])', unescaped, quoted[2]) if quoted[1] is None else quoted[1]
+            place = quoted.end()
+        plain = PLAIN.match(text, place)
+        place = plain.end()
+        if plain[1][:1] in ("'", '"'):
+            return {**found, key[1]: plain[1]}
+        found[key[1]] = value + re.sub(r"(?s)\\(.?)", unescaped, plain[1])
+    return found
+
+
+def unescaped(found: re.Match) -> str:
+    """A character that follows a backslash. The end of a line is left out: the value continues in the next one."""
+    return found[1].strip("\n")
 
 
 class Check:
@@ -51,6 +95,8 @@ class Check:
         self.gateway = system.gateway(self.desk)
         self.start = system.start(os.path.dirname(self.desk))
         self.settings = {"BASE": "", "SERIAL": "/dev/enocean", "TURNS": "864000", "EXPLAIN": ""}
+        # The files that have them.
+        self.sources: dict[str, str] = {}
         self.restart = f"run: sudo systemctl restart enogate@{name}"
 
     def findings(self):
@@ -75,8 +121,17 @@ class Check:
         of_all, own = (self.system.path(f"/etc/default/enogate{end}") for end in ("", f"-{self.name}"))
         for path in (of_all, own) if exists(own) else (of_all,):
             with open(path, encoding="utf-8", errors="replace") as file:
-                for key, value in re.findall(r"^\s*(\w+)=(.*)$", file.read(), re.MULTILINE):
-                    self.settings[key] = unquoted(value)
+                for key, value in settings_in(file.read()).items():
+                    self.settings[key], self.sources[key] = value, path
+        if commented := [key for key in ("BASE", "SERIAL", "TURNS", "EXPLAIN") if "#" in self.settings[key]]:
+            for key in commented:
+                yield FAULT, (f"{key}={self.settings[key]} has a comment after the value, which is part of the value "
+                              f"for systemd: write the comment on a line of its own in {self.sources[key]}")
+            return
+        yield from self.of_values()
+
+    def of_values(self):
+        """The values of the settings."""
         where = f"correct it in /etc/default/enogate-{self.name}"
         base, turns = self.settings["BASE"], self.settings["TURNS"]
         if base and not ports.is_base(base):
@@ -197,19 +252,33 @@ class Check:
         return any(file.number == number and file.place == place
                    for file in self.system.open_files(self.gateway) or [])
 
+    def odd(self, *paths: str):
+        """The faults of files that are no regular files with one name. They are not opened: root could open a file of
+        another user through a link, or wait for a pipe."""
+        return [(FAULT, f"{path} is not a regular file with one name: move it, or remove its other names")
+                for path in paths if is_odd(path)]
+
+    def without_rights(self, does: str, *paths: tuple[str, int]):
+        """The faults of files on which the user of the unit does not have these rights. The command that is recommended
+        follows no link."""
+        return [(FAULT, f"the user enogate may not {does} {path}: run: sudo chown -h enogate:enogate {path}")
+                for path, rights in paths if exists(path) and not self.system.may(path, rights)]
+
     def of_lines(self):
         """The output file."""
-        folder = os.path.dirname(self.lines)
-        for path, rights in ((folder, 3), (self.lines, 2)):
-            if exists(path) and not self.system.may(path, rights):
-                yield FAULT, f"the user enogate may not write {path}: run: sudo chown enogate:enogate {path}"
+        if faults := self.odd(self.lines):
+            yield from faults
+            return
+        yield from (faults := self.without_rights("write", (os.path.dirname(self.lines), 3), (self.lines, 2)))
         if not exists(self.lines):
             yield OK, f"lines: {self.lines} does not exist yet"
             return
-        with open(self.lines, "rb") as file:
+        if faults and not files.is_safe(self.lines):
+            return
+        with os.fdopen(files.open_file(self.lines), "rb") as file:
             size = file.seek(0, os.SEEK_END)
             file.seek(max(size - 1, 0))
-            is_whole = file.read() in (b"", b"\n")
+            is_whole = file.read(1) in (b"", b"\n")
         if is_whole:
             yield OK, f"lines: {self.lines}, {size} bytes"
         else:
@@ -218,16 +287,16 @@ class Check:
 
     def of_database(self):
         """The database: rights, users, and contents."""
-        folder = os.path.dirname(self.database)
-        for path, rights in ((folder, 7), (self.database, 6), (self.database + "-wal", 6)):
-            if exists(path) and not self.system.may(path, rights):
-                yield FAULT, f"the user enogate may not read and write {path}: run: sudo chown enogate:enogate {path}"
+        if faults := self.odd(*(self.database + end for end in ("", "-wal", "-shm"))):
+            yield from faults
+            return
+        faults = self.without_rights("read and write", (os.path.dirname(self.database), 7), (self.database, 6),
+                                     (self.database + "-wal", 6))
+        yield from faults
         if not exists(self.database):
             yield OK, f"database: {self.database} does not exist yet; the first start makes it"
             return
-        status = os.stat(self.database)
-        if not stat.S_ISREG(status.st_mode) or status.st_nlink > 1:
-            yield FAULT, f"{self.database} is not a regular file with one name: move it, or remove its other names"
+        if faults and not all(map(files.is_safe, self.parts())):
             return
         users, sees_all = self.system.users_of(self.database)
         others = sorted({*users, *self.system.lockers_of(self.database)} - {self.gateway}, key=lambda user: user.number)
@@ -240,13 +309,18 @@ class Check:
         elif not others:
             yield self.of_contents()
 
+    def parts(self) -> list[str]:
+        """The database and its write-ahead log, if there is one."""
+        return [path for path in (self.database, self.database + "-wal") if exists(path)]
+
     def of_contents(self):
         """What is in the database, read from a copy: SQLite may write to a file and its log even if it only reads."""
         with tempfile.TemporaryDirectory() as folder:
-            for end in ("", "-wal"):
-                if exists(self.database + end):
-                    shutil.copyfile(self.database + end, f"{folder}/copy{end}")
+            for path in self.parts():
+                if not copy(path, f"{folder}/copy{path.removeprefix(self.database)}"):
+                    return UNCHECKED, f"the contents of {path}, because it has more than {MOST_COPIED // MEGABYTE} MB"
             connection = sqlite3.connect(f"{folder}/copy")
+            connection.set_progress_handler(lambda: 1, MOST_STEPS)
             try:
                 return self.of_registry(connection)
             except sqlite3.Error as error:

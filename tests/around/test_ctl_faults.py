@@ -1,13 +1,21 @@
 """Orders with enogatectl to gateways that hang, restart, do not run, or cannot write their database."""
 from __future__ import annotations
 
+import contextlib
 import fcntl
 import os
+import pathlib
 import resource
 import signal
+import subprocess
+import tempfile
 import time
+import unittest
 
+from bridge_testcase import MAY_SKIP
 from ctl_testcase import OK, REFUSED, SILENT, CtlTest
+from enogate_ctl.desk_file import DeskFile, Unusable
+from enogate_mqtt.desk import Desk
 
 LATE = "the gateway did not answer within 1 s, and may still carry out the order: check the gateway with enogate-check"
 WAITING = ("another order is still waiting for its answer: check the gateway with enogate-check; a restart of the "
@@ -97,8 +105,55 @@ class Hangs(CtlTest):
     def test_an_incomplete_line_on_the_desk_and_one_in_the_lines(self):
         self.gateway.append('{"type":"o')
         with self.gateway.desk.open("a") as desk:
-            desk.write("lis")
+            desk.write("learn on")
+        self.assertEqual(self.mode(), "closed")
         self.assert_run(self.ctl("learn", "off"), OK, "ok\n")
+
+
+class FullDesk(unittest.TestCase):
+    """The desk is on a full file system. No gateway reads it."""
+
+    def setUp(self):
+        self.folder = pathlib.Path(self.enterContext(tempfile.TemporaryDirectory()))
+        self.desk = self.folder / "desk"
+        mount = ["mount", "-t", "tmpfs", "-o", "size=8k", "full", self.folder]
+        if subprocess.run(mount, capture_output=True).returncode:
+            if MAY_SKIP:
+                self.skipTest("no file system may be mounted")
+            self.fail("no file system may be mounted")
+        self.addCleanup(subprocess.run, ["umount", self.folder], check=True)
+
+    def bridge(self, order):
+        """The bridge gives an order. Returns whether it could."""
+        try:
+            Desk(str(self.desk), time.monotonic).append(order)
+        except OSError:
+            return False
+        return True
+
+    def command(self, order):
+        """enogatectl gives an order. Returns whether it could."""
+        with contextlib.closing(DeskFile(str(self.desk))) as file:
+            try:
+                file.append(order)
+            except Unusable:
+                return False
+        return True
+
+    def test_no_part_of_an_order_becomes_an_order(self):
+        """17 bytes are left."""
+        for first in (self.bridge, self.command):
+            for second in (self.bridge, self.command):
+                with self.subTest(first=first, second=second):
+                    self.desk.write_bytes(b"")
+                    subprocess.run(["mount", "-o", "remount,size=8k", self.folder], check=True)
+                    self.desk.write_bytes(b"x" * 8174 + b"\n")
+                    self.assertFalse(first(b"dim 01800ABC 0 100\n"))
+                    self.assertTrue(self.desk.read_bytes().endswith(b"\ndim 01800ABC 0 10"))
+                    self.assertFalse(second(b"list\n"))
+                    subprocess.run(["mount", "-o", "remount,size=16k", self.folder], check=True)
+                    self.assertTrue(second(b"list\n"))
+                    self.assertEqual(self.desk.read_bytes()[8175:], b"dim 01800ABC 0 10\x15\nlist\n")
 
 
 class Restarts(CtlTest):

@@ -1,6 +1,6 @@
 """The commands that systemd runs for a unit, as a script for sh: with ROOT before each folder, NAME for the instance,
-and its variables as the environment has them. Those of ExecStopPost are run at its end, whatever ended it, and get the
-reason.
+the umask of the unit, and its variables as the environment has them. Those of ExecStopPost are run at its end, whatever
+ended it, and get the reason.
 
     tests/around/unit.py UNIT ROOT NAME
 """
@@ -19,6 +19,7 @@ def commands(setting):
         yield re.sub(r"%.|\$\$", lambda found: words[found[0]], command)
 
 
+print("umask", re.search(r"^UMask=(.*)$", text, re.MULTILINE)[1])
 # systemd's own words for an end, for which a unit may ask
 ends = "export EXIT_STATUS=${signal:-$?} SERVICE_RESULT=success\n"
 ends += "case $EXIT_STATUS in 0 | TERM) ;; *) SERVICE_RESULT=exit-code ;; esac\n"

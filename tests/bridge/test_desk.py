@@ -1,4 +1,5 @@
 """The desk."""
+import contextlib
 import errno
 import os
 import signal
@@ -7,6 +8,21 @@ from unittest import mock
 
 from enogate_mqtt.desk import ANSWER_WITHIN, BYTES_PER_SECOND, LINE, MAX_BURST, MAX_SIZE, Desk, News
 from fakes import Case, Clock, Site
+
+
+@contextlib.contextmanager
+def full_after(free):
+    """A file system with so many bytes left."""
+    real, left = os.write, [free]
+
+    def write(file, text):
+        if left[0] == 0:
+            raise OSError(errno.ENOSPC, "No space left on device")
+        written = real(file, text[:left[0]])
+        left[0] -= written
+        return written
+    with mock.patch("os.write", write):
+        yield
 
 
 class Desks(Case):
@@ -31,15 +47,48 @@ class Desks(Case):
         self.assertEqual(self.path.read_bytes(), b"list\nstatus\nbase\n")
 
     def test_an_incomplete_order_is_ended_first(self):
-        self.write("sta")
+        """It may be the beginning of an order, so it is made invalid."""
+        self.write("dim 01800ABC 0 10")
         self.desk.append(b"list\n")
-        self.assertEqual(self.path.read_bytes(), b"sta\nlist\n")
+        self.assertEqual(self.path.read_bytes(), b"dim 01800ABC 0 10\x15\nlist\n")
 
     def test_orders_are_a_single_write(self):
         self.write("sta")
         with mock.patch("os.write", side_effect=os.write) as write:
             self.desk.append(b"list\nstatus\n")
         self.assertEqual(write.call_count, 1)
+
+    def test_no_part_of_an_order_becomes_an_order(self):
+        """The file system has so many bytes left, and more only after the next order, or the one after it."""
+        orders = b"dim 01800ABC 0 100\nlearn on answer\n"
+        for free in range(len(orders)):
+            for more in (0, 1, 2, 5, 99):
+                self.path.write_bytes(b"list\n")
+                left = [free, more, 99]
+                for text in (orders, b"status\n", b"base\n"):
+                    with full_after(left.pop(0)), contextlib.suppress(OSError):
+                        self.desk.append(text)
+                with self.subTest(free=free, more=more):
+                    self.assert_orders(orders, b"status\n", b"list\n", b"base\n")
+
+    def assert_orders(self, *given):
+        """Each line of the desk is one that was given, or no order. The last one is whole."""
+        *lines, rest = self.path.read_bytes().split(b"\n")
+        known = b"".join(given).split(b"\n")
+        self.assertEqual(([line for line in lines if line not in known and b"\x15" not in line], rest), ([], b""))
+        self.assertEqual(lines[-1], known[-2])
+
+    def test_a_part_is_ended_at_once_if_it_fits(self):
+        real = os.write
+        with mock.patch("os.write", lambda file, text: real(file, text[:17])), self.assertRaises(OSError):
+            self.desk.append(b"dim 01800ABC 0 100\n")
+        self.assertEqual(self.path.read_bytes(), b"dim 01800ABC 0 10\x15\n")
+
+    def test_whole_orders_are_not_ended_again(self):
+        real = os.write
+        with mock.patch("os.write", lambda file, text: real(file, text[:5])), self.assertRaises(OSError):
+            self.desk.append(b"list\nstatus\n")
+        self.assertEqual(self.path.read_bytes(), b"list\n")
 
     def test_an_incomplete_write(self):
         with mock.patch("os.write", return_value=3), self.assertRaisesRegex(OSError, "^incomplete write$"):

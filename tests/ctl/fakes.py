@@ -4,9 +4,10 @@ from __future__ import annotations
 import json
 import logging
 import pathlib
+import signal
 import tempfile
 import unittest
-from typing import Callable
+from typing import Any, Callable
 
 from enogate_ctl.places import Places
 
@@ -50,6 +51,19 @@ class Site(unittest.TestCase):
         with self.lines.open("a") as file:
             for line in lines:
                 file.write((line if isinstance(line, str) else json.dumps(line, separators=(",", ":"))) + "\n")
+
+
+def within(seconds: int, see: Callable[[], Any]) -> Any:
+    """What `see` returns, unless it takes longer than this."""
+    def fail(*_words: object) -> None:
+        raise AssertionError("it waits")
+    before = signal.signal(signal.SIGALRM, fail)
+    signal.alarm(seconds)
+    try:
+        return see()
+    finally:
+        signal.alarm(0)
+        signal.signal(signal.SIGALRM, before)
 
 
 def status(mode: str = "closed", **counters: int) -> dict:

@@ -1,23 +1,30 @@
 """The desk: its lock, the single write, and the wait for the answer."""
+import contextlib
 import fcntl
 import os
+import pathlib
 import select
 import signal
 import time
 import unittest
 from unittest import mock
 
-from enogate_ctl import desk as desks
+from enogate_ctl import desk as desks, main as program
+from enogate_ctl.command_line import Export, Give, Import, ShowRecorded
 from enogate_ctl.desk import KEPT_AFTER_ANSWER, LONG_PAUSE, LONGEST_KEPT, PAUSE, Desk, Lines, NoAnswer
 from enogate_ctl.desk_file import DeskFile, Unusable
+from enogate_ctl.places import Places
 from enogate_ctl.stops import Stopped
-from fakes import OK, Site, error, status
+from enogate_tools import files
+from fakes import OK, Site, error, status, within
 
 RESTARTED = ("the gateway was restarted, or its desk was truncated: find out with `list` or `status` whether the order "
              "was carried out, and give it again if not")
 LOCKED = ("another order is still waiting for its answer: check the gateway with enogate-check; a restart of the "
           "gateway ends the wait")
 ANSWER = (status(), status(), OK, status())
+SAFE = ("it must be a regular file with one name, which belongs to the owner of its directory; delete it, and restart "
+        "the gateway")
 
 
 class DeskTest(Site):
@@ -176,8 +183,8 @@ class Asking(DeskTest):
         self.made().ask("learn on")
 
     def test_lines_that_cannot_be_read(self):
-        def refuse(path, *words):
-            if path == str(self.lines):
+        def refuse(path, *words, **keywords):
+            if path == self.lines.name:
                 raise PermissionError(13, "Permission denied")
             return mock.DEFAULT
         with mock.patch("os.open", side_effect=refuse, wraps=os.open):
@@ -406,6 +413,62 @@ class Files(DeskTest):
         self.assert_no_answer(f"the desk {self.desk} is not a file: this command cannot use terminals and pipes")
         self.assertEqual(len(os.listdir("/proc/self/fd")), before)
 
+    def test_a_link_is_not_followed(self):
+        """The user of the service may put one in place of the desk."""
+        other = self.folder / "other"
+        other.write_text("root\n")
+        self.desk.unlink()
+        self.desk.symlink_to(other)
+        self.assert_no_answer(f"the desk {self.desk} is not used, because it is a symbolic link: {SAFE}")
+        self.desk.unlink()
+        self.desk.hardlink_to(other)
+        self.assert_no_answer(f"the desk {self.desk} is not used, because it has a second name (a hard link): {SAFE}")
+        self.assertEqual(other.read_text(), "root\n")
+
+    def test_a_desk_of_another_user(self):
+        before = len(os.listdir("/proc/self/fd"))
+        with mock.patch.object(files, "owner_of", return_value=os.getuid() + 1), \
+                mock.patch("os.geteuid", return_value=0):
+            self.assert_no_answer(f"the desk {self.desk} is not used, because it does not belong to the owner of its "
+                                  f"directory: {SAFE}")
+        self.assertEqual((self.desk.read_text(), len(os.listdir("/proc/self/fd"))), ("", before))
+
+    def test_a_desk_that_is_exchanged_meanwhile(self):
+        """The open file is looked at, and not only its name."""
+        self.exchange_for(pathlib.Path.hardlink_to, "is not used, because it has a second name (a hard link): "
+                          f"{SAFE}")
+        self.exchange_for(pathlib.Path.symlink_to, f"is not used, because it is a symbolic link: {SAFE}")
+
+    def exchange_for(self, link, why):
+        """Another name of a file is put in place of the desk just before the desk is opened."""
+        other = self.folder / "other"
+        other.write_text("root\n")
+        second = self.folder / "second"
+        link(second, other)
+        self.desk.unlink()
+        self.desk.touch()
+
+        def exchange(name, *words, **keywords):
+            if name == "desk":
+                second.replace(self.desk)
+            return real(name, *words, **keywords)
+        real = os.open
+        with mock.patch("os.open", side_effect=exchange):
+            self.assert_no_answer(f"the desk {self.desk} {why}")
+        self.assertEqual(other.read_text(), "root\n")
+
+    def test_lines_that_are_no_file(self):
+        """A pipe would hold up the command for good, and a link may lead to a file that only root may read."""
+        before = len(os.listdir("/proc/self/fd"))
+        self.lines.unlink()
+        for make, why in ((os.mkfifo, "it is not a regular file"),
+                          (lambda path: path.symlink_to(self.desk), "it is a symbolic link")):
+            make(self.lines)
+            text = f"the lines {self.lines} cannot be read: {why}"
+            within(10, lambda: self.assert_no_answer(text))
+            self.lines.unlink()
+        self.assertEqual((self.desk.read_text(), len(os.listdir("/proc/self/fd"))), ("", before))
+
     def test_an_incomplete_line_is_ended(self):
         for text in ("lis", "list\n", ""):
             self.desk.write_text(text)
@@ -413,13 +476,47 @@ class Files(DeskTest):
             file.append(b"status\n")
             file.check()
             file.close()
-            self.assertEqual(self.desk.read_text(), (text + "\n" if text == "lis" else text) + "status\n")
+            self.assertEqual(self.desk.read_text(), (text + "\x15\n" if text == "lis" else text) + "status\n")
+
+    def test_no_part_of_an_order_becomes_an_order(self):
+        """The file system has so many bytes left, and more only for the next order, or the one after it."""
+        text = b"status\nstatus\ndim 01800ABC 0 100\nstatus\r\n"
+        for free in range(1, len(text)):
+            for more in (1, 2, 5, 99):
+                self.desk.write_bytes(b"list\n")
+                for left, orders in ((free, text), (more, b"base\n"), (99, b"learn off\n")):
+                    self.append(orders, left)
+                with self.subTest(free=free, more=more):
+                    *lines, rest = self.desk.read_bytes().split(b"\n")
+                    known = [*text.split(b"\n"), b"list", b"base", b"learn off"]
+                    self.assertEqual([line for line in lines if line not in known and b"\x15" not in line], [])
+                    self.assertEqual((lines[-1], rest), (b"learn off", b""))
+
+    def append(self, orders, left):
+        """Appends orders to a desk whose file system has so many bytes left."""
+        def write(file, text):
+            nonlocal left
+            if not left:
+                raise OSError(28, "No space left on device")
+            written = real(file, text[:left])
+            left -= written
+            return written
+        real, file = os.write, DeskFile(self.places.desk)
+        with mock.patch("os.write", write), contextlib.suppress(Unusable), contextlib.closing(file):
+            file.append(orders)
+
+    def test_a_part_is_ended_at_once_if_it_fits(self):
+        real = os.write
+        with mock.patch("os.write", lambda file, text: real(file, text[:17])):
+            self.assert_no_answer(f"the desk {self.desk} could only be written in part, because its file system is "
+                                  "full: restart the gateway, which empties the desk")
+        self.assertEqual(self.desk.read_bytes(), b"status\nstatus\nlea\x15\n")
 
     def test_a_full_file_system(self):
         full = OSError(28, "No space left on device")
         with mock.patch("os.write", side_effect=full):
             self.assert_no_answer(f"the desk {self.desk} cannot be written: No space left on device")
-        with mock.patch("os.write", side_effect=lambda file, text: len(text) - 1):
+        with mock.patch("os.write", side_effect=[17, full]):
             self.assert_no_answer(f"the desk {self.desk} could only be written in part, because its file system is "
                                   "full: restart the gateway, which empties the desk")
 
@@ -444,6 +541,45 @@ class Files(DeskTest):
         with mock.patch("os.write", side_effect=write):
             file.append(b"status\n")
         self.assertNotIn(signal.SIGTERM, signal.pthread_sigmask(signal.SIG_BLOCK, []))
+
+
+class Rights(unittest.TestCase):
+    """As root, the command takes on the rights of the user of the service."""
+
+    def taken(self, *owners, user=0, entry=None):
+        """The calls that take on rights, if the directories have these owners, each with the group 7. A directory
+        without an owner is missing."""
+        def status(folder):
+            if owners[int(folder)] is None:
+                raise FileNotFoundError
+            return mock.Mock(st_uid=owners[int(folder)], st_gid=7)
+        calls = mock.Mock()
+        found = {"return_value": entry} if entry else {"side_effect": KeyError}
+        with mock.patch.multiple(files.os, geteuid=lambda: user, stat=status, setgroups=calls.groups,
+                                 setresgid=calls.group, setresuid=calls.user, getgrouplist=lambda *_: [8, 20]), \
+                mock.patch.object(files.pwd, "getpwuid", **found):
+            files.become_owner(*map(str, range(len(owners))))
+        return [(call[0], call[1]) for call in calls.mock_calls]
+
+    def test_the_owner_of_a_directory(self):
+        entry = mock.Mock(pw_name="enogate", pw_gid=8)
+        self.assertEqual(self.taken(5, 6, entry=entry), [("groups", ([8, 20],)), ("group", (8, 8, 8)),
+                                                         ("user", (5, 5, 5))])
+        alone = [("groups", ([7],)), ("group", (7, 7, 7)), ("user", (6, 6, 6))]
+        self.assertEqual([self.taken(*owners) for owners in ((6, 5), (None, 6), (0, 6))], [alone] * 3)
+
+    def test_no_other_user(self):
+        self.assertEqual([self.taken(0, 0), self.taken(None, None), self.taken(5, 5, user=9)], [[], [], []])
+
+    def test_each_command_at_a_gateway_takes_them_on(self):
+        places = Places("/d/desk", "/l/hall.lines", "/b/hall.db")
+        for command in (Give(places, 1, False, "list", None), Export(places, 1), Import(places, 1),
+                        ShowRecorded(places, False)):
+            with mock.patch.object(program.files, "become_owner", side_effect=OSError(1, "Not allowed")) as become, \
+                    self.assertRaises(NoAnswer) as found:
+                program.run(command, mock.Mock())
+            become.assert_called_once_with("/d", "/l")
+            self.assertEqual(str(found.exception), "the rights of the owner of /d cannot be taken on: Not allowed")
 
 
 if __name__ == "__main__":

@@ -21,8 +21,15 @@ class Needed(unittest.TestCase):
                            (3, PAIR + "status\nbase\n"), (6, "status\n" * 5 + "base\n" + PAIR))
 
     def test_a_row_at_the_end_does_not_count(self):
-        self.assert_needed((2, "status\n" * 9), (3, PAIR + "status\n" * 9), (2, "status\n" * 9 + "status"),
-                           (10, "status\n" * 9 + "stat"))
+        self.assert_needed((2, "status\n" * 9), (3, PAIR + "status\n" * 9), (2, "status\n" * 9 + "status\n"))
+
+    def test_an_incomplete_order_ends_a_row(self):
+        """It is made invalid by the end that is written before the fences."""
+        self.assert_needed((10, "status\n" * 9 + "status"), (10, "status\n" * 9 + "stat"),
+                           (10, "status\n" * 9 + "status\r"), (2, "status"))
+        self.assert_needed((11, "status\nlist\n" * 9 + "status\nx"), with_errors=True)
+        self.assertTrue(is_longest(2, b"lis", b"\x15\nstatus\n"))
+        self.assertFalse(is_longest(2, b"lis", b"status\n"))
 
     def test_both_ends_of_a_line(self):
         self.assert_needed((3, PAIR.replace("\n", "\r\n")), (2, PAIR.replace("status", "status\r\r")),
@@ -74,7 +81,8 @@ class Longest(unittest.TestCase):
 
     def test_the_first_fence_is_a_line_of_its_own(self):
         for desk, text, wanted in (("", "status\n", True), ("list\n", "status\n", True), ("li", "status\n", False),
-                                   ("li", "\nstatus\n", True), ("list\n", "\nstatus\n", True)):
+                                   ("li", "\nstatus\n", False), ("li", "\x15\nstatus\n", True),
+                                   ("list\n", "\x15\nstatus\n", True)):
             with self.subTest((desk, text)):
                 self.assertEqual(is_longest(2, desk.encode(), text.encode()), wanted)
 

@@ -17,7 +17,7 @@ from enogate_mqtt.devices import Device
 from enogate_mqtt.entities import Table
 from enogate_mqtt.follow import Place, end_of
 from enogate_mqtt.store import Store
-from fakes import OK, Site, device, end_of_list, packet, reading, status, teach
+from fakes import OK, Site, device, end_of_list, packet, reading, status, teach, within
 
 GUIDE = pathlib.Path(__file__).parents[2] / "docs" / "guide"
 NOW = datetime(2026, 11, 28, 12, 0, 0, tzinfo=timezone.utc)
@@ -180,6 +180,29 @@ class Recent(Site):
         self.assertEqual(list(recent.last_telegrams(path, size)), ["01800AB3"])
         self.lines.unlink()
         self.assertEqual(list(recent.last_telegrams(path)), ["01800AB1", "01800AB2"])
+
+    def test_rotated_files_that_are_none(self):
+        """A pipe would hold up the command for good, and a link may lead to a file that only root may read."""
+        self.put(self.folder / "other", "01800AB9")
+        (self.folder / "hall.lines.2").symlink_to(self.folder / "other")
+        os.mkfifo(self.folder / "hall.lines.1")
+        self.put(self.lines, "01800AB1")
+        self.assertEqual(within(10, lambda: list(recent.last_telegrams(str(self.lines)))), ["01800AB1"])
+
+    def test_a_state_that_is_no_file(self):
+        self.put(self.lines, "01800ABC")
+        for name in ("bridge.db", "bridge.db-wal"):
+            bridge(self, "01800ABC", NOW)
+            self.assertEqual(self.times(), {"01800ABC": NOW})
+            for make in (os.mkfifo, lambda path: path.symlink_to(self.folder / "moved")):
+                path = self.folder / name
+                path.rename(self.folder / "moved")
+                make(path)
+                # SQLite would wait for good, whatever signal comes
+                with mock.patch("sqlite3.connect", side_effect=AssertionError("it is opened")):
+                    self.assertEqual(self.times(), {}, path)
+                path.unlink()
+                (self.folder / "moved").rename(path)
 
     def times(self, most=recent.MOST_READ):
         return recent.last_times(str(self.state), str(self.lines), most)

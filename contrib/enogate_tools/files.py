@@ -1,0 +1,103 @@
+"""Opens files in the directory of another user, such as that of the service. That user could replace one of them by a
+link to a file of a third user, by a device, or by a pipe."""
+from __future__ import annotations
+
+import errno
+import os
+import pwd
+import stat
+
+LINK, IRREGULAR = "it is a symbolic link", "it is not a regular file"
+FLAGS = os.O_NOFOLLOW | os.O_NONBLOCK | os.O_NOCTTY | os.O_CLOEXEC
+
+
+class Unsafe(OSError):
+    """A file is not opened. `strerror` says why."""
+
+    def __init__(self, why: str, path: str):
+        super().__init__(errno.EINVAL, why, path)
+
+
+def fault_of(status: os.stat_result, owner: int) -> str:
+    """Why a file with this status is not opened, if its directory belongs to this user; empty if it may be opened. A
+    user other than root may also open a file of their own."""
+    if stat.S_ISLNK(status.st_mode):
+        return LINK
+    if not stat.S_ISREG(status.st_mode):
+        return IRREGULAR
+    if status.st_nlink > 1:
+        return "it has a second name (a hard link)"
+    user = os.geteuid()
+    if status.st_uid != owner and (user == 0 or status.st_uid != user):
+        return "it does not belong to the owner of its directory"
+    return ""
+
+
+def owner_of(folder: int) -> int:
+    """The owner of an open directory."""
+    return os.fstat(folder).st_uid
+
+
+def open_file(path: str, flags: int = os.O_RDONLY) -> int:
+    """Opens a regular file with one name, which belongs to the owner of its directory, or raises Unsafe or another
+    OSError. Nothing else is opened, so no pipe is waited for. The open file is looked at as well, since another one
+    may have got its name meanwhile."""
+    folder = os.open(os.path.dirname(path) or ".", os.O_PATH | os.O_DIRECTORY | os.O_CLOEXEC)
+    try:
+        owner, name = owner_of(folder), os.path.basename(path)
+        check(os.stat(name, dir_fd=folder, follow_symlinks=False), owner, path)
+        file = os.open(name, flags | FLAGS, dir_fd=folder)
+    except OSError as error:
+        raise Unsafe(LINK, path) if error.errno == errno.ELOOP else error
+    finally:
+        os.close(folder)
+    try:
+        check(os.fstat(file), owner, path)
+    except Unsafe:
+        os.close(file)
+        raise
+    return file
+
+
+def check(status: os.stat_result, owner: int, path: str) -> None:
+    """Raises Unsafe if a file with this status is not opened."""
+    if why := fault_of(status, owner):
+        raise Unsafe(why, path)
+
+
+def is_safe(path: str) -> bool:
+    """Whether `open_file` opens this file."""
+    try:
+        os.close(open_file(path))
+    except OSError:
+        return False
+    return True
+
+
+def become_owner(*folders: str) -> None:
+    """As root, takes on the rights of the user who owns the first of these directories that is not root's. A link in it
+    then leads to no file that this user may not open. Raises OSError if this is not possible."""
+    if os.geteuid() != 0:
+        return
+    for folder in folders:
+        try:
+            status = os.stat(folder or ".")
+        except OSError:
+            continue
+        if status.st_uid != 0:
+            become(status.st_uid, status.st_gid)
+            return
+
+
+def become(user: int, group: int) -> None:
+    """Takes on the rights of this user, for good. A user without an entry in the list of users has only this group."""
+    groups = [group]
+    try:
+        entry = pwd.getpwuid(user)
+        group = entry.pw_gid
+        groups = os.getgrouplist(entry.pw_name, group)
+    except KeyError:
+        pass
+    os.setgroups(groups)
+    os.setresgid(group, group, group)
+    os.setresuid(user, user, user)
