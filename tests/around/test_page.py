@@ -6,6 +6,7 @@ import contextlib
 import json
 import os
 import pathlib
+import re
 import subprocess
 import tempfile
 import time
@@ -307,7 +308,7 @@ class Acts(PageTest):
     def test_the_learn_window_opens_counts_down_and_closes(self):
         self.tab("teach")
         browser.click("#teach-open")
-        self.wait_for_text("#teach-left", "open for 11")
+        self.wait(lambda: browser.text("#teach-left"), re.compile("open for 1[01][0-9] s").fullmatch, "the countdown")
         self.wait_for_text("#window", "learn window: on")
         stick.bring("01800B03", "D5 00")
         self.wait_for_text("#teach-rows", "01800B03", "D5-00-01 single contact", "learned")

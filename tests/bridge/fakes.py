@@ -1,6 +1,7 @@
 """Replacements of the clock, the broker and the files of a gateway, for the unit tests of the bridge."""
 from __future__ import annotations
 
+import faulthandler
 import json
 import logging
 import pathlib
@@ -18,6 +19,8 @@ from enogate_mqtt.store import Store
 from enogate_mqtt.topics import Topics
 
 OK = {"type": "ok"}
+# How long a test may take, in seconds; the slowest one takes some ten on a busy machine.
+LONGEST_TEST = 120
 
 
 class Clock:
@@ -209,7 +212,18 @@ def status(mode: str = "closed", **counters: int) -> dict:
     return {**every, "mode": mode, "type": "status"}
 
 
-class Case(unittest.TestCase):
+class Limited(unittest.TestCase):
+    """A test that may not hang: after some time it ends the run, which fails, and prints what each thread was doing."""
+
+    def run(self, result: unittest.TestResult | None = None) -> unittest.TestResult | None:
+        faulthandler.dump_traceback_later(LONGEST_TEST, exit=True)
+        try:
+            return super().run(result)
+        finally:
+            faulthandler.cancel_dump_traceback_later()
+
+
+class Case(Limited):
     """A test that sees what is logged."""
 
     def setUp(self) -> None:

@@ -64,6 +64,8 @@ class Known(unittest.TestCase):
     def test_the_maker(self):
         self.take(learned("01800ABC", maker=70))
         self.assertEqual(self.devices.known["01800ABC"].maker, 70)
+        self.take(learned("01800ABC"))
+        self.assertIsNone(self.devices.known["01800ABC"].maker)
 
     def test_a_deleted_device(self):
         self.take(learned("01800ABC"), reading("01800ABC"))

@@ -130,6 +130,18 @@ class Following(Case):
         compressed.unlink()
         self.assertEqual(self.read(follower), ["b"])
 
+    def test_a_file_that_is_compressed_after_a_restart(self):
+        """The files that were written before it are not read again, and the next one is read."""
+        self.write("old\n")
+        self.rotate(".2")
+        self.write("a\nb\n")
+        place = self.follower().read()[1][1]
+        compressed = self.rotate()
+        self.write("c\n")
+        follower = self.follower(place)
+        compressed.unlink()
+        self.assertEqual(self.read(follower), ["b", "c"])
+
     def test_other_files_are_no_lines(self):
         follower = self.follower()
         self.write("a\n")

@@ -1,6 +1,7 @@
 """What the unit tests of enogatectl have in place of the clock, and the files of a gateway in a temporary folder."""
 from __future__ import annotations
 
+import faulthandler
 import json
 import logging
 import pathlib
@@ -12,6 +13,8 @@ from typing import Any, Callable
 from enogate_ctl.places import Places
 
 OK = {"type": "ok"}
+# How long a test may take, in seconds; the slowest one takes some ten on a busy machine.
+LONGEST_TEST = 120
 
 
 class Clock:
@@ -31,7 +34,18 @@ class Clock:
         self.acts.pop(len(self.slept), lambda: None)()
 
 
-class Site(unittest.TestCase):
+class Limited(unittest.TestCase):
+    """A test that may not hang: after some time it ends the run, which fails, and prints what each thread was doing."""
+
+    def run(self, result: unittest.TestResult | None = None) -> unittest.TestResult | None:
+        faulthandler.dump_traceback_later(LONGEST_TEST, exit=True)
+        try:
+            return super().run(result)
+        finally:
+            faulthandler.cancel_dump_traceback_later()
+
+
+class Site(Limited):
     """The desk and the lines of a gateway, which are empty."""
 
     maxDiff = None

@@ -3,7 +3,7 @@ import json
 import unittest
 
 from enogate_ctl.answers import AnswerFinder, is_of_order, line_of
-from fakes import OK, device, end_of_list, error, packet, reading, status, teach
+from fakes import OK, Limited, device, end_of_list, error, packet, reading, status, teach
 
 RESPONSE = {"code": 0, "data": "", "name": "OK", "type": "response"}
 ADD, REMOVE = "add 01800abc d5-00-01", "remove 01800abc"
@@ -34,7 +34,7 @@ def between(order, *lines, before=0, after=0):
     return answer and answer[0]
 
 
-class Rule(unittest.TestCase):
+class Rule(Limited):
     def test_text(self):
         self.assertEqual(AnswerFinder("label 01800ABC a  b").text,
                          b"status\nstatus\nlabel 01800ABC a  b\nstatus\r\n")
@@ -205,7 +205,7 @@ class Rule(unittest.TestCase):
         self.assertEqual([answer and answer[0].error for answer in answers], [None, None, None, "unsupported_profile"])
 
 
-class SeveralOrders(unittest.TestCase):
+class SeveralOrders(Limited):
     """Several orders in a single write."""
 
     LABELS = ("label 01800ABC x", "label 01800ABD x", "label 01800ABE x")

@@ -8,7 +8,7 @@ from enogate_ctl import main as program
 from enogate_ctl.base import ask_base
 from enogate_ctl.desk import PAUSE, Desk, NoAnswer
 from enogate_tools import port as ports
-from fakes import OK, Site, status, teach
+from fakes import OK, Limited, Site, status, teach
 
 ANSWER = (status(), status(), OK, status())
 SILENT = ("the gateway has asked the radio module, which did not report its base ID within {} s: check with "
@@ -112,7 +112,7 @@ class Command(Site):
         self.assertEqual(self.run_command(report=response("")), (3, "", f"enogatectl: {SILENT.format('0.2')}\n"))
 
 
-class OneForm(unittest.TestCase):
+class OneForm(Limited):
     def test_it_is_that_of_the_module_itself(self):
         """What a module must report at its port, and in the lines of a gateway, has the same form."""
         for base, is_one in (("FF800000", True), ("FFFFFF80", True), ("FF800001", False), ("FF7FFF80", False)):

@@ -13,6 +13,7 @@ from enogate_ctl.desk import NoAnswer
 from enogate_ctl.places import Places, Unreadable, places_of
 from enogate_ctl.stops import Stopped
 from enogate_tools import VERSION, port as ports
+from fakes import Limited
 
 ROOT = pathlib.Path(__file__).parents[2]
 HALL, DEVICES = places_of("hall"), places_of("devices")
@@ -31,7 +32,7 @@ def run(*arguments, text="", is_terminal=False):
     return status, out.getvalue(), err.getvalue()
 
 
-class CommandLines(unittest.TestCase):
+class CommandLines(Limited):
     def test_orders(self):
         for words, wanted in (
             ("hall list", Give(HALL, 10.0, False, "list", None)),
@@ -111,7 +112,7 @@ class CommandLines(unittest.TestCase):
             self.assertRegex(page, rf"(?m)^\.BI? {name}\b")
 
 
-class Programs(unittest.TestCase):
+class Programs(Limited):
     """The program, with a fake desk."""
 
     def ask(self, *answers):

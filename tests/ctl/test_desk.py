@@ -16,7 +16,7 @@ from enogate_ctl.desk_file import DeskFile, Unusable
 from enogate_ctl.places import Places
 from enogate_ctl.stops import Stopped
 from enogate_tools import files
-from fakes import OK, Site, error, status, within
+from fakes import OK, Limited, Site, error, status, within
 
 RESTARTED = ("the gateway was restarted, or its desk was truncated: find out with `list` or `status` whether the order "
              "was carried out, and give it again if not")
@@ -384,7 +384,8 @@ class Keeping(DeskTest):
             for number, out in enumerate(outs):
                 os.dup2(out, number)
                 os.close(out)
-        self.assertEqual((select.select([read], [], [], 10)[0], os.read(read, 1)), ([read], b""))
+        self.assertEqual(select.select([read], [], [], 10)[0], [read], "the pipe has not ended")
+        self.assertEqual(os.read(read, 1), b"")
         other = os.open(self.desk, os.O_RDWR)
         self.addCleanup(os.close, other)
         self.assertRaises(BlockingIOError, fcntl.flock, other, fcntl.LOCK_EX | fcntl.LOCK_NB)
@@ -543,7 +544,7 @@ class Files(DeskTest):
         self.assertNotIn(signal.SIGTERM, signal.pthread_sigmask(signal.SIG_BLOCK, []))
 
 
-class Rights(unittest.TestCase):
+class Rights(Limited):
     """As root, the command takes on the rights of the user of the service."""
 
     def taken(self, *owners, user=0, entry=None):

@@ -3,12 +3,13 @@ import unittest
 
 from enogate_ctl.answers import AnswerFinder
 from enogate_ctl.fence import MAX_FENCES, SURE, is_longest, needed
+from fakes import Limited
 
 TEXT = "status\nstatus\nlist\nstatus\r\n"
 PAIR = "status\nstatus\ncentral 0 on\n"
 
 
-class Needed(unittest.TestCase):
+class Needed(Limited):
     def assert_needed(self, *cases, with_errors=False):
         """So many fences are needed for each of these texts on the desk."""
         for fences, text in cases:
@@ -74,7 +75,7 @@ class Needed(unittest.TestCase):
         self.assert_needed((2, PAIR + TEXT + PAIR + TEXT), (3, TEXT + PAIR))
 
 
-class Longest(unittest.TestCase):
+class Longest(Limited):
     def test_enough_fences(self):
         for fences, wanted in ((2, False), (3, True), (4, True)):
             self.assertEqual(is_longest(fences, PAIR.encode(), b"status\n"), wanted)

@@ -5,6 +5,7 @@ import unittest
 
 from enogate_ctl import grammar
 from enogate_ctl.answers import REFUSALS, SHARED
+from fakes import Limited
 
 GUIDE = pathlib.Path(__file__).parents[2] / "docs" / "guide" / "orders.md"
 ORDERS = (
@@ -26,7 +27,7 @@ NO_ORDERS = (
     "level 5 40 10 1", "teach", "teach x", "label 01800ABC a\rb", "label 01800ABC \x7f")
 
 
-class Grammar(unittest.TestCase):
+class Grammar(Limited):
     def test_orders(self):
         for order in ORDERS:
             with self.subTest(order):

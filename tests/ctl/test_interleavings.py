@@ -11,6 +11,7 @@ from enogate_ctl.desk import Desk, TooLate
 from enogate_ctl.desk_file import Unusable
 from enogate_ctl.fence import is_longest, needed
 from enogate_ctl.places import places_of
+from fakes import Limited
 from model import EEPS, IDS, UNSUPPORTED, Model
 
 COUNT = 24000
@@ -192,7 +193,7 @@ def is_shared(raw: bytes) -> bool:
     return line is not None and line.error in SHARED
 
 
-class Interleavings(unittest.TestCase):
+class Interleavings(Limited):
     """The command finds the right answer, or none."""
 
     def results(self, count: int, seed: int, failing: float = 0.05, fences_fail: bool = False,
@@ -254,7 +255,7 @@ class Interleavings(unittest.TestCase):
         self.assertGreater(found["late"], 100)
 
 
-class SeveralOrders(unittest.TestCase):
+class SeveralOrders(Limited):
     """The command finds the right answers to several orders, or none. If one of them is an error that packets have too,
     it gives the orders again, one by one."""
 

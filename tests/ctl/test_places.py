@@ -8,11 +8,12 @@ from unittest import mock
 
 from enogate_ctl.places import NAME, NoName, Places, Unreadable, paths, places_of
 from enogate_tools import check
+from fakes import Limited
 
 CONTRIB = pathlib.Path(__file__).parents[2] / "contrib"
 
 
-class Names(unittest.TestCase):
+class Names(Limited):
     def test_files(self):
         self.assertEqual(places_of("an-attic_2"), Places("/run/enogate/an-attic_2/desk",
                          "/var/log/enogate/an-attic_2.lines", "/var/lib/enogate-mqtt/an-attic_2.db"))
@@ -37,7 +38,7 @@ class Names(unittest.TestCase):
         self.assertEqual(NAME.pattern, check.NAME.pattern)
 
 
-class Paths(unittest.TestCase):
+class Paths(Limited):
     """The files of all gateways, below a directory."""
 
     maxDiff = None

@@ -11,7 +11,7 @@ from enogate_ctl.places import Unreadable
 from enogate_mqtt.devices import Device
 from enogate_mqtt.follow import end_of
 from enogate_mqtt.store import Store
-from fakes import OK, Site, device, end_of_list, packet, reading, status, teach
+from fakes import OK, Limited, Site, device, end_of_list, packet, reading, status, teach
 
 SEEN = datetime(2026, 11, 28, 12, 0, 0, tzinfo=timezone.utc)
 
@@ -115,7 +115,7 @@ class Recorded(Site):
         self.assertEqual((self.desk.read_bytes(), self.lines.read_bytes()), (b"", before))
 
 
-class Backwards(unittest.TestCase):
+class Backwards(Limited):
     """The lines of a file from its end."""
 
     def test_they_are_those_of_the_text(self):

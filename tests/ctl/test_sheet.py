@@ -4,6 +4,7 @@ import unittest
 from enogate_ctl import sheet
 from enogate_ctl.sheet import MOST_ROWS, BadRow, Row
 from enogate_mqtt.lines import Listed
+from fakes import Limited
 
 ADD = "the form is add ID EEP (ID: 8 hexadecimal digits; EEP: a profile such as D5-00-01)"
 LABEL = "the form is label ID TEXT | label ID (ID: 8 hexadecimal digits; TEXT: 1 to 32 ASCII characters)"
@@ -14,7 +15,7 @@ def listed(*labels):
     return [Listed(f"01800A{number:02X}", "D5-00-01", label, 70) for number, label in enumerate(labels)]
 
 
-class Sheets(unittest.TestCase):
+class Sheets(Limited):
     maxDiff = None
 
     def rows(self, text):
@@ -75,7 +76,7 @@ class Sheets(unittest.TestCase):
                                 (2, Row("01800ABC", "D5-00-01", ""))])
 
 
-class Importing(unittest.TestCase):
+class Importing(Limited):
     def setUp(self):
         self.orders, self.lines, self.refused, self.groups = [], [], {}, []
 

@@ -17,7 +17,7 @@ from enogate_mqtt.devices import Device
 from enogate_mqtt.entities import Table
 from enogate_mqtt.follow import Place, end_of
 from enogate_mqtt.store import Store
-from fakes import OK, Site, device, end_of_list, packet, reading, status, teach, within
+from fakes import OK, Limited, Site, device, end_of_list, packet, reading, status, teach, within
 
 GUIDE = pathlib.Path(__file__).parents[2] / "docs" / "guide"
 NOW = datetime(2026, 11, 28, 12, 0, 0, tzinfo=timezone.utc)
@@ -28,7 +28,7 @@ def lines_of(*members):
     return [line_of(json.dumps(one).encode()) for one in members]
 
 
-class Words(unittest.TestCase):
+class Words(Limited):
     def test_each_error_has_advice(self):
         named = re.findall(r"^\| `(\w+)` \|", (GUIDE / "output.md").read_text().split("| Error | When |")[1]
                            .split("\n\n")[0], re.MULTILINE)
@@ -101,7 +101,7 @@ class Words(unittest.TestCase):
         self.assertEqual(words.printable("a\x1b[2J\n\x7f°C"), "a?[2J??°C")
 
 
-class Tables(unittest.TestCase):
+class Tables(Limited):
     def test_columns(self):
         rows = [("A", "LONG", "EMPTY", "C"), ("aaa", "x", "", ""), ("", "", "", "c")]
         self.assertEqual(table(rows), "A    LONG  C\naaa  x\n           c")

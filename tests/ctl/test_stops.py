@@ -4,9 +4,10 @@ import signal
 import unittest
 
 from enogate_ctl.stops import SIGNALS, Stopped, Stops, restore
+from fakes import Limited
 
 
-class Signals(unittest.TestCase):
+class Signals(Limited):
     def setUp(self):
         for number in SIGNALS:
             self.addCleanup(signal.signal, number, signal.getsignal(number))

@@ -2,6 +2,7 @@ import assert from "node:assert/strict";
 import { test } from "node:test";
 
 import * as limits from "../../contrib/cockpit/enogate/model.js";
+import { REASONS } from "../../contrib/cockpit/enogate/words.js";
 import { DEVICE, ERROR, LIST, OK, OTHER_PACKET, PACKET, READING, RESPONSE, STATUS, TAUGHT } from "./samples.mjs";
 
 const { lastHeard, Model, MOST_DEVICES, MOST_PACKETS, MOST_TAUGHT, MOST_UNKNOWN, MOST_VALUES } = limits;
@@ -171,9 +172,10 @@ test("a learned sender is not unknown, and is none after it was learned", () => 
     assert.equal(modelOf(taught, { ...taught, result: "deleted" }, PACKET).unknown.size, 1);
 });
 
-test("packets that cannot be learned are no unknown senders", () => {
-    for (const why of ["for_others", "no_telegram", "teach_in_reply", "read", "wrong_kind"])
-        assert.equal(modelOf({ ...PACKET, why }).unknown.size, 0, why);
+test("of the reasons of packets, six are those of unknown senders", () => {
+    const learnable = ["unknown_sender", "window_closed", "other_mode", "no_profile", "unsupported", "full"];
+    const found = [...REASONS.keys()].filter(why => modelOf({ ...PACKET, why }).unknown.size === 1);
+    assert.deepEqual(found.sort(), learnable.sort());
     const model = modelOf(OTHER_PACKET);
     assert.deepEqual([model.unknown.size, model.packets.length, model.hasPackets], [0, 1, true]);
 });

@@ -1,8 +1,10 @@
 import assert from "node:assert/strict";
 import { execFileSync } from "node:child_process";
+import { readFileSync } from "node:fs";
 import { test } from "node:test";
 
 import * as orders from "../../contrib/cockpit/enogate/orders.js";
+import { PROFILES } from "../../contrib/cockpit/enogate/words.js";
 import { HOSTILE } from "./samples.mjs";
 
 const ID = "01800ABC";
@@ -74,6 +76,14 @@ test("labels have 1 to 32 printable ASCII characters, and no spaces at their end
         assert.ok(!orders.isLabel(text), text);
 });
 
+test("the fields for a label take no longer one", () => {
+    const page = readFileSync(new URL("../../contrib/cockpit/enogate/index.html", import.meta.url), "utf8");
+    const fields = [...page.matchAll(/<input id="([a-z]+-label)" maxlength="([0-9]+)"/g)];
+    assert.deepEqual(fields.map(([, id, longest]) => [id, Number(longest)]),
+                     [["learn-label", orders.LONGEST_LABEL], ["edit-label", orders.LONGEST_LABEL]]);
+    assert.ok(orders.isLabel("x".repeat(orders.LONGEST_LABEL)) && !orders.isLabel("x".repeat(orders.LONGEST_LABEL + 1)));
+});
+
 test("what actuators can do", () => {
     assert.equal(orders.abilities("D5-00-01"), null);
     assert.equal(orders.abilities("D2-06-01"), null);
@@ -81,6 +91,11 @@ test("what actuators can do", () => {
     assert.deepEqual(orders.abilities("D2-01-02"), { kind: "dimmer", channels: [0] });
     assert.deepEqual(orders.abilities("D2-01-12"), { kind: "switch", channels: [0, 1, 30] });
     assert.deepEqual(orders.abilities("D2-05-00"), { kind: "blind", channels: [0] });
+});
+
+test("three profiles of actuators have two channels", () => {
+    const several = [...PROFILES.keys()].filter(eep => orders.abilities(eep)?.channels.length > 1);
+    assert.deepEqual(several, ["D2-01-10", "D2-01-11", "D2-01-12"]);
 });
 
 test("percentages", () => {

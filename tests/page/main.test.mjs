@@ -1,0 +1,47 @@
+import assert from "node:assert/strict";
+import { mock, test } from "node:test";
+
+import { byId, machine, processes, settle, started } from "./page.mjs";
+
+const LIST = ["enogatectl", "--json", "hall", "--", "list"];
+let run = 1;
+
+/** A machine with two gateways, whose service runs. The lines are followed until the test is over. */
+machine.outputOf = ([name]) => {
+    if (name === "tail")
+        return null;
+    if (name === "find")
+        return "/run/enogate/hall\n/run/enogate/yard\n";
+    return name === "systemctl" ? `ActiveState=active\nSubState=running\nInvocationID=${run}\n` : "";
+};
+
+/** Lets so many seconds pass. */
+async function pass(seconds) {
+    for (let number = 0; number < 2 * seconds; number++) {
+        mock.timers.tick(500);
+        await settle();
+    }
+}
+
+mock.timers.enable({ apis: ["setTimeout", "setInterval", "Date"], now: 1000 });
+await import("../../contrib/cockpit/enogate/main.js");
+await settle();
+
+test("the devices are asked for once after each start of the gateway, and not at each look", async () => {
+    assert.equal(started(...LIST).length, 1);
+    await pass(20);
+    assert.ok(started("systemctl").length >= 10, String(started("systemctl").length));
+    assert.equal(started(...LIST).length, 1);
+    run = 2;
+    await pass(20);
+    assert.equal(started(...LIST).length, 2);
+});
+
+test("the other gateway is shown when its tab is clicked, and the lines of the first one are not followed", async () => {
+    const [first] = started("tail");
+    assert.equal(first.words.at(-1), "/var/log/enogate/hall.lines");
+    byId("gateways").children[1].click();
+    await settle();
+    assert.ok(first.isClosed);
+    assert.equal(processes.findLast(({ words }) => words[0] === "tail").words.at(-1), "/var/log/enogate/yard.lines");
+});

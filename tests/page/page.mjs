@@ -1,0 +1,155 @@
+// A stand-in for the browser and for Cockpit: elements without markup, and processes that the test ends.
+
+const elements = new Map();
+
+/** An element. One with an ID appears when the page first looks for it. */
+class Element {
+    constructor() {
+        Object.assign(this, { children: [], parent: null, text: "", dataset: {}, attributes: new Map(),
+                              listeners: new Map(), hidden: false, disabled: false, open: false, value: "" });
+        const classes = new Set();
+        this.classList = {
+            contains: name => classes.has(name),
+            toggle: (name, isSet) => isSet ? classes.add(name) : classes.delete(name),
+        };
+    }
+
+    get textContent() {
+        return this.text + this.children.map(({ textContent }) => textContent).join("");
+    }
+
+    set textContent(text) {
+        this.replaceChildren();
+        this.text = text;
+    }
+
+    get firstChild() {
+        return this.children[0] ?? null;
+    }
+
+    get nextSibling() {
+        return this.parent.children[this.parent.children.indexOf(this) + 1] ?? null;
+    }
+
+    append(...children) {
+        for (const child of children)
+            this.insertBefore(typeof child === "string" ? Object.assign(new Element(), { text: child }) : child, null);
+    }
+
+    insertBefore(child, place) {
+        child.remove();
+        child.parent = this;
+        this.children.splice(place ? this.children.indexOf(place) : this.children.length, 0, child);
+    }
+
+    remove() {
+        if (this.parent)
+            this.parent.children = this.parent.children.filter(child => child !== this);
+        this.parent = null;
+    }
+
+    replaceChildren(...children) {
+        this.children.forEach(child => { child.parent = null; });
+        Object.assign(this, { children: [], text: "" });
+        this.append(...children);
+    }
+
+    setAttribute(name, value) {
+        this.attributes.set(name, value);
+    }
+
+    addEventListener(name, listener) {
+        this.listeners.set(name, listener);
+    }
+
+    click() {
+        this.listeners.get("click")();
+    }
+
+    matches() {
+        return false;
+    }
+
+    querySelector() {
+        return null;
+    }
+
+    querySelectorAll() {
+        return [];
+    }
+}
+
+/** The element with this ID. */
+export function byId(id) {
+    if (!elements.has(id))
+        elements.set(id, new Element());
+    return elements.get(id);
+}
+
+/** A process that was started, and that the test ends. */
+export class Process {
+    constructor(words) {
+        this.words = words;
+        this.isClosed = false;
+        this.promise = new Promise((resolve, reject) => Object.assign(this, { resolve, reject }));
+    }
+
+    stream(callback) {
+        this.write = callback;
+        return this;
+    }
+
+    then(done, failed) {
+        return this.promise.then(done, failed);
+    }
+
+    close(problem) {
+        this.isClosed = true;
+        this.reject({ problem });
+    }
+}
+
+export const processes = [];
+/** What a process prints before it ends; null if it does not end by itself. The test sets it. */
+export const machine = { outputOf: () => null };
+
+function spawn(words) {
+    const process = new Process(words);
+    processes.push(process);
+    const output = machine.outputOf(words);
+    if (output !== null) {
+        setImmediate(() => {
+            process.write?.(output);
+            process.resolve(output);
+        });
+    }
+    return process;
+}
+
+/** The processes that were started with a command that begins with these words. */
+export const started = (...words) =>
+    processes.filter(process => words.every((word, index) => process.words[index] === word));
+
+/** Lets everything happen that waits for nothing but processes and promises. */
+export async function settle() {
+    for (let number = 0; number < 20; number++)
+        await new Promise(resolve => setImmediate(resolve));
+}
+
+globalThis.window = {
+    cockpit: {
+        spawn,
+        file: () => ({ read: () => Promise.resolve("SERIAL=/dev/enocean\n") }),
+        permission: () => ({ allowed: true, addEventListener: () => {} }),
+    },
+};
+globalThis.document = {
+    hidden: false,
+    getElementById: byId,
+    createElement: () => new Element(),
+    createElementNS: () => new Element(),
+    querySelectorAll: () => [],
+};
+globalThis.localStorage = { getItem: () => null, setItem: () => {} };
+globalThis.requestAnimationFrame = frame => setTimeout(frame, 16);
+globalThis.cancelAnimationFrame = clearTimeout;
