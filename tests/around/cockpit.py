@@ -88,6 +88,12 @@ class Cockpit(Program):
         self.run([*self.words, *command], **variables)
         assert wait_for(self.answers, bool), self.journal()
 
+    def keep(self) -> None:
+        """Starts it again if it has ended, as it does if its only session ends: a browser that changes pages slowly may
+        close the connection of one page before it opens that of the next one."""
+        if not self.is_running():
+            self.start()
+
     def answers(self) -> bool:
         try:
             socket.create_connection(("127.0.0.1", self.port)).close()

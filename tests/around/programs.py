@@ -10,7 +10,7 @@ from typing import Callable, Self, Sequence, TypeVar
 
 # How long a test waits for an event, and how long a program runs if the test is killed, in seconds.
 WITHIN = 10.0
-LIFE = 200
+LIFE = 600
 PAUSE = 0.02
 Seen = TypeVar("Seen")
 

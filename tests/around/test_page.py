@@ -106,6 +106,7 @@ class PageTest(unittest.TestCase):
         """Only the names of tests are printed, without their docstrings."""
 
     def open(self) -> None:
+        cockpit.keep()
         browser.open(cockpit.address)
         self.wait_for_text("#gateways [aria-selected=true]", "hall")
         self.wait_for_text("#feed", "live")
@@ -427,6 +428,11 @@ class Holds(PageTest):
         stick.bring("01800C12", CLOSED)
         self.wait_for_text(self.row("01800C12"), "contact closed")
 
+    def test_a_server_that_has_ended_fails_no_other_test(self):
+        browser.open("about:blank")
+        cockpit.end()
+        self.open()
+
     def test_a_click_means_the_row_under_the_pointer(self):
         self.tab("unknown")
         for number in range(5):
@@ -506,6 +512,7 @@ class Rights(PageTest):
         cls.limited.start()
 
     def open(self) -> None:
+        self.limited.keep()
         browser.open(self.limited.address)
 
     def test_the_page_is_read_only_and_says_why(self):
