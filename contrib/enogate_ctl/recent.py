@@ -25,9 +25,15 @@ WAIT = 1.0
 
 def last_telegrams(path: str, most: int = MOST_READ) -> dict[str, Telegram]:
     """The last telegram of each device, if it is near the end of the lines."""
-    found: dict[str, Telegram] = {}
-    for telegram in filter(None, map(telegram_in, last_lines(path, most))):
-        found.setdefault(telegram.device, telegram)
+    return {device: telegram for device, (telegram, _) in last_reports(path, most).items()}
+
+
+def last_reports(path: str, most: int = MOST_READ) -> dict[str, tuple[Telegram, bytes]]:
+    """The last telegram of each device, if it is near the end of the lines, and the line that reports it."""
+    found: dict[str, tuple[Telegram, bytes]] = {}
+    for line in last_lines(path, most):
+        if telegram := telegram_in(line):
+            found.setdefault(telegram.device, (telegram, line))
     return found
 
 

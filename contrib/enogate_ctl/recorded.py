@@ -10,7 +10,7 @@ from enogate_mqtt.lines import BadLine, Content, Deleted, EndOfList, Learned, Li
 from .desk import Lines
 from .desk_file import Unusable
 from .places import Places, Unreadable
-from .recent import last_lines, last_times
+from .recent import last_lines, last_reports, last_times
 
 # How much of the lines is searched for a list. A gateway with 100 devices that send each minute writes less in a day.
 MOST_SEARCHED = 1 << 26
@@ -30,13 +30,17 @@ def devices(places: Places) -> list[Listed]:
 
 
 def as_json(found: list[Listed], places: Places) -> Iterator[str]:
-    """The devices as lines, like those of the order `list`. The member `seen` is the time of the last telegram
-    in seconds since 1970, or null if it is not known."""
+    """The devices as lines, like those of the order `list`. The member `seen` is the time of the last telegram in
+    seconds since 1970, or null if it is not known. The members `dbm` and `readings` are those of the last telegram, if
+    it is near the end of the lines and has the profile of the device; otherwise null and an empty list."""
     times = last_times(places.bridge, places.lines)
+    reports = last_reports(places.lines)
     for device in found:
         seen = int(times[device.device].timestamp()) if device.device in times else None
-        yield line_of({"eep": device.eep, "id": device.device, "label": device.label, "maker": device.maker,
-                       "seen": seen, "type": "device"})
+        telegram, line = reports.get(device.device, (None, b""))
+        last = json.loads(line) if telegram and telegram.eep == device.eep else {"dbm": None, "readings": []}
+        yield line_of({"dbm": last["dbm"], "eep": device.eep, "id": device.device, "label": device.label,
+                       "maker": device.maker, "readings": last["readings"], "seen": seen, "type": "device"})
     yield line_of({"count": len(found), "type": "list"})
 
 

@@ -30,6 +30,8 @@ SECTIONS = ("gateway", "devices", "unknown", "teach", "actuators", "packets")
 SECONDS_OF_A_CLICK = 0.2
 ROUNDS = 3
 MOST_HEAP = 2_000_000
+EARLIER_PACKET = ('{"dbm":-45,"dest":null,"eep":null,"id":"01800A07","maker":null,"payload":"50","rorg":"F6",'
+                  '"status":"30","type":"packet","why":"unknown_sender"}\n')
 PRESS, RELEASE = "F6 50 30", "F6 00 20"
 CLOSED, OPEN = "D5 09", "D5 08"
 # Lines that a full disk, another program or a neighbour may leave.
@@ -246,6 +248,22 @@ class Reads(PageTest):
         self.assertNotIn("70 30", browser.text("#packets-rows"))
         browser.click("#packets-pause")
         self.wait_for_text("#packets-rows", "70 30")
+
+    def test_lines_from_before_have_no_time_and_readings_outlast_a_rotation(self):
+        self.learn("01800A06", "D5-00-01")
+        stick.bring("01800A06", CLOSED)
+        self.wait_for_text(self.row("01800A06"), "contact closed")
+        gateway.rotate()
+        gateway.append(EARLIER_PACKET * 5000)
+        self.open()
+        self.wait_for_text(self.row("01800A06"), "contact closed", "earlier")
+        self.tab("packets")
+        browser.type("#packets-filter", "01800A07")
+        self.wait_for_text("#packets-rows", "01800A07")
+        times = "return [...document.querySelectorAll('#packets-rows td:first-child')].map(cell => cell.textContent)"
+        self.assertEqual(browser.run(times), ["earlier"] * 100)
+        stick.bring("01800A07", PRESS)
+        self.wait(lambda: browser.run(times), lambda found: ":" in found[0] and found[1:] == ["earlier"] * 99)
 
     def test_everything_comes_from_this_host(self):
         script = "return performance.getEntriesByType('resource').map(entry => new URL(entry.name).host)"
@@ -543,7 +561,7 @@ class Rights(PageTest):
         for words in (("add", "01800D02", "D5-00-01"), ("label", "01800D02", "Cellar door"), ("list",),
                       ("add", "01800D03", "F6-02-01")):
             ctl(*words)
-        gateway.append('{"type":"ok"}\n' * 2500)
+        gateway.append('{"type":"ok"}\n' * 90_000)
         self.record("01800D02", datetime.now(timezone.utc) - timedelta(hours=50))
         before = gateway.desk.read_bytes()
         self.open()

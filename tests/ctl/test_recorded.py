@@ -98,10 +98,22 @@ class Recorded(Site):
         self.write(device("01800ABC", 'A "b"'), device("01800ABD"), end_of_list(2))
         self.bridge("01800ABD")
         status, out = self.run_command("--json")
-        members = {"eep": "D5-00-01", "maker": None, "type": "device"}
+        members = {"dbm": None, "eep": "D5-00-01", "maker": None, "readings": [], "type": "device"}
         self.assertEqual((status, [json.loads(line) for line in out.splitlines()]), (0, [
             {**members, "id": "01800ABC", "label": 'A "b"', "seen": None},
             {**members, "id": "01800ABD", "label": "", "seen": 1795867200}, end_of_list(2)]))
+
+    def test_the_last_readings_are_in_json(self):
+        """Also those before a rotation, but not those of another profile."""
+        closed, opened = ([{"name": "CO", "word": word}] for word in ("closed", "open"))
+        self.write(reading("01800ABC", readings=opened, dbm=-50), reading("01800ABD", readings=closed, dbm=None),
+                   reading("01800ABE", "F6-02-01"))
+        self.lines.rename(self.folder / "hall.lines.1")
+        self.write(reading("01800ABC", readings=closed, dbm=-60), device("01800ABC"), device("01800ABD"),
+                   device("01800ABE"), device("01800ABF"), end_of_list(4))
+        shown = [json.loads(line) for line in self.run_command("--json")[1].splitlines()[:-1]]
+        self.assertEqual([(members["dbm"], members["readings"]) for members in shown],
+                         [(-60, closed), (None, closed), (None, []), (None, [])])
 
     def test_for_people(self):
         self.write(device("01800ABC", "Door"), end_of_list(1))

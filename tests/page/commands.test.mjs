@@ -74,14 +74,14 @@ test("the words of each command are an array of texts", async () => {
 test("outputs are read, also those of a command that fails in part", async () => {
     outputs.set("find", "/etc/default/enogate-hall\n/run/enogate/yard\n");
     outputs.set("systemctl", "ActiveState=active\nSubState=running\n");
-    outputs.set("enogatectl", `${JSON.stringify({ ...DEVICE, seen: 5 })}\n`);
+    outputs.set("enogatectl", `${JSON.stringify({ ...DEVICE, dbm: null, readings: [], seen: 5 })}\n`);
     outputs.set("/etc/default/enogate", "BASE=\nSERIAL=/dev/enocean\n");
     outputs.set("/etc/default/enogate-hall", "BASE=FFA1B280\n");
     for (const ends of [null, { exit_status: 1 }]) {
         failure = ends;
         assert.deepEqual(await commands.gateways(), ["hall", "yard"]);
         assert.deepEqual(await commands.serviceState("hall"), { ActiveState: "active", SubState: "running" });
-        assert.deepEqual(await commands.recorded("hall"), [{ ...DEVICE, seen: 5000 }]);
+        assert.deepEqual(await commands.recorded("hall"), [{ ...DEVICE, dbm: null, readings: [], seen: 5000 }]);
     }
     assert.deepEqual([...await commands.settings("hall")], [["BASE", "FFA1B280"], ["SERIAL", "/dev/enocean"]]);
     assert.equal((await commands.settings("yard")).get("SERIAL"), "/dev/enocean");

@@ -1,55 +1,33 @@
 import assert from "node:assert/strict";
 import { beforeEach, mock, test } from "node:test";
 
+import { processes, settle, started } from "./page.mjs";
 import { LIST, OK } from "./samples.mjs";
 
-const PATH = "/var/log/enogate/hall.lines";
-const line = members => `${JSON.stringify(members)}\n`;
-
-/** A process that was started, and that the test ends. */
-class Process {
-    constructor(words) {
-        this.words = words;
-        this.isClosed = false;
-        this.promise = new Promise((resolve, reject) => Object.assign(this, { resolve, reject }));
-    }
-
-    stream(callback) {
-        this.write = callback;
-        return this;
-    }
-
-    then(done, failed) {
-        return this.promise.then(done, failed);
-    }
-
-    close() {
-        this.isClosed = true;
-        this.reject({ problem: "cancelled" });
-    }
-}
-
-const processes = [];
-globalThis.window = {
-    cockpit: {
-        spawn(words) {
-            processes.push(new Process(words));
-            return processes.at(-1);
-        },
-    },
-};
 const { Feed } = await import("../../contrib/cockpit/enogate/feed.js");
 
-const settle = () => new Promise(resolve => setImmediate(resolve));
+const PATH = "/var/log/enogate/hall.lines";
+const MOST = 1 << 20;
+const line = members => `${JSON.stringify(members)}\n`;
+const OK_LINE = line(OK);
+const bytes = text => new TextEncoder().encode(text);
 const last = () => processes.at(-1);
+const write = text => last().write(bytes(text));
 
-/** A feed whose file can be read; `lines` and `states` are what it reports. */
-async function feed() {
+/** Ends the command that looks at the file. */
+async function look(size, id = "1:2") {
+    last().resolve(`${id} ${size}\n`);
+    await settle();
+}
+
+/** A feed of a file with so many bytes; `lines` and `states` are what it reports. */
+async function feed(size = 0) {
     const found = { lines: [], states: [] };
     found.feed = new Feed(PATH, (members, now) => found.lines.push([members, now]),
                           (state, why) => found.states.push(why ? [state, why] : state));
     last().resolve();
     await settle();
+    await look(size);
     return found;
 }
 
@@ -59,51 +37,91 @@ beforeEach(() => {
     mock.timers.enable({ apis: ["setTimeout", "Date"], now: 1000 });
 });
 
-test("the file is checked, and then followed from its last lines", async () => {
-    const { states } = await feed();
+test("the file is checked, and then followed from its beginning, or from its last megabyte", async () => {
+    const { states } = await feed(MOST);
     assert.deepEqual(processes.map(({ words }) => words),
-                     [["test", "-r", PATH], ["tail", "-n", "2000", "-F", "--", PATH]]);
-    assert.deepEqual(states, ["reading"]);
+                     [["test", "-r", PATH], ["stat", "-L", "-c", "%d:%i %s", "--", PATH],
+                      ["tail", "-c", "+1", "-F", "--", PATH]]);
+    assert.deepEqual([states, last().options.binary], [["reading"], true]);
+    await feed(MOST + 5);
+    assert.deepEqual(last().words, ["tail", "-c", "+6", "-F", "--", PATH]);
 });
 
-test("lines are earlier ones until there is a pause", async () => {
-    const { lines, states } = await feed();
-    last().write(line(OK));
-    mock.timers.tick(200);
-    last().write(line(OK));
-    mock.timers.tick(200);
+test("exactly the lines that were in the file before are earlier ones, however slowly they arrive", async () => {
+    const { lines, states } = await feed(2 * OK_LINE.length);
+    write(OK_LINE.slice(0, 5));
+    mock.timers.tick(60000);
+    await settle();
+    last().resolve(`1:2 ${3 * OK_LINE.length}\n`);
+    await settle();
+    started("tail")[0].write(bytes(OK_LINE.slice(5)));
+    mock.timers.tick(500);
     assert.deepEqual(states, ["reading"]);
-    mock.timers.tick(100);
-    last().write(line(LIST));
+    started("tail")[0].write(bytes(OK_LINE + line(LIST)));
+    started("tail")[0].write(bytes(OK_LINE));
     assert.deepEqual(states, ["reading", "live"]);
-    assert.deepEqual(lines, [[OK, null], [OK, null], [LIST, 1500]]);
+    assert.deepEqual(lines, [[OK, null], [OK, null], [LIST, 61500], [OK, 61500]]);
 });
 
-test("if there is no pause, lines are new after two seconds", async () => {
-    const { lines, states } = await feed();
-    for (let number = 0; number < 21; number++) {
-        last().write(line(OK));
-        mock.timers.tick(100);
+test("a line that was not complete in the file is a new one", async () => {
+    const { lines } = await feed(OK_LINE.length + 4);
+    write(OK_LINE + OK_LINE.slice(0, 4));
+    mock.timers.tick(500);
+    write(OK_LINE.slice(4));
+    assert.deepEqual(lines, [[OK, null], [OK, 1500]]);
+});
+
+test("bytes are counted, also those of characters that are not ASCII or not complete", async () => {
+    const before = [...bytes("\u00e4\u20ac"), 0xFF, 0xE2, 0x82];
+    const { lines, states } = await feed(before.length + 1 + OK_LINE.length);
+    last().write(new Uint8Array(before));
+    write("\n");
+    assert.deepEqual(states, ["reading"]);
+    write(OK_LINE + OK_LINE);
+    assert.deepEqual([lines, states], [[[OK, null], [OK, 1000]], ["reading", "live"]]);
+});
+
+test("the first line of the last megabyte is incomplete, even if it looks like a line", async () => {
+    const { lines } = await feed(MOST + 1);
+    write(OK_LINE + line(LIST));
+    assert.deepEqual(lines, [[LIST, null]]);
+});
+
+test("the lines of an empty file are new", async () => {
+    const { lines, states } = await feed(0);
+    write(OK_LINE);
+    assert.deepEqual([lines, states], [[[OK, 1000]], ["reading", "live"]]);
+});
+
+test("a file that is rotated or truncated before it is read has only new lines after that is noticed", async () => {
+    for (const [size, id] of [[OK_LINE.length, "1:3"], [OK_LINE.length, "1:2"]]) {
+        processes.length = 0;
+        const { lines, states } = await feed(1000);
+        const tail = last();
+        tail.write(bytes(OK_LINE));
+        mock.timers.tick(2000);
+        await look(size, id);
+        assert.deepEqual(states, ["reading"], "a line has come meanwhile");
+        mock.timers.tick(2000);
+        await look(size, id);
+        tail.write(bytes(OK_LINE));
+        assert.deepEqual([lines.map(([, now]) => now === null), states], [[true, false], ["reading", "live"]]);
     }
-    last().write(line(OK));
-    assert.deepEqual(states, ["reading", "live"]);
-    assert.deepEqual(lines[0][1], null);
-    assert.deepEqual(lines.at(-1)[1], 3100);
 });
 
 test("a line may come in several pieces, and a malformed one is dropped", async () => {
     const { lines } = await feed();
     for (const piece of ["{\"type\":", "\"ok\"}", "\n{\"torn\nnull\n", line(LIST)])
-        last().write(piece);
+        write(piece);
     assert.deepEqual(lines.map(([members]) => members), [OK, LIST]);
 });
 
 test("a line without an end does not fill the memory", async () => {
     const found = await feed();
     for (let number = 0; number < 50; number++)
-        last().write("x".repeat(100000));
+        write("x".repeat(100000));
     assert.ok(found.feed.rest.length <= 1 << 16);
-    last().write(`\n${line(OK)}`);
+    write(`\n${OK_LINE}`);
     assert.deepEqual(found.lines.map(([members]) => members), [OK]);
 });
 
@@ -118,31 +136,33 @@ test("a file that cannot be read is tried again", async () => {
     mock.timers.tick(2000);
     last().resolve();
     await settle();
-    assert.deepEqual(last().words.slice(0, 3), ["tail", "-n", "2000"]);
+    assert.equal(last().words[0], "stat");
     assert.equal(states[1][0], "reading");
+    last().reject({ exit_status: 1 });
+    await settle();
+    assert.deepEqual(states[2], ["lost", `${PATH} cannot be read.`]);
 });
 
 test("if tail ends, only new lines are read after that", async () => {
     const { lines, states } = await feed();
-    mock.timers.tick(300);
     last().reject({ problem: "terminated" });
     await settle();
     mock.timers.tick(2000);
     last().resolve();
     await settle();
     assert.deepEqual(last().words.slice(0, 3), ["tail", "-n", "0"]);
-    last().write(line(OK));
+    write(OK_LINE);
     assert.deepEqual(states, ["reading", "live", ["lost", "The lines cannot be followed: tail has ended."], "live"]);
-    assert.deepEqual(lines, [[OK, 3300]]);
+    assert.deepEqual(lines, [[OK, 3000]]);
 });
 
 test("a feed that is stopped starts nothing more", async () => {
-    const { feed: stopped, states } = await feed();
+    const { feed: stopped, states } = await feed(1000);
     stopped.stop();
     await settle();
     mock.timers.tick(10000);
     assert.ok(last().isClosed);
-    assert.equal(processes.length, 2);
+    assert.equal(processes.length, 3);
     assert.deepEqual(states, ["reading"]);
 });
 

@@ -88,11 +88,14 @@ test("numbers that are not finite or whole are dropped", () => {
     assert.ok(parse(JSON.stringify(STATUS).replace('"ignored":1', '"ignored":18446744073709551615')));
 });
 
-test("recorded devices have a time in ms, or none", () => {
-    const lines = [{ ...DEVICE, seen: 1795867200 }, { ...DEVICE, id: "01800ABD", seen: null }, LIST];
-    assert.deepEqual(recordedIn(lines.map(line => `${JSON.stringify(line)}\n`).join("")),
-                     [{ ...DEVICE, seen: 1795867200000 }, { ...DEVICE, id: "01800ABD", seen: null }]);
-    const bad = [DEVICE, { ...DEVICE, seen: "1" }, { ...DEVICE, seen: -1 }, { ...DEVICE, id: "<b>", seen: 1 }, 5, null];
+test("recorded devices have a time in ms, or none, and readings", () => {
+    const recorded = { ...DEVICE, dbm: -45, readings: [{ name: "CO", word: "open" }], seen: 1795867200 };
+    const unheard = { ...recorded, id: "01800ABD", dbm: null, readings: [], seen: null };
+    assert.deepEqual(recordedIn([recorded, unheard, LIST].map(line => `${JSON.stringify(line)}\n`).join("")),
+                     [{ ...recorded, seen: 1795867200000 }, unheard]);
+    const bad = [DEVICE, { ...recorded, seen: "1" }, { ...recorded, seen: -1 }, { ...recorded, id: "<b>" }, 5, null,
+        { ...recorded, dbm: "<b>" }, { ...recorded, readings: [{ name: "<b>", word: "x" }] },
+        { ...recorded, readings: null }];
     assert.deepEqual(recordedIn(bad.map(line => JSON.stringify(line)).join("\n")), []);
     assert.deepEqual(recordedIn(""), []);
 });

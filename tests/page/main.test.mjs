@@ -12,6 +12,8 @@ machine.outputOf = ([name]) => {
         return null;
     if (name === "find")
         return "/run/enogate/hall\n/run/enogate/yard\n";
+    if (name === "stat")
+        return "1:2 0\n";
     return name === "systemctl" ? `ActiveState=active\nSubState=running\nInvocationID=${run}\n` : "";
 };
 
@@ -37,7 +39,7 @@ test("the devices are asked for once after each start of the gateway, and not at
     assert.equal(started(...LIST).length, 2);
 });
 
-test("the other gateway is shown when its tab is clicked, and the lines of the first one are not followed", async () => {
+test("a click on the tab of another gateway ends the reading of the first one's lines", async () => {
     const [first] = started("tail");
     assert.equal(first.words.at(-1), "/var/log/enogate/hall.lines");
     byId("gateways").children[1].click();

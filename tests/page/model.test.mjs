@@ -83,7 +83,7 @@ test("a list whose beginning is missing changes nothing", () => {
     assert.equal(model.isListed, false);
 });
 
-const RECORDED = { ...DEVICE, seen: 500 };
+const RECORDED = { ...DEVICE, seen: 500, dbm: -60, readings: [{ name: "CO", word: "open" }] };
 
 test("recorded devices are shown with their labels and times until there is a list", () => {
     const model = new Model(0);
@@ -119,6 +119,27 @@ test("a telegram is later than a recorded one", () => {
     assert.equal(lastHeard(model.devices.get("01800ABC")), 500);
     model.take(READING, 9000);
     assert.equal(lastHeard(model.devices.get("01800ABC")), 9000);
+});
+
+test("recorded readings are shown, without a time, until the lines have readings of the device", () => {
+    const model = new Model(0);
+    const shown = () => [...model.devices.get("01800ABC").readings.values()].map(({ reading }) => reading.word);
+    model.takeRecorded([RECORDED]);
+    const { dbm, received } = model.devices.get("01800ABC");
+    assert.deepEqual([shown(), dbm, received], [["open"], -60, null]);
+    model.take({ ...READING, eep: "D5-00-01", readings: [{ name: "CO", word: "closed" }] }, null);
+    model.takeRecorded([RECORDED]);
+    assert.deepEqual([shown(), model.devices.get("01800ABC").dbm], [["closed"], -45]);
+    model.take({ ...DEVICE, eep: "D5-00-01" }, 1000);
+    model.take(LIST, 1000);
+    assert.deepEqual(shown(), ["closed"]);
+});
+
+test("a recorded number has no place in the plot", () => {
+    const model = new Model(0);
+    model.takeRecorded([{ ...RECORDED, eep: READING.eep, readings: READING.readings }]);
+    const [{ values: before }] = model.devices.get("01800ABC").readings.values();
+    assert.deepEqual(before, []);
 });
 
 test("nothing is recorded", () => {

@@ -88,8 +88,8 @@ export function byId(id) {
 
 /** A process that was started, and that the test ends. */
 export class Process {
-    constructor(words) {
-        this.words = words;
+    constructor(words, options) {
+        Object.assign(this, { words, options });
         this.isClosed = false;
         this.promise = new Promise((resolve, reject) => Object.assign(this, { resolve, reject }));
     }
@@ -113,8 +113,8 @@ export const processes = [];
 /** What a process prints before it ends; null if it does not end by itself. The test sets it. */
 export const machine = { outputOf: () => null };
 
-function spawn(words) {
-    const process = new Process(words);
+function spawn(words, options) {
+    const process = new Process(words, options);
     processes.push(process);
     const output = machine.outputOf(words);
     if (output !== null) {

@@ -3,13 +3,19 @@
 import { cockpit } from "./cockpit.js";
 import { parse } from "./lines.js";
 
-// How many earlier lines are read.
-const EARLIER = 2000;
-// Lines are new after a pause of this length in ms; and after the second time in any case, if there is no pause.
-const QUIET = 300;
-const NEW_AFTER = 2000;
+// How many bytes of earlier lines are read: as many as enogatectl reads for the last readings.
+const EARLIER = 1 << 20;
+// How often the file is looked at while the earlier lines arrive, in ms.
+const LOOK_EVERY = 2000;
 const RETRY_AFTER = 2000;
 const LONGEST_LINE = 1 << 16;
+const OPTIONS = { superuser: "try", err: "ignore" };
+
+/** The identity of a file and its size in bytes, as `stat` prints them. */
+function fileIn(output) {
+    const [id, size] = output.trim().split(" ");
+    return { id, size: Number(size) };
+}
 
 /**
  * @callback OnLine
@@ -30,6 +36,7 @@ export class Feed {
     constructor(path, onLine, onState) {
         Object.assign(this, { path, onLine, onState });
         this.hasRead = false;
+        this.isInLine = false;
         this.isStopped = false;
         this.timers = [];
         this.start();
@@ -49,7 +56,7 @@ export class Feed {
 
     /** `tail -F` waits without a word for a file that is missing or not readable, so this is checked first. */
     start() {
-        this.process = cockpit.spawn(["test", "-r", this.path], { superuser: "try", err: "ignore" });
+        this.process = cockpit.spawn(["test", "-r", this.path], OPTIONS);
         this.process.then(() => this.read(), () => this.retry(
             `${this.path} is missing, or you may not read it: only administrators and the group enogate may.`));
     }
@@ -66,41 +73,91 @@ export class Feed {
     read() {
         if (this.isStopped)
             return;
-        this.rest = "";
-        this.isLive = this.hasRead;
-        this.onState(this.isLive ? "live" : "reading", "");
-        if (!this.isLive) {
-            this.timers.push(setTimeout(() => this.becomeLive(), NEW_AFTER));
-            this.waitForQuiet();
+        if (this.hasRead) {
+            this.follow(["-n", "0"], 0);
+            return;
         }
-        const words = ["tail", "-n", String(this.hasRead ? 0 : EARLIER), "-F", "--", this.path];
-        this.hasRead = true;
-        this.process = cockpit.spawn(words, { superuser: "try", err: "ignore" });
+        this.onState("reading", "");
+        this.process = this.look();
+        this.process.then(output => this.readFrom(fileIn(output)), () => this.retry(`${this.path} cannot be read.`));
+    }
+
+    readFrom(file) {
+        if (this.isStopped)
+            return;
+        const start = Math.max(0, file.size - EARLIER);
+        // The first line is then incomplete.
+        this.isInLine = start > 0;
+        this.follow(["-c", `+${start + 1}`], file.size - start);
+        if (!this.isLive)
+            this.watch(file);
+    }
+
+    look() {
+        return cockpit.spawn(["stat", "-L", "-c", "%d:%i %s", "--", this.path], OPTIONS);
+    }
+
+    /**
+     * Follows the file. Its size was read before: exactly the lines that end within that many bytes are earlier ones,
+     * however slowly they arrive.
+     * @param {string[]} words - where tail begins
+     * @param {number} earlier - how many bytes from there were in the file before
+     */
+    follow(words, earlier) {
+        Object.assign(this, { rest: "", earlier, isLive: false, hasRead: true, decoder: new TextDecoder() });
+        this.process = cockpit.spawn(["tail", ...words, "-F", "--", this.path], { ...OPTIONS, binary: true });
         this.process.stream(data => this.take(data));
         const ended = () => this.retry("The lines cannot be followed: tail has ended.");
         this.process.then(ended, ended);
+        if (earlier === 0)
+            this.becomeLive();
     }
 
-    waitForQuiet() {
-        clearTimeout(this.quiet);
-        this.quiet = setTimeout(() => this.becomeLive(), QUIET);
-        this.timers.push(this.quiet);
+    /**
+     * Waits for the earlier lines. They stop arriving before all have come only if the file was rotated or truncated
+     * after its size was read.
+     */
+    watch(before) {
+        const { earlier } = this;
+        this.timers.push(setTimeout(async () => {
+            const file = fileIn(await this.look().then(output => output, () => ""));
+            if (this.isLive || this.isStopped)
+                return;
+            if (this.earlier === earlier && (file.id !== before.id || file.size < before.size))
+                this.becomeLive();
+            else
+                this.watch(before);
+        }, LOOK_EVERY));
     }
 
     becomeLive() {
         this.clearTimers();
         if (!this.isLive && !this.isStopped) {
             this.isLive = true;
+            this.earlier = 0;
             this.onState("live", "");
         }
     }
 
+    /** Takes bytes of the file. */
     take(data) {
-        if (!this.isLive)
-            this.waitForQuiet();
-        const lines = (this.rest + data).split("\n");
+        const earlier = data.subarray(0, this.earlier);
+        this.earlier -= earlier.length;
+        this.takeText(this.decoder.decode(earlier, { stream: true }), null);
+        if (this.earlier === 0)
+            this.becomeLive();
+        const later = data.subarray(earlier.length);
+        this.takeText(this.decoder.decode(later, { stream: true }), this.isLive ? Date.now() : null);
+    }
+
+    /** Takes the lines that end with this text. */
+    takeText(text, now) {
+        const lines = (this.rest + text).split("\n");
         this.rest = lines.pop().slice(0, LONGEST_LINE);
-        const now = this.isLive ? Date.now() : null;
+        if (this.isInLine && lines.length) {
+            lines.shift();
+            this.isInLine = false;
+        }
         for (const raw of lines) {
             const line = parse(raw);
             if (line)

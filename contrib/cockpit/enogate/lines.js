@@ -64,14 +64,17 @@ export function parse(raw) {
     return isOfType && isOfType(line) ? line : null;
 }
 
+const isRecorded = line => line?.type === "device" && orNull(count, line.seen) && orNull(integer, line.dbm) &&
+    list(isReading, line.readings);
+
 /**
- * The devices in the output of `enogatectl --json GATEWAY devices`, each with the time of its last telegram in ms, or
- * null.
+ * The devices in the output of `enogatectl --json GATEWAY devices`, each with its last readings and signal, and the
+ * time of its last telegram in ms, or null.
  * @param {string} output
  * @returns {Object[]}
  */
 export function recordedIn(output) {
-    return output.split("\n").map(parse).filter(line => line?.type === "device" && orNull(count, line.seen))
+    return output.split("\n").map(parse).filter(isRecorded)
             .map(({ seen, ...device }) => ({ ...device, seen: seen === null ? null : 1000 * seen }));
 }
 

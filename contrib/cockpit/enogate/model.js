@@ -48,6 +48,21 @@ function keyOf({ name, unit }, channel) {
     return [base, BY_UNIT.has(name) ? unit : "", channel ?? ""].join(" ");
 }
 
+/** Adds the readings of a telegram to a device. They have no place in the plot if their time is not known. */
+function addReadings(device, readings, now) {
+    const channel = channelOf(readings);
+    for (const reading of readings) {
+        const key = keyOf(reading, channel);
+        const value = device.readings.get(key) || { values: [] };
+        Object.assign(value, { reading, channel });
+        if (now !== null && reading.num !== undefined) {
+            value.values.push([now, reading.num / reading.den]);
+            limit(value.values, MOST_VALUES);
+        }
+        device.readings.set(key, value);
+    }
+}
+
 /** Removes the oldest elements of an array that grows at its end. */
 function limit(list, most) {
     if (list.length > most)
@@ -134,17 +149,7 @@ export class Model {
         // A switch has no state: each telegram replaces all of the one before.
         if (eep.startsWith("F6"))
             device.readings.clear();
-        const channel = channelOf(readings);
-        for (const reading of readings) {
-            const key = keyOf(reading, channel);
-            const value = device.readings.get(key) || { values: [] };
-            Object.assign(value, { reading, channel });
-            if (now !== null && reading.num !== undefined) {
-                value.values.push([now, reading.num / reading.den]);
-                limit(value.values, MOST_VALUES);
-            }
-            device.readings.set(key, value);
-        }
+        addReadings(device, readings, now);
         device.dbm = dbm;
         device.received = now;
     }
@@ -206,13 +211,17 @@ export class Model {
     /** Takes the devices that the lines record. A list that was read meanwhile is newer. */
     takeRecorded(devices) {
         this.isRecorded ||= devices.length > 0;
-        for (const { id, eep, label, seen } of devices) {
+        for (const { id, eep, label, seen, dbm, readings } of devices) {
             const device = this.devices.get(id) ?? (this.isListed ? undefined : this.device(id, eep));
             if (device?.eep !== eep)
                 continue;
             device.recorded = seen;
             if (!this.isListed)
                 device.label = label;
+            if (!device.readings.size) {
+                addReadings(device, readings, null);
+                device.dbm ??= dbm;
+            }
         }
     }
 
