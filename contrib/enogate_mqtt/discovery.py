@@ -60,7 +60,7 @@ def configs(topics: Topics, device: str, about: Config, rows: Iterable[Row], tol
     """The messages of a device, by topic. `about` describes the device, and `told` are the places of its readings.
     A cyclic reading becomes unavailable `expire_after` seconds after the last one."""
     entities = of_rows(topics, device, rows, told, expire_after)
-    shared = {"device": about, **available(topics.status, topics.gateway)}
+    shared = {"device": about, **available(topics.status, topics.gateway, topics.module)}
     every = messages(topics, entities | of_every_device(topics, device), shared)
     return every | triggers(topics, about, entities)
 

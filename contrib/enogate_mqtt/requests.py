@@ -9,12 +9,18 @@ from dataclasses import dataclass
 from typing import Callable
 
 from .desk import LIST, STATUS, Desk, News
-from .lines import Content, EndOfList, Response, Status
+from .lines import Content, EndOfList, Response, Status, Telegram
 
 # The pauses between two unanswered requests for the list, in seconds: the first, and the longest.
 FIRST_PAUSE, MAX_PAUSE = 5.0, 600.0
-# How often the gateway and the module are asked, and how long they may take to answer, in seconds.
-STATUS_EVERY, MODULE_EVERY, ANSWER_WITHIN = 60.0, 600.0, 15.0
+# How often the gateway is asked for its status, and how long it may take to answer at most, in seconds.
+STATUS_EVERY, ANSWER_WITHIN = 60.0, 15.0
+# If the radio module has shown nothing for so long, it is asked, in seconds: an order `base` is answered with 74 bytes
+# of lines, less than one megabyte a day. If the gateway writes no line for so long after an order, or the module does
+# not respond for so long, it does not work: with the time before, that is noticed within 15 seconds.
+PROBE_AFTER, SILENT_FOR = 7.0, 7.0
+# So long may a gateway be silent that starts. The unit starts it two seconds after its end.
+START_WITHIN = 10.0
 # The orders that open the learn window (docs/guide/orders.md), and the one that closes it.
 OPENING = re.compile(rb"learn (?:on|on answer|as [0-9A-Fa-f]{2}-[0-9A-Fa-f]{2}-[0-9A-Fa-f]{2})")
 CLOSING = b"learn off"
@@ -53,8 +59,10 @@ class ListRequest:
 
 @dataclass
 class Check:
-    """Whether something answers a request that is repeated: `is_online` is None until this is known."""
+    """Whether something answers a request that is repeated, within so many seconds: `is_online` is None until this is
+    known."""
     every: float
+    within: float
     due: float = 0.0
     asked: float = math.inf
     is_online: bool | None = None
@@ -63,16 +71,21 @@ class Check:
         """Whether to ask now."""
         if now < self.due:
             return False
-        # an unanswered request stays the one that counts
-        self.due, self.asked = now + self.every, min(self.asked, now)
+        self.due = now + self.every
+        self.ask(now)
         return True
+
+    def ask(self, now: float) -> None:
+        """It is asked now. An unanswered request stays the one that counts."""
+        self.asked = min(self.asked, now)
 
     def answer(self) -> None:
         self.asked, self.is_online = math.inf, True
 
-    def is_late(self, now: float) -> bool:
-        """Whether the answer has been missing for too long, and this was not reported yet."""
-        if now < self.asked + ANSWER_WITHIN or self.is_online is False:
+    def is_late(self, now: float, earliest: float = 0.0) -> bool:
+        """Whether the answer has been missing for too long, and this was not reported yet. It is not missing before the
+        earliest time."""
+        if now < max(self.asked + self.within, earliest) or self.is_online is False:
             return False
         self.is_online = False
         return True
@@ -94,7 +107,11 @@ class Requests:
                  learn_until: float | None = None):
         self.desk, self.clock, self.wall, self.learn_for = desk, clock, wall, learn_for
         self.list = ListRequest()
-        self.gateway, self.module = Check(STATUS_EVERY), Check(MODULE_EVERY)
+        # whether the gateway answers `status`, whether it writes any line after an order, and whether the module works
+        self.gateway, self.output = Check(STATUS_EVERY, ANSWER_WITHIN), Check(math.inf, SILENT_FOR)
+        self.module = Check(PROBE_AFTER, SILENT_FOR)
+        # when a start of the gateway was noticed after which it has not answered yet
+        self.started = -math.inf
         self.status: Status | None = None
         self.window: Window | None = None
         if learn_until is not None:
@@ -117,21 +134,27 @@ class Requests:
             self.give(b"base\n")
         if self.window and now >= self.window.until:
             self.close_window()
-        if self.gateway.is_late(now):
+        earliest = self.started + START_WITHIN
+        if self.gateway.is_late(now) or self.gateway.is_online and self.output.is_late(now, earliest):
             self.report_silence()
-        self.module.is_late(now)
+        self.module.is_late(now, earliest)
 
     def look_at_desk(self, now: float) -> None:
         """Asks again if the gateway was started, or a label was given."""
         news = self.desk.news()
         if news in (News.CREATED, News.REPLACED, News.TRUNCATED):
             self.gateway.due = self.module.due = now
+            if self.change is None:
+                # if it is started again and again, the first time counts
+                self.started = now
             self.change = news
         if news is not News.NONE:
             self.list.need(now)
 
     def report_silence(self) -> None:
-        """Says once that the gateway does not answer, with a change at the desk that may be the reason."""
+        """Says once that the gateway does not answer, with a change at the desk that may be the reason. Whether the
+        module works is then unknown."""
+        self.gateway.is_online, self.module = False, Check(PROBE_AFTER, SILENT_FOR)
         logging.warning("the gateway does not answer: orders are lost until it runs")
         if self.change is News.TRUNCATED:
             logging.warning("%s was truncated: if > was used in place of >>, restart the gateway", self.desk.path)
@@ -141,6 +164,7 @@ class Requests:
 
     def take(self, content: Content) -> None:
         """Handles a line of the gateway."""
+        self.output.answer()
         match content:
             case Status():
                 if self.gateway.is_online is False:
@@ -148,8 +172,9 @@ class Requests:
                 self.gateway.answer()
                 self.desk.unanswered.answer(STATUS)
                 self.status, self.change = content, None
-            case Response():
+            case Response() | Telegram():
                 self.module.answer()
+                self.module.due = self.clock() + PROBE_AFTER
             case EndOfList():
                 self.desk.unanswered.answer(LIST)
                 self.gateway.due = min(self.gateway.due, self.clock())
@@ -176,6 +201,7 @@ class Requests:
 
     def give(self, order: bytes) -> bool:
         """Gives an order; without a desk, or if it takes none now, nothing is lost, since all of these are repeated."""
+        self.output.ask(self.clock())
         try:
             self.desk.append(order)
         except OSError:

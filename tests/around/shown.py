@@ -97,7 +97,8 @@ class Shown:
         assert identifier == f"enogate_{self.name}_{device}", topic
         if component == "device_automation":
             return
-        assert config.pop("availability") == [{"topic": f"{own}/status"}, {"topic": f"{own}/gateway"}], topic
+        states = [{"topic": f"{own}/{name}"} for name in ("status", "gateway", "module")]
+        assert config.pop("availability") == states, topic
         assert config.pop("availability_mode") == "all", topic
         if place in EVERYWHERE:
             assert component == "sensor" and config == {**EVERYWHERE[place], "state_topic": f"{own}/{device}/{place}"}

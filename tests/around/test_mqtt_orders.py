@@ -65,6 +65,8 @@ class Orders(GatewayTest):
 
     def invalid_orders(self) -> None:
         """The broker does not send a message of 1 MB to the bridge."""
+        # the bridge gives no order by itself for some seconds after a telegram
+        self.bring("01800A10", "D2 046064")
         self.settle()
         self.heard.forget()
         before = len(self.given())

@@ -2,10 +2,11 @@
 from __future__ import annotations
 
 import signal
+import time
 
 from bridge_testcase import OFFLINE, ONLINE, OWN, GatewayTest
 from kinds import END_OF_LIST, KindsTest
-from programs import lines_of
+from programs import lines_of, wait_for
 
 
 class Stops(KindsTest):
@@ -99,6 +100,35 @@ class Stops(KindsTest):
 
     def assert_no_connection(self) -> None:
         self.assert_logged(f"no connection to localhost:{self.broker.port}: ")
+
+
+class Silence(GatewayTest):
+    """A gateway, and a bridge that is connected."""
+
+    def assert_within_15_seconds(self, message: str) -> None:
+        began = time.monotonic()
+        # a wait takes ten seconds
+        for _ in range(2):
+            wait_for(lambda: message in self.heard.messages(), bool)
+        seconds = time.monotonic() - began
+        self.assert_published(message)
+        self.assertLess(seconds, 15)
+
+    def test_a_module_and_a_gateway_that_stop(self):
+        self.start_bridge()
+        self.assert_published(f"{OWN}/module online")
+        with self.subTest("the module"):
+            self.stick.send(signal.SIGSTOP)
+            self.assert_within_15_seconds(f"{OWN}/module offline")
+            self.assert_seen(self.retained()[f"{OWN}/gateway"], "online")
+        with self.subTest("the module responds again"):
+            self.heard.forget()
+            self.stick.send(signal.SIGCONT)
+            self.assert_published(f"{OWN}/module online")
+        with self.subTest("the gateway"):
+            self.gateway.end(signal.SIGKILL)
+            self.assert_within_15_seconds(f"{OWN}/gateway offline")
+            self.assert_logged("the gateway does not answer: orders are lost until it runs")
 
 
 class LearnWindow(GatewayTest):

@@ -658,7 +658,7 @@ class Day(Case):
         turn = session.turn
         session.turn = lambda seconds: setattr(session, "is_open", True) or turn(seconds)
         self.site.tell(status())
-        self.site.turns(200, 0.05)
+        self.site.turns(120, 0.05)
 
     def test_the_journal(self):
         bridge = self.site.start()

@@ -15,6 +15,7 @@ DEVICE = "01800ABC"
 OWN = f"enogate/hall/{DEVICE}"
 BOTH = {"availability": [{"topic": "enogate/hall/status"}, {"topic": "enogate/hall/gateway"}],
         "availability_mode": "all"}
+ALL = {**BOTH, "availability": [*BOTH["availability"], {"topic": "enogate/hall/module"}]}
 BRIDGE = {"availability": [{"topic": "enogate/hall/status"}], "availability_mode": "all"}
 ORIGIN = {"name": "enogate-mqtt", "sw": VERSION}
 
@@ -57,7 +58,7 @@ class Entities(unittest.TestCase):
 
     def check(self, eep: str, key: str, wanted: dict, *told: str):
         name = key.split()[1]
-        wanted = {**wanted, **BOTH, "unique_id": f"enogate_hall_{DEVICE}_{name}", "device": about(eep),
+        wanted = {**wanted, **ALL, "unique_id": f"enogate_hall_{DEVICE}_{name}", "device": about(eep),
                   "origin": ORIGIN}
         self.assertEqual(configs(eep, *told)[key], wanted)
 
@@ -158,7 +159,7 @@ class Devices(unittest.TestCase):
             for key, config in configs(eep, expire_after=60).items():
                 self.assertEqual((config["device"], config["origin"]), (about(eep), ORIGIN), key)
                 if not key.startswith("device_automation"):
-                    self.assertEqual({name: config[name] for name in BOTH}, BOTH, key)
+                    self.assertEqual({name: config[name] for name in ALL}, ALL, key)
                     self.assertEqual(config["unique_id"], f"enogate_hall_{DEVICE}_{key.split()[1]}")
 
     def test_names_of_gateway_and_device_in_topics(self):
@@ -173,7 +174,7 @@ class Devices(unittest.TestCase):
         config = json.loads(found["ha/found/event/enogate_roof/0000000A_press/config"])
         self.assertEqual((config["state_topic"], config["unique_id"], config["availability"]), (
             "enogate/roof/0000000A/press", "enogate_roof_0000000A_press",
-            [{"topic": "enogate/roof/status"}, {"topic": "enogate/roof/gateway"}]))
+            [{"topic": f"enogate/roof/{name}"} for name in ("status", "gateway", "module")]))
 
     def test_the_text_of_a_message(self):
         rows = TABLE.of_profile("F6-01-01").values()

@@ -38,12 +38,14 @@ class Pages(unittest.TestCase):
         self.assert_said(f"within {requests.ANSWER_WITHIN:.0f} seconds", self.guide)
         self.assert_said(f"after {settings.LEARN_FOR} seconds (`MQTT_LEARN_SECONDS`)", self.guide)
         self.assert_said(f"The default is {settings.LEARN_FOR}.", self.page)
-        self.assertEqual((log.MAX_MESSAGES, log.PERIOD, requests.STATUS_EVERY, requests.MODULE_EVERY,
-                          connection.MAX_PAUSE),
-                         (10, 60, 60, 600, 60))
+        self.assertEqual((log.MAX_MESSAGES, log.PERIOD, requests.STATUS_EVERY, connection.MAX_PAUSE), (10, 60, 60, 60))
+        self.assertLess(requests.PROBE_AFTER + requests.SILENT_FOR, 15)
+        self.assert_said(f"no line for {requests.SILENT_FOR:.0f} seconds after any order", self.guide)
+        self.assert_said(f"({requests.START_WITHIN:.0f} seconds while it starts)", self.guide)
         for page in both:
             self.assert_said("every minute", page)
-            self.assert_said("every ten minutes", page)
+            self.assert_said(f"{requests.PROBE_AFTER:.0f} seconds after the last", page)
+            self.assert_said("within 15 seconds", page)
             self.assert_said("pauses that grow to a minute", page)
 
     def test_blinds(self):

@@ -2,8 +2,9 @@
 import unittest
 
 from enogate_mqtt.desk import Desk
-from enogate_mqtt.lines import EndOfList, Response, Status
-from enogate_mqtt.requests import ANSWER_WITHIN, MAX_PAUSE, MODULE_EVERY, STATUS_EVERY, Requests, opens_window
+from enogate_mqtt.lines import EndOfList, Other, Response, Status, Telegram
+from enogate_mqtt.requests import ANSWER_WITHIN, MAX_PAUSE, PROBE_AFTER, SILENT_FOR, START_WITHIN, STATUS_EVERY
+from enogate_mqtt.requests import Requests, opens_window
 from fakes import Case, Site
 
 STATUS = Status("closed", {})
@@ -140,25 +141,149 @@ class Asking(Case):
         self.turn(ANSWER_WITHIN)
         self.assert_logged("desk was replaced by another file, which the gateway does not read: restart the gateway")
 
+    def run_for(self, seconds, *answering):
+        """The orders of this many seconds. A gateway answers each order in the next second if it is one of these; its
+        module answers `base`, if `module` is one of them."""
+        orders = []
+        for _ in range(seconds):
+            given = self.turn(1)
+            for order in given:
+                if order in answering:
+                    self.requests.take({"status": STATUS, "list": EndOfList(0)}.get(order, Other()))
+                if order == "list":
+                    self.requests.list.answer()
+                if order == "base" and "module" in answering:
+                    self.requests.take(Response(0, "FF800000"))
+            orders += given
+        return orders
+
+    def states(self):
+        return self.requests.gateway.is_online, self.requests.module.is_online
+
     def test_the_module(self):
         self.turn()
         self.assertEqual(self.turn(5), ["list"])
         self.requests.take(STATUS)
         self.assertEqual(self.turn(1), ["base"])
         self.requests.take(Response(0, ""))
-        self.assertIs(self.requests.module.is_online, True)
-        times = []
-        for second in range(int(MODULE_EVERY) + 10):
-            times += [second] if "base" in self.turn(1) else []
+        self.assertEqual(self.states(), (True, True))
+        self.requests.list.answer()
+        self.assertEqual(self.turn(PROBE_AFTER - 0.1), [])
+        self.assertEqual(self.turn(0.1), ["base"])
+
+    def test_telegrams_show_that_the_module_works(self):
+        self.run_for(10, "list", "status", "base", "module")
+        for _ in range(100):
             self.requests.take(STATUS)
-        self.assertEqual(times, [MODULE_EVERY - 1])
-        self.assertEqual(MODULE_EVERY, 600)
+            self.requests.take(Telegram("01800ABC", "A5-02-05", -45, ()))
+            self.assertNotIn("base", self.turn(PROBE_AFTER - 1))
+        self.assertIn("base", self.run_for(7))
+
+    def test_a_gateway_that_stops_is_noticed_within_15_seconds(self):
+        """Whenever it stops: it is not asked any more often."""
+        for seconds in range(60, 74):
+            self.setUp()
+            self.run_for(seconds, "list", "status", "base", "module")
+            self.assertEqual(self.states(), (True, True))
+            self.run_for(5)
+            self.assertEqual(self.states(), (True, True))
+            self.run_for(9)
+            self.assertIs(self.requests.gateway.is_online, False)
+            self.assert_logged("the gateway does not answer")
+            self.assertEqual(set(self.run_for(120)), {"status"})
+            self.assert_logged("the gateway does not answer")
+
+    def test_a_module_that_stops_is_noticed_within_15_seconds(self):
+        for seconds in range(60, 74):
+            self.setUp()
+            self.run_for(seconds, "list", "status", "base", "module")
+            self.run_for(5, "status", "base")
+            self.assertEqual(self.states(), (True, True))
+            self.run_for(9, "status", "base")
+            self.assertEqual(self.states(), (True, False))
+            self.run_for(100, "status", "base")
+            self.assertEqual(self.states(), (True, False))
+            self.run_for(9, "status", "base", "module")
+            self.assertEqual(self.states(), (True, True))
+
+    def test_a_desk_that_the_gateway_does_not_read(self):
+        """Readings do not show that it carries out orders."""
+        self.run_for(70, "list", "status", "base", "module")
+        for _ in range(int(STATUS_EVERY + ANSWER_WITHIN)):
+            self.requests.take(Telegram("01800ABC", "A5-02-05", -45, ()))
+            self.turn(1)
+        self.assertEqual(self.states()[0], False)
+
+    def test_a_missing_desk(self):
+        self.run_for(70, "list", "status", "base", "module")
+        self.site.desk.unlink()
+        with self.assertRaises(FileNotFoundError):
+            self.site.desk.read_text()
+        for _ in range(14):
+            self.clock.now += 1
+            self.requests.turn(False)
+        self.assertIs(self.requests.gateway.is_online, False)
+
+    def test_an_hour_of_an_idle_building(self):
+        """The answers would be a megabyte in a day."""
+        orders = self.run_for(3600, "list", "status", "base", "module")
+        sizes = {"list": 26, "status": 89, "base": 14 + 60}
+        self.assertEqual(self.states(), (True, True))
+        self.assertEqual(self.logged, [])
+        self.assertLess(24 * sum(sizes[order] for order in orders), 1_100_000)
+        self.assertEqual(orders.count("status"), 61)
+
+    def restart(self):
+        self.site.desk.write_text("")
+        self.turn(1)
+
+    def test_a_gateway_may_need_some_seconds_to_start(self):
+        self.run_for(70, "list", "status", "base", "module")
+        self.run_for(4)
+        self.restart()
+        self.run_for(int(START_WITHIN) - 1)
+        self.assertEqual(self.states(), (True, True))
+        self.requests.take(STATUS)
+        self.requests.take(Response(0, ""))
+        self.run_for(70, "list", "status", "base", "module")
+        self.assertEqual((self.states(), self.logged), ((True, True), []))
+
+    def test_a_gateway_that_waits_for_its_stick(self):
+        """The unit empties the desk two seconds after the end of a gateway, and then waits."""
+        self.run_for(70, "list", "status", "base", "module")
+        self.run_for(2)
+        self.restart()
+        self.run_for(int(START_WITHIN) + 1)
+        self.assertIs(self.requests.gateway.is_online, False)
+
+    def test_a_gateway_that_is_started_again_and_again(self):
+        self.run_for(70, "list", "status", "base", "module")
+        for _ in range(5):
+            self.run_for(2)
+            self.restart()
+        self.assertIs(self.requests.gateway.is_online, False)
+        self.assert_logged("the gateway does not answer")
+
+    def test_the_module_of_a_gateway_that_answers_again(self):
+        """It is unknown until it has responded."""
+        self.run_for(70, "list", "status", "base", "module")
+        self.run_for(100)
+        self.requests.take(STATUS)
+        self.assertEqual(self.states(), (True, None))
+        self.assertIn("base", self.run_for(1, "base"))
+        self.run_for(6, "base")
+        self.assertEqual(self.states(), (True, None))
+        self.run_for(2, "base")
+        self.assertEqual(self.states(), (True, False))
 
     def test_a_module_that_does_not_respond(self):
         self.turn()
         self.requests.take(STATUS)
         self.turn(1)
-        self.turn(ANSWER_WITHIN)
+        self.requests.take(Other())
+        self.turn(SILENT_FOR - 1)
+        self.assertIsNone(self.requests.module.is_online)
+        self.turn(1)
         self.assertIs(self.requests.module.is_online, False)
         self.requests.take(Response(0, ""))
         self.assertIs(self.requests.module.is_online, True)
@@ -176,7 +301,8 @@ class Asking(Case):
         self.requests.take(STATUS)
         self.requests.command(b"learn on\n")
         self.turn(1)
-        self.assertEqual(self.turn(60), ["status"])
+        self.requests.take(Response(0, ""))
+        self.assertEqual(self.turn(60), ["status", "base"])
         self.assertEqual(self.turn(59), ["learn off"])
         self.assertEqual(self.turn(0.1), ["status"])
 
