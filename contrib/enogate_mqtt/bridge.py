@@ -25,6 +25,9 @@ TURN = 0.1
 SAVE_EVERY = 2.0
 # How long the end of the bridge waits for acknowledgements, in seconds.
 END_WITHIN = 2.0
+# What the broker retains is compared on an open connection, too: each day, and when somebody has removed some of it and
+# has then removed nothing for so long, in seconds.
+COMPARE_EVERY, REMOVED_BEFORE = 86400.0, 5.0
 GATEWAY, UNKNOWN = "gateway", "unknown"
 
 
@@ -63,6 +66,8 @@ class Bridge:
         # what the broker retains about the gateway itself, once this is known, and the deletions that are under way
         self.reported: dict[str, str] | None = None
         self.deleting: dict[str, int] = {}
+        # when it is compared again
+        self.compare_at = 0.0
         self.saved, self.saved_at = store.place, 0.0
         self.is_unknown_asked = False
 
@@ -104,6 +109,8 @@ class Bridge:
         self.requests.turn(self.devices.needs_list)
         self.devices.needs_list = False
         if self.connection and self.reconciler:
+            if self.reconciler.is_done and self.clock() >= self.compare_at:
+                self.compare_all(self.reconciler)
             self.turn_reconciler(self.reconciler)
             if self.reconciler.is_done and not self.is_online:
                 self.is_online = True
@@ -158,9 +165,14 @@ class Bridge:
         self.reconciler = Reconciler(self.clock, self.compare)
         self.is_online = False
         self.publish([Message(topic, "", True) for topic in sorted(self.devices.removed)])
-        self.reconciler.add([Part(GATEWAY, [*self.topics.reports, *self.of_gateway()])])
-        self.reconciler.add(map(self.part_of, sorted(self.devices.known)))
+        self.compare_all(self.reconciler)
         self.is_unknown_asked = False
+
+    def compare_all(self, reconciler: Reconciler) -> None:
+        """Compares everything that the broker retains about the gateway and its devices."""
+        reconciler.add([Part(GATEWAY, [*self.topics.reports, *self.of_gateway()])])
+        reconciler.add(map(self.part_of, sorted(self.devices.known)))
+        self.compare_at = self.clock() + COMPARE_EVERY
 
     def of_gateway(self) -> dict[str, str]:
         """The discovery messages of the gateway itself, by topic."""
@@ -250,13 +262,21 @@ class Bridge:
             self.reconciler.take(message.topic, message.payload.decode("utf-8", "replace"))
         if message.retained:
             return
-        if message.topic == self.topics.status:
-            # the broker has noticed only now that an earlier connection was lost
-            if message.payload == b"offline" and self.is_online:
-                self.publish([Message(self.topics.status, "online", True)])
-            return
-        if is_order:
+        if message.topic in self.topics.watched:
+            self.correct(message.topic, message.payload.decode("utf-8", "replace"))
+        elif is_order:
             self.give(message)
+
+    def correct(self, topic: str, text: str) -> None:
+        """Handles a message on a topic on which only this bridge publishes: what others publish there is replaced, and
+        what they have removed comes back. The broker sends `offline` if it notices late that an earlier connection was
+        lost."""
+        if not text:
+            self.compare_at = self.clock() + REMOVED_BEFORE
+        if topic == self.topics.status and text != "online" and self.is_online:
+            self.publish([Message(topic, "online", True)])
+        if self.reported is not None and topic in self.topics.reports and text != self.reported.get(topic):
+            self.reported.pop(topic, None)
 
     def give(self, message: Received) -> None:
         """Passes the orders of a message to the gateway."""

@@ -128,7 +128,7 @@ class Connection:
             self.is_open = True
             return
         if value_of(code) == 0:
-            filters = [*self.topics.commands, self.topics.status]
+            filters = [*self.topics.commands, *self.topics.watched]
             self.orders_request = sent(client.subscribe, [(topic, 1) for topic in filters])[1]
             return
         self.is_unsupported = self.is_five and value_of(code) in (1, 132)
@@ -147,7 +147,7 @@ class Connection:
     def on_subscribe(self, number: int, codes: Any) -> None:
         self.on_answer(self.unanswered, number)
         if number == self.orders_request:
-            if any(value_of(code) >= NOT_ACCEPTED for code in codes):
+            if any(value_of(code) >= NOT_ACCEPTED for code in codes[:len(self.topics.commands)]):
                 self.complaint = ", but this user may not subscribe to orders"
             self.is_open = True
 

@@ -62,6 +62,13 @@ class Topics:
         return [self.gateway, self.module, self.counters, self.learn]
 
     @property
+    def watched(self) -> list[str]:
+        """Topics of the gateway itself. Whoever removes all retained messages removes these too: the bridge receives
+        this if it subscribes to them, and little else, since it rarely publishes there."""
+        places = [("binary_sensor", "status"), ("sensor", "readings"), ("switch", "learn")] if self.discovery else []
+        return [self.status, *self.reports, *(self.config(component, name) for component, name in places)]
+
+    @property
     def learn_command(self) -> str:
         """`ON` or `OFF`: opens or closes the learn window."""
         return f"{self.own}/learn/set"

@@ -93,6 +93,15 @@ class Stops(KindsTest):
         with self.subTest("the journal has the reason once"):
             self.assert_seen(len([line for line in self.bridge.journal() if "no connection" in line]), 1)
 
+    def test_what_somebody_removes_comes_back(self):
+        """By the command of the guide, but without stopping the bridge first."""
+        before = self.retained()
+        words = ("--retained-only", "--remove-retained", "-W", "2", "-t", f"{OWN}/#", "-t",
+                 "homeassistant/+/enogate_hall/+/config")
+        self.broker.client("sub", *words)
+        self.assert_soon(lambda: self.retained().get(f"{OWN}/status"), "online")
+        self.assert_soon(lambda: sorted(before.items() - self.retained().items()), [])
+
     def kill_broker(self) -> None:
         self.broker.end(signal.SIGKILL)
         self.heard.end()

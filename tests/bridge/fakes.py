@@ -21,6 +21,10 @@ from enogate_mqtt.topics import Topics
 OK = {"type": "ok"}
 # How long a test may take, in seconds; the slowest one takes some ten on a busy machine.
 LONGEST_TEST = 120
+# Some topics of the gateway: whoever removes all of its retained messages removes these.
+WATCHED = [*(f"enogate/hall/{name}" for name in ("status", "gateway", "module", "counters", "learn")),
+           *(f"homeassistant/{place}/config" for place in (
+               "binary_sensor/enogate_hall/status", "sensor/enogate_hall/readings", "switch/enogate_hall/learn"))]
 
 
 class Clock:
@@ -49,7 +53,7 @@ class Retaining:
         self.published: list[tuple[str, str, bool]] = []
         self.requests: list[list[str]] = []
         self.waits: list[float] = []
-        self.acknowledges = self.answers = True
+        self.acknowledges = self.answers = self.passes_on = True
         self.number = 0
         self.is_open, self.is_lost, self.is_ended, self.is_closed = True, False, False, False
 
@@ -63,6 +67,8 @@ class Retaining:
             self.memory[message.topic] = message.payload
             if not message.payload:
                 del self.memory[message.topic]
+        if message.topic in WATCHED and self.passes_on:
+            self.received.append(Received(message.topic, message.payload.encode(), False))
         self.unacknowledged.add(self.next_number())
         return self.number
 
@@ -186,6 +192,13 @@ class Site:
     def send(self, topic: str, payload: bytes, retained: bool = False) -> None:
         """Somebody publishes a message."""
         self.broker.connection.received.append(Received(topic, payload, retained))
+
+    def remove_retained(self, start: str = "") -> None:
+        """Somebody removes the retained messages on the topics that begin so."""
+        for topic in [topic for topic in self.broker.memory if topic.startswith(start)]:
+            del self.broker.memory[topic]
+            if topic in WATCHED:
+                self.send(topic, b"")
 
     def told(self, start: str = "") -> list[tuple[str, str]]:
         """The topics and messages that were published on this connection."""

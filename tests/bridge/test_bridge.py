@@ -10,6 +10,7 @@ from enogate_mqtt.store import Store
 from fakes import OK, Case, Site, learned, listing, reading, status
 
 HALL = "enogate/hall/"
+RESPONSE = {"code": 0, "data": "FF800000", "name": "OK", "type": "response"}
 DEVICES = (("01800ABC", "A5-02-05", "Attic"), ("01800ABD", "D2-01-12", ""))
 
 
@@ -478,6 +479,67 @@ class Bridging(Case):
             self.site.send(HALL + "status", payload)
             self.site.turns()
             self.assertEqual(self.site.told(HALL + "status"), [(HALL + "status", "online")] * times)
+
+    def show_all(self):
+        """A bridge that has published everything, and what the broker retains then."""
+        self.start(*listing(*DEVICES), reading("01800ABC"))
+        self.site.tell(status(), RESPONSE)
+        self.site.turns(20)
+        self.assertLess({HALL + name for name in ("status", "gateway", "module", "counters", "learn")},
+                        self.site.broker.memory.keys())
+        return dict(self.site.broker.memory)
+
+    def live(self, turns):
+        """Turns in which the gateway answers."""
+        for number in range(turns):
+            if number % 30 == 0:
+                self.site.tell(status(), RESPONSE)
+            self.site.turns(1)
+
+    def test_what_somebody_removes_comes_back(self):
+        for start in ("", HALL, "homeassistant/", "homeassistant/sensor", "homeassistant/switch"):
+            with self.subTest(start):
+                self.setUp()
+                before = self.show_all()
+                self.site.remove_retained(start)
+                self.assertLess(self.site.broker.memory.keys(), before.keys())
+                self.site.turns(2)
+                self.assertEqual([self.site.broker.memory.get(HALL + name) for name in ("status", "learn")],
+                                 ["online", "OFF"])
+                self.live(80)
+                self.assertEqual(self.site.broker.memory, before)
+                self.live(300)
+                self.assertEqual(len(self.site.broker.readers), 2)
+
+    def test_a_removal_that_takes_some_time(self):
+        before = self.show_all()
+        for start in (HALL + "status", "homeassistant/sensor", HALL, "homeassistant"):
+            self.site.remove_retained(start)
+            self.live(40)
+        self.assertEqual(len(self.site.broker.readers), 1)
+        self.live(40)
+        self.assertEqual(self.site.broker.memory, before)
+
+    def test_a_single_message_that_is_removed_comes_back_within_a_day(self):
+        self.show_all()
+        self.site.remove_retained(HALL + "01800ABC/TMP")
+        self.site.turns(20, 3600)
+        self.assertEqual(len(self.site.broker.readers), 1)
+        self.site.turns(10, 3600)
+        self.assertEqual(len(self.site.broker.readers), 2)
+        self.assertEqual(self.site.broker.memory[HALL + "01800ABC/TMP"], "20")
+
+    def test_what_others_publish_on_topics_of_the_bridge(self):
+        before = self.show_all()
+        for name in ("status", "gateway", "module", "counters", "learn"):
+            for payload in (b"offline", b"", b"\xff\xff", b"something"):
+                self.site.broker.memory[HALL + name] = "other"
+                self.site.send(HALL + name, payload)
+                self.site.turns(2)
+                self.assertEqual(self.site.broker.memory[HALL + name], before[HALL + name], (name, payload))
+        count = len(self.site.told())
+        self.site.turns(20)
+        self.assertEqual(len(self.site.told()), count)
 
     def test_the_end(self):
         self.start()

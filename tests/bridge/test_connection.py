@@ -11,7 +11,7 @@ from enogate_mqtt import connection, outbox
 from enogate_mqtt.connection import Broker, Connection, Lost, Received, WrongProtocol
 from enogate_mqtt.settings import Login
 from enogate_mqtt.topics import Message, Topics
-from fakes import OK, Case, Clock, Retaining, Site, reading, status
+from fakes import OK, WATCHED, Case, Clock, Retaining, Site, reading, status
 
 TOPICS = Topics("hall", "homeassistant")
 
@@ -159,7 +159,7 @@ class Connecting(Case):
         self.accept(found)
         self.assertEqual(self.client.called("subscribe"), [(([
             ("enogate/hall/orders", 1), ("enogate/hall/learn/set", 1), ("enogate/hall/+/+/+/set", 1),
-            ("enogate/hall/status", 1)],), {})])
+            *((topic, 1) for topic in WATCHED)],), {})])
         self.assertEqual((found.is_open, found.complaint), (True, ""))
 
     def test_orders_that_may_not_be_received(self):
@@ -167,6 +167,9 @@ class Connecting(Case):
             found = self.connect()
             self.accept(found, codes=codes)
             self.assertEqual((found.is_open, found.complaint), (True, ", but this user may not subscribe to orders"))
+        found = self.connect()
+        self.accept(found, codes=(1, 1, 1, 128, 128))
+        self.assertEqual(found.complaint, "")
         found = self.connect()
         self.accept(found, codes=(Code(1), Code(2)))
         self.assertEqual(found.complaint, "")
