@@ -3,11 +3,12 @@ from __future__ import annotations
 
 import json
 import logging
+import math
 import re
 from typing import Callable, Iterable, Iterator
 
 from . import discovery
-from .connection import Broker, Connection, Lost, Received
+from .connection import ECHO_WITHIN, Broker, Connection, Lost, Received
 from .desk import Desk
 from .devices import Devices
 from .follow import Follower, Place
@@ -16,7 +17,7 @@ from .log import Seldom
 from .orders import DEVICE, Refused, orders_of
 from .outbox import Outbox
 from .reconcile import Part, Reconciler
-from .requests import ListRequest, Requests, opens_window
+from .requests import Check, ListRequest, Requests, opens_window
 from .store import Store
 from .topics import Message, Topics
 
@@ -66,7 +67,9 @@ class Bridge:
         # what the broker retains about the gateway itself, once this is known, and the deletions that are under way
         self.reported: dict[str, str] | None = None
         self.deleting: dict[str, int] = {}
-        # when it is compared again
+        # whether its own message `online` has come back on this connection
+        self.echo = Check(math.inf, ECHO_WITHIN)
+        # when what is retained is compared again
         self.compare_at = 0.0
         self.saved, self.saved_at = store.place, 0.0
         self.is_unknown_asked = False
@@ -114,7 +117,10 @@ class Bridge:
             self.turn_reconciler(self.reconciler)
             if self.reconciler.is_done and not self.is_online:
                 self.is_online = True
+                self.echo.ask(self.clock())
                 self.publish([Message(self.topics.status, "online", True)])
+            if self.echo.is_late(self.clock()):
+                self.broker.report_refused(self.topics.status)
             self.report()
             self.outbox.publish(lambda line: self.send(Message(self.topics.lines, line, False)))
             self.note_acknowledged(self.connection)
@@ -163,7 +169,7 @@ class Bridge:
         self.outbox.start_session()
         self.reported, self.deleting = None, {}
         self.reconciler = Reconciler(self.clock, self.compare)
-        self.is_online = False
+        self.is_online, self.echo = False, Check(math.inf, ECHO_WITHIN)
         self.publish([Message(topic, "", True) for topic in sorted(self.devices.removed)])
         self.compare_all(self.reconciler)
         self.is_unknown_asked = False
@@ -273,8 +279,12 @@ class Bridge:
         lost."""
         if not text:
             self.compare_at = self.clock() + REMOVED_BEFORE
-        if topic == self.topics.status and text != "online" and self.is_online:
-            self.publish([Message(topic, "online", True)])
+        if topic == self.topics.status and self.is_online:
+            if text != "online":
+                self.publish([Message(topic, "online", True)])
+            elif not self.echo.is_online:
+                self.echo.answer()
+                self.broker.report_connected()
         if self.reported is not None and topic in self.topics.reports and text != self.reported.get(topic):
             self.reported.pop(topic, None)
 

@@ -17,6 +17,8 @@ OPEN_WITHIN = 30.0
 # How long the broker may take to acknowledge something, if messages wait for it, in seconds. A broker with too many
 # messages for a client drops acknowledgements too, and paho would wait for them without end.
 ACKNOWLEDGE_WITHIN = 30.0
+# How long the first message of the bridge may take to come back from the broker, in seconds.
+ECHO_WITHIN = 15.0
 # The largest packet that the broker may send, in bytes: greater messages are dropped by the broker (MQTT 5).
 MAX_PACKET = 65536
 # The pauses between two attempts, in seconds: the first, and the longest. A connection that was open for longer than
@@ -283,9 +285,18 @@ class Broker:
             self.lose(str(lost))
             return False
         if self.connection.is_open and not was_open:
-            logging.info("connected to %s%s", self.name, self.connection.complaint)
             self.reasons.clear()
         return self.connection.is_open and not was_open
+
+    def report_connected(self) -> None:
+        """A message of the bridge has come back: the broker accepts and passes on what is published."""
+        if self.connection:
+            logging.info("connected to %s%s", self.name, self.connection.complaint)
+
+    def report_refused(self, topic: str) -> None:
+        """A message on this topic has not come back. The broker acknowledges messages that it drops, too."""
+        logging.warning("the broker at %s accepts the connection, but refuses what is published: %s did not come back "
+                        "within %.0f seconds; check the access rights of this user", self.name, topic, ECHO_WITHIN)
 
     def wait_or_connect(self, seconds: float) -> bool:
         if self.clock() < self.due:

@@ -7,8 +7,8 @@ import subprocess
 import unittest
 
 from bridge_testcase import MAY_SKIP, OWN, PYTHON, BridgeTest, is_missing
-from broker import PEOPLE, Certificates, free_ports
-from programs import WITHIN, lines_of
+from broker import BRIDGE, PEOPLE, Certificates, free_ports
+from programs import WITHIN, lines_of, wait_for
 from services import CONTRIB, ROOT
 
 # An acceptance of the connection whose properties are longer than the packet, and one of subscriptions that ends early.
@@ -94,6 +94,21 @@ class Connections(BridgeTest):
     def assert_rejected(self, text: str) -> None:
         """The broker rejects the bridge twice, with this text in its journal."""
         self.assert_soon(lambda: [text for line in self.broker.journal() if text in line][:2], [text] * 2)
+
+
+class Rights(BridgeTest):
+    """A broker at which the bridge may read, but not publish."""
+
+    def test_publications_that_are_refused(self):
+        (self.work / "rights").write_text(f"user {PEOPLE[0]}\ntopic readwrite #\nuser {BRIDGE[0]}\ntopic read #\n")
+        self.start_broker()
+        self.bridge.start()
+        refused = f"the broker at localhost:{self.broker.port} accepts the connection, but refuses what is published: "
+        # a wait takes ten seconds
+        wait_for(lambda: any(refused in line for line in self.bridge.journal()), bool)
+        self.assert_logged(f"{refused}{OWN}/status did not come back within 15 seconds")
+        self.assert_seen([line for line in self.bridge.journal() if "connected to" in line], [])
+        self.assert_seen(self.heard.messages(), [])
 
 
 class Packets(unittest.TestCase):

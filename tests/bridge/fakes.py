@@ -115,6 +115,8 @@ class FakeBroker:
         self.connection: Retaining | None = None
         self.readers: list[Retaining] = []
         self.lost: list[str] = []
+        # what the bridge has reported about the connection
+        self.said: list[str] = []
         self.waits: list[float] = []
         self.is_new = False
 
@@ -122,8 +124,15 @@ class FakeBroker:
         self.readers.append(Retaining(self.memory))
         return self.readers[-1]
 
-    def join(self) -> Retaining:
+    def report_connected(self) -> None:
+        self.said.append("connected")
+
+    def report_refused(self, topic: str) -> None:
+        self.said.append(f"refused {topic}")
+
+    def join(self, passes_on: bool = True) -> Retaining:
         self.connection, self.is_new = Retaining(self.memory), True
+        self.connection.passes_on = passes_on
         return self.connection
 
     def lose(self, why: str = "") -> None:

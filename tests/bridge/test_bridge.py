@@ -541,6 +541,43 @@ class Bridging(Case):
         self.site.turns(20)
         self.assertEqual(len(self.site.told()), count)
 
+    def test_it_is_connected_when_its_message_has_come_back(self):
+        self.start()
+        self.assertEqual(self.site.broker.said, ["connected"])
+        self.site.send(HALL + "status", b"online")
+        self.site.turns(200)
+        self.site.broker.join()
+        self.site.turns()
+        self.assertEqual(self.site.broker.said, ["connected"] * 2)
+
+    def test_an_early_message_of_another_client(self):
+        """It does not show that the messages of the bridge come back."""
+        self.site.start()
+        self.site.broker.join(passes_on=False)
+        self.site.send(HALL + "status", b"online")
+        self.site.turns(1)
+        self.assertFalse(self.site.bridge.is_online)
+        self.site.turns()
+        self.assertTrue(self.site.bridge.is_online)
+        self.assertEqual(self.site.broker.said, [])
+
+    def test_a_broker_that_refuses_what_is_published(self):
+        refused = f"refused {HALL}status"
+        self.site.start()
+        for count in (1, 2):
+            self.site.broker.join(passes_on=False)
+            self.site.turns(5, 0)
+            self.assertTrue(self.site.bridge.is_online)
+            self.site.turns(15, 1)
+            self.assertEqual(self.site.broker.said, [refused] * (count - 1))
+            self.site.turns(1, 1)
+            self.assertEqual(self.site.broker.said, [refused] * count)
+            self.site.turns(100, 1)
+            self.assertEqual(self.site.broker.said, [refused] * count)
+        self.site.send(HALL + "status", b"online")
+        self.site.turns(20, 1)
+        self.assertEqual(self.site.broker.said, [refused, refused, "connected"])
+
     def test_the_end(self):
         self.start()
         self.site.tell(OK)

@@ -495,7 +495,9 @@ class Brokers(Case):
 
     def test_an_opening_is_told_once(self):
         self.assertEqual(self.turns(4), [False, True, False, False])
-        self.assert_logged("INFO: connected to h:1883")
+        self.assertEqual(self.logged, [])
+        self.broker.report_connected()
+        self.assertEqual(self.logged, ["INFO: connected to h:1883"])
 
     def test_a_connection_that_is_not_open_yet(self):
         self.sessions = [(None, False)]
@@ -503,13 +505,24 @@ class Brokers(Case):
         self.assertEqual(self.logged, [])
         self.session.opens = True
         self.assertEqual(self.turns(2), [True, False])
-        self.assert_logged("INFO: connected to h:1883")
 
     def test_a_complaint_is_logged(self):
         self.turns(1)
         self.session.complaint = ", but"
         self.turns(1)
-        self.assert_logged("connected to h:1883, but")
+        self.broker.report_connected()
+        self.assertEqual(self.logged, ["INFO: connected to h:1883, but"])
+
+    def test_a_connection_on_which_nothing_is_published(self):
+        self.turns(2)
+        self.broker.report_refused("enogate/hall/status")
+        self.assertEqual(self.logged, [
+            "WARNING: the broker at h:1883 accepts the connection, but refuses what is published: enogate/hall/status "
+            "did not come back within 15 seconds; check the access rights of this user"])
+
+    def test_a_connection_that_was_lost_is_not_reported(self):
+        self.broker.report_connected()
+        self.assertEqual(self.logged, [])
 
     def test_a_loss_is_logged_once(self):
         self.sessions = [(OSError(),)] * 3
@@ -523,7 +536,7 @@ class Brokers(Case):
         self.sessions = [(Lost("one"),), (Lost("two"),), (Lost("two"),), (Lost("one"),)]
         for _ in range(1000):
             self.broker.turn(0.1)
-        self.assertEqual([line.rsplit(" ", 1)[1] for line in self.logged], ["one", "two", "h:1883"])
+        self.assertEqual([line.rsplit(" ", 1)[1] for line in self.logged], ["one", "two"])
 
     def test_pauses_grow_to_a_minute(self):
         self.sessions = [(OSError(),)] * 9
@@ -585,7 +598,7 @@ class Brokers(Case):
         self.sessions = [(WrongProtocol("x"),)]
         self.assertEqual(self.turns(4), [False, False, False, True])
         self.assertEqual(self.versions, [5, 4])
-        self.assertEqual(len(self.logged), 1)
+        self.assertEqual(self.logged, [])
 
     def test_a_name_that_is_used_twice(self):
         for _ in range(4):
