@@ -8,6 +8,8 @@ import stat
 from collections import deque
 from typing import Callable
 
+from .lines import Answer, Content, Deleted, EndOfList, Learned, Status
+
 # The desk, which is in memory, may grow to this size until the gateway restarts, once a day.
 MAX_SIZE = 16 * 1024 * 1024
 # The gateway reads about 2,500 bytes of its desk per second. So many bytes may be appended at once, and so many more
@@ -15,12 +17,14 @@ MAX_SIZE = 16 * 1024 * 1024
 MAX_BURST, BYTES_PER_SECOND = 16384, 2000
 # The gateway reads nothing from the stick while it writes an answer, and the answer to `list` has a line for each
 # device. Each of these lines counts like the shortest order, which is answered with one line.
-LIST, STATUS = b"list", b"status"
+LIST, STATUS, BASE = b"list", b"status", b"base"
 LINE = len(LIST) + 1
 # An answer that has not come after so many seconds does not come any more.
 ANSWER_WITHIN = 60.0
 # So many orders that are not answered are noted; the bridge gives far fewer in that time.
 MAX_UNANSWERED = 100
+# So many orders are noted that may be lost.
+MAX_GIVEN = 1000
 LABEL = b"\nlabel "
 # Ends an incomplete line. It may be the beginning of an order, of which a full file system has cut off the rest, and
 # could be another order: with the control character NAK it is none.
@@ -80,20 +84,72 @@ class Unanswered:
             given.clear()
 
 
+class Given:
+    """The orders that the bridge has written to the desk and that are not answered yet, each with whether it is of
+    others. No line names its order, and other programs give orders too, whose answers are taken for those of the
+    oldest order here. So an order may be taken as answered too early, until a `status` or `list` is answered: these
+    show that all orders before them were."""
+
+    def __init__(self) -> None:
+        self.orders: deque[tuple[bytes, bool]] = deque(maxlen=MAX_GIVEN)
+
+    def __len__(self) -> int:
+        return len(self.orders)
+
+    def add(self, orders: bytes, is_own: bool) -> None:
+        self.orders.extend((line, not is_own) for line in orders.split(b"\n")[:-1])
+
+    def take(self, content: Content) -> None:
+        """Handles a line of the gateway."""
+        match content:
+            case Status():
+                self.end(STATUS)
+            case EndOfList():
+                self.end(LIST)
+            case Answer():
+                self.end_first(lambda order: order not in (LIST, STATUS))
+            case Learned():
+                self.end_first(lambda order: order.startswith(b"add "))
+            case Deleted():
+                self.end_first(lambda order: order.startswith(b"remove "))
+
+    def end(self, answered: bytes) -> None:
+        """This order and all before it are answered."""
+        if any(order == answered for order, _ in self.orders):
+            while self.orders.popleft()[0] != answered:
+                pass
+
+    def end_first(self, can_be: Callable[[bytes], bool]) -> None:
+        """The first order is answered, if it can be the one."""
+        if self.orders and can_be(self.orders[0][0]):
+            self.orders.popleft()
+
+    def clear(self) -> list[bytes]:
+        """A gateway that was started answers none of them. Returns those of others that are lost. The bridge then gives
+        `list`, `status` and `base` by itself."""
+        lost = [order for order, is_of_others in self.orders if is_of_others and order not in (LIST, STATUS, BASE)]
+        self.orders.clear()
+        return lost
+
+
 class Desk:
     """The desk at this path."""
 
     def __init__(self, path: str, clock: Callable[[], float]):
         self.path, self.clock = path, clock
-        self.unanswered = Unanswered(clock)
-        # which file was checked, up to which offset, and the last bytes before that
+        self.unanswered, self.given = Unanswered(clock), Given()
+        # what has changed since the last question for news, and the orders that were lost by that
+        self.change, self.lost = News.NONE, list[bytes]()
+        # which file was checked, up to which offset, and the last bytes before that; and its size after an order
         self.inode, self.seen = self.state()
+        self.size = 0
         self.last = b"\n"
         self.allowance, self.allowed_at = float(MAX_BURST), clock()
 
     def give(self, orders: bytes, devices: int) -> int:
         """Appends these orders of others to a gateway with so many devices, or raises OSError. A `list` or `status` is
         left out while an earlier one is not answered. Returns how many orders were left out."""
+        self.notice()
         lines = self.unanswered.without_waiting(orders)
         if lines:
             # the end that the last line of the longest message got does not count
@@ -105,6 +161,7 @@ class Desk:
         """Appends these orders in a single write, or raises OSError. If the file ends with an incomplete line, that
         line is made invalid first. Orders that the bridge gives by itself are few: they have no cost, and are not
         limited."""
+        self.notice()
         flags = os.O_WRONLY | os.O_APPEND | os.O_NONBLOCK | os.O_NOCTTY | os.O_CLOEXEC
         file = os.open(self.path, flags)
         try:
@@ -116,7 +173,9 @@ class Desk:
             text = orders if size == 0 or self.ends_with_line(size) else INVALID_END + orders
             if not is_written(file, text):
                 raise OSError("incomplete write")
+            self.size = size + len(text)
             self.unanswered.add(orders, is_own=cost is None)
+            self.given.add(orders, is_own=cost is None)
         finally:
             os.close(file)
 
@@ -133,18 +192,40 @@ class Desk:
         """Whether the file ends with the end of a line, as far as it can be read."""
         return self.read(size - 1, 1) in (b"\n", b"")
 
-    def news(self) -> News:
-        """What changed since the last call."""
+    def take(self, content: Content) -> None:
+        """Handles a line of the gateway."""
+        self.given.take(content)
+        match content:
+            case Status():
+                self.unanswered.answer(STATUS)
+            case EndOfList():
+                self.unanswered.answer(LIST)
+
+    def notice(self) -> int:
+        """Notes whether this is another desk, or one that was emptied: its gateway answers no earlier order. Returns
+        its size."""
         inode, size = self.state()
         before = self.inode
-        if inode != before or size < self.seen:
-            self.inode, self.seen, self.last = inode, 0, b"\n"
+        if inode != before or size < max(self.seen, self.size):
+            self.inode, self.seen, self.size, self.last = inode, 0, 0, b"\n"
             self.unanswered.clear()
+            self.lost += self.given.clear()
             if inode != 0:
-                return News.TRUNCATED if inode == before else News.REPLACED if before else News.CREATED
-        if inode == 0:
+                self.change = News.TRUNCATED if inode == before else News.REPLACED if before else News.CREATED
+        return size
+
+    def take_lost(self) -> list[bytes]:
+        """The orders of others that were lost since the last call."""
+        lost, self.lost = self.lost, []
+        return lost
+
+    def news(self) -> News:
+        """What changed since the last call."""
+        size = self.notice()
+        change, self.change = self.change, News.NONE
+        if change is not News.NONE or self.inode == 0:
             # opening a pipe that nobody writes would block
-            return News.NONE
+            return change
         added = self.last + self.read(self.seen, size - self.seen)
         self.seen += len(added) - len(self.last)
         self.last = added[1 - len(LABEL):]

@@ -93,6 +93,11 @@ class Response:
 
 
 @dataclass(frozen=True)
+class Answer:
+    """An order was carried out or refused; a packet that failed gives the same error."""
+
+
+@dataclass(frozen=True)
 class Other:
     """A line that the bridge only passes on."""
 
@@ -103,7 +108,7 @@ class Strange:
     complaint: str
 
 
-Content = Union[Telegram, Learned, Deleted, Listed, EndOfList, Status, Response, Other, Strange]
+Content = Union[Telegram, Learned, Deleted, Listed, EndOfList, Status, Response, Answer, Other, Strange]
 COUNTERS = ("ignored", "readings", "refused", "responses", "teach")
 
 
@@ -148,6 +153,8 @@ def content_by_type(kind: str, members: dict[str, Any]) -> Content:
             return Status(text(members["mode"], TEXT), {name: count(members[name]) for name in COUNTERS})
         case "response", _:
             return Response(number(members["code"], 0, MAX_BYTE), text(members["data"], "(?:[0-9A-F]{2})*"))
+        case "ok" | "error", _:
+            return Answer()
     return Other()
 
 

@@ -8,7 +8,7 @@ import re
 from dataclasses import dataclass
 from typing import Callable
 
-from .desk import LIST, STATUS, Desk, News
+from .desk import Desk, News
 from .lines import Content, EndOfList, Response, Status, Telegram
 
 # The pauses between two unanswered requests for the list, in seconds: the first, and the longest.
@@ -21,6 +21,8 @@ STATUS_EVERY, ANSWER_WITHIN = 60.0, 15.0
 PROBE_AFTER, SILENT_FOR = 7.0, 7.0
 # So long may a gateway be silent that starts. The unit starts it two seconds after its end.
 START_WITHIN = 10.0
+# So many lost orders are named in a message, and so much of each.
+MAX_NAMED, SHOWN_OF_AN_ORDER = 5, 60
 # The orders that open the learn window (docs/guide/orders.md), and the one that closes it.
 OPENING = re.compile(rb"learn (?:on|on answer|as [0-9A-Fa-f]{2}-[0-9A-Fa-f]{2}-[0-9A-Fa-f]{2})")
 CLOSING = b"learn off"
@@ -142,6 +144,11 @@ class Requests:
     def look_at_desk(self, now: float) -> None:
         """Asks again if the gateway was started, or a label was given."""
         news = self.desk.news()
+        lost = [repr(order.decode("ascii", "replace")[:SHOWN_OF_AN_ORDER]) for order in self.desk.take_lost()]
+        if lost:
+            more = f" and {len(lost) - MAX_NAMED} more" if len(lost) > MAX_NAMED else ""
+            logging.warning("not answered before the gateway was started again, so probably lost: %s%s",
+                            ", ".join(lost[:MAX_NAMED]), more)
         if news in (News.CREATED, News.REPLACED, News.TRUNCATED):
             self.gateway.due = self.module.due = now
             if self.change is None:
@@ -165,18 +172,17 @@ class Requests:
     def take(self, content: Content) -> None:
         """Handles a line of the gateway."""
         self.output.answer()
+        self.desk.take(content)
         match content:
             case Status():
                 if self.gateway.is_online is False:
                     logging.info("the gateway answers again")
                 self.gateway.answer()
-                self.desk.unanswered.answer(STATUS)
                 self.status, self.change = content, None
             case Response() | Telegram():
                 self.module.answer()
                 self.module.due = self.clock() + PROBE_AFTER
             case EndOfList():
-                self.desk.unanswered.answer(LIST)
                 self.gateway.due = min(self.gateway.due, self.clock())
 
     def command(self, orders: bytes) -> None:

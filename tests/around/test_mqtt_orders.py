@@ -84,6 +84,27 @@ class Orders(GatewayTest):
             self.assert_seen(self.bridge.journal()[2:], [])
 
 
+class LostOrders(GatewayTest):
+    """A gateway that is started again, as each day."""
+
+    def test_orders_between_the_end_and_the_start_are_named(self):
+        self.order("add 01800ABC D2-01-12")
+        self.start_bridge()
+        self.broker.publish(f"{OWN}/01800ABC/OV/0/set", "ON")
+        self.assert_soon(lambda: lines_of(self.gateway.desk)[-1:], ["switch 01800ABC 0 on"])
+        self.settle()
+        self.gateway.end()
+        self.broker.publish(f"{OWN}/01800ABC/OV/0/set", "OFF")
+        self.broker.publish(f"{OWN}/orders", "list\nlevel 5 40 10")
+        self.assert_soon(lambda: lines_of(self.gateway.desk)[-1:], ["level 5 40 10"])
+        before = self.stick.sent()
+        self.gateway.start(self.stick)
+        self.assert_logged("not answered before the gateway was started again, so probably lost: "
+                           "'switch 01800ABC 0 off', 'level 5 40 10'")
+        self.settle()
+        self.assert_seen(self.stick.sent(), before)
+
+
 class NoOrders(BridgeTest):
     """Messages that are not given as orders. There is a desk, but no gateway."""
 

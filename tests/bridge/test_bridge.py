@@ -578,6 +578,30 @@ class Bridging(Case):
         self.site.turns(20, 1)
         self.assertEqual(self.site.broker.said, [refused, refused, "connected"])
 
+    def test_orders_that_are_lost_by_a_restart_of_the_gateway(self):
+        """They are named, and not given again."""
+        self.start()
+        for _ in range(2):
+            self.site.tell(*listing(*DEVICES), status(), RESPONSE)
+            self.site.turns(2)
+        self.site.tell(status())
+        self.site.turns(2)
+        self.site.send(HALL + "orders", b"teach 5\nteach \x1b\xff\n")
+        for channel in range(9):
+            self.site.send(HALL + f"01800ABD/OV/{channel}/set", b"OFF")
+        self.site.turns(1)
+        self.site.tell(OK)
+        self.site.turns(1)
+        self.site.desk.write_text("")
+        self.site.turns()
+        self.assertEqual(self.logged, [
+            "WARNING: not answered before the gateway was started again, so probably lost: 'teach \\x1b\ufffd', "
+            "'switch 01800ABD 0 off', 'switch 01800ABD 1 off', 'switch 01800ABD 2 off', 'switch 01800ABD 3 off' "
+            "and 5 more"])
+        self.assertEqual(self.site.orders(), ["status", "base"])
+        self.site.turns(20)
+        self.assert_logged("not answered before")
+
     def test_the_end(self):
         self.start()
         self.site.tell(OK)

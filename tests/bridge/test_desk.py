@@ -7,6 +7,7 @@ import unittest
 from unittest import mock
 
 from enogate_mqtt.desk import ANSWER_WITHIN, BYTES_PER_SECOND, LINE, MAX_BURST, MAX_SIZE, Desk, News
+from enogate_mqtt.lines import Answer, Deleted, EndOfList, Learned, Status, Telegram
 from fakes import Case, Clock, Site
 
 
@@ -23,6 +24,10 @@ def full_after(free):
         return written
     with mock.patch("os.write", write):
         yield
+
+
+OK, STATUS, LIST, LEARNED = Answer(), Status("closed", {}), EndOfList(2), Learned("01800ABC", "D5-00-01", None)
+REMOVED, READING = Deleted("01800ABC"), Telegram("01800ABC", "D5-00-01", -45, ())
 
 
 class Desks(Case):
@@ -51,6 +56,75 @@ class Desks(Case):
         self.write("dim 01800ABC 0 10")
         self.desk.append(b"list\n")
         self.assertEqual(self.path.read_bytes(), b"dim 01800ABC 0 10\x15\nlist\n")
+
+    def lost(self, orders, *answers):
+        """The orders that a gateway has not answered that is started after these lines."""
+        self.setUp()
+        self.give(orders.encode())
+        for answer in answers:
+            self.desk.take(answer)
+        self.desk.news()
+        self.assertEqual(self.desk.take_lost(), [])
+        self.write("", "w")
+        self.assertIs(self.desk.news(), News.TRUNCATED)
+        found = [order.decode() for order in self.desk.take_lost()]
+        self.assertEqual((self.desk.take_lost(), len(self.desk.given)), ([], 0))
+        return found
+
+    def test_orders_that_are_lost_by_a_start(self):
+        two = "dim 01800ABC 0 10\nteach 5\n"
+        for orders, answers, wanted in (
+            (two, (), ["dim 01800ABC 0 10", "teach 5"]), (two, (OK,), ["teach 5"]), (two, (OK, OK, OK), []),
+            (two, (READING, LEARNED, REMOVED, LIST, STATUS), ["dim 01800ABC 0 10", "teach 5"]),
+            ("teach 5\nstatus\nteach 6\nlist\nteach 7\n", (STATUS,), ["teach 6", "teach 7"]),
+            ("teach 5\nstatus\nteach 6\nlist\nteach 7\n", (LIST,), ["teach 7"]),
+            ("status\nteach 6\n", (OK, OK), ["teach 6"]),
+            ("list\nteach 6\n", (OK, OK), ["teach 6"]),
+            ("add 01800ABC D5-00-01\nremove 01800ABC\nteach 5\n", (LEARNED,), ["remove 01800ABC", "teach 5"]),
+            ("add 01800ABC D5-00-01\nremove 01800ABC\nteach 5\n", (LEARNED, REMOVED), ["teach 5"]),
+            ("remove 01800ABC\nadd 01800ABC D5-00-01\n", (REMOVED, OK), []),
+            # the bridge gives these again by itself
+            ("list\nstatus\nbase\nteach 5\n", (), ["teach 5"]),
+        ):
+            with self.subTest(orders=orders, answers=answers):
+                self.assertEqual(self.lost(orders, *answers), wanted)
+
+    def test_orders_after_a_start_are_not_lost(self):
+        """Also if the start was not noticed before."""
+        self.give(b"teach 5\n")
+        self.write("", "w")
+        self.give(b"teach 6\n")
+        self.assertIs(self.desk.news(), News.TRUNCATED)
+        self.assertEqual(self.desk.take_lost(), [b"teach 5"])
+        self.assertIs(self.desk.news(), News.NONE)
+        self.write("", "w")
+        self.desk.news()
+        self.assertEqual(self.desk.take_lost(), [b"teach 6"])
+
+    def test_a_start_before_an_order_of_the_bridge(self):
+        self.give(b"teach 5\n")
+        self.desk.news()
+        self.write("", "w")
+        self.desk.append(b"list\nstatus\nbase\n")
+        self.assertIs(self.desk.news(), News.TRUNCATED)
+        self.assertEqual(self.desk.take_lost(), [b"teach 5"])
+
+    def test_own_orders_are_not_lost(self):
+        """But they show which orders before them were answered."""
+        self.give(b"teach 5\n")
+        self.desk.append(b"learn off\n")
+        self.desk.append(b"status\n")
+        self.give(b"teach 6\n")
+        self.desk.append(b"learn off\n")
+        self.desk.take(STATUS)
+        self.write("", "w")
+        self.desk.news()
+        self.assertEqual(self.desk.take_lost(), [b"teach 6"])
+
+    def test_a_list_after_a_start_that_was_not_noticed_is_not_answered_by_the_old_gateway(self):
+        self.give(b"list\n")
+        self.write("", "w")
+        self.assertEqual(self.give(b"list\n"), 0)
 
     def test_orders_are_a_single_write(self):
         self.write("sta")

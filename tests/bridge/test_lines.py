@@ -4,8 +4,8 @@ import unittest
 from fractions import Fraction
 
 from enogate_mqtt import lines
-from enogate_mqtt.lines import BadLine, Deleted, EndOfList, Learned, Listed, Other, Reading, Response, Status, Strange
-from enogate_mqtt.lines import Telegram, content_of, decimal
+from enogate_mqtt.lines import Answer, BadLine, Deleted, EndOfList, Learned, Listed, Other, Reading, Response, Status
+from enogate_mqtt.lines import Strange, Telegram, content_of, decimal
 
 
 CONTACT = ('{"dbm":-45,"eep":"D5-00-01","id":"01800ABC","readings":[{"name":"CO","word":"closed"}],'
@@ -61,7 +61,8 @@ class Contents(unittest.TestCase):
              Status("as F6-02-01", {"ignored": 1, "readings": 2, "refused": 3, "responses": 4, "teach": 5})),
             (b'{"code":0,"data":"","name":"OK","type":"response"}', Response(0, "")),
             (b'{"code":213,"data":"09FF","name":null,"type":"response"}', Response(213, "09FF")),
-            (b'{"type":"ok"}', Other()), (b'{"error":"syntax","type":"error"}', Other()), (b'{"type":"new"}', Other()),
+            (b'{"type":"ok"}', Answer()), (b'{"error":"syntax","type":"error"}', Answer()),
+            (b'{"type":"new"}', Other()),
         ):
             with self.subTest(line):
                 self.assertEqual(content_of(line), content)
