@@ -5,7 +5,6 @@ import importlib
 import logging
 import os
 import signal
-import sqlite3
 import sys
 import time
 from types import ModuleType
@@ -36,9 +35,6 @@ def main() -> int:
     except WrongSetting as wrong:
         logging.error("%s", wrong)
         return STATUS
-    except sqlite3.Error as error:
-        logging.error("%s: %s", words.state, error)
-        return 1
     except KeyboardInterrupt:
         return 1
     return 0

@@ -3,9 +3,11 @@ readings, the topics whose retained messages are still to be deleted, and the en
 All is written in one transaction, so it is consistent even after a power failure."""
 from __future__ import annotations
 
+import contextlib
 import json
 import logging
 import os
+import pathlib
 import re
 import sqlite3
 from typing import Iterable
@@ -17,6 +19,8 @@ from .lines import NAME
 # The version of the tables, in PRAGMA user_version. A file of another version is replaced. The table `learn` was added
 # without another version: programs that do not know it can use the file.
 VERSION = 2
+# So long the start waits for a file that another program has locked, in seconds.
+WAIT = 5.0
 TABLES = f"""
 PRAGMA journal_mode = WAL;
 PRAGMA synchronous = NORMAL;
@@ -37,52 +41,104 @@ class Foreign(Exception):
 
 
 class Store:
-    """The state file at this path. A file that is damaged, or of another version, is replaced. `discovery` is the topic
-    prefix of the discovery messages that were published last."""
+    """The state file at this path. A file that is damaged, or of another version, is replaced. If it cannot be written,
+    the bridge runs without it, and it is tried again at each save. `discovery` is the topic prefix of the discovery
+    messages that were published last."""
 
     def __init__(self, path: str, discovery: str):
-        self.is_failing, self.discovery = False, discovery
+        self.path, self.discovery = path, discovery
+        # whether the last save failed, and whether the file lacks changes of this run
+        self.is_failing = self.is_behind = False
+        self.connection: sqlite3.Connection | None = None
+        self.forget()
+        if not self.open(WAIT):
+            self.is_behind = self.is_failing = True
+            self.read_without_writing()
+
+    def forget(self) -> None:
+        """The state without a file."""
+        self.devices: list[Device] = []
+        self.removed: set[str] = set()
+        self.place: Place | None = None
+        # until the broker was asked for everything, it may know more than a new state file
+        self.old_discovery, self.may_adopt = self.discovery, True
+        # in seconds since 1970
+        self.learn_until: float | None = None
+
+    def open(self, wait: float) -> bool:
+        """Opens the file, which is created if there is none, and reads it. Returns whether it succeeded."""
         try:
-            self.open(path)
+            self.open_or_replace(wait)
+        except (sqlite3.Error, OSError) as error:
+            if not self.is_failing:
+                logging.error("%s: %s; continuing without saving the state", self.path, error)
+            self.close()
+            return False
+        return True
+
+    def open_or_replace(self, wait: float) -> None:
+        try:
+            self.prepare(wait)
         except (sqlite3.DatabaseError, Foreign, ValueError, TypeError) as error:
             # a file that cannot be opened or is locked is not damaged
             if isinstance(error, sqlite3.OperationalError) and "no such" not in str(error):
                 raise
-            logging.warning("%s: %s; replacing the file; its state is lost", path, error)
-            self.connection.close()
+            logging.warning("%s: %s; replacing the file; its state is lost", self.path, error)
+            self.close()
             for end in ("", "-wal", "-shm"):
-                if os.path.exists(path + end):
-                    os.remove(path + end)
-            self.open(path)
+                if os.path.exists(self.path + end):
+                    os.remove(self.path + end)
+            self.prepare(wait)
 
-    def open(self, path: str) -> None:
-        """Opens the file, which is created if there is none, and reads it."""
-        self.connection = sqlite3.connect(path)
-        version = self.connection.execute("PRAGMA user_version").fetchone()[0]
-        tables = self.connection.execute("SELECT count(*) FROM sqlite_master").fetchone()[0]
-        if tables and version != VERSION:
-            raise Foreign(f"version {version} of the state, expected {VERSION}")
+    def prepare(self, wait: float) -> None:
+        self.connection = sqlite3.connect(self.path, timeout=wait)
+        check_version(self.connection)
         self.connection.executescript(TABLES)
+        self.read(self.connection)
+
+    def read_without_writing(self) -> None:
+        """Reads a file that cannot be written, if there is one. If not even a file beside it can be created, which
+        SQLite needs to read the log of a bridge that was killed, this log is left out: the state is then older."""
+        for option in ("mode=ro", "immutable=1"):
+            try:
+                uri = f"{pathlib.Path(self.path).absolute().as_uri()}?{option}"
+                with contextlib.closing(sqlite3.connect(uri, timeout=WAIT, uri=True)) as connection:
+                    check_version(connection)
+                    self.read(connection)
+                return
+            except (sqlite3.Error, Foreign, ValueError, TypeError):
+                self.forget()
+
+    def close(self) -> None:
+        if self.connection:
+            self.connection.close()
+            self.connection = None
+
+    def read(self, connection: sqlite3.Connection) -> None:
+        self.forget()
         self.devices = [Device(name, eep, label, maker, told_of(told)) for name, eep, label, maker, told
-                        in self.connection.execute("SELECT id, eep, label, maker, told FROM device")]
-        self.removed = {topic for topic, in self.connection.execute("SELECT topic FROM removed")}
-        row = self.connection.execute("SELECT inode, offset, last, discovery, may_adopt FROM place").fetchone()
-        self.place = Place(*row[:3]) if row else None
-        self.old_discovery = row[3] if row else self.discovery
-        # until the broker was asked for everything, it may know more than a new state file
-        self.may_adopt = bool(row[4]) if row else True
-        row = self.connection.execute("SELECT until FROM learn").fetchone()
-        # in seconds since 1970
-        self.learn_until: float | None = row[0] if row else None
+                        in connection.execute("SELECT id, eep, label, maker, told FROM device")]
+        self.removed = {topic for topic, in connection.execute("SELECT topic FROM removed")}
+        row = connection.execute("SELECT inode, offset, last, discovery, may_adopt FROM place").fetchone()
+        if row:
+            self.place, self.old_discovery, self.may_adopt = Place(*row[:3]), row[3], bool(row[4])
+        row = connection.execute("SELECT until FROM learn").fetchone()
         if row and not isinstance(row[0], float):
             raise Foreign("learn window of an unknown form")
+        self.learn_until = row[0] if row else None
 
     def save(self, place: Place, changed: Iterable[str], known: dict[str, Device], removed: set[str],
              may_adopt: bool = False, learn_until: float | None = None) -> bool:
         """Saves this place, the changed devices, the topics to be deleted, and the end of the learn window. Returns
-        whether it succeeded."""
+        whether it succeeded. If the file was not open, it gets the whole state."""
+        if self.connection is None and not self.open(0):
+            return False
+        assert self.connection is not None
         try:
             with self.connection:
+                if self.is_behind:
+                    self.connection.execute("DELETE FROM device")
+                    changed = list(known)
                 self.connection.execute("DELETE FROM place")
                 values = (place.inode, place.offset, place.last, self.discovery, may_adopt)
                 self.connection.execute("INSERT INTO place VALUES (?, ?, ?, ?, ?)", values)
@@ -90,7 +146,7 @@ class Store:
                 if learn_until is not None:
                     self.connection.execute("INSERT INTO learn VALUES (?)", (learn_until,))
                 for name in changed:
-                    self.save_device(name, known.get(name))
+                    self.save_device(self.connection, name, known.get(name))
                 if removed != self.removed:
                     self.connection.execute("DELETE FROM removed")
                     self.connection.executemany("INSERT INTO removed VALUES (?)", [(topic,) for topic in removed])
@@ -99,15 +155,26 @@ class Store:
                 logging.error("cannot save the state: %s", error)
             self.is_failing = True
             return False
-        self.is_failing, self.removed, self.may_adopt, self.learn_until = False, set(removed), may_adopt, learn_until
+        if self.is_behind:
+            logging.info("%s: the state is saved again", self.path)
+        self.is_failing = self.is_behind = False
+        self.removed, self.may_adopt, self.learn_until = set(removed), may_adopt, learn_until
         return True
 
-    def save_device(self, name: str, device: Device | None) -> None:
+    def save_device(self, connection: sqlite3.Connection, name: str, device: Device | None) -> None:
         """Saves a device, or that there is none of this ID."""
-        self.connection.execute("DELETE FROM device WHERE id = ?", (name,))
+        connection.execute("DELETE FROM device WHERE id = ?", (name,))
         if device:
             values = (name, device.eep, device.label, device.maker, json.dumps(device.told))
-            self.connection.execute("INSERT INTO device VALUES (?, ?, ?, ?, ?)", values)
+            connection.execute("INSERT INTO device VALUES (?, ?, ?, ?, ?)", values)
+
+
+def check_version(connection: sqlite3.Connection) -> None:
+    """Whether this is a state file of this version, or a new one. If not, it is Foreign."""
+    version = connection.execute("PRAGMA user_version").fetchone()[0]
+    tables = connection.execute("SELECT count(*) FROM sqlite_master").fetchone()[0]
+    if tables and version != VERSION:
+        raise Foreign(f"version {version} of the state, expected {VERSION}")
 
 
 def told_of(text: str) -> dict[str, str]:

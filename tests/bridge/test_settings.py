@@ -131,12 +131,6 @@ class Program(Case):
             self.assertEqual(self.run_it("hall")[0], 2)
         self.assert_logged("ERROR: python3-paho-mqtt is not installed: ")
 
-    def test_a_state_that_does_not_open(self):
-        with mock.patch("enogate_mqtt.main.Bridge"), mock.patch("enogate_mqtt.main.import_paho"), \
-                mock.patch("enogate_mqtt.main.Store", side_effect=main.sqlite3.OperationalError("unable to open")):
-            self.assertEqual(self.run_it("hall")[0], 1)
-        self.assert_logged("unable to open")
-
     def test_signals_end_it(self):
         for number in (main.signal.SIGTERM, main.signal.SIGINT):
             with self.subTest(number), mock.patch("enogate_mqtt.main.Bridge") as bridge, \

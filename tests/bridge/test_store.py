@@ -183,20 +183,65 @@ class Stores(Case):
         self.assertEqual(self.logged, [])
 
     def test_a_file_that_cannot_be_opened_is_left(self):
+        """The bridge runs without it, and says so once. When it can be opened, it gets the whole state."""
         self.path.mkdir()
-        with self.assertRaises(sqlite3.OperationalError):
-            self.open()
-        self.assertTrue(self.path.is_dir())
+        store = self.open()
+        self.assertEqual((store.place, store.devices, store.removed, store.may_adopt, store.learn_until),
+                         (None, [], set(), True, None))
+        for _ in range(3):
+            self.assertFalse(store.save(PLACE, [], {"01800ABC": self.device}, {"a"}))
+        self.assertEqual(self.logged, [
+            f"ERROR: {self.path}: unable to open database file; continuing without saving the state"])
+        self.path.rmdir()
+        self.assertTrue(store.save(PLACE, [], {"01800ABC": self.device}, {"a"}, False, 1.0))
+        self.assertEqual(self.logged[1:], [f"INFO: {self.path}: the state is saved again"])
+        again = self.open()
+        self.assertEqual((again.place, again.devices, again.removed, again.may_adopt, again.learn_until),
+                         (PLACE, [self.device], {"a"}, False, 1.0))
+        store.save(PLACE, ["01800ABC"], {}, set())
+        self.assertEqual(self.open().devices, [])
+
+    def full(self):
+        """A file system that takes nothing more."""
+        class Full(sqlite3.Connection):
+            def executescript(self, _text):
+                raise sqlite3.OperationalError("database or disk is full")
+        real = sqlite3.connect
+        return mock.patch("sqlite3.connect", lambda *words, **named: real(*words, factory=Full, **named))
+
+    def test_a_file_that_cannot_be_written_is_read(self):
+        other = Device("01800ABD", "A5-02-05")
+        known = {"01800ABC": self.device, "01800ABD": other}
+        self.open().save(PLACE, known, known, {"a"}, False, 1.0)
+        with self.full():
+            store = self.open()
+            self.assertEqual((store.place, store.devices, store.removed, store.may_adopt, store.learn_until),
+                             (PLACE, [self.device, other], {"a"}, False, 1.0))
+            self.assertFalse(store.save(PLACE, [], {}, set()))
+        self.assertEqual(self.logged, [
+            f"ERROR: {self.path}: database or disk is full; continuing without saving the state"])
+        self.assertTrue(store.save(Place(8, 1, b"y"), [], {"01800ABC": self.device}, set()))
+        self.assertEqual((self.open().place, self.open().devices), (Place(8, 1, b"y"), [self.device]))
+
+    def test_a_file_of_another_version_that_cannot_be_written(self):
+        self.sql("CREATE TABLE device (x); PRAGMA user_version = 3")
+        self.sql("CREATE TABLE place (x)")
+        with self.full():
+            store = self.open()
+        self.assertEqual((store.place, store.devices), (None, []))
 
     def test_a_file_in_use_is_left(self):
         self.open().save(PLACE, [], {}, set())
         other = sqlite3.connect(self.path, isolation_level=None)
         other.execute("BEGIN EXCLUSIVE")
-        with mock.patch("sqlite3.connect", return_value=sqlite3.connect(self.path, timeout=0)):
-            with self.assertRaisesRegex(sqlite3.OperationalError, "locked"):
-                self.open()
+        with mock.patch("enogate_mqtt.store.WAIT", 0):
+            store = self.open()
+            self.assertFalse(store.save(PLACE, [], {}, {"b"}))
+        self.assert_logged("database is locked; continuing without saving the state")
         other.close()
         self.assertEqual(self.open().place, PLACE)
+        self.assertTrue(store.save(PLACE, [], {}, {"b"}))
+        self.assertEqual(self.open().removed, {"b"})
 
 
 if __name__ == "__main__":
