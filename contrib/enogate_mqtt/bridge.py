@@ -15,7 +15,7 @@ from .follow import Follower, Place
 from .lines import BadLine, Content, Strange, content_of
 from .log import Seldom
 from .orders import DEVICE, Refused, orders_of
-from .outbox import Outbox
+from .outbox import MAX_UNDER_WAY, Backlog, Outbox
 from .reconcile import Part, Reconciler
 from .requests import Check, ListRequest, Requests, opens_window
 from .store import Store
@@ -54,7 +54,7 @@ class Bridge:
                  requests: Requests, store: Store, clock: Callable[[], float], wall: Callable[[], float]):
         self.topics, self.broker, self.devices, self.follower = topics, broker, devices, follower
         self.desk, self.requests, self.store, self.clock, self.wall = desk, requests, store, clock, wall
-        self.outbox = Outbox()
+        self.outbox, self.backlog = Outbox(), Backlog()
         self.seldom = Seldom(clock)
         self.connection: Connection | None = None
         # what the broker retains comes on a connection of its own: if it is too much for the broker, it drops some of
@@ -83,7 +83,8 @@ class Bridge:
             self.turn()
         self.requests.close_window()
         if self.connection:
-            self.publish([Message(self.topics.status, "offline", True)])
+            # what waits is not published any more: the next run compares the states
+            self.send(Message(self.topics.status, "offline", True))
             self.connection.end(END_WITHIN)
             self.note_acknowledged(self.connection)
         self.save()
@@ -117,12 +118,12 @@ class Bridge:
             self.turn_reconciler(self.reconciler)
             if self.reconciler.is_done and not self.is_online:
                 self.is_online = True
-                self.echo.ask(self.clock())
                 self.publish([Message(self.topics.status, "online", True)])
             if self.echo.is_late(self.clock()):
                 self.broker.report_refused(self.topics.status)
             self.report()
-            self.outbox.publish(lambda line: self.send(Message(self.topics.lines, line, False)))
+            self.publish_waiting()
+            self.outbox.publish(lambda line: self.send(Message(self.topics.lines, line, False)), self.has_room)
             self.note_acknowledged(self.connection)
         if self.clock() >= self.saved_at + SAVE_EVERY:
             self.save()
@@ -167,6 +168,7 @@ class Bridge:
         assert self.connection is not None
         self.close_reader()
         self.outbox.start_session()
+        self.backlog = Backlog()
         self.reported, self.deleting = None, {}
         self.reconciler = Reconciler(self.clock, self.compare)
         self.is_online, self.echo = False, Check(math.inf, ECHO_WITHIN)
@@ -227,19 +229,32 @@ class Bridge:
         return True
 
     def publish(self, messages: Iterable[Message]) -> None:
-        """Publishes these if there is a connection. Otherwise, retained messages are published once there is one, and
-        events never."""
-        if self.connection:
+        """Publishes these if there is a connection, as soon as there is room for them. Otherwise, retained messages are
+        published once there is one, and events never."""
+        if self.connection and self.reconciler:
             for message in messages:
-                number = self.send(message)
-                if message.retained and not message.payload:
-                    self.deleting[message.topic] = number
+                if message.retained:
+                    self.reconciler.publish(message.topic, message.payload)
+                self.backlog.add(message)
+                self.publish_waiting()
+
+    def has_room(self) -> bool:
+        """Whether another message may be under way."""
+        return self.connection is not None and len(self.connection.unacknowledged) < MAX_UNDER_WAY
+
+    def publish_waiting(self) -> None:
+        """Publishes messages that wait, while there is room for them."""
+        while self.backlog and self.has_room():
+            message = self.backlog.next()
+            number = self.send(message)
+            if message.retained and not message.payload:
+                self.deleting[message.topic] = number
+            if message.topic == self.topics.status and self.echo.is_online is None:
+                self.echo.ask(self.clock())
 
     def send(self, message: Message) -> int:
         """Publishes a message on the open connection, and returns its number."""
-        assert self.connection is not None and self.reconciler is not None
-        if message.retained:
-            self.reconciler.publish(message.topic, message.payload)
+        assert self.connection is not None
         return self.connection.publish(message)
 
     def take_lines(self, are_kept: bool, is_late: bool = False, is_earlier: bool = False) -> None:

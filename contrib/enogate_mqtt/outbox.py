@@ -1,4 +1,4 @@
-"""The lines that the broker has not acknowledged."""
+"""What the broker has not acknowledged or received yet: lines, and other messages that wait."""
 from __future__ import annotations
 
 import logging
@@ -7,9 +7,15 @@ from dataclasses import dataclass
 from typing import Callable, Container
 
 from .follow import Place
+from .topics import Message
 
 # So many lines are kept while the broker is unavailable; after that the oldest are dropped.
 MAX_LINES = 10000
+# So many messages are under way at a time: the others wait here, where a press is put before them. This is less than
+# what mosquitto takes in a second.
+MAX_UNDER_WAY = 500
+# So many events wait; after that the oldest are dropped.
+MAX_EVENTS = 1000
 
 
 @dataclass
@@ -31,7 +37,7 @@ class Outbox:
         if len(self.entries) == MAX_LINES:
             self.entries.popleft()
             if not self.is_dropping:
-                logging.warning("broker unavailable: %s lines kept, dropping the oldest", MAX_LINES)
+                logging.warning("broker unavailable or too slow: %s lines kept, dropping the oldest", MAX_LINES)
             self.is_dropping = True
         self.entries.append(Entry(line, before))
 
@@ -41,9 +47,12 @@ class Outbox:
         for entry in self.entries:
             entry.number = None
 
-    def publish(self, publish: Callable[[str], int]) -> None:
-        """Publishes the lines that are not published yet; `publish` returns the number of the message."""
+    def publish(self, publish: Callable[[str], int], has_room: Callable[[], bool]) -> None:
+        """Publishes the lines that are not published yet, while there is room for another message; `publish` returns
+        the number of the message."""
         for entry in self.entries:
+            if not has_room():
+                return
             if entry.number is None:
                 entry.number = publish(entry.line)
 
@@ -55,3 +64,25 @@ class Outbox:
     def place(self, end: Place) -> Place:
         """The place up to which all lines are acknowledged; `end` is that up to which they were read."""
         return self.entries[0].before if self.entries else end
+
+
+class Backlog:
+    """Messages that wait because enough others are under way. Events are first, and of each retained topic only the
+    newest message is kept, so there are never more of them than topics."""
+
+    def __init__(self) -> None:
+        self.events: deque[Message] = deque(maxlen=MAX_EVENTS)
+        self.states: dict[str, Message] = {}
+
+    def __len__(self) -> int:
+        return len(self.events) + len(self.states)
+
+    def add(self, message: Message) -> None:
+        if message.retained:
+            self.states[message.topic] = message
+        else:
+            self.events.append(message)
+
+    def next(self) -> Message:
+        """Removes the message that is published next."""
+        return self.events.popleft() if self.events else self.states.pop(next(iter(self.states)))

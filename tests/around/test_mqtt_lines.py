@@ -9,6 +9,21 @@ DEVICE = f"{OWN}/01800A02"
 TORN = '{"dbm":-45,"eep":"D5-0'
 
 
+class ManyLines(GatewayTest):
+    """Many lines at once: the broker needs seconds for all their messages."""
+
+    def test_a_press_after_many_lines(self):
+        self.start_bridge()
+        reading = ('{{"dbm":-45,"eep":"A5-02-05","id":"01800A02","readings":'
+                   '[{{"den":1,"name":"TMP","num":{},"unit":"C"}}],"type":"reading"}}\n')
+        press = ('{"dbm":-45,"eep":"F6-02-01","id":"01800A0D","readings":[{"name":"R1","word":"BI"},'
+                 '{"name":"EB","word":"pressed"}],"type":"reading"}\n')
+        self.gateway.append("".join(map(reading.format, range(9000))) + press)
+        self.assert_published(f'{OWN}/01800A0D/press {{"event_type":"BI"}}')
+        self.assert_published(f"{DEVICE}/TMP 8999")
+        self.assertLess(len([it for it in self.heard.messages() if it.startswith(f"{DEVICE}/TMP ")]), 2000)
+
+
 class Lines(GatewayTest):
     """A gateway that received its device before the bridge runs for the first time, and a broker that retains an order.
     While the bridge runs, other programs change the file of lines."""

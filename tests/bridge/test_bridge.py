@@ -602,6 +602,79 @@ class Bridging(Case):
         self.site.turns(20)
         self.assert_logged("not answered before")
 
+    def congest(self):
+        """More readings than may be under way, at a broker that does not acknowledge them, and a press after them."""
+        self.start(*listing(*DEVICES), learned("01800AC1", "F6-02-01"))
+        self.site.turns(20)
+        connection = self.site.broker.connection
+        connection.acknowledges = False
+        connection.published.clear()
+        for number in range(300):
+            temperature = [{"den": 1, "name": "TMP", "num": number, "unit": "C"}]
+            self.site.tell(*(reading(name, readings=temperature) for name in ("01800ABC", "01800ABE")))
+        rocker = [{"name": "R1", "word": "BI"}, {"name": "EB", "word": "pressed"}]
+        self.site.tell(reading("01800AC1", "F6-02-01", rocker))
+        self.site.turns(5)
+        return connection
+
+    def test_a_broker_that_is_slower_than_the_lines(self):
+        """Of each state only the newest waits, and a press is before the states, and these before the lines."""
+        connection = self.congest()
+        self.assertEqual((len(connection.unacknowledged), len(connection.published)), (500, 500))
+        self.assertLess(len(self.site.bridge.backlog), 20)
+        connection.acknowledges = True
+        self.site.turns(1)
+        later = [(topic.removeprefix(HALL), text) for topic, text in self.site.told()[500:]]
+        self.assertEqual(later[0], ("01800AC1/press", '{"event_type":"BI"}'))
+        places = [place for place, _ in later]
+        self.assertEqual(sorted(text for place, text in later if place.endswith("ABC/TMP")), ["299"])
+        self.assertLess(max(number for number, place in enumerate(places) if place != "lines"), places.index("lines"))
+        self.site.turns(10)
+        self.assertEqual(len(self.lines()), 601)
+        self.assertEqual([self.site.broker.memory[HALL + name] for name in ("01800ABC/TMP", "01800ABE/TMP")],
+                         ["299", "299"])
+        self.assertEqual(self.site.bridge.outbox.entries.__len__(), 0)
+
+    def test_a_loss_while_messages_wait(self):
+        """A press that has not been published is not published later. States are."""
+        self.congest()
+        self.site.broker.join()
+        self.site.turns(20)
+        self.assertEqual(self.site.told(HALL + "01800AC1/press"), [])
+        self.assertEqual(self.site.broker.memory[HALL + "01800ABC/TMP"], "299")
+        self.assertEqual(len(self.lines()), 601)
+
+    def test_the_end_while_messages_wait(self):
+        connection = self.congest()
+        self.site.stop()
+        self.assertEqual(connection.published[-1][:2], (HALL + "status", "offline"))
+        self.assertEqual(len(connection.published), 501)
+
+    def test_a_deletion_that_waits(self):
+        connection = self.congest()
+        self.site.tell(learned("01800ABC", result="deleted"))
+        self.site.turns(2)
+        self.assertIn(HALL + "01800ABC/TMP", self.site.bridge.devices.removed)
+        self.assertIn(HALL + "01800ABC/TMP", self.site.broker.memory)
+        connection.acknowledges = True
+        self.site.turns(10)
+        self.assertNotIn(HALL + "01800ABC/TMP", self.site.bridge.devices.removed)
+        self.assertNotIn(HALL + "01800ABC/TMP", self.site.broker.memory)
+
+    def test_a_message_that_waits_is_not_refused(self):
+        self.start(*listing(*DEVICES))
+        with mock.patch("enogate_mqtt.bridge.MAX_UNDER_WAY", 1):
+            self.site.broker.memory.clear()
+            connection = self.site.broker.join()
+            connection.acknowledges = False
+            self.site.turns(50, 1)
+            self.assertTrue(self.site.bridge.is_online)
+            self.assertNotIn(("enogate/hall/status", "online"), self.site.told())
+            self.assertEqual(self.site.broker.said, ["connected"])
+            connection.acknowledges = True
+            self.site.turns(200)
+        self.assertEqual(self.site.broker.said, ["connected"] * 2)
+
     def test_the_end(self):
         self.start()
         self.site.tell(OK)

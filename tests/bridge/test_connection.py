@@ -681,7 +681,7 @@ class Day(Case):
         self.turns(self.TURNS)
         self.assertEqual(self.logged, [
             "WARNING: no connection to h:1883: Connection refused",
-            "WARNING: broker unavailable: 500 lines kept, dropping the oldest"])
+            "WARNING: broker unavailable or too slow: 500 lines kept, dropping the oldest"])
         self.assertGreaterEqual(self.attempts, self.TURNS // 2)
         self.assertEqual(len(bridge.outbox.entries), self.KEPT)
         self.returns()
@@ -694,7 +694,7 @@ class Day(Case):
         self.turns(self.TURNS // 2)
         self.turns(self.TURNS // 2, answers=False)
         self.assertEqual(sorted(self.logged), [
-            "WARNING: broker unavailable: 500 lines kept, dropping the oldest",
+            "WARNING: broker unavailable or too slow: 500 lines kept, dropping the oldest",
             "WARNING: no connection to h:1883: Connection refused",
             "WARNING: the gateway does not answer: orders are lost until it runs"])
 

@@ -4,7 +4,8 @@ from unittest import mock
 
 from enogate_mqtt import outbox
 from enogate_mqtt.follow import Place
-from enogate_mqtt.outbox import Outbox
+from enogate_mqtt.outbox import Backlog, Outbox
+from enogate_mqtt.topics import Message
 from fakes import Case
 
 END = Place(1, 99, b"")
@@ -15,11 +16,20 @@ class Outboxes(Case):
         super().setUp()
         self.box, self.published = Outbox(), []
 
-    def publish(self):
+    def publish(self, room=100):
         def send(line):
             self.published.append(line)
             return len(self.published)
-        self.box.publish(send)
+        self.box.publish(send, lambda: len(self.published) < room)
+
+    def test_lines_wait_for_room(self):
+        self.fill("a", "b", "c")
+        self.publish(2)
+        self.assertEqual(self.published, ["a", "b"])
+        self.box.drop_acknowledged(set())
+        self.assertEqual([entry.line for entry in self.box.entries], ["c"])
+        self.publish(3)
+        self.assertEqual(self.published, ["a", "b", "c"])
 
     def fill(self, *lines):
         for line in lines:
@@ -65,10 +75,30 @@ class Outboxes(Case):
         with mock.patch.object(outbox, "MAX_LINES", 3):
             self.fill("a", "b", "c", "d", "e")
             self.assertEqual([entry.line for entry in self.box.entries], ["c", "d", "e"])
-            self.assert_logged("broker unavailable: 3 lines kept, dropping the oldest")
+            self.assert_logged("broker unavailable or too slow: 3 lines kept, dropping the oldest")
             self.box.start_session()
             self.fill("f")
             self.assert_logged("dropping the oldest", 2)
+
+
+class Backlogs(Case):
+    def test_the_sequence(self):
+        """Events are first. Of each state only the newest is kept, at its place in the sequence."""
+        backlog = Backlog()
+        for topic, text, retained in (("a", "1", True), ("press", "x", False), ("b", "1", True), ("a", "2", True),
+                                      ("press", "y", False), ("c", "", True)):
+            backlog.add(Message(topic, text, retained))
+        self.assertEqual(len(backlog), 5)
+        found = [backlog.next() for _ in range(5)]
+        self.assertEqual([(message.topic, message.payload) for message in found],
+                         [("press", "x"), ("press", "y"), ("a", "2"), ("b", "1"), ("c", "")])
+        self.assertEqual(len(backlog), 0)
+
+    def test_the_newest_events_are_kept(self):
+        backlog = Backlog()
+        for number in range(outbox.MAX_EVENTS + 5):
+            backlog.add(Message("press", str(number), False))
+        self.assertEqual((len(backlog), backlog.next().payload, outbox.MAX_EVENTS), (1000, "5", 1000))
 
 
 if __name__ == "__main__":

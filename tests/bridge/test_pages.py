@@ -33,6 +33,8 @@ class Pages(unittest.TestCase):
         self.assert_said(f"passes on {limits}",
                          *both)
         self.assert_said(f"at most the last {outbox.MAX_LINES:,}", self.guide)
+        self.assert_said(f"It keeps the last {outbox.MAX_LINES:,} lines", self.guide)
+        self.assert_said(f"at most {outbox.MAX_UNDER_WAY} messages are under way", self.guide)
         self.assert_said(f"messages of more than {connection.MAX_PACKET:,} bytes", self.guide)
         self.assert_said(f"{log.MAX_MESSAGES and 'ten'} messages of a kind in a minute", self.guide)
         self.assert_said(f"within {requests.ANSWER_WITHIN:.0f} seconds", self.guide)
