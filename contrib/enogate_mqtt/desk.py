@@ -26,8 +26,8 @@ MAX_UNANSWERED = 100
 # So many orders are noted that may be lost.
 MAX_GIVEN = 1000
 LABEL = b"\nlabel "
-# Ends an incomplete line. It may be the beginning of an order, of which a full file system has cut off the rest, and
-# could be another order: with the control character NAK it is none.
+# Ends an incomplete line. If a full file system has cut off the end of an order, the rest could be another order: with
+# the control character NAK it is none.
 INVALID_END = b"\x15\n"
 
 

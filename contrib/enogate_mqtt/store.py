@@ -33,7 +33,7 @@ PRAGMA user_version = {VERSION};
 COMMIT;
 """
 # The place of a reading below the topic of its device.
-TOLD = re.compile(f"{NAME}(?:/[0-9]{{1,20}})?")
+REPORTED_PLACE = re.compile(f"{NAME}(?:/[0-9]{{1,20}})?")
 
 
 class Foreign(Exception):
@@ -184,7 +184,7 @@ def told_of(text: str) -> dict[str, str]:
         raise Foreign("readings of an unknown form")
     for place, value in told.items():
         # an earlier version accepted lines with such readings, which cannot be published
-        if not TOLD.fullmatch(place) or any("\ud800" <= character <= "\udfff" for character in value):
+        if not REPORTED_PLACE.fullmatch(place) or any("\ud800" <= character <= "\udfff" for character in value):
             raise Foreign("readings that cannot be published")
     return told
 

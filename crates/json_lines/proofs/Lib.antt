@@ -4,7 +4,6 @@ pub mod HexTexts
 pub mod LineTexts
 pub mod PacketTextsInjective
 pub mod PacketTexts
-pub mod Sent
 pub mod Distinguishable
 pub mod TeachTextsInjective
 pub mod TeachTextOutcome
