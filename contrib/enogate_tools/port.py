@@ -1,11 +1,13 @@
 """The serial port of a radio module: its lock, its settings, and the base ID that the module reports."""
 from __future__ import annotations
 
+import contextlib
 import errno
 import fcntl
 import os
 import select
 import stat
+import sys
 import termios
 import time
 
@@ -25,6 +27,11 @@ OFF = {
     "crtscts": (2, termios.CRTSCTS), "icanon": (3, termios.ICANON), "isig": (3, termios.ISIG),
     "echo": (3, termios.ECHO),
 }
+
+
+# So long the end waits for a stick to take what was sent to it, in seconds. 4 KB, the most that the kernel holds for a
+# USB stick, take 0.7 s.
+SENT_WITHIN, PAUSE = 1.0, 0.1
 
 
 class PortError(Exception):
@@ -125,3 +132,30 @@ def ask_base(port: int, path: str, clock=time.monotonic) -> str | None:
     except OSError as error:
         raise PortError(f"{path} cannot be used: {error.strerror}") from error
     return base_in(stream)
+
+
+def unsent(port: int) -> int:
+    """How many bytes wait in the kernel for the stick."""
+    try:
+        return int.from_bytes(fcntl.ioctl(port, termios.TIOCOUTQ, bytes(4)), sys.byteorder)
+    except OSError:
+        return 0
+
+
+def is_hung_up(port: int) -> bool:
+    """Whether the stick of an open port was unplugged."""
+    poll = select.poll()
+    poll.register(port, 0)
+    return bool(poll.poll(0))
+
+
+def release(port: int, sleep=time.sleep) -> None:
+    """Closes a port. What the stick has not taken after a second is discarded: the kernel would wait for half a
+    minute."""
+    for _ in range(round(SENT_WITHIN / PAUSE)):
+        if not unsent(port):
+            break
+        sleep(PAUSE)
+    with contextlib.suppress(termios.error):
+        termios.tcflush(port, termios.TCOFLUSH)
+    os.close(port)

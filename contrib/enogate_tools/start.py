@@ -2,38 +2,47 @@
 from __future__ import annotations
 
 import argparse
+import contextlib
 import os
 import signal
 import sys
 import time
 
-from . import VERSION, port as ports
+from . import VERSION, desk, lines, port as ports
+from .lines import NOTICE, WARNING
+from .unit import Unit
 
 # In a command, this word stands for the base ID.
 PLACE = "{base}"
 # How often a unit looks for a stick, in seconds.
 PAUSE = 1.0
-WARNING, NOTICE = "<4>", "<5>"
 
 
 def parsed(arguments: list[str]) -> argparse.Namespace:
     """The command line."""
     parser = argparse.ArgumentParser(
         prog="enogate-port", allow_abbrev=False,
-        usage="enogate-port [--base ID] [--unit DIRECTORY] PORT COMMAND [ARG..]\n       enogate-port --base-id PORT",
+        usage="enogate-port [--base ID] PORT COMMAND [ARG..]\n       enogate-port --base-id PORT\n"
+        "       enogate-port --unit DIRECTORY --lines FILE [--base ID] [--base-file FILE] PORT COMMAND [ARG..]\n"
+        "       enogate-port --unit DIRECTORY --lines FILE --clean",
         description="Lock and configure the serial port of a radio module, and run a command that uses it.",
         epilog="In ARG, the word {base} stands for the base ID. See enogate-port(1).")
     parser.add_argument("--base", metavar="ID", help="base ID to use; compared with that of the module "
                         "(default: the one that the module reports)")
     parser.add_argument("--base-id", action="store_true", help="print the base ID that the module reports")
     parser.add_argument("--unit", metavar="DIRECTORY", help="run as the unit of the gateway with this runtime "
-                        "directory: wait until the port can be used")
+                        "directory: wait until the port can be used, and watch the command")
+    parser.add_argument("--lines", metavar="FILE", help="file to which the output of the command is appended")
+    parser.add_argument("--base-file", metavar="FILE", help="file with the base ID of earlier starts")
+    parser.add_argument("--clean", action="store_true", help="empty the desk and repair the lines, before a start")
     parser.add_argument("--version", action="version", version=f"enogate-port {VERSION}")
-    parser.add_argument("port", metavar="PORT")
+    parser.add_argument("port", metavar="PORT", nargs="?")
     parser.add_argument("command", metavar="COMMAND", nargs=argparse.REMAINDER)
     words = parser.parse_args(arguments)
-    if words.base_id == bool(words.command):
-        parser.error("either --base-id or a command is required")
+    if [bool(words.command), words.base_id, words.clean].count(True) != 1 or bool(words.port) == words.clean:
+        parser.error("either --base-id, --clean or a command is required")
+    if bool(words.unit) != bool(words.lines) or (words.clean and not words.unit):
+        parser.error("--unit, --lines: either both or none are required")
     if words.base and not ports.is_base(words.base):
         before = "" if words.unit else "enogate-port: "
         parser.exit(2, f"{before}BASE={words.base} is not a base ID ({ports.SHAPE}): correct it, or remove it\n")
@@ -44,7 +53,9 @@ class Starter:
     """Prepares the port. `path` is its name, `base` the ID that was set, or empty."""
 
     def __init__(self, words: argparse.Namespace, say, sleep=time.sleep, clock=time.monotonic):
-        self.path, self.base, self.unit = words.port, (words.base or "").upper(), words.unit
+        self.path, self.unit, self.base_file = words.port, words.unit, words.base_file
+        self.set_base = self.base = (words.base or "").upper()
+        self.words = words.command
         self.wants_base = bool(self.base) or words.base_id or PLACE in words.command
         self.announces = not words.base_id
         self.say, self.sleep, self.clock = say, sleep, clock
@@ -63,9 +74,10 @@ class Starter:
 
     def find_base(self, reported: str | None) -> None:
         """Compares the base ID with the one that the module reported, or takes that one."""
-        if not self.base and not reported:
-            raise ports.PortError(f"no radio module at {self.path} reports its base ID: correct SERIAL, or set BASE")
-        if not self.base:
+        if not self.set_base and not reported:
+            raise ports.PortError(f"no radio module at {self.path} reports its base ID: unplug it and plug it in, "
+                                  "correct SERIAL, or set BASE")
+        if not self.set_base:
             self.base = reported
             if self.announces:
                 self.say(NOTICE, f"the base ID is {reported}, as the radio module at {self.path} reports")
@@ -92,20 +104,34 @@ class Starter:
         if reported:
             self.say(NOTICE, f"{self.path} can be used now")
             # Orders that were given meanwhile are out of date.
-            os.truncate(os.path.join(self.unit, "desk"), 0)
+            desk.empty(os.path.join(self.unit, "desk"))
+        self.compare_with_earlier()
         return port
 
-    def record(self, port: int) -> None:
-        """Stores which device node it is: a stick that is plugged in again gets another one."""
-        with open(os.path.join(self.unit, "stick"), "w", encoding="ascii") as file:
-            print(os.fstat(port).st_ino, file=file)
+    def compare_with_earlier(self) -> None:
+        """Says if the module is not that of earlier starts: of two sticks, the other one may have been taken. A base ID
+        that is set counts from now on."""
+        if not self.base_file or not self.base:
+            return
+        earlier = ""
+        with contextlib.suppress(OSError), open(self.base_file, encoding="ascii", errors="replace") as file:
+            earlier = file.read(9).strip()
+        if ports.is_base(earlier) and not self.set_base and earlier != self.base:
+            self.say(WARNING, f"at earlier starts the base ID was {earlier}: if {self.path} is the wrong stick, "
+                     f"correct SERIAL; if the stick was replaced, set BASE={self.base}, and teach in actuators again")
+        elif earlier != self.base:
+            with contextlib.suppress(OSError), open(self.base_file, "w", encoding="ascii") as file:
+                print(self.base, file=file)
+
+    def command(self) -> list[str]:
+        """The command with the base ID."""
+        return [self.base if word == PLACE else word for word in self.words]
 
 
-def run(command: list[str], port: int, base: str) -> int:
+def run(command: list[str], port: int) -> int:
     """Runs the command in place of this process. It keeps the lock."""
     os.set_inheritable(port, True)
     signal.signal(signal.SIGPIPE, signal.SIG_DFL)
-    command = [base if word == PLACE else word for word in command]
     try:
         os.execvp(command[0], command)
     except OSError as error:
@@ -123,12 +149,10 @@ def main(arguments: list[str] | None = None) -> int:
         print(f"{before}{text}", file=sys.stderr, flush=True)
 
     starter = Starter(words, say)
+    if words.unit:
+        return run_unit(words, starter, say)
     try:
-        if words.unit:
-            port = starter.wait()
-            starter.record(port)
-        else:
-            port = starter.prepare()
+        port = starter.prepare()
     except ports.PortError as error:
         print(f"enogate-port: {error}", file=sys.stderr)
         return 1
@@ -137,4 +161,17 @@ def main(arguments: list[str] | None = None) -> int:
     if words.base_id:
         print(starter.base)
         return 0
-    return run(words.command, port, starter.base)
+    return run(starter.command(), port)
+
+
+def run_unit(words: argparse.Namespace, starter: Starter, say) -> int:
+    """Prepares the files for a start of the unit, or runs the gateway."""
+    try:
+        if not words.clean:
+            return Unit(words.port, words.unit, words.lines, starter.wait, starter.command, say).run()
+        desk.empty(os.path.join(words.unit, "desk"))
+        lines.prepare(words.lines, say)
+    except OSError as error:
+        say(WARNING, f"{error.filename}: {error.strerror}")
+        return 1
+    return 0

@@ -92,6 +92,12 @@ class System:
                 return process
         return None
 
+    def reads_of(self, process: Process) -> tuple[int | None, int | None]:
+        """How many read calls a process has made, and how many bytes it has read; None if the kernel does not count."""
+        counts = dict(re.findall(r"(rchar|syscr): (\d+)", self.read(str(process.number), "io")))
+        calls, bytes_read = counts.get("syscr"), counts.get("rchar")
+        return calls and int(calls), bytes_read and int(bytes_read)
+
     def open_files(self, process: Process) -> list[OpenFile] | None:
         """What a process has open, or None if this user may not see it."""
         folder = os.path.join(self.proc, str(process.number))

@@ -20,6 +20,7 @@ from bridge_testcase import MAY_SKIP, PYTHON
 from enogate_tools.check import Check
 from enogate_tools.system import System
 from programs import wait_for
+from services import BASE, Stick
 
 HERE = pathlib.Path(__file__).resolve().parent
 ROOT = HERE.parents[1]
@@ -27,8 +28,8 @@ CONTRIB = ROOT / "contrib"
 # The users: each has an ID, and its groups. The first group of the service is the group `enogate`.
 SERVICE, MEMBER, OTHER, SUPERUSER = 61000, 61001, 61002, 0
 GROUPS = {SERVICE: [61000], MEMBER: [61001, 61000], OTHER: [61002], SUPERUSER: [0]}
-# What the unit runs in place of enogate-port: it writes what a gateway writes.
-PROGRAM = '#!/bin/sh\n: >"$DATABASE"\n: >"$DATABASE-wal"\n: >"$STICK"\necho \'{"type":"ok"}\'\n'
+# What the unit runs in place of the gateway: it writes what a gateway writes.
+PROGRAM = '#!/bin/sh\n: >"$DATABASE"\n: >"$DATABASE-wal"\necho \'{"type":"ok"}\'\n'
 
 
 def setting(unit: str, name: str) -> str:
@@ -69,7 +70,7 @@ class RightsTest(unittest.TestCase):
             self.skipTest("needs root")
         self.work = pathlib.Path(self.enterContext(tempfile.TemporaryDirectory())).resolve()
         self.work.chmod(0o755)
-        self.desk, self.stick = (self.work / "run/enogate/hall" / name for name in ("desk", "stick"))
+        self.desk = self.work / "run/enogate/hall/desk"
         self.lines, self.database = self.work / "log/enogate/hall.lines", self.work / "lib/enogate/hall.db"
         self.state = self.work / "lib/enogate-mqtt/hall.db"
         for path, unit, name in ((self.desk, "enogate", "RuntimeDirectoryMode"),
@@ -79,21 +80,26 @@ class RightsTest(unittest.TestCase):
             path.parent.mkdir(parents=True)
             path.parent.chmod(int(setting(unit, name), 8))
             os.chown(path.parent, SERVICE, SERVICE)
-        (self.work / "bin").mkdir()
-        program = self.work / "bin/enogate-port"
+        shutil.copytree(CONTRIB / "enogate_tools", self.work / "bin/enogate_tools")
+        shutil.copy(CONTRIB / "enogate-port", self.work / "bin")
+        program = self.work / "bin/enogate"
         program.write_text(PROGRAM)
         program.chmod(0o755)
+        self.stick = self.enterContext(Stick(self.work))
+        self.stick.start()
+        os.chown(self.stick.path, SERVICE, SERVICE)
 
     def start(self) -> None:
         """Runs the commands of the unit of the gateway to their end, and makes the state of its bridge."""
         words = [sys.executable, HERE / "unit.py", CONTRIB / "enogate@.service", self.work, "hall"]
         script = self.work / "script"
         script.write_bytes(subprocess.run(words, check=True, stdout=subprocess.PIPE).stdout)
-        settings = {"PATH": f"{self.work}/bin:{os.environ['PATH']}", "BASE": "", "SERIAL": "/none", "TURNS": "1",
-                    "EXPLAIN": "", "DATABASE": str(self.database), "STICK": str(self.stick)}
+        settings = {"PATH": f"{self.work}/bin:{os.environ['PATH']}", "BASE": BASE,
+                    "SERIAL": str(self.stick.path), "TURNS": "1", "EXPLAIN": "", "DATABASE": str(self.database)}
         words = ["timeout", "10", *self.as_service, "sh", script]
         run = subprocess.run(words, env=settings, capture_output=True, text=True, cwd="/")
-        self.assertEqual((run.returncode, run.stderr), (0, "the stick at /none was unplugged\n"))
+        self.assertEqual((run.returncode, run.stderr), (0, "exited after 1 read cycles (TURNS), with the stick plugged "
+                                                        "in\n"))
         self.assertEqual(as_user(SERVICE, self.make_state), "None")
 
     def make_state(self) -> None:
@@ -128,7 +134,7 @@ class Group(RightsTest):
 
     def test_only_the_desk_may_be_written(self):
         self.start()
-        wanted = {"desk": "0660", "stick": "0640", "hall.lines": "0640", "hall.db": "0640", "hall.db-wal": "0640"}
+        wanted = {"desk": "0660", "hall.base": "0640", "hall.lines": "0640", "hall.db": "0640", "hall.db-wal": "0640"}
         self.assertEqual(self.modes(), wanted)
         self.assertEqual([self.mode(self.state.with_name(name)) for name in ("hall.db", "another")], ["0640"] * 2)
         self.start()
@@ -159,7 +165,7 @@ class Group(RightsTest):
             os.chown(path, SERVICE, SERVICE)
         self.start()
         self.assertEqual(self.modes(), {
-            "desk": "0660", "stick": "0640", "hall.lines": "0640", "hall.lines.1": "0640", "hall.lines.2.gz": "0640",
+            "desk": "0660", "hall.lines": "0640", "hall.lines.1": "0640", "hall.lines.2.gz": "0640", "hall.base": "0640",
             "hall.db": "0640", "hall.db-wal": "0640"})
         self.assertEqual((self.desk.read_text(), self.lines.read_text()), ("", '{}\n{"type":"ok"}\n'))
 

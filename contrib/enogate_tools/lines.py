@@ -1,0 +1,108 @@
+"""The file to which the lines of a gateway are appended."""
+from __future__ import annotations
+
+import contextlib
+import errno
+import glob
+import os
+import stat
+from typing import Callable
+
+NEW_MODE = 0o640
+PART = 1 << 16
+# How much waits in memory while the lines cannot be stored, in bytes. The oldest lines are dropped first.
+MAX_WAITING = 1 << 20
+PACKET = b'"type":"packet"'
+WARNING, NOTICE = "<4>", "<5>"
+
+
+class Lines:
+    """Stores the lines of one gateway in the file at this path, which may be renamed at any time. While this fails, for
+    example because the disk is full, they wait in memory. A line is stored as a whole or not at all."""
+
+    def __init__(self, path: str, say: Callable[[str, str], None]):
+        self.path, self.say = path, say
+        self.waiting, self.rest = b"", b""
+        # how many of them report a packet, and how many were dropped since the last one was stored
+        self.packets = self.dropped = 0
+        self.is_failing = False
+
+    def add(self, text: bytes) -> None:
+        """Takes what the gateway has written. A line that has not ended waits for its end."""
+        whole, end, self.rest = (self.rest + text).rpartition(b"\n")
+        self.packets += whole.count(PACKET)
+        self.waiting += whole + end
+
+    def store(self) -> None:
+        """Stores what waits, as far as possible."""
+        if not self.waiting:
+            return
+        try:
+            self.append()
+        except OSError as error:
+            if not self.is_failing:
+                self.say(WARNING, f"{self.path}: {error.strerror}: the lines cannot be stored, and wait in memory")
+            self.is_failing = True
+            self.drop()
+        else:
+            if self.is_failing:
+                self.say(NOTICE, f"{self.path}: the lines are stored again, {self.dropped} are lost")
+            self.is_failing, self.dropped = False, 0
+
+    def append(self) -> None:
+        """Appends the lines that wait. If there is space for some only, these are stored, and OSError is raised."""
+        file = os.open(self.path, os.O_WRONLY | os.O_APPEND | os.O_CREAT | os.O_CLOEXEC, NEW_MODE)
+        try:
+            size = os.fstat(file).st_size
+            written = os.write(file, self.waiting)
+            if written < len(self.waiting):
+                written = self.waiting.rfind(b"\n", 0, written) + 1
+                os.ftruncate(file, size + written)
+            self.waiting = self.waiting[written:]
+        finally:
+            os.close(file)
+        if self.waiting:
+            raise OSError(errno.ENOSPC, os.strerror(errno.ENOSPC))
+
+    def drop(self) -> None:
+        """Drops the oldest lines if there are too many."""
+        if len(self.waiting) > MAX_WAITING:
+            start = self.waiting.index(b"\n", len(self.waiting) - MAX_WAITING - 1) + 1
+            self.dropped += self.waiting.count(b"\n", 0, start)
+            self.waiting = self.waiting[start:]
+
+    def close(self) -> None:
+        """The gateway has ended: says what could not be stored. A line that has not ended is not stored."""
+        self.store()
+        if lost := self.dropped + self.waiting.count(b"\n"):
+            self.say(WARNING, f"{self.path}: {lost} lines are lost")
+
+
+def prepare(path: str, say: Callable[[str, str], None]) -> None:
+    """Corrects what an earlier run left: lines of older versions could be written by the group. After a power failure
+    the file may end with NUL bytes and with a part of a line. The part stays, as a line of its own, since it may have
+    been read already; if the disk is full, it is removed."""
+    for old in glob.glob(glob.escape(path) + "*"):
+        with contextlib.suppress(OSError):
+            os.chmod(old, stat.S_IMODE(os.stat(old).st_mode) & ~stat.S_IWGRP)
+    with contextlib.suppress(FileNotFoundError), open(path, "r+b", buffering=0) as file:
+        size = os.fstat(file.fileno()).st_size
+        end = end_in(file.fileno(), size, lambda part: len(part.rstrip(b"\0")))
+        if end < size:
+            file.truncate(end)
+            say(NOTICE, f"{path}: {size - end} NUL bytes at the end are removed, as a power failure leaves them")
+        if end and os.pread(file.fileno(), 1, end - 1) != b"\n":
+            try:
+                os.pwrite(file.fileno(), b"\n", end)
+            except OSError:
+                file.truncate(end_in(file.fileno(), end, lambda part: part.rfind(b"\n") + 1))
+
+
+def end_in(file: int, size: int, length: Callable[[bytes], int]) -> int:
+    """The end of the last part of a file of this size that has a length according to `length`; 0 if none has."""
+    start = size
+    while start:
+        start, end = max(0, start - PART), start
+        if found := length(os.pread(file, end - start, start)):
+            return start + found
+    return 0

@@ -1,0 +1,90 @@
+"""Whether a running gateway works, by what the kernel counts. It reads its port and its desk ten times a second."""
+from __future__ import annotations
+
+from dataclasses import dataclass
+
+# After so many looks, one a second, a fault counts: without a read call, with orders of which none was read, and with
+# bytes of which the stick takes none while it brings none. The module itself answers within 0.5 s (ESP3), and a slow
+# disk may delay a commit for some seconds.
+STUCK, UNREAD, UNSENT = 30, 30, 10
+# The gateway is deaf if, for so many looks since a byte came, no packet was complete, although bytes came at so many of
+# these looks. A header may have been damaged so that the gateway waits for up to 65,535 bytes.
+DEAF, BURSTS = 60, 5
+# So long after an intervention the next one follows at the earliest, in seconds: at first, at most, and how long after
+# an intervention the first pause applies again.
+FIRST_PAUSE, MAX_PAUSE, FORGOTTEN = 60.0, 3600.0, 86400.0
+
+
+@dataclass(frozen=True)
+class Sample:
+    """A gateway at one look. `calls` and `received` are None if the kernel does not count them."""
+    # read calls since its start, and bytes that it has read in them, without its orders
+    calls: int | None
+    received: int | None
+    # packet lines since its start
+    packets: int
+    # the place up to which it has read its desk, and how many bytes of orders follow
+    place: int
+    unread: int
+    # bytes that wait in the kernel for the stick
+    unsent: int
+
+
+class Watch:
+    """Looks at one run of a gateway at the stick with this path. Without --explain, a gateway may be silent about all
+    that it receives, so it cannot be seen whether it is deaf."""
+
+    def __init__(self, path: str, explains: bool):
+        self.path, self.explains = path, explains
+        self.last: Sample | None = None
+        self.stuck = self.unread = self.unsent = 0
+        # the looks since the first byte after the last packet, and those at which bytes had come
+        self.looks = self.bursts = 0
+
+    def see(self, now: Sample) -> str:
+        """What is wrong at this look; empty if nothing is."""
+        last, self.last = self.last, now
+        if last is None:
+            return ""
+        comes = now.received is not None and last.received is not None and now.received > last.received
+        self.stuck = self.stuck + 1 if now.calls is not None and now.calls == last.calls else 0
+        self.unread = self.unread + 1 if now.unread and last.unread and now.place == last.place else 0
+        self.unsent = self.unsent + 1 if now.unsent and last.unsent and not comes else 0
+        self.listen(comes, now.packets > last.packets)
+        if self.unsent >= UNSENT:
+            return f"the stick at {self.path} has taken no bytes for {UNSENT} s, {now.unsent} are waiting"
+        if self.stuck >= STUCK:
+            return (f"the gateway has read nothing for {STUCK} s: perhaps the stick at {self.path} takes no bytes, or "
+                    "the disk does not answer")
+        if self.unread >= UNREAD:
+            return f"{now.unread} bytes of orders have not been read for {UNREAD} s: perhaps the desk was replaced"
+        if self.explains and self.looks >= DEAF and self.bursts >= BURSTS:
+            return (f"bytes come from the stick at {self.path}, but no packet for {DEAF} s: they are damaged, or this "
+                    "is not the port of a radio module")
+        return ""
+
+    def listen(self, comes: bool, is_packet: bool) -> None:
+        """Counts the looks since bytes came without a packet."""
+        if is_packet:
+            self.looks = self.bursts = 0
+        elif comes or self.looks:
+            self.looks += 1
+            self.bursts += comes
+
+
+class Pauses:
+    """When an intervention may follow another one: where it does not help, it would only do harm."""
+
+    def __init__(self) -> None:
+        self.pause, self.last = FIRST_PAUSE, float("-inf")
+
+    def allows(self, now: float) -> bool:
+        """Whether to intervene at this time; if so, this counts as an intervention."""
+        if now < self.last + self.pause:
+            return False
+        if self.last == float("-inf") or now >= self.last + FORGOTTEN:
+            self.pause = FIRST_PAUSE
+        else:
+            self.pause = min(2 * self.pause, MAX_PAUSE)
+        self.last = now
+        return True
