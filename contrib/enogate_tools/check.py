@@ -20,6 +20,8 @@ LEAST_SPACE = {"/var/lib": 5 * MEGABYTE, "/var/log": MEGABYTE}
 # How much is copied of the database and of its log, and how many instructions SQLite may execute for a question: the
 # user of the service could make files that fill the disk, or never answer.
 MOST_COPIED, MOST_STEPS = 64 * MEGABYTE, 100_000_000
+# How long a running gateway is asked for the base ID of its module, in seconds.
+ASKED_FOR = "5"
 TABLES = {1: "enogate_device", 2: "enogate_device_v2"}
 # The parts of a file with settings: what is before a key, a key, a value in quotes, and the rest of a value.
 SKIPPED = re.compile(r"(?:[ \t\n\r]|[#;][^\n\r]*)*")
@@ -98,11 +100,13 @@ class Check:
         # The files that have them.
         self.sources: dict[str, str] = {}
         self.restart = f"run: sudo systemctl restart enogate@{name}"
+        # Whether an order reaches the gateway, as far as this can be seen.
+        self.takes_orders = False
 
     def findings(self):
         """The findings of all checks, whatever the files are."""
-        for check in (self.of_settings, self.of_port, self.of_desk, self.of_lines, self.of_database, self.of_space,
-                      self.of_units):
+        for check in (self.of_settings, self.of_port, self.of_desk, self.of_base, self.of_lines, self.of_database,
+                      self.of_space, self.of_units):
             try:
                 yield from check()
             except PermissionError as error:
@@ -217,6 +221,7 @@ class Check:
             return
         files = self.system.open_files(self.gateway)
         if files is None:
+            self.takes_orders = True
             yield self.unchecked("whether the desk was truncated or replaced")
             return
         held = self.held_desk(files)
@@ -236,6 +241,7 @@ class Check:
             yield FAULT, (f"the gateway does not read the desk: {size - place} bytes of orders are waiting, perhaps "
                           f"because the radio module accepts no data; {self.restart}")
         else:
+            self.takes_orders = True
             yield OK, f"desk: {self.desk}, read up to byte {place} of {size}"
 
     def held_desk(self, files: list[OpenFile]) -> OpenFile | None:
@@ -251,6 +257,28 @@ class Check:
         self.sleep(2)
         return any(file.number == number and file.place == place
                    for file in self.system.open_files(self.gateway) or [])
+
+    def of_base(self):
+        """The base ID that a running gateway uses, compared with the one that its radio module reports now. A report
+        that is in the lines already may be that of an earlier stick."""
+        if not self.takes_orders:
+            return
+        module = f"the radio module at {self.settings['SERIAL']}"
+        used = self.system.option(self.gateway, "--base").upper()
+        if not (self.system.is_root or os.access(self.desk, os.W_OK) and os.access(self.lines, os.R_OK)):
+            yield self.unchecked(f"the base ID of {module}")
+            return
+        reported = self.system.run(["enogatectl", "--timeout", ASKED_FOR, self.name, "base"])
+        if not ports.is_base(reported):
+            yield FAULT, (f"{module} did not report its base ID within {ASKED_FOR} s; see why: sudo enogatectl "
+                          f"{self.name} base")
+        elif reported != used:
+            is_set = self.settings["BASE"].upper() not in ("", reported)
+            correct = f"correct or remove BASE in /etc/default/enogate-{self.name}, and " if is_set else ""
+            yield FAULT, (f"the gateway uses the base ID {used}, but that of {module} is {reported}: {correct}"
+                          f"{self.restart}")
+        else:
+            yield OK, f"base ID: {used}, as {module} reports"
 
     def odd(self, *paths: str):
         """The faults of files that are no regular files with one name. They are not opened: root could open a file of

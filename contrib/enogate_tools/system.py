@@ -79,16 +79,14 @@ class System:
     def gateway(self, desk: str) -> Process | None:
         """The gateway that reads this desk."""
         for process in self.processes():
-            words = self.read(str(process.number), "cmdline").split("\0")
-            if process.name == "enogate" and "--desk" in words and words[words.index("--desk") + 1] == desk:
+            if process.name == "enogate" and self.option(process, "--desk") == desk:
                 return process
         return None
 
     def start(self, folder: str) -> Process | None:
         """The start of the unit with this folder, which waits for its port or asks the module."""
         for process in self.processes():
-            words = self.read(str(process.number), "cmdline").split("\0")
-            if process.name == "enogate-port" and "--unit" in words and words[words.index("--unit") + 1] == folder:
+            if process.name == "enogate-port" and self.option(process, "--unit") == folder:
                 return process
         return None
 
@@ -97,6 +95,11 @@ class System:
         counts = dict(re.findall(r"(rchar|syscr): (\d+)", self.read(str(process.number), "io")))
         calls, bytes_read = counts.get("syscr"), counts.get("rchar")
         return calls and int(calls), bytes_read and int(bytes_read)
+
+    def option(self, process: Process, name: str) -> str:
+        """The word after this option in the command line of a process, or nothing."""
+        words = self.read(str(process.number), "cmdline").split("\0")
+        return words[words.index(name) + 1] if name in words[:-1] else ""
 
     def open_files(self, process: Process) -> list[OpenFile] | None:
         """What a process has open, or None if this user may not see it."""
