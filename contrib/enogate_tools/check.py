@@ -20,6 +20,8 @@ LEAST_SPACE = {"/var/lib": 5 * MEGABYTE, "/var/log": MEGABYTE}
 # How much is copied of the database and of its log, and how many instructions SQLite may execute for a question: the
 # user of the service could make files that fill the disk, or never answer.
 MOST_COPIED, MOST_STEPS = 64 * MEGABYTE, 100_000_000
+# The copy is made here, in memory: the disk may be full.
+MEMORY = "/dev/shm"
 # How long a running gateway is asked for the base ID of its module, in seconds.
 ASKED_FOR = "5"
 TABLES = {1: "enogate_device", 2: "enogate_device_v2"}
@@ -105,14 +107,22 @@ class Check:
 
     def findings(self):
         """The findings of all checks, whatever the files are."""
-        for check in (self.of_settings, self.of_port, self.of_desk, self.of_base, self.of_lines, self.of_database,
-                      self.of_space, self.of_units):
+        checks = {"settings": self.of_settings, "port": self.of_port, "desk": self.of_desk, "base ID": self.of_base,
+                  "lines": self.of_lines, "database": self.of_database, "disk space": self.of_space,
+                  "units": self.of_units}
+        for what, check in checks.items():
             try:
                 yield from check()
-            except PermissionError as error:
-                yield self.unchecked(f"permission denied for {error.filename}")
             except OSError as error:
-                yield FAULT, f"{error.filename} cannot be read: {error.strerror}"
+                yield self.failed(what, error)
+
+    def failed(self, what: str, error: OSError):
+        """The finding that this check failed."""
+        if not error.filename:
+            return FAULT, f"the check of the {what} failed: {error.strerror or error}"
+        if isinstance(error, PermissionError):
+            return self.unchecked(f"permission denied for {error.filename}")
+        return FAULT, f"{error.filename} cannot be read: {error.strerror}"
 
     def unchecked(self, what: str):
         """The finding that this could not be checked, and why."""
@@ -343,7 +353,7 @@ class Check:
 
     def of_contents(self):
         """What is in the database, read from a copy: SQLite may write to a file and its log even if it only reads."""
-        with tempfile.TemporaryDirectory() as folder:
+        with tempfile.TemporaryDirectory(dir=MEMORY if os.access(MEMORY, os.W_OK) else None) as folder:
             for path in self.parts():
                 if not copy(path, f"{folder}/copy{path.removeprefix(self.database)}"):
                     return UNCHECKED, f"the contents of {path}, because it has more than {MOST_COPIED // MEGABYTE} MB"
