@@ -57,7 +57,7 @@ class Machine:
 
     def add(self, name: str, serial: pathlib.Path) -> None:
         """Adds the settings of a gateway."""
-        pathlib.Path(f"/etc/default/enogate-{name}").write_text(f"SERIAL={serial}\n")
+        pathlib.Path(f"/etc/default/enogate-{name}").write_text(f"BASE=FF800000\nSERIAL={serial}\n")
 
     def set_state(self, name: str, active: str, sub: str) -> None:
         """Sets the state of its service."""

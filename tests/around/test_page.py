@@ -213,7 +213,7 @@ class Reads(PageTest):
     def test_the_gateway_has_a_state_a_stick_a_base_id_and_counters(self):
         self.tab("gateway")
         for name, text in (("service", "running"), ("stick", f"plugged in ({stick.path})"), ("base", "FF800000"),
-                           ("window", "closed")):
+                           ("module", "FF800000, reported"), ("window", "closed")):
             self.wait_for_text(f"#gateway-{name}", text)
         before = json.loads(ctl("status"))["ignored"]
         stick.bring("01800A03", PRESS)
@@ -221,6 +221,15 @@ class Reads(PageTest):
         self.refresh()
         self.wait_for_text("#counter-ignored", str(before + 1))
         self.shoot("gateway")
+
+    def test_a_base_id_of_the_module_that_differs_is_reported_while_it_does(self):
+        report = '{"code":0,"data":"%s","name":"OK","type":"response"}\n'
+        self.tab("gateway")
+        self.wait_for_text("#gateway-module", "FF800000, reported", " s ago")
+        gateway.append(report % "FF812300")
+        self.wait_for_text("#trouble", "BASE is FF800000, but the base ID of the radio module is FF812300")
+        gateway.append(report % "FF800000")
+        self.wait(lambda: browser.find("#trouble").is_displayed(), lambda shown: not shown)
 
     def wait_for_packet(self, device: str) -> None:
         self.wait(lambda: any(device in line for line in gateway.lines()), bool, device)

@@ -2,8 +2,9 @@ import assert from "node:assert/strict";
 import { mock, test } from "node:test";
 
 import { byId, machine, processes, settle, started } from "./page.mjs";
+import { RESPONSE } from "./samples.mjs";
 
-const LIST = ["enogatectl", "--json", "hall", "--", "list"];
+const [LIST, BASE] = ["list", "base"].map(order => ["enogatectl", "--json", "hall", "--", order]);
 let run = 1;
 
 /** A machine with two gateways, whose service runs. The lines are followed until the test is over. */
@@ -37,6 +38,27 @@ test("the devices are asked for once after each start of the gateway, and not at
     run = 2;
     await pass(20);
     assert.equal(started(...LIST).length, 2);
+});
+
+test("a base ID of the module that differs is reported while it does, and asked for after each start", async () => {
+    const [tail] = started("tail");
+    const reports = async data => {
+        tail.write(new TextEncoder().encode(`${JSON.stringify({ ...RESPONSE, data })}\n`));
+        await pass(1);
+    };
+    const asked = started(...BASE).length;
+    await reports("FFA1B280");
+    assert.match(byId("trouble").textContent, /^BASE is FF800000, but the base ID of the radio module is FFA1B280: /);
+    assert.equal(byId("trouble").hidden, false);
+    run = 3;
+    await pass(20);
+    assert.equal(started(...BASE).length, asked + 1);
+    // The stick may be another one now.
+    assert.equal(byId("trouble").hidden, true);
+    await reports("FFA1B280");
+    assert.equal(byId("trouble").hidden, false);
+    await reports("FF800000");
+    assert.equal(byId("trouble").hidden, true);
 });
 
 test("a click on the tab of another gateway ends the reading of the first one's lines", async () => {

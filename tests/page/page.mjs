@@ -139,7 +139,7 @@ export async function settle() {
 globalThis.window = {
     cockpit: {
         spawn,
-        file: () => ({ read: () => Promise.resolve("SERIAL=/dev/enocean\n") }),
+        file: () => ({ read: () => Promise.resolve("SERIAL=/dev/enocean\nBASE=ff800000\n") }),
         permission: () => ({ allowed: true, addEventListener: () => {} }),
     },
 };

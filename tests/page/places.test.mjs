@@ -54,3 +54,15 @@ test("what is wrong with a gateway", () => {
     assert.match(trouble("active", "running", false), /No stick at \/dev\/enocean/);
     assert.match(trouble("activating", "auto-restart", true), /restarting/);
 });
+
+test("a base ID of the module that differs from the setting", () => {
+    const trouble = (base, baseTime, BASE) =>
+        places.baseTrouble("hall", new Map(BASE === undefined ? [] : [["BASE", BASE]]), { base, baseTime });
+    assert.equal(trouble("FFA1B280", 1000, "ff800000"),
+                 "BASE is FF800000, but the base ID of the radio module is FFA1B280: correct or remove BASE in " +
+                 "/etc/default/enogate-hall, and restart the gateway with: systemctl restart enogate@hall.service");
+    assert.equal(trouble("FFA1B280", 1000, "ffa1b280"), "");
+    // It is not set, not reported, or was reported before the page was opened.
+    assert.deepEqual([trouble("FFA1B280", 1000), trouble("FFA1B280", 1000, ""), trouble(null, null, "FF800000"),
+                      trouble("FFA1B280", null, "FF800000")], ["", "", "", ""]);
+});

@@ -2,11 +2,11 @@ import assert from "node:assert/strict";
 import { test } from "node:test";
 
 import { isQuiet, selected } from "../../contrib/cockpit/enogate/devices.js";
-import { baseText } from "../../contrib/cockpit/enogate/gateway.js";
+import { reportedBase } from "../../contrib/cockpit/enogate/gateway.js";
 import { profilesFor } from "../../contrib/cockpit/enogate/learn.js";
 import { Model } from "../../contrib/cockpit/enogate/model.js";
 import { filtered } from "../../contrib/cockpit/enogate/packets.js";
-import { DEVICE, LIST, PACKET, READING } from "./samples.mjs";
+import { DEVICE, LIST, PACKET, READING, RESPONSE } from "./samples.mjs";
 
 /** A contact with a label and the weaker signal, and a sensor that was received later. */
 function devices() {
@@ -65,12 +65,13 @@ test("the profiles of the kind of a sender are offered", () => {
     assert.equal(profilesFor({ rorg: "D4", eep: null }).length, 65);
 });
 
-test("the base ID is that of the module, and a setting that differs is named", () => {
-    const shown = (reported, ...set) => baseText(reported, new Map(set.map(text => ["BASE", text])));
-    assert.equal(shown("FFA1B280", "ffa1b280"), "FFA1B280");
-    assert.equal(shown("FFA1B280", "FF800000"), "FFA1B280, but the setting BASE is FF800000");
-    assert.deepEqual([shown("FFA1B280"), shown("FFA1B280", ""), shown(null, "ffa1b280"), shown(null)],
-                     ["FFA1B280", "FFA1B280", "FFA1B280", "not known yet"]);
+test("the base ID of the module is shown with the age of its report", () => {
+    assert.equal(reportedBase(new Model(0), 5000), "not known yet");
+    const model = new Model(0);
+    model.take(RESPONSE, null);
+    assert.equal(reportedBase(model, 5000), "FFA1B280, reported earlier");
+    model.take(RESPONSE, 2000);
+    assert.equal(reportedBase(model, 5000), "FFA1B280, reported 3 s ago");
 });
 
 test("packets are filtered by ID and label", () => {

@@ -1,15 +1,12 @@
 // The section of the gateway itself.
 
 import { byId, setText } from "./dom.js";
+import { baseOf } from "./places.js";
 import * as words from "./words.js";
 
-/** The base ID that the module has reported. It should be that of the settings. */
-export function baseText(reported, settings) {
-    const set = (settings.get("BASE") || "").toUpperCase();
-    if (reported && set && reported !== set)
-        return `${reported}, but the setting BASE is ${set}`;
-    return reported || set || "not known yet";
-}
+/** The base ID that the module has reported, and when. */
+export const reportedBase = ({ base, baseTime }, now) =>
+    base ? `${base}, reported ${words.age(baseTime, now)}` : "not known yet";
 
 export class GatewaySection {
     constructor(page) {
@@ -23,7 +20,8 @@ export class GatewaySection {
         const serial = settings.get("SERIAL") || "";
         setText(byId("gateway-service"), words.service(health.states));
         setText(byId("gateway-stick"), serial ? `${stick} (${serial})` : stick);
-        setText(byId("gateway-base"), baseText(model.base, settings));
+        setText(byId("gateway-base"), baseOf(settings) || "as the radio module reports (BASE is empty)");
+        setText(byId("gateway-module"), reportedBase(model, Date.now()));
         setText(byId("gateway-window"), model.mode ?? "not known yet");
         const isKnown = model.isListed || model.isRecorded;
         setText(byId("gateway-devices"), isKnown ? String(model.devices.size) : "not known yet");

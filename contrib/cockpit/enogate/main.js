@@ -10,7 +10,7 @@ import { GatewaySection } from "./gateway.js";
 import { Model } from "./model.js";
 import { sentence } from "./orders.js";
 import { PacketsSection } from "./packets.js";
-import { linesOf, runOf, trouble } from "./places.js";
+import { baseTrouble, linesOf, runOf, trouble } from "./places.js";
 import { TeachSection } from "./teach.js";
 import { UnknownSection } from "./unknown.js";
 import * as words from "./words.js";
@@ -153,8 +153,11 @@ class Page {
         const before = this.run;
         Object.assign(this, { settings, health: { states, hasStick }, run: runOf(states, hasStick) });
         this.painter.ask();
-        if (this.run !== before)
+        if (this.run !== before) {
+            // The stick may be another one.
+            this.model.baseTime = null;
             this.askAll();
+        }
     }
 
     /** Gives an order. @returns {Promise<string>} */
@@ -177,13 +180,12 @@ class Page {
         return this.ask(["list"]);
     }
 
-    /** Asks for all that the lines may not have. */
+    /** Asks for all that the lines may not have, or have of an earlier stick. */
     async askAll() {
         if (this.run === null)
             return;
         await this.refresh();
-        if (!this.model.base)
-            await this.ask(["base"]);
+        await this.ask(["base"]);
     }
 
     /** Gives an order that nobody has asked for. Its error disappears when the gateway answers again. */
@@ -219,7 +221,8 @@ class Page {
         const { size } = model.unknown;
         setText(byId("unknown-count"), size ? `(${size}${model.unknownLeftOut ? " or more" : ""})` : "");
         const stopped = trouble(this.gateway, health.states, health.hasStick, settings.get("SERIAL"));
-        show(byId("trouble"), [feedState.why, stopped].filter(Boolean).join(" "));
+        const wrong = stopped ? "" : baseTrouble(this.gateway, settings, model);
+        show(byId("trouble"), [feedState.why, stopped, wrong].filter(Boolean).join(" "));
         const state = feedState.state === "live" && stopped ? "waiting" : feedState.state;
         setText(byId("feed"), state);
         byId("feed").dataset.state = state;

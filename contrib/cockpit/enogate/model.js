@@ -87,6 +87,7 @@ export class Model {
         this.counters = null;
         this.mode = null;
         this.base = null;
+        this.baseTime = null;
         this.listing = null;
         this.isListed = false;
         this.isRecorded = false;
@@ -122,7 +123,7 @@ export class Model {
             this.counters = { time: now, ...Object.fromEntries(COUNTERS.map(name => [name, line[name]])) };
             break;
         case "response":
-            this.takeResponse(line);
+            this.takeResponse(line, now);
             break;
         }
     }
@@ -226,9 +227,9 @@ export class Model {
     }
 
     /** Only the answer to the order `base` has four bytes of data. */
-    takeResponse({ code, data }) {
+    takeResponse({ code, data }, now) {
         const number = parseInt(data, 16);
         if (code === 0 && data.length === 8 && number >= 0xFF800000 && number <= 0xFFFFFF80 && number % 128 === 0)
-            this.base = data;
+            Object.assign(this, { base: data, baseTime: now });
     }
 }

@@ -42,6 +42,21 @@ export function settingsIn(texts) {
     return settings;
 }
 
+/** The base ID in the settings, in upper case; empty if the gateway takes that of its radio module. */
+export const baseOf = settings => (settings.get("BASE") || "").toUpperCase();
+
+/**
+ * Why actuators do not obey although the gateway works, in a sentence; empty if there is no such reason. Only a base ID
+ * counts that was reported since the page was opened: one from before may be that of another stick.
+ */
+export function baseTrouble(name, settings, { base, baseTime }) {
+    const set = baseOf(settings);
+    if (!set || baseTime === null || base === set)
+        return "";
+    return `BASE is ${set}, but the base ID of the radio module is ${base}: correct or remove BASE in ` +
+        `${settingsFiles(name)[1]}, and restart the gateway with: systemctl restart ${unitOf(name)}`;
+}
+
 /** The command that asks systemd for the state of a service. */
 export const stateCommand = name =>
     ["systemctl", "show", "--property=ActiveState,SubState,InvocationID", unitOf(name)];
