@@ -280,8 +280,8 @@ class Check:
             return
         reported = self.system.run(["enogatectl", "--timeout", ASKED_FOR, self.name, "base"])
         if not ports.is_base(reported):
-            yield FAULT, (f"{module} did not report its base ID within {ASKED_FOR} s; see why: sudo enogatectl "
-                          f"{self.name} base")
+            yield FAULT, (f"{module} did not report its base ID within {ASKED_FOR} s: after noise, the gateway may be "
+                          f"waiting for the end of a packet, or SERIAL is wrong; {self.restart}")
         elif reported != used:
             is_set = self.settings["BASE"].upper() not in ("", reported)
             correct = f"correct or remove BASE in /etc/default/enogate-{self.name}, and " if is_set else ""
