@@ -97,9 +97,12 @@ class System:
         return calls and int(calls), bytes_read and int(bytes_read)
 
     def option(self, process: Process, name: str) -> str:
-        """The word after this option in the command line of a process, or nothing."""
+        """The value of this option in the command line of a process, or nothing."""
         words = self.read(str(process.number), "cmdline").split("\0")
-        return words[words.index(name) + 1] if name in words[:-1] else ""
+        for word, following in zip(words, words[1:]):
+            if word == name or word.startswith(f"{name}="):
+                return following if word == name else word.removeprefix(f"{name}=")
+        return ""
 
     def open_files(self, process: Process) -> list[OpenFile] | None:
         """What a process has open, or None if this user may not see it."""
