@@ -55,6 +55,7 @@ class Starter:
     def __init__(self, words: argparse.Namespace, say, sleep=time.sleep, clock=time.monotonic):
         self.path, self.unit, self.base_file = words.port, words.unit, words.base_file
         self.set_base = self.base = (words.base or "").upper()
+        self.reported: str | None = None
         self.words = words.command
         self.wants_base = bool(self.base) or words.base_id or PLACE in words.command
         self.announces = not words.base_id
@@ -74,6 +75,7 @@ class Starter:
 
     def find_base(self, reported: str | None) -> None:
         """Compares the base ID with the one that the module reported, or takes that one."""
+        self.reported = reported
         if not self.set_base and not reported:
             raise ports.PortError(f"no radio module at {self.path} reports its base ID: unplug it and plug it in, "
                                   "correct SERIAL, or set BASE")
@@ -109,9 +111,9 @@ class Starter:
         return port
 
     def compare_with_earlier(self) -> None:
-        """Says if the module is not that of earlier starts: of two sticks, the other one may have been taken. A base ID
-        that is set counts from now on."""
-        if not self.base_file or not self.base:
+        """Says if the module is not that of earlier starts: of two sticks, the other one may have been taken. If its base
+        ID is set, it counts from now on."""
+        if not self.base_file or self.reported != self.base:
             return
         earlier = ""
         with contextlib.suppress(OSError), open(self.base_file, encoding="ascii", errors="replace") as file:
