@@ -1,11 +1,12 @@
 """Follows a file to which lines are appended, across rotation."""
 from __future__ import annotations
 
-import glob
 import logging
 import os
 import re
 from dataclasses import dataclass
+
+from enogate_tools.files import open_regular
 
 # How much is read at once; no line of a gateway is longer.
 MAX_READ = 1 << 20
@@ -55,7 +56,7 @@ class Follower:
         paths = files_of(self.path)
         for number, path in enumerate(paths):
             try:
-                file = os.open(path, os.O_RDONLY | os.O_CLOEXEC)
+                file = open_regular(path)
             except OSError:
                 continue
             last = os.pread(file, len(self.place.last), self.place.offset - len(self.place.last))
@@ -111,7 +112,10 @@ class Follower:
     def following(self) -> str | None:
         """The file that was written after this one, if there is one."""
         assert self.file is not None
-        own, paths = os.fstat(self.file).st_ino, files_of(self.path)
+        own = os.fstat(self.file).st_ino
+        if inode_of(self.path) == own:
+            return None
+        paths = files_of(self.path)
         there = [(path, inode) for path in paths if (inode := inode_of(path))]
         places = [number for number, (_, inode) in enumerate(there) if inode == own]
         if places:
@@ -124,7 +128,7 @@ class Follower:
     def open_at_start(self, path: str) -> bool:
         """Continues at the beginning of the file at this path."""
         try:
-            file = os.open(path, os.O_RDONLY | os.O_CLOEXEC)
+            file = open_regular(path)
         except OSError as error:
             self.fault = error.strerror or str(error)
             return False
@@ -146,28 +150,40 @@ class Follower:
 def files_of(path: str) -> list[str]:
     """The rotated files as logrotate names them, without the compressed ones, and the file itself: the oldest first.
     Their names end with a date (`-20261127`) or with a number (`.1`), which is greater for an older file."""
-    found = glob.glob(glob.escape(path) + "*")
-    dated = sorted(file for file in found if re.fullmatch(r"-[0-9-]+", file[len(path):]))
-    ends = [file[len(path):] for file in found]
+    folder, name = os.path.split(path)
+    try:
+        with os.scandir(folder or ".") as entries:
+            ends = [entry.name[len(name):] for entry in entries
+                    if entry.name.startswith(name) and entry.is_file(follow_symlinks=False)]
+    except OSError:
+        ends = []
+    dated = sorted(end for end in ends if re.fullmatch(r"-[0-9-]+", end))
     numbers = sorted((int(end[1:]) for end in ends if re.fullmatch(r"\.[0-9]+", end)), reverse=True)
-    return [*dated, *(f"{path}.{number}" for number in numbers), path]
+    return [*(path + end for end in dated), *(f"{path}.{number}" for number in numbers), path]
+
+
+def place_at(file: int, offset: int) -> Place:
+    """The place after so many bytes of an open file."""
+    start = max(0, offset - MAX_LAST)
+    return Place(os.fstat(file).st_ino, offset, os.pread(file, offset - start, start))
 
 
 def end_of(path: str) -> Place | None:
     """The place at the end of the file at this path; None if it cannot be read. The file may grow meanwhile."""
     try:
-        with open(path, "rb") as file:
-            size = file.seek(0, os.SEEK_END)
-            start = file.seek(max(0, size - MAX_LAST))
-            return Place(os.fstat(file.fileno()).st_ino, size, file.read(size - start))
+        file = open_regular(path)
     except OSError:
         return None
+    try:
+        return place_at(file, os.lseek(file, 0, os.SEEK_END))
+    finally:
+        os.close(file)
 
 
 def inode_of(path: str) -> int:
-    """The inode of a file; 0 if there is none."""
+    """The inode of a file, or of a link; 0 if there is none."""
     try:
-        return os.stat(path).st_ino
+        return os.lstat(path).st_ino
     except OSError:
         return 0
 

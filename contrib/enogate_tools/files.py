@@ -59,6 +59,19 @@ def open_file(path: str, flags: int = os.O_RDONLY) -> int:
     return file
 
 
+def open_regular(path: str) -> int:
+    """Opens a regular file of any user to read it, or raises Unsafe or another OSError. No link is followed, and no
+    pipe is waited for."""
+    try:
+        file = os.open(path, os.O_RDONLY | FLAGS)
+    except OSError as error:
+        raise Unsafe(LINK, path) if error.errno == errno.ELOOP else error
+    if not stat.S_ISREG(os.fstat(file).st_mode):
+        os.close(file)
+        raise Unsafe(IRREGULAR, path)
+    return file
+
+
 def check(status: os.stat_result, owner: int, path: str) -> None:
     """Raises Unsafe if a file with this status is not opened."""
     if why := fault_of(status, owner):

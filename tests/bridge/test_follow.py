@@ -7,6 +7,23 @@ from enogate_mqtt.follow import MAX_READ, Follower, Place, end_of, files_of
 from fakes import Case, Site
 
 
+class Counted:
+    """The module os, which notes the names of its functions that are called."""
+
+    def __init__(self, calls):
+        self.calls = calls
+
+    def __getattr__(self, name):
+        value = getattr(os, name)
+        if not callable(value):
+            return value
+
+        def call(*arguments, **named):
+            self.calls.append(name)
+            return value(*arguments, **named)
+        return call
+
+
 class Following(Case):
     def setUp(self):
         super().setUp()
@@ -173,6 +190,45 @@ class Following(Case):
         self.assertEqual(self.read(follower), ["b"])
         self.assert_logged("file truncated, reading from the beginning")
 
+    def test_a_link_a_pipe_or_a_folder_in_place_of_the_file(self):
+        other = self.path.with_name("other")
+        other.write_text("x\n")
+        for make, why in ((lambda path: path.symlink_to(other), "it is a symbolic link"),
+                          (os.mkfifo, "it is not a regular file"), (os.mkdir, "it is not a regular file")):
+            with self.subTest(why):
+                self.path.unlink()
+                make(self.path)
+                follower = self.follower()
+                self.assertEqual((self.read(follower), follower.fault, end_of(str(self.path))), ([], why, None))
+                self.path.rmdir() if self.path.is_dir() else self.path.unlink()
+                self.write("a\n")
+                self.assertEqual(self.read(follower), ["a"])
+
+    def test_a_link_a_pipe_or_a_folder_in_place_of_a_rotated_file(self):
+        other = self.path.with_name("other")
+        other.write_text("x\n")
+        self.write("a\nb\n")
+        place = self.follower().read()[1][1]
+        for end, make in ((".4", lambda path: path.symlink_to(other)), (".3", os.mkfifo), (".1", os.mkdir)):
+            make(self.path.with_name(self.path.name + end))
+        follower = self.follower(place)
+        self.assertEqual(self.read(follower), ["b"])
+        self.rotate(".2")
+        self.write("c\n")
+        self.assertEqual(self.read(follower), ["c"])
+
+    def test_a_turn_without_lines_does_not_list_the_folder(self):
+        """It asks the system for the size of the file, for new bytes, and whether the file has still its name."""
+        self.write("a\n")
+        follower = self.follower()
+        self.read(follower)
+        calls = []
+        with mock.patch("enogate_mqtt.follow.os", Counted(calls)):
+            for _ in range(3):
+                follower.read()
+        self.assertEqual(len(calls) / 3, 4, calls)
+        self.assertLess(set(calls), {"fstat", "pread", "lstat"} | {"path"})
+
     def test_a_line_without_its_end(self):
         follower = self.follower()
         self.write("half")
@@ -265,14 +321,14 @@ class Following(Case):
 
     def test_the_end_of_a_file_that_grows_meanwhile(self):
         """What was written after the end was noted is new, and what was there before it is not read again."""
-        status = os.fstat
+        real = os.pread
 
-        def grows(file):
+        def grows(*arguments):
             self.write("new\n")
-            return status(file)
+            return real(*arguments)
         for old in ("", "a\n", "x" * 100 + "\n"):
             self.path.write_text(old)
-            with mock.patch("enogate_mqtt.follow.os.fstat", grows):
+            with mock.patch("enogate_mqtt.follow.os.pread", grows):
                 place = end_of(str(self.path))
             self.assertEqual((place.offset, place.last), (len(old), old[-64:].encode()))
             self.assertEqual(self.read(self.follower(place)), ["new"])
