@@ -11,7 +11,7 @@ from datetime import datetime
 from typing import BinaryIO, Iterator
 
 from enogate_mqtt.devices import LAST_SEEN
-from enogate_mqtt.follow import Follower, Place, files_of
+from enogate_mqtt.follow import Follower, Place, files_of, without_nuls
 from enogate_mqtt.lines import BadLine, Telegram, content_of
 from enogate_tools.files import is_safe, open_file
 
@@ -76,9 +76,9 @@ def lines_before(file: BinaryIO, end: int, start: int) -> Iterator[bytes]:
         if lines and not has_end:
             lines.pop()
             has_end = True
-        yield from reversed(lines)
+        yield from map(without_nuls, reversed(lines))
     if has_end:
-        yield rest
+        yield without_nuls(rest)
 
 
 def last_times(path: str, lines: str, most: int = MOST_READ) -> dict[str, datetime]:

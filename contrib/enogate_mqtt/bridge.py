@@ -71,7 +71,8 @@ class Bridge:
         self.echo = Check(math.inf, ECHO_WITHIN)
         # when what is retained is compared again
         self.compare_at = 0.0
-        self.saved, self.saved_at = store.place, 0.0
+        self.saved: Place | None = store.place if store.is_same_boot else None
+        self.saved_at = 0.0
         self.is_unknown_asked = False
 
     def run(self) -> None:
@@ -90,8 +91,10 @@ class Bridge:
         self.save()
 
     def read_earlier_lines(self) -> None:
-        """Reads what the gateway has written before. A list among these lines is not the answer to a request."""
-        self.catch_up(self.store.place is not None, is_earlier=True)
+        """Reads what the gateway has written before. A list among these lines is not the answer to a request. The lines
+        are published if they are known to be new: after a power failure the state may be older than what was published,
+        and after a place that was not found, all lines may be."""
+        self.catch_up(self.store.is_same_boot and self.follower.is_found, is_earlier=True)
         self.devices.lists = 0
         self.requests.list = ListRequest()
 

@@ -31,11 +31,12 @@ NOWHERE = Place(0, 0, b"")
 
 
 class Follower:
-    """Reads the lines of the file at this path from a place on; without a place, or if its file no longer exists, from
-    the beginning. A file that was rotated (renamed) is read to its end first, and then those that were written after
-    it: their sequence is that of their names, since a clock may have been set back."""
+    """Reads the lines of the file at this path from a place on; without a place, or if it is not found, from the
+    beginning. A file that was rotated (renamed) is read to its end first, and then those that were written after it:
+    their sequence is that of their names, since a clock may have been set back. If the computer was started since the
+    place was noted, the end of its file may be lost. What is left of it was read before, or is not new."""
 
-    def __init__(self, path: str, place: Place | None):
+    def __init__(self, path: str, place: Place | None, is_same_boot: bool = True):
         self.path = path
         self.file: int | None = None
         self.place = place or NOWHERE
@@ -48,10 +49,13 @@ class Follower:
         self.is_at_end = False
         # why there is no file, and whether this was logged of the next one
         self.fault, self.is_failing = "", False
-        if self.place.inode and not self.open_at_place():
+        # whether the file of the place was found
+        self.is_found = bool(self.place.inode) and self.open_at_place(is_same_boot)
+        if self.place.inode and not self.is_found:
             logging.warning("%s: previous file not found, reading from the beginning", path)
+            self.place = NOWHERE
 
-    def open_at_place(self) -> bool:
+    def open_at_place(self, is_same_boot: bool) -> bool:
         """Opens the file of the place, whatever its name is now."""
         paths = files_of(self.path)
         for number, path in enumerate(paths):
@@ -59,9 +63,12 @@ class Follower:
                 file = open_regular(path)
             except OSError:
                 continue
-            last = os.pread(file, len(self.place.last), self.place.offset - len(self.place.last))
-            if os.fstat(file).st_ino == self.place.inode and last == self.place.last:
+            there = place_at(file, self.place.offset)
+            if there == self.place or (there.inode == self.place.inode and not is_same_boot):
                 self.file, self.older = file, inodes(paths[:number])
+                if there != self.place:
+                    logging.warning("%s: lines were lost, continuing at the end", path)
+                    self.place = end_of_lines(file)
                 return True
             os.close(file)
         return False
@@ -72,10 +79,17 @@ class Follower:
             self.is_at_end = True
             return []
         assert self.file is not None
-        if os.fstat(self.file).st_size < self.place.offset + len(self.rest):
-            logging.warning("%s: file truncated, reading from the beginning", self.path)
-            self.rest, self.place = b"", Place(self.place.inode, 0, b"")
+        size = os.fstat(self.file).st_size
+        if size < self.place.offset + len(self.rest):
+            self.rest = b""
+        if size < self.place.offset:
+            # what is left of the file was read before
+            logging.warning("%s: file truncated, continuing at its end", self.path)
+            self.place = end_of_lines(self.file)
         added = os.pread(self.file, MAX_READ, self.place.offset + len(self.rest))
+        if len(added) < MAX_READ:
+            # NUL bytes at the end, which a power failure leaves, are truncated when the gateway starts
+            added = added.rstrip(b"\0")
         if not added:
             self.go_on()
             return []
@@ -87,7 +101,7 @@ class Follower:
         *whole, self.rest = (self.rest + added).split(b"\n")
         lines = []
         for line in whole:
-            lines.append((line, self.place))
+            lines.append((without_nuls(line), self.place))
             self.place = self.place.after(line + b"\n")
         if len(self.rest) > MAX_READ:
             lines.append((self.rest, self.place))
@@ -147,6 +161,12 @@ class Follower:
             self.file = None
 
 
+def without_nuls(line: bytes) -> bytes:
+    """The line that follows NUL bytes, which a power failure may leave in place of what was written. If nothing follows
+    them, these bytes are the line, which is invalid."""
+    return line.rpartition(b"\0")[2] or line
+
+
 def files_of(path: str) -> list[str]:
     """The rotated files as logrotate names them, without the compressed ones, and the file itself: the oldest first.
     Their names end with a date (`-20261127`) or with a number (`.1`), which is greater for an older file."""
@@ -178,6 +198,15 @@ def end_of(path: str) -> Place | None:
         return place_at(file, os.lseek(file, 0, os.SEEK_END))
     finally:
         os.close(file)
+
+
+def end_of_lines(file: int) -> Place:
+    """The place after the last whole line of an open file. If no line ends there, it is the beginning of the file, or
+    the end of a long one."""
+    size = os.fstat(file).st_size
+    start = max(0, size - MAX_READ)
+    end = os.pread(file, size - start, start).rfind(b"\n") + 1
+    return place_at(file, start + end if end or not start else size)
 
 
 def inode_of(path: str) -> int:

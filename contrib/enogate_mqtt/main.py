@@ -15,7 +15,7 @@ from .connection import Broker, Connection
 from .desk import Desk
 from .devices import Devices
 from .entities import Table
-from .follow import NOWHERE, Follower
+from .follow import NOWHERE, Follower, without_nuls
 from .requests import Requests
 from .settings import STATUS, Options, Words, WrongSetting, read_login, read_options, read_words
 from .store import Store
@@ -45,14 +45,14 @@ def run(words: Words, options: Options) -> None:
     login, clock = read_login(os.environ), time.monotonic
     topics = Topics(words.name, options.discovery)
     paho = import_paho()
-    store = Store(words.state, options.discovery)
+    store = Store(words.state, options.discovery, words.boot)
     broker = Broker(lambda version, is_reader: Connection(paho, login, topics, version, clock, is_reader),
                     f"{login.host}:{login.port}", clock, time.sleep)
     devices = Devices(topics, Table(), options.expire_after, store.devices, store.removed | old_topics(topics, store),
                       may_adopt=store.may_adopt)
     desk = Desk(words.desk, clock)
     requests = Requests(desk, clock, time.time, options.learn_for, store.learn_until)
-    follower = Follower(words.lines, store.place)
+    follower = Follower(words.lines, store.place, store.is_same_boot)
     bridge = Bridge(topics, broker, devices, follower, desk, requests, store, clock, time.time)
 
     def stop(_number: int, _frame: object) -> None:
@@ -84,7 +84,7 @@ def print_messages(topics: Topics, options: Options) -> None:
     """Prints what would be published for the lines on standard input."""
     signal.signal(signal.SIGPIPE, signal.SIG_DFL)
     devices = Devices(topics, Table(), options.expire_after)
-    lines = ((line.removesuffix(b"\n"), NOWHERE) for line in sys.stdin.buffer)
+    lines = ((without_nuls(line.removesuffix(b"\n")), NOWHERE) for line in sys.stdin.buffer)
     for line, _, content in contents(lines, devices, lambda _kind, text: logging.warning("%s", text)):
         for message in [Message(topics.lines, line, False), *devices.take(content)]:
             print(message.topic, "retained" if message.retained else "-", message.payload, flush=True)

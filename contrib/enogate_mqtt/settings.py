@@ -25,6 +25,7 @@ class Words:
     lines: str
     desk: str
     state: str
+    boot: str
     prints: bool
 
 
@@ -62,6 +63,8 @@ def read_words(arguments: Sequence[str]) -> Words:
     parser.add_argument("--lines", metavar="PATH", help="file to which the gateway appends its output lines")
     parser.add_argument("--desk", metavar="PATH", help="desk of the gateway: the file from which it reads orders")
     parser.add_argument("--state", metavar="PATH", help="SQLite file for the state of the bridge, created if missing")
+    parser.add_argument("--boot", metavar="ID", default="", help="ID of this boot of the computer; if it has changed, "
+                        "lines that were written before the start of the bridge are not published")
     parser.add_argument("--print", action="store_true", dest="prints",
                         help="print what would be published for the lines on standard input; no broker is needed")
     parser.add_argument("--version", action="version", version=f"enogate-mqtt {VERSION}")

@@ -16,8 +16,8 @@ from .devices import Device
 from .follow import Place
 from .lines import NAME
 
-# The version of the tables, in PRAGMA user_version. A file of another version is replaced. The table `learn` was added
-# without another version: programs that do not know it can use the file.
+# The version of the tables, in PRAGMA user_version. A file of another version is replaced. The tables `learn` and `boot`
+# were added without another version: programs that do not know them can use the file.
 VERSION = 2
 # So long the start waits for a file that another program has locked, in seconds.
 WAIT = 5.0
@@ -29,6 +29,7 @@ CREATE TABLE IF NOT EXISTS place (inode INTEGER, offset INTEGER, last BLOB, disc
 CREATE TABLE IF NOT EXISTS device (id TEXT PRIMARY KEY, eep TEXT, label TEXT, maker INTEGER, told TEXT);
 CREATE TABLE IF NOT EXISTS removed (topic TEXT PRIMARY KEY);
 CREATE TABLE IF NOT EXISTS learn (until REAL);
+CREATE TABLE IF NOT EXISTS boot (id TEXT);
 PRAGMA user_version = {VERSION};
 COMMIT;
 """
@@ -43,10 +44,10 @@ class Foreign(Exception):
 class Store:
     """The state file at this path. A file that is damaged, or of another version, is replaced. If it cannot be written,
     the bridge runs without it, and it is tried again at each save. `discovery` is the topic prefix of the discovery
-    messages that were published last."""
+    messages that were published last, `boot` identifies this boot of the computer."""
 
-    def __init__(self, path: str, discovery: str):
-        self.path, self.discovery = path, discovery
+    def __init__(self, path: str, discovery: str, boot: str = ""):
+        self.path, self.discovery, self.boot = path, discovery, boot
         # whether the last save failed, and whether the file lacks changes of this run
         self.is_failing = self.is_behind = False
         self.connection: sqlite3.Connection | None = None
@@ -59,7 +60,9 @@ class Store:
         """The state without a file."""
         self.devices: list[Device] = []
         self.removed: set[str] = set()
+        # whether the computer was not started since the place was saved
         self.place: Place | None = None
+        self.is_same_boot = False
         # until the broker was asked for everything, it may know more than a new state file
         self.old_discovery, self.may_adopt = self.discovery, True
         # in seconds since 1970
@@ -122,6 +125,8 @@ class Store:
         row = connection.execute("SELECT inode, offset, last, discovery, may_adopt FROM place").fetchone()
         if row:
             self.place, self.old_discovery, self.may_adopt = Place(*row[:3]), row[3], bool(row[4])
+        row = connection.execute("SELECT id FROM boot").fetchone()
+        self.is_same_boot = self.boot == (row[0] if row else "")
         row = connection.execute("SELECT until FROM learn").fetchone()
         if row and not isinstance(row[0], float):
             raise Foreign("learn window of an unknown form")
@@ -142,6 +147,8 @@ class Store:
                 self.connection.execute("DELETE FROM place")
                 values = (place.inode, place.offset, place.last, self.discovery, may_adopt)
                 self.connection.execute("INSERT INTO place VALUES (?, ?, ?, ?, ?)", values)
+                self.connection.execute("DELETE FROM boot")
+                self.connection.execute("INSERT INTO boot VALUES (?)", (self.boot,))
                 self.connection.execute("DELETE FROM learn")
                 if learn_until is not None:
                     self.connection.execute("INSERT INTO learn VALUES (?)", (learn_until,))

@@ -104,6 +104,12 @@ class Gateway(Unit):
         with self.lines_path.open("a") as lines:
             lines.write(text)
 
+    def lose(self, count: int) -> None:
+        """The last bytes of its lines become NUL bytes, as a power failure leaves them."""
+        with self.lines_path.open("r+b") as lines:
+            lines.seek(-count, os.SEEK_END)
+            lines.write(bytes(count))
+
     def rotate(self) -> None:
         """Renames the file of its lines, as logrotate does."""
         self.lines_path.rename(f"{self.lines_path}.1")

@@ -87,4 +87,4 @@ class Lines(GatewayTest):
         self.assert_published(f"{DEVICE}/TMP {value}")
 
     def reason_of_a_cut(self) -> str:
-        return f"{self.gateway.lines_path}: file truncated, reading from the beginning"
+        return f"{self.gateway.lines_path}: file truncated, continuing at its end"

@@ -4,9 +4,10 @@ from __future__ import annotations
 import signal
 import time
 
-from bridge_testcase import OFFLINE, ONLINE, OWN, GatewayTest
+from bridge_testcase import OFFLINE, ONLINE, OWN, RESPONSE, GatewayTest
 from kinds import END_OF_LIST, KindsTest
 from programs import lines_of, wait_for
+from services import of_type
 
 
 class Stops(KindsTest):
@@ -65,6 +66,30 @@ class Stops(KindsTest):
             self.assert_seen(self.published(), [OFFLINE, ONLINE])
         with self.subTest("the lines that are published"):
             self.assert_seen(self.published_lines("reading"), [])
+
+    def test_after_a_power_failure_no_earlier_line_is_published(self):
+        """The lines have lost their end, the state has not."""
+        self.bring("01800A0D", "F6 30 30")
+        self.assert_lines(self.gateway.lines()[-1])
+        self.assert_soon(lambda: f"{self.gateway.size() - self.bridge.saved()} bytes of lines are not saved",
+                         "0 bytes of lines are not saved")
+        self.bridge.end(signal.SIGKILL)
+        self.gateway.end()
+        self.gateway.lose(100)
+        self.heard.forget()
+        self.bridge.start(BOOT="another-boot")
+        self.assert_published(ONLINE)
+        self.assert_logged(f"{self.gateway.lines_path}: lines were lost, continuing at the end")
+        self.gateway.start(self.stick)
+        self.assert_lines(RESPONSE)
+        self.bring("01800A0D", "F6 10 30")
+        self.assert_published(f'{OWN}/01800A0D/press {{"event_type":"AI"}}')
+        self.settle()
+        with self.subTest("the lines that are published"):
+            self.assert_seen(self.published_lines("reading"), of_type(self.gateway.lines(), "reading")[-1:])
+        with self.subTest("the presses"):
+            self.assert_seen([message for message in self.heard.messages() if "/press " in message],
+                             [f'{OWN}/01800A0D/press {{"event_type":"AI"}}'])
 
     def test_a_broker_that_was_killed_gets_everything_again(self):
         """Meanwhile two devices send, and the bridge is started again. Its second start has no connection."""

@@ -1,6 +1,6 @@
 """The commands that systemd runs for a unit, as a script for sh: with ROOT before each folder, NAME for the instance,
-the umask of the unit, and its variables as the environment has them. Those of ExecStopPost are run at its end, whatever
-ended it, and get the reason.
+the umask of the unit, and its variables as the environment has them. BOOT is the ID of the boot. Those of ExecStopPost
+are run at its end, whatever ended it, and get the reason.
 
     tests/around/unit.py UNIT ROOT NAME
 """
@@ -9,7 +9,8 @@ import shlex
 import sys
 
 unit, root, name = sys.argv[1:]
-words = {"%t": root + "/run", "%S": root + "/lib", "%L": root + "/log", "%i": name, "%%": "%", "$$": "$"}
+words = {"%t": root + "/run", "%S": root + "/lib", "%L": root + "/log", "%i": name, "%%": "%", "$$": "$",
+         "%b": "${BOOT:-a-boot}"}
 text = open(unit).read().replace("\\\n", "")
 
 

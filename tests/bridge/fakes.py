@@ -155,7 +155,7 @@ class Site:
         case.addCleanup(folder.cleanup)
         self.folder = pathlib.Path(folder.name)
         self.lines, self.desk = self.folder / "hall.lines", self.folder / "desk"
-        self.state = self.folder / "hall.db"
+        self.state, self.boot = self.folder / "hall.db", "a boot"
         self.clock, self.wall, self.broker = Clock(), Clock(1_800_000_000.0), FakeBroker()
         self.topics = Topics("hall", "homeassistant")
         self.lines.touch()
@@ -163,11 +163,11 @@ class Site:
 
     def start(self, learn_for: int = 120) -> Bridge:
         """A bridge, after it has read the lines that are there."""
-        store = Store(str(self.state), self.topics.discovery)
+        store = Store(str(self.state), self.topics.discovery, self.boot)
         devices = Devices(self.topics, Table(), None, store.devices, store.removed, may_adopt=store.may_adopt)
         desk = Desk(str(self.desk), self.clock)
         requests = Requests(desk, self.clock, self.wall, learn_for, store.learn_until)
-        follower = Follower(str(self.lines), store.place)
+        follower = Follower(str(self.lines), store.place, store.is_same_boot)
         self.bridge = Bridge(self.topics, self.broker, devices, follower, desk, requests, store, self.clock,
                              self.wall)
         self.bridge.read_earlier_lines()

@@ -3,7 +3,7 @@ import os
 import unittest
 from unittest import mock
 
-from enogate_mqtt.follow import MAX_READ, Follower, Place, end_of, files_of
+from enogate_mqtt.follow import MAX_READ, NOWHERE, Follower, Place, end_of, files_of
 from fakes import Case, Site
 
 
@@ -182,13 +182,91 @@ class Following(Case):
         self.assertEqual(self.read(self.follower(Place(self.path.stat().st_ino, 2, b"a\n"))), ["x", "b"])
         self.assert_logged("previous file not found")
 
-    def test_a_file_that_is_truncated(self):
+    def test_a_file_that_has_lost_its_end_in_a_power_failure(self):
+        """Its inode is the same. What is left was read before; an incomplete line and NUL bytes may be truncated."""
+        for left in (b"", b"one\n", b"one\ntw", b"one\n\0\0", b"\0\0\0\0two\n\0\0", b"one\ntwo\n" + bytes(50)):
+            with self.subTest(left):
+                self.setUp()
+                self.write("one\ntwo\nthree\n")
+                follower = self.follower()
+                self.read(follower)
+                self.path.write_bytes(left)
+                again = Follower(str(self.path), follower.place, is_same_boot=False)
+                self.assertTrue(again.is_found)
+                self.assertEqual(again.place.offset, left.rfind(b"\n") + 1)
+                self.assertEqual(self.read(again), [])
+                os.truncate(self.path, len(left.rstrip(b"\0")))
+                self.write("\nfour\n")
+                self.assertEqual(self.read(again)[-1], "four")
+                self.assert_logged(f"{self.path}: lines were lost, continuing at the end")
+                self.assertEqual(len(self.logged), 1)
+
+    def test_a_rotated_file_that_has_lost_its_end_in_a_power_failure(self):
+        self.write("one\ntwo\n")
         follower = self.follower()
-        self.write("a\nhalf")
         self.read(follower)
-        self.path.write_text("b\n")
-        self.assertEqual(self.read(follower), ["b"])
-        self.assert_logged("file truncated, reading from the beginning")
+        os.truncate(self.rotate(), 4)
+        self.write("three\n")
+        again = Follower(str(self.path), follower.place, is_same_boot=False)
+        self.assertEqual(self.read(again), ["three"])
+
+    def test_a_place_that_is_found_after_a_power_failure(self):
+        self.write("one\ntwo\n")
+        place = self.follower().read()[1][1]
+        again = Follower(str(self.path), place, is_same_boot=False)
+        self.assertEqual((again.is_found, self.read(again), self.logged), (True, ["two"], []))
+
+    def test_whether_the_place_is_found(self):
+        self.write("one\ntwo\n")
+        place = self.follower().read()[1][1]
+        self.assertTrue(self.follower(place).is_found)
+        self.assertFalse(self.follower().is_found)
+        self.path.write_text("one")
+        self.assertFalse(self.follower(place).is_found)
+        self.path.unlink()
+        gone = Follower(str(self.path), place, is_same_boot=False)
+        self.assertEqual((gone.is_found, gone.place), (False, NOWHERE))
+
+    def test_a_file_that_is_truncated(self):
+        """What is left of it is not read again."""
+        for left in ("", "a\n", "a\nb"):
+            self.setUp()
+            follower = self.follower()
+            self.write("a\nb\nhalf")
+            self.read(follower)
+            os.truncate(self.path, len(left))
+            self.assertEqual(self.read(follower), [])
+            self.write("\nc\n")
+            self.assertEqual(self.read(follower)[-1], "c")
+            self.assert_logged("file truncated, continuing at its end")
+
+    def test_an_incomplete_line_that_is_truncated(self):
+        """Such as NUL bytes, which the start of the gateway removes."""
+        for left in (0, 2):
+            self.setUp()
+            follower = self.follower()
+            self.write("a\nb\nha" + "\0" * 100)
+            self.assertEqual(self.read(follower), ["a", "b"])
+            os.truncate(self.path, 4 + left)
+            self.assertEqual(self.read(follower), [])
+            self.write("\nc\n")
+            self.assertEqual(self.read(follower), ["ha"[:left], "c"])
+            self.assertEqual(self.logged, [])
+
+    def test_a_long_line_at_the_end_of_a_file_that_was_truncated(self):
+        follower = self.follower()
+        self.write("a\n" + "x" * (3 * MAX_READ) + "\n")
+        self.read(follower)
+        size = 2 + 2 * MAX_READ
+        os.truncate(self.path, size)
+        self.assertEqual((self.read(follower), follower.place.offset), ([], size))
+        self.write("x\nb\n")
+        self.assertEqual(self.read(follower), ["x", "b"])
+
+    def test_nul_bytes(self):
+        """A line that follows them is read. If there is none, they are an invalid line."""
+        self.write("a\n" + "\0" * 5000 + "b\nc\0\0d\n\0\0\ne\n")
+        self.assertEqual(self.read(self.follower()), ["a", "b", "d", "\0\0", "e"])
 
     def test_a_link_a_pipe_or_a_folder_in_place_of_the_file(self):
         other = self.path.with_name("other")

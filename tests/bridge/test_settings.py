@@ -18,8 +18,9 @@ PATHS = ["--lines", "l", "--desk", "d", "--state", "s"]
 
 class CommandLine(unittest.TestCase):
     def test_words(self):
-        self.assertEqual(read_words([*PATHS, "hall"]), Words("hall", "l", "d", "s", False))
-        self.assertEqual(read_words(["--print", "Hall_2-b"]), Words("Hall_2-b", None, None, None, True))
+        self.assertEqual(read_words([*PATHS, "hall"]), Words("hall", "l", "d", "s", "", False))
+        self.assertEqual(read_words([*PATHS, "--boot", "b", "hall"]).boot, "b")
+        self.assertEqual(read_words(["--print", "Hall_2-b"]), Words("Hall_2-b", None, None, None, "", True))
 
     def test_wrong_words(self):
         for words, why in (([], "required"),
@@ -144,7 +145,7 @@ class Program(Case):
     def test_what_is_run(self):
         """The state file decides what is adopted, and what is to be deleted."""
         site = Site(self)
-        words = Words("hall", str(site.lines), str(site.desk), str(site.state), False)
+        words = Words("hall", str(site.lines), str(site.desk), str(site.state), "", False)
         options = Options("homeassistant", 60, 7200)
         found = []
         for removed in (set(), {"x/y"}):

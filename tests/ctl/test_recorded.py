@@ -115,6 +115,15 @@ class Recorded(Site):
         self.assertEqual([(members["dbm"], members["readings"]) for members in shown],
                          [(-60, closed), (None, closed), (None, []), (None, [])])
 
+    def test_lines_with_nul_bytes(self):
+        """A power failure may leave them. A line behind them counts."""
+        opened = [{"name": "CO", "word": "open"}]
+        learned, last = (json.dumps(line, separators=(",", ":"))
+                         for line in (device("01800ABC", "Door"), reading("01800ABC", readings=opened)))
+        self.write("\0\0\n" + "\0" * 5000 + learned, end_of_list(1), "x\0\0", "\0" + last, "\0\0")
+        self.assertEqual(self.found(), {"01800ABC": ("Door", "D5-00-01")})
+        self.assertEqual(json.loads(self.run_command("--json")[1].splitlines()[0])["readings"], opened)
+
     def test_for_people(self):
         self.write(device("01800ABC", "Door"), end_of_list(1))
         self.assertEqual(self.run_command(), (0, "LABEL  ID        PROFILE   NAME\n"

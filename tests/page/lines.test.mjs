@@ -26,6 +26,13 @@ test("all lines of the guide are accepted", () => {
         assert.deepEqual(parse(line), JSON.parse(line), line);
 });
 
+test("a line that follows NUL bytes is read", () => {
+    const nuls = "\0".repeat(5000);
+    for (const before of [nuls, `{"type":${nuls}`])
+        assert.deepEqual(parse(before + JSON.stringify(READING)), READING);
+    assert.deepEqual([parse(nuls), parse(JSON.stringify(READING) + nuls)], [null, null]);
+});
+
 test("texts that are no lines are dropped", () => {
     const texts = ["", "{", "null", "1", "[]", "[1]", '"ok"', "{}", '{"type":1}', '{"type":"other"}', '{"type":"ok"',
         '{"type":"__proto__"}', '{"type":"constructor"}', "x".repeat(100000), "\u0000", "[".repeat(10000)];

@@ -54,7 +54,8 @@ const SHAPES = new Map([
 export function parse(raw) {
     let line;
     try {
-        line = JSON.parse(raw);
+        // A power failure may leave NUL bytes before a line.
+        line = JSON.parse(raw.slice(raw.lastIndexOf("\0") + 1));
     } catch {
         return null;
     }
