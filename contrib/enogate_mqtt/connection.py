@@ -27,6 +27,8 @@ FIRST_PAUSE, MAX_PAUSE = 1.0, 60.0
 # An open connection that is lost sooner, so often in a row, is a sign of another client with this name.
 SHORT, OFTEN = 10.0, 3
 NOT_ACCEPTED = 128
+# The status of paho after the end of a connection. Up to 1.6 it does not report the reason code that MQTT 5 has for it.
+CONNECTION_LOST = 7
 # The type of the packet that opens a connection.
 CONNECT = 1
 # So many packets are handled in one turn, if there are so many.
@@ -176,6 +178,8 @@ class Connection:
             raise Lost(self.refusal)
         if self.is_taken_over:
             raise Lost(f"another client has the name {self.name}")
+        if status == CONNECTION_LOST and self.is_open:
+            raise Lost(f"the connection was closed: the broker was stopped, or another client has the name {self.name}")
         if status != 0:
             raise Lost(self.paho.error_string(status))
         if not self.is_open and self.clock() > self.began + OPEN_WITHIN:

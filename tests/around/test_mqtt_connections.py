@@ -111,6 +111,17 @@ class Rights(BridgeTest):
         self.assert_seen(self.heard.messages(), [])
 
 
+class Names(BridgeTest):
+    """A broker and a bridge."""
+
+    def test_another_client_with_its_name(self):
+        self.start_broker()
+        self.start_bridge()
+        self.broker.client("sub", "-i", "enogate-hall", "-t", "x", "-W", "1")
+        named = "another client has the name enogate-hall"
+        self.assert_soon(lambda: [named for line in self.bridge.journal() if named in line][:1], [named])
+
+
 class Packets(unittest.TestCase):
     """The connection of the bridge, without a broker."""
 

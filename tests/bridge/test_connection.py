@@ -298,6 +298,15 @@ class Connecting(Case):
         with self.assertRaisesRegex(Lost, "^error 7$"):
             found.turn(0)
 
+    def test_another_client_with_the_name_without_a_reason_code(self):
+        """paho 1.6 does not report that of mosquitto."""
+        found = self.connect()
+        self.accept(found)
+        self.client.steps = [lambda: self.client.on_disconnect(self.client, None, 7) or 7]
+        with self.assertRaisesRegex(Lost, "^the connection was closed: the broker was stopped, or another client has "
+                                    "the name enogate-hall$"):
+            found.turn(0)
+
     def test_a_broker_that_does_not_answer(self):
         found = self.connect()
         self.clock.now += connection.OPEN_WITHIN
