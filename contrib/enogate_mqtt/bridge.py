@@ -10,7 +10,7 @@ from typing import Callable, Iterable, Iterator
 from . import discovery
 from .connection import ECHO_WITHIN, Broker, Connection, Lost, Received
 from .desk import Desk
-from .devices import Devices
+from .devices import LAST_SEEN, Devices, time_text
 from .follow import Follower, Place
 from .lines import BadLine, Content, Strange, content_of
 from .log import Seldom
@@ -30,6 +30,8 @@ END_WITHIN = 2.0
 # has then removed nothing for so long, in seconds.
 COMPARE_EVERY, REMOVED_BEFORE = 86400.0, 5.0
 GATEWAY, UNKNOWN = "gateway", "unknown"
+# So long after its start the bridge waits for the clock to be set, in seconds.
+CLOCK_SET_WITHIN = 600.0
 
 
 def contents(lines: Iterable[tuple[bytes, Place]], devices: Devices, warn: Callable[[str, str], None]
@@ -73,6 +75,9 @@ class Bridge:
         self.compare_at = 0.0
         self.saved: Place | None = store.place if store.is_same_boot else None
         self.saved_at = 0.0
+        # the newest time of a telegram in an earlier run, and until when an earlier time is not published
+        self.newest = max((device.told.get(LAST_SEEN, "") for device in store.devices), default="")
+        self.waits_until = clock() + CLOCK_SET_WITHIN
         self.is_unknown_asked = False
 
     def run(self) -> None:
@@ -266,7 +271,7 @@ class Bridge:
         for line, place, content in contents(self.follower.read(), self.devices, self.seldom.warning):
             if are_kept:
                 self.outbox.add(line, place)
-            self.publish(self.devices.take(content, None if is_late else self.wall()))
+            self.publish(self.devices.take(content, None if is_late else self.now()))
             if not is_earlier:
                 self.requests.take(content)
         if self.devices.lists > lists:
@@ -276,6 +281,12 @@ class Bridge:
             if self.devices.may_adopt and self.devices.lists and not self.is_unknown_asked:
                 self.is_unknown_asked = True
                 self.reconciler.add(self.parts_of_unknown())
+
+    def now(self) -> float | None:
+        """The time; None if it is earlier than that of an earlier run, soon after the start: a computer without a clock
+        chip has the wrong time until the network is there. Later it counts, since the earlier time may be wrong."""
+        now = self.wall()
+        return None if time_text(now) < self.newest and self.clock() < self.waits_until else now
 
     def receive(self, message: Received) -> None:
         """Handles a message from the broker."""

@@ -128,7 +128,7 @@ class Devices:
             messages += self.remove(self.topics.told(device.name, place) for place in old)
             device.told = {place: text for place, text in device.told.items() if place not in old}
         if now is not None:
-            told[LAST_SEEN] = datetime.fromtimestamp(now, timezone.utc).isoformat(timespec="seconds")
+            told[LAST_SEEN] = time_text(now)
         is_new = not told.keys() <= device.told.keys()
         device.told |= told
         self.changed.add(device.name)
@@ -182,6 +182,11 @@ class Devices:
         about = discovery.about_device(self.topics, device.name, device.eep, device.label, device.maker)
         rows = self.table.of_profile(device.eep).values()
         return discovery.configs(self.topics, device.name, about, rows, device.told, self.expire_after)
+
+
+def time_text(seconds: float) -> str:
+    """A time in seconds since 1970, as it is published. Of two such texts the greater one is the later time."""
+    return datetime.fromtimestamp(seconds, timezone.utc).isoformat(timespec="seconds")
 
 
 def event_payload(kind: str) -> str:

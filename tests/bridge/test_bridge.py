@@ -53,6 +53,42 @@ class Bridging(Case):
         self.assertEqual(self.lines(), [json.dumps(line) for line in (OK, learned("01800ABC"), reading("01800ABC"))])
         self.assertIn((HALL + "01800ABC/last_seen", "2027-01-15T08:00:00+00:00"), self.site.told())
 
+    def last_seen(self):
+        """What is published as the time of a telegram that comes now."""
+        before = len(self.site.told(HALL + "01800ABC/last_seen"))
+        self.site.tell(reading("01800ABC"))
+        self.site.turns(2, 0.01)
+        self.assertEqual(self.site.broker.memory[HALL + "01800ABC/TMP"], "20")
+        return [text for _, text in self.site.told(HALL + "01800ABC/last_seen")[before:]]
+
+    def test_a_clock_that_is_not_set_yet(self):
+        """Soon after a start, no time is published that is earlier than one of an earlier run."""
+        self.start(*listing(*DEVICES))
+        self.assertEqual(self.last_seen(), ["2027-01-15T08:00:00+00:00"])
+        self.again()
+        self.site.broker.join()
+        self.site.turns(20, 0.01)
+        for seconds, shown in ((-1, []), (-20_000_000, []), (0, ["2027-01-15T08:00:00+00:00"]), (-1, []),
+                               (86400, ["2027-01-16T08:00:00+00:00"])):
+            with self.subTest(seconds):
+                self.site.wall.now = 1_800_000_000.0 + seconds
+                self.assertEqual(self.last_seen(), shown)
+
+    def test_a_clock_that_was_in_advance(self):
+        """An earlier time is published some minutes after the start."""
+        self.start(*listing(*DEVICES))
+        self.last_seen()
+        started = self.site.clock.now
+        self.again()
+        self.site.broker.join()
+        self.site.turns(20, 0.01)
+        self.site.wall.now -= 86400
+        self.site.clock.now = started + bridge.CLOCK_SET_WITHIN - 1
+        self.assertEqual(self.last_seen(), [])
+        self.site.clock.now = started + bridge.CLOCK_SET_WITHIN
+        self.assertEqual(self.last_seen(), ["2027-01-14T08:00:00+00:00"])
+        self.assertEqual(bridge.CLOCK_SET_WITHIN, 600)
+
     def test_a_list_ends_the_question(self):
         self.start()
         self.site.tell(*listing(*DEVICES))
