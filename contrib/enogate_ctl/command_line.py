@@ -15,6 +15,7 @@ TIMEOUT = 10.0
 USAGE = """enogatectl [--timeout SECONDS] [--json] [--desk PATH] [--lines PATH] GATEWAY ORDER..
        enogatectl [..] GATEWAY learn on|on answer|as EEP --for SECONDS
        enogatectl [..] GATEWAY devices [--export|--import]
+       enogatectl [..] GATEWAY lines
        enogatectl base PORT
        enogatectl paths"""
 EPILOG = ("GATEWAY is the name of a gateway, for example `hall` for enogate@hall.service. ORDER is one of: "
@@ -65,7 +66,13 @@ class ShowRecorded:
     is_json: bool
 
 
-Command = AskBase | ShowPaths | Give | Export | Import | ShowRecorded
+@dataclass(frozen=True)
+class ShowLines:
+    """Prints the lines of a gateway, also those that are written later."""
+    places: Places
+
+
+Command = AskBase | ShowPaths | Give | Export | Import | ShowRecorded | ShowLines
 
 
 def seconds_of(text: str) -> float:
@@ -132,6 +139,9 @@ class CommandLine:
             return ShowPaths()
         if words.order == ["devices"]:
             return self.devices()
+        if words.order == ["lines"]:
+            self.forbid("lines", "json", "seconds", "exports", "imports")
+            return ShowLines(self.places())
         if hint := self.hint():
             self.fail(hint)
         self.forbid("an order", "exports", "imports")
@@ -147,7 +157,7 @@ class CommandLine:
     def hint(self) -> str:
         """What to write instead, if the name of the gateway or the path of the port is missing; otherwise empty."""
         first, others = self.words.gateway, self.words.order
-        if first not in (*grammar.FORMS, "devices") or (others and others[0] in grammar.FORMS):
+        if first not in (*grammar.FORMS, "devices", "lines") or (others and others[0] in grammar.FORMS):
             return ""
         if first == "base" and others:
             return ("base needs the path of a serial port, such as /dev/enocean; give the order as: enogatectl GATEWAY "

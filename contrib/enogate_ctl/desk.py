@@ -37,9 +37,9 @@ class Unrecognizable(Exception):
 
 
 class Lines:
-    """The lines that are written after this was made."""
+    """The lines that are written after this was made, and those in so many bytes before."""
 
-    def __init__(self, path: str):
+    def __init__(self, path: str, earlier: int = 0):
         try:
             os.close(open_file(path))
         except FileNotFoundError:
@@ -50,10 +50,15 @@ class Lines:
         except OSError as error:
             raise Unusable(f"the lines {path} cannot be read: {error.strerror}; become root, or a member of the group "
                            "enogate (log in again afterwards)") from error
-        place = end_of(path)
+        place = end_of(path, earlier)
         self.follower = Follower(path, place)
         # The rest of a line that was begun before.
         self.is_torn = place is not None and place.offset > 0 and not place.last.endswith(b"\n")
+
+    @property
+    def is_at_end(self) -> bool:
+        """Whether the last call of `read` found the end of the lines."""
+        return self.follower.is_at_end
 
     def read(self) -> list[bytes]:
         """The lines that have ended since the last call."""

@@ -11,10 +11,10 @@ from typing import Sequence
 from enogate_mqtt.lines import Listed
 from enogate_tools import files, port as ports
 
-from . import recorded, sheet, words
+from . import following, recorded, sheet, words
 from .answers import SHARED, Answer
 from .base import ORDER as BASE, ask_base
-from .command_line import AskBase, Command, Export, Give, Import, ShowPaths, ShowRecorded, parsed
+from .command_line import AskBase, Command, Export, Give, Import, ShowLines, ShowPaths, ShowRecorded, parsed
 from .desk import Desk, NoAnswer
 from .places import Places, Unreadable, paths
 from .shown import devices, shown
@@ -72,6 +72,9 @@ def run(command: Command, stops: Stops) -> int:
     match command:
         case ShowRecorded(places, is_json):
             return show_recorded(places, is_json)
+        case ShowLines(places):
+            following.print_lines(places, sys.stdout.buffer, following.is_read)
+            return OK
         case Export(places, timeout):
             print(sheet.exported(listed(Desk(places, timeout))), end="")
             return OK

@@ -188,14 +188,15 @@ def place_at(file: int, offset: int) -> Place:
     return Place(os.fstat(file).st_ino, offset, os.pread(file, offset - start, start))
 
 
-def end_of(path: str) -> Place | None:
-    """The place at the end of the file at this path; None if it cannot be read. The file may grow meanwhile."""
+def end_of(path: str, before: int = 0) -> Place | None:
+    """The place at the end of the file at this path, or so many bytes before it; None if the file cannot be read. It
+    may grow meanwhile."""
     try:
         file = open_regular(path)
     except OSError:
         return None
     try:
-        return place_at(file, os.lseek(file, 0, os.SEEK_END))
+        return place_at(file, max(0, os.lseek(file, 0, os.SEEK_END) - before))
     finally:
         os.close(file)
 

@@ -406,7 +406,7 @@ class RootTools(RightsTest):
     def test_the_lines(self):
         for what in self.obstacles(self.lines):
             with self.subTest(what):
-                for order, status in (("list", 3), ("devices", 1)):
+                for order, status in (("list", 3), ("devices", 1), ("lines", 1)):
                     found, text = self.ctl(order)
                     self.assertEqual((found, text.count("\n")), (status, 1), text)
                     self.assertIn("enogatectl: the lines /log/enogate/hall.lines cannot be read: it ", text)

@@ -242,6 +242,24 @@ class Reads(PageTest):
         self.wait_for_text("#feed", "live")
         self.wait(lambda: browser.find("#trouble").is_displayed(), lambda shown: not shown)
 
+    def test_a_link_or_a_pipe_in_place_of_the_lines_is_not_opened(self):
+        other, lines = work / "other", gateway.lines_path.with_name("yard.lines")
+        other.write_text('{"eep":"D5-00-01","id":"01800AE1","label":"","maker":null,"type":"device"}\n'
+                         '{"count":1,"type":"list"}\n')
+        self.addCleanup(lines.unlink, missing_ok=True)
+        for make, why in ((lambda: lines.symlink_to(other), "it is a symbolic link"),
+                          (lambda: os.mkfifo(lines), "it is not a regular file"),
+                          (lambda: other.rename(lines), "")):
+            with self.subTest(why):
+                lines.unlink(missing_ok=True)
+                make()
+                browser.click("[data-gateway=hall]")
+                browser.click("[data-gateway=yard]")
+                if why:
+                    self.wait_for_text("#trouble", f"the lines /var/log/enogate/yard.lines cannot be read: {why}")
+                self.assertEqual(self.wait(lambda: self.ids("devices"), lambda ids: bool(ids) != bool(why)),
+                                 [] if why else ["01800AE1"])
+
     def test_packets_are_shown_filtered_and_paused(self):
         self.tab("packets")
         stick.bring("01800A04", PRESS, RELEASE)

@@ -8,7 +8,7 @@ from unittest import mock
 
 from enogate_ctl import command_line, grammar, main as program
 from enogate_ctl.answers import Answer, line_of
-from enogate_ctl.command_line import AskBase, Export, Give, Import, ShowPaths, ShowRecorded, parsed
+from enogate_ctl.command_line import AskBase, Export, Give, Import, ShowLines, ShowPaths, ShowRecorded, parsed
 from enogate_ctl.desk import NoAnswer
 from enogate_ctl.places import Places, Unreadable, places_of
 from enogate_ctl.stops import Stopped
@@ -52,6 +52,8 @@ class CommandLines(Limited):
             ("hall devices --export", Export(HALL, 10.0)), ("--timeout 3 hall devices --export", Export(HALL, 3.0)),
             ("hall devices", ShowRecorded(HALL, False)), ("--json devices devices", ShowRecorded(DEVICES, True)),
             ("hall devices --import", Import(HALL, 10.0)), ("hall --timeout 3 devices --import", Import(HALL, 3.0)),
+            ("hall lines", ShowLines(HALL)), ("--timeout 3 hall lines", ShowLines(HALL)),
+            ("--desk d --lines l hall lines", ShowLines(Places("d", "l", HALL.bridge))),
         ):
             with self.subTest(words):
                 self.assertEqual(parsed(words.split(" ")), wanted)
@@ -81,6 +83,12 @@ class CommandLines(Limited):
             ("learn on", "the name of the gateway comes first: enogatectl GATEWAY learn .."),
             ("devices --export", "the name of the gateway comes first: enogatectl GATEWAY devices .."),
             ("base", "the name of the gateway comes first: enogatectl GATEWAY base .."),
+            ("lines", "the name of the gateway comes first: enogatectl GATEWAY lines .."),
+            ("hall lines --json", "--json cannot be used with lines"),
+            ("hall lines --for 5", "--for cannot be used with lines"),
+            ("hall lines --export", "--export cannot be used with lines"),
+            ("hall lines --import", "--import cannot be used with lines"),
+            ("hall lines x", "'lines x' is not an order"),
             ("base hall", "base needs the path of a serial port, such as /dev/enocean; give the order as: enogatectl "
              "GATEWAY base"), ("base status now", "'status now' is not an order"),
             ("hall list --desk d", "--desk and --lines must be used together"),
@@ -215,6 +223,15 @@ class Programs(Limited):
             self.assertEqual(run("paths"), (0, "{}\n", ""))
         with mock.patch.object(program, "paths", side_effect=Unreadable("why\n")):
             self.assertEqual(run("paths"), (1, "", "enogatectl: why?\n"))
+
+    def test_lines(self):
+        for why, status in ((None, 0), (Unreadable("why"), 1)):
+            with mock.patch.object(program.following, "print_lines", side_effect=why) as printed, \
+                    mock.patch("sys.stdout", mock.Mock(buffer=7)), mock.patch.object(program.Stops, "install"), \
+                    mock.patch("logging.disable"), contextlib.redirect_stderr(io.StringIO()) as err:
+                self.assertEqual(program.main(["hall", "lines"]), status)
+            self.assertEqual(err.getvalue(), "enogatectl: why\n" if why else "")
+            printed.assert_called_once_with(HALL, 7, program.following.is_read)
 
     def test_nobody_reads(self):
         with self.ask(['{"type":"ok"}']), mock.patch("builtins.print", side_effect=BrokenPipeError), \

@@ -1,20 +1,18 @@
 import assert from "node:assert/strict";
 import { mock, test } from "node:test";
 
-import { byId, machine, processes, settle, started } from "./page.mjs";
+import { byId, machine, settle, started } from "./page.mjs";
 import { RESPONSE } from "./samples.mjs";
 
 const [LIST, BASE] = ["list", "base"].map(order => ["enogatectl", "--json", "hall", "--", order]);
 let run = 1;
 
 /** A machine with two gateways, whose service runs. The lines are followed until the test is over. */
-machine.outputOf = ([name]) => {
-    if (name === "tail")
+machine.outputOf = ([name, ...words]) => {
+    if (words.at(-1) === "lines")
         return null;
     if (name === "find")
         return "/run/enogate/hall\n/run/enogate/yard\n";
-    if (name === "stat")
-        return "1:2 0\n";
     return name === "systemctl" ? `ActiveState=active\nSubState=running\nInvocationID=${run}\n` : "";
 };
 
@@ -41,9 +39,10 @@ test("the devices are asked for once after each start of the gateway, and not at
 });
 
 test("a base ID of the module that differs is reported while it does, and asked for after each start", async () => {
-    const [tail] = started("tail");
+    const [lines] = started("enogatectl", "hall", "lines");
     const reports = async data => {
-        tail.write(new TextEncoder().encode(`${JSON.stringify({ ...RESPONSE, data })}\n`));
+        // An empty line ends the earlier ones.
+        lines.write(`\n${JSON.stringify({ ...RESPONSE, data })}\n`);
         await pass(1);
     };
     const asked = started(...BASE).length;
@@ -62,10 +61,9 @@ test("a base ID of the module that differs is reported while it does, and asked 
 });
 
 test("a click on the tab of another gateway ends the reading of the first one's lines", async () => {
-    const [first] = started("tail");
-    assert.equal(first.words.at(-1), "/var/log/enogate/hall.lines");
+    const [first] = started("enogatectl", "hall", "lines");
     byId("gateways").children[1].click();
     await settle();
     assert.ok(first.isClosed);
-    assert.equal(processes.findLast(({ words }) => words[0] === "tail").words.at(-1), "/var/log/enogate/yard.lines");
+    assert.equal(started("enogatectl", "yard", "lines").length, 1);
 });

@@ -10,7 +10,7 @@ import { GatewaySection } from "./gateway.js";
 import { Model } from "./model.js";
 import { sentence } from "./orders.js";
 import { PacketsSection } from "./packets.js";
-import { baseTrouble, linesOf, runOf, trouble } from "./places.js";
+import { baseTrouble, runOf, trouble } from "./places.js";
 import { TeachSection } from "./teach.js";
 import { UnknownSection } from "./unknown.js";
 import * as words from "./words.js";
@@ -102,7 +102,7 @@ class Page {
         this.gateway = name;
         for (const tab of byId("gateways").children)
             tab.setAttribute("aria-selected", String(tab.dataset.gateway === name));
-        this.feed = new Feed(linesOf(name), (line, now) => this.take(line, now), (state, why) => {
+        this.feed = new Feed(name, (line, now) => this.take(line, now), (state, why) => {
             this.feedState = { state, why };
             this.painter.ask();
         });

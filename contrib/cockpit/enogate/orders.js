@@ -13,6 +13,9 @@ export const command = (gateway, order) => ["enogatectl", "--json", gateway, "--
 /** The command that prints the devices as the lines record them. It gives no order. */
 export const recordedCommand = gateway => ["enogatectl", "--json", gateway, "devices"];
 
+/** The command that prints the earlier lines, an empty line, and then each new line. */
+export const linesCommand = gateway => ["enogatectl", gateway, "lines"];
+
 /** The command that opens the learn window, and closes it after this time or when it is ended. */
 export const windowCommand = (gateway, order, seconds) =>
     ["enogatectl", "--for", String(seconds), gateway, "--", ...order];
