@@ -49,6 +49,8 @@ class Follower:
         self.is_at_end = False
         # why there is no file, and whether this was logged of the next one
         self.fault, self.is_failing = "", False
+        # whether there is a file, which could not be opened
+        self.is_barred = False
         # whether the file of the place was found
         self.is_found = bool(self.place.inode) and self.open_at_place(is_same_boot)
         if self.place.inode and not self.is_found:
@@ -75,9 +77,15 @@ class Follower:
 
     def read(self) -> list[tuple[bytes, Place]]:
         """The lines that have ended since the last call, each with the place before it."""
-        if self.file is None and not self.open_at_start(self.path):
-            self.is_at_end = True
-            return []
+        if self.file is None:
+            was_barred = self.is_barred
+            if not self.open_at_start(self.path):
+                self.is_at_end = True
+                return []
+            if was_barred:
+                # its lines may be old
+                logging.warning("%s: can be read now, continuing at its end", self.path)
+                self.place = end_of_lines(self.file)
         assert self.file is not None
         size = os.fstat(self.file).st_size
         if size < self.place.offset + len(self.rest):
@@ -145,6 +153,7 @@ class Follower:
             file = open_regular(path)
         except OSError as error:
             self.fault = error.strerror or str(error)
+            self.is_barred = not isinstance(error, FileNotFoundError)
             return False
         if self.file is not None:
             os.close(self.file)

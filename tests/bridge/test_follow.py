@@ -279,8 +279,21 @@ class Following(Case):
                 follower = self.follower()
                 self.assertEqual((self.read(follower), follower.fault, end_of(str(self.path))), ([], why, None))
                 self.path.rmdir() if self.path.is_dir() else self.path.unlink()
+                self.assertEqual(self.read(follower), [])
                 self.write("a\n")
                 self.assertEqual(self.read(follower), ["a"])
+
+    def test_lines_that_could_not_be_read(self):
+        """They may be old when they can be read."""
+        self.write("old\n")
+        follower = self.follower()
+        with mock.patch("os.open", side_effect=PermissionError(13, "Permission denied")):
+            self.assertEqual((self.read(follower), follower.fault), ([], "Permission denied"))
+            self.write("old\nha")
+        self.assertEqual(self.read(follower), [])
+        self.write("lf\nnew\n")
+        self.assertEqual(self.read(follower), ["half", "new"])
+        self.assertEqual(self.logged, [f"WARNING: {self.path}: can be read now, continuing at its end"])
 
     def test_a_link_a_pipe_or_a_folder_in_place_of_a_rotated_file(self):
         other = self.path.with_name("other")
