@@ -1,12 +1,17 @@
 """What the bridge publishes after a power failure: it has lost the end of the lines, of the state, or of both."""
 import json
 import os
+import random
+import re
+import shutil
+import unittest
 
 from enogate_mqtt.follow import Follower
 from enogate_mqtt.store import Store
 from fakes import OK, Case, Site, listing, reading
 
 HALL = "enogate/hall/"
+HISTORIES = 30
 PRESS = reading("01800AC1", "F6-02-01", [{"name": "R1", "word": "BI"}, {"name": "EB", "word": "pressed"}])
 RELEASE = reading("01800AC1", "F6-02-01", [{"name": "R1", "word": "none"}, {"name": "EB", "word": "released"}])
 
@@ -157,3 +162,94 @@ class PowerFailures(Case):
         self.site.tell(PRESS)
         self.site.bridge.store.connection.executescript("DROP TABLE boot")
         self.assert_nothing_old()
+
+
+class Histories(Case):
+    """Random histories of a bridge and of a gateway whose lines have the numbers of presses. Each is of another switch."""
+
+    def begin(self, seed):
+        self.site, self.chance = Site(self), random.Random(seed)
+        self.written = self.of_this_boot = self.of_this_run = 0
+        self.connections, self.is_rotated = [], False
+        self.start()
+
+    def start(self):
+        self.of_this_run, self.is_rotated = self.written, False
+        self.site.start()
+        self.connections.append((self.of_this_boot, self.of_this_run, self.site.broker.join()))
+        self.site.turns(3)
+
+    def write(self):
+        for _ in range(self.chance.randrange(1, 20)):
+            self.site.tell({**PRESS, "id": f"{self.written:08X}"})
+            self.written += 1
+        self.site.turns(self.chance.randrange(3), self.chance.choice((0.1, 3)))
+
+    def rotate(self):
+        """At most once in a run: the next rotation compresses the file."""
+        if not self.is_rotated and self.site.lines.exists():
+            self.site.lines.rename(f"{self.site.lines}.1")
+            self.site.turns(self.chance.randrange(6))
+            self.is_rotated = True
+
+    def stop(self):
+        self.site.stop()
+        self.start()
+
+    def kill(self):
+        self.site.kill()
+        self.start()
+
+    def lose_power(self):
+        """The state is older, or the lines have lost their end, or have NUL bytes there."""
+        self.site.kill()
+        self.site.bridge.store.close()
+        older = self.site.folder / "older.db"
+        if older.exists() and self.chance.random() < 0.5:
+            shutil.copy(older, self.site.state)
+        shutil.copy(self.site.state, older)
+        if self.site.lines.exists() and self.chance.random() < 0.8:
+            size = self.site.lines.stat().st_size
+            left = self.chance.randrange(size + 1)
+            os.truncate(self.site.lines, left)
+            if self.chance.random() < 0.5:
+                os.truncate(self.site.lines, self.chance.randrange(left, size + 5000))
+            if self.chance.random() < 0.5 or not self.site.lines.read_bytes().endswith(b"\0"):
+                # the start of the gateway ends the last line
+                self.site.tell("")
+        self.of_this_boot, self.site.boot = self.written, f"boot {self.written}"
+        self.start()
+
+    def numbers(self, connection, topic):
+        """The numbers of the presses that were published on this connection, on `lines` or as events."""
+        texts = [f"{it[0]} {it[1]}" for it in connection.published if it[0].endswith(topic)]
+        return [int(re.search('/([0-9A-F]{8})/press|"id": "([0-9A-F]{8})"', text)[1 if topic == "/press" else 2], 16)
+                for text in texts]
+
+    def check(self):
+        """Each press is an event once at most, in the run in which it was written, and on `lines` at least once, but
+        never after the boot in which it was written. Without a failure that is in the sequence of the presses."""
+        for of_this_boot, of_this_run, connection in self.connections:
+            events = self.numbers(connection, "/press")
+            lines = self.numbers(connection, "/lines")
+            self.assertEqual(events, sorted(set(events)))
+            self.assertEqual(lines, sorted(set(lines)))
+            self.assertTrue(all(number >= of_this_run for number in events), (of_this_run, events))
+            self.assertTrue(all(number >= of_this_boot for number in lines), (of_this_boot, lines))
+        found = {number for *_, connection in self.connections for number in self.numbers(connection, "/lines")}
+        self.assertEqual(found & set(range(self.of_this_boot, self.written)),
+                         set(range(self.of_this_boot, self.written)))
+
+    def test_random_histories(self):
+        acts = (self.write, self.write, self.write, self.rotate, self.stop, self.kill, self.lose_power)
+        for seed in range(HISTORIES):
+            with self.subTest(seed):
+                self.begin(seed)
+                for act in self.chance.choices(acts, k=12):
+                    act()
+                self.site.turns(20)
+                self.check()
+
+
+if __name__ == "__main__":
+    unittest.main()
