@@ -13,6 +13,7 @@ from typing import BinaryIO, Iterator
 from enogate_mqtt.devices import LAST_SEEN
 from enogate_mqtt.follow import Follower, Place, files_of, without_nuls
 from enogate_mqtt.lines import BadLine, Telegram, content_of
+from enogate_mqtt.store import Foreign, place_of
 from enogate_tools.files import is_safe, open_file
 
 # How much of the lines is read for the last readings, how much at once, and the end of a line with readings.
@@ -90,11 +91,12 @@ def last_times(path: str, lines: str, most: int = MOST_READ) -> dict[str, dateti
     try:
         address = f"file:{urllib.parse.quote(path)}?mode=ro"
         with contextlib.closing(sqlite3.connect(address, uri=True, timeout=WAIT)) as connection:
-            place = connection.execute("SELECT inode, offset, last FROM place").fetchone()
+            saved = connection.execute("SELECT inode, offset, last FROM place").fetchone()
+            place = place_of(*saved) if saved else None
             rows = connection.execute("SELECT id, told FROM device").fetchall()
-    except sqlite3.Error:
+    except (sqlite3.Error, Foreign):
         return {}
-    later = devices_after(Place(*place), lines, most) if place else None
+    later = devices_after(place, lines, most) if place else None
     if later is None:
         return {}
     return {device: time for device, text in rows if device not in later and (time := time_in(text))}

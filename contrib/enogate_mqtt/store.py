@@ -19,6 +19,8 @@ from .lines import NAME
 # The version of the tables, in PRAGMA user_version. A file of another version is replaced. The tables `learn` and `boot`
 # were added without another version: programs that do not know them can use the file.
 VERSION = 2
+# No file is larger, in bytes.
+MAX_SIZE = 1 << 62
 # So long the start waits for a file that another program has locked, in seconds.
 WAIT = 5.0
 TABLES = f"""
@@ -124,7 +126,7 @@ class Store:
         self.removed = {topic for topic, in connection.execute("SELECT topic FROM removed")}
         row = connection.execute("SELECT inode, offset, last, discovery, may_adopt FROM place").fetchone()
         if row:
-            self.place, self.old_discovery, self.may_adopt = Place(*row[:3]), row[3], bool(row[4])
+            self.place, self.old_discovery, self.may_adopt = place_of(*row[:3]), row[3], bool(row[4])
         row = connection.execute("SELECT id FROM boot").fetchone()
         self.is_same_boot = self.boot == (row[0] if row else "")
         row = connection.execute("SELECT until FROM learn").fetchone()
@@ -182,6 +184,13 @@ def check_version(connection: sqlite3.Connection) -> None:
     tables = connection.execute("SELECT count(*) FROM sqlite_master").fetchone()[0]
     if tables and version != VERSION:
         raise Foreign(f"version {version} of the state, expected {VERSION}")
+
+
+def place_of(inode: object, offset: object, last: object) -> Place:
+    """How far the lines were read."""
+    if not (isinstance(inode, int) and isinstance(offset, int) and isinstance(last, bytes) and 0 <= offset <= MAX_SIZE):
+        raise Foreign("place of an unknown form")
+    return Place(inode, offset, last)
 
 
 def told_of(text: str) -> dict[str, str]:

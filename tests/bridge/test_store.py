@@ -106,6 +106,29 @@ class Stores(Case):
                 self.sql(f"INSERT INTO learn VALUES ({value})")
                 self.is_replaced("learn window of an unknown form")
 
+    def test_a_place_of_another_form(self):
+        for values in ("NULL, 0, x''", "7, NULL, x''", "7, 0, NULL", "7, -1, x'00'", "7, 'x', x''", "7, 0, 'x'",
+                       f"7, {2 ** 63 - 1}, x'00'"):
+            with self.subTest(values):
+                self.setUp()
+                self.open()
+                self.sql(f"INSERT INTO place VALUES ({values}, '', 0)")
+                self.is_replaced("place of an unknown form")
+
+    def test_the_boot(self):
+        """A place is of the same boot if its ID is the same, also if there is none."""
+        for saved, now, is_same in (("a", "a", True), ("a", "b", False), ("a", "", False), ("", "", True),
+                                    ("", "a", False)):
+            with self.subTest(saved=saved, now=now):
+                self.setUp()
+                self.assertTrue(Store(str(self.path), "", saved).save(PLACE, [], {}, set()))
+                store = Store(str(self.path), "", now)
+                self.assertEqual((store.is_same_boot, store.place), (is_same, PLACE))
+                store.save(PLACE, [], {}, set())
+                self.assertTrue(Store(str(self.path), "", now).is_same_boot)
+                self.sql("DELETE FROM boot")
+                self.assertEqual(Store(str(self.path), "", now).is_same_boot, now == "")
+
     def test_an_inode_that_is_too_large(self):
         self.assertFalse(self.open().save(Place(2 ** 64, 0, b""), [], {}, set()))
         self.assert_logged("cannot save the state")

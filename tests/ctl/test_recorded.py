@@ -1,7 +1,9 @@
 """The learned devices as the lines record them."""
+import contextlib
 import io
 import json
 import random
+import sqlite3
 import unittest
 from datetime import datetime, timezone
 from unittest import mock
@@ -102,6 +104,13 @@ class Recorded(Site):
         self.assertEqual((status, [json.loads(line) for line in out.splitlines()]), (0, [
             {**members, "id": "01800ABC", "label": 'A "b"', "seen": None},
             {**members, "id": "01800ABD", "label": "", "seen": 1795867200}, end_of_list(2)]))
+
+    def test_a_damaged_state_of_the_bridge(self):
+        self.write(device("01800ABC"), end_of_list(1))
+        self.bridge("01800ABC")
+        with contextlib.closing(sqlite3.connect(self.state)) as connection, connection:
+            connection.execute("UPDATE place SET offset = -1, last = x'00'")
+        self.assertEqual(recent.last_times(str(self.state), str(self.lines)), {})
 
     def test_the_last_readings_are_in_json(self):
         """Also those before a rotation, but not those of another profile."""
