@@ -179,7 +179,7 @@ class Connection:
         if self.is_taken_over:
             raise Lost(f"another client has the name {self.name}")
         if status == CONNECTION_LOST and self.is_open:
-            raise Lost(f"the connection was closed: the broker was stopped, or another client has the name {self.name}")
+            raise Lost(f"broker or network closed the connection; perhaps another client has the name {self.name}")
         if status != 0:
             raise Lost(self.paho.error_string(status))
         if not self.is_open and self.clock() > self.began + OPEN_WITHIN:

@@ -303,8 +303,8 @@ class Connecting(Case):
         found = self.connect()
         self.accept(found)
         self.client.steps = [lambda: self.client.on_disconnect(self.client, None, 7) or 7]
-        with self.assertRaisesRegex(Lost, "^the connection was closed: the broker was stopped, or another client has "
-                                    "the name enogate-hall$"):
+        with self.assertRaisesRegex(Lost, "^broker or network closed the connection; perhaps another client has the "
+                                    "name enogate-hall$"):
             found.turn(0)
 
     def test_a_broker_that_does_not_answer(self):
