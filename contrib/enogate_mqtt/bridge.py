@@ -64,6 +64,8 @@ class Bridge:
         self.reader: Connection | None = None
         self.reconciler: Reconciler | None = None
         self.is_stopped = False
+        # whether all lines were read that were written before the start
+        self.has_read = False
         # whether what the broker retains was compared, so that the readings there are the last ones
         self.is_online = False
         # what the broker retains about the gateway itself, once this is known, and the deletions that are under way
@@ -100,6 +102,7 @@ class Bridge:
         are published if they are known to be new: after a power failure the state may be older than what was published,
         and after a place that was not found, all lines may be."""
         self.catch_up(self.store.is_same_boot and self.follower.is_found, is_earlier=True)
+        self.has_read |= not self.is_stopped
         self.devices.lists = 0
         self.requests.list = ListRequest()
 
@@ -370,7 +373,9 @@ class Bridge:
 
     def save(self) -> None:
         """Saves the state if it has changed: how far the broker has acknowledged the lines, the devices, and the end of
-        the learn window."""
+        the learn window. A place among the earlier lines is not saved: the next run would take the rest for new."""
+        if not self.has_read:
+            return
         place = self.outbox.place(self.follower.place)
         self.saved_at = self.clock()
         changed, removed, may_adopt = self.devices.changed, self.devices.removed, self.devices.may_adopt

@@ -5,6 +5,7 @@ import random
 import re
 import shutil
 import unittest
+from unittest import mock
 
 from enogate_mqtt.follow import Follower
 from enogate_mqtt.store import Store
@@ -139,6 +140,20 @@ class PowerFailures(Case):
         self.assert_nothing_old()
         self.assertEqual(self.state(), "closed")
 
+    def test_a_bridge_that_is_stopped_while_it_reads_earlier_lines(self):
+        """The next one takes none of them for new."""
+        self.site.tell(*[PRESS] * 100)
+        self.lose_power()
+        real = Follower.read
+
+        def stop(follower):
+            self.site.bridge.is_stopped = True
+            return real(follower)
+        with mock.patch("enogate_mqtt.follow.MAX_READ", 1000), mock.patch.object(Follower, "read", stop):
+            self.site.start()
+        self.site.stop()
+        self.assert_nothing_old()
+
     def test_a_restart_at_the_same_boot(self):
         """The lines that were not acknowledged, or not saved as acknowledged, are published again."""
         self.site.kill()
@@ -170,11 +185,12 @@ class Histories(Case):
     def begin(self, seed):
         self.site, self.chance = Site(self), random.Random(seed)
         self.written = self.of_this_boot = self.of_this_run = 0
-        self.connections, self.is_rotated = [], False
+        self.connections = []
         self.start()
 
     def start(self):
-        self.of_this_run, self.is_rotated = self.written, False
+        self.of_this_run = self.written
+        self.site.lines.touch()
         self.site.start()
         self.connections.append((self.of_this_boot, self.of_this_run, self.site.broker.join()))
         self.site.turns(3)
@@ -186,11 +202,11 @@ class Histories(Case):
         self.site.turns(self.chance.randrange(3), self.chance.choice((0.1, 3)))
 
     def rotate(self):
-        """At most once in a run: the next rotation compresses the file."""
-        if not self.is_rotated and self.site.lines.exists():
+        """The file of the place that is saved is not rotated twice: it would be compressed."""
+        saved = self.site.bridge.saved
+        if saved and self.site.lines.exists() and saved.inode == self.site.lines.stat().st_ino:
             self.site.lines.rename(f"{self.site.lines}.1")
             self.site.turns(self.chance.randrange(6))
-            self.is_rotated = True
 
     def stop(self):
         self.site.stop()
