@@ -90,7 +90,7 @@ def about_device(topics: Topics, device: str, eep: str, label: str, maker: int |
     """The description of a device, which each of its entities contains."""
     about = {
         "identifiers": [f"enogate_{topics.name}_{device}"], "name": label or f"{eep} {device}", "model": model(eep),
-        "via_device": f"enogate_{topics.name}",
+        "serial_number": device, "via_device": f"enogate_{topics.name}",
     }
     return about if maker is None else {**about, "manufacturer": manufacturer(maker)}
 
@@ -185,7 +185,9 @@ def entity(topics: Topics, device: str, row: Row, number: int | None) -> Config:
     """The configuration of one entity, without what all entities of the device share."""
     place = row.place(number)
     special = KINDS[row.entity](row, topics.told(device, place), topics.command(device, place))
-    words = {NAMES[key]: value for key, value in row.more.items() if key in NAMES}
+    words: Config = {NAMES[key]: value for key, value in row.more.items() if key in NAMES}
+    if row.digits is not None:
+        words["suggested_display_precision"] = row.digits
     return {"name": row.title(number), **words, **special, **shown(*row.more)}
 
 

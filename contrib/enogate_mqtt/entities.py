@@ -12,7 +12,7 @@ from .lines import Reading, Telegram
 
 TABLE = pathlib.Path(__file__).with_name("entities")
 # The words that configure an entity.
-KEYS = {"class", "state", "unit", "on", "off", "options", "types", "diagnostic", "hidden", "cyclic"}
+KEYS = {"class", "state", "unit", "digits", "on", "off", "options", "types", "diagnostic", "hidden", "cyclic"}
 # the highest channel that accepts orders, by the kind of entity
 GREATEST_CHANNEL = {"switch": 29, "light": 29, "cover": 0}
 # a number of an entity, as it is written in a topic
@@ -54,6 +54,11 @@ class Row:
         """Whether the devices send this reading at intervals, even if it does not change."""
         return "cyclic" in self.more
 
+    @property
+    def digits(self) -> int | None:
+        """How many digits after the point are shown; None if the entity shows no number."""
+        return int(self.more["digits"]) if "digits" in self.more else None
+
     def words(self, key: str) -> list[str]:
         return self.more[key].split("|") if key in self.more else []
 
@@ -78,7 +83,7 @@ def row_of(line: str) -> Row:
         row = Row(profiles, reading, unit, topic, by, int(count or 0), sign == ":", entity, name, more)
     except ValueError as error:
         raise WrongTable(line) from error
-    if not more.keys() <= KEYS:
+    if not more.keys() <= KEYS or not re.fullmatch("[0-9]", more.get("digits", "0")):
         raise WrongTable(line)
     return row
 

@@ -7,6 +7,7 @@ Assistant knows what a line declares. It reads the table with code of its own.
 import fnmatch
 import shlex
 import sys
+from fractions import Fraction
 
 from oracle.profiles import BLIND, FOUR_BYTE, MEASUREMENT, STATE, SWITCHES, VARIABLE_LENGTH
 
@@ -22,7 +23,7 @@ CLASSES = {
     "sensor": {*SENSORS, None}, "binary_sensor": {"opening", "motion", "problem", None}, "event": {"button"},
     "switch": {None}, "light": {None}, "cover": {"blind"}, "-": {None},
 }
-KEYS = {"class", "state", "unit", "on", "off", "options", "types", "diagnostic", "hidden", "cyclic"}
+KEYS = {"class", "state", "unit", "digits", "on", "off", "options", "types", "diagnostic", "hidden", "cyclic"}
 
 # The units of values that only grow: meters and actuators count them. All other values go up and down.
 GROWING = {"Ws", "Wh", "kWh", "m3"}
@@ -31,6 +32,8 @@ NO_EVENT = {("EB", "pressed"), ("buttons", "none")}
 # D2-01 of EnOcean Equipment Profiles 2.6: the types that dim, and those with two channels. The others have one.
 DIMMING = {"02", "03", "04", "05", "09"}
 TWO_CHANNELS = {"10", "11", "12"}
+# Of these profiles the device chooses the resolution: at most so many digits after the point.
+CHOSEN = {"A5-12": 3}
 # The profiles of devices that send at intervals.
 CYCLIC = {"D5-00", "A5-02", "A5-04", "A5-06", "A5-07", "A5-08", "A5-09", "A5-10"}
 # The reading that drives an actuator, and the number in a reading of a channel or a tariff.
@@ -44,6 +47,23 @@ def rows_by_profile():
     yield from FOUR_BYTE.items()
     for eep in VARIABLE_LENGTH:
         yield eep, BLIND if eep == "D2-05-00" else STATE + MEASUREMENT
+
+
+def values(kind, length):
+    """The values of a row that are numbers, by ascending raw number."""
+    read = [kind(number, "0" * 64) for number in range(2 ** min(length, 10))]
+    return [Fraction(one["num"], one["den"]) if "num" in one else Fraction(one["raw"]) for one in read
+            if "num" in one or "raw" in one]
+
+
+def digits_of(eep, name, unit):
+    """The fewest digits after the point with which no two raw numbers next to each other look alike."""
+    kinds = [(kind, length) for profile, rows in rows_by_profile() if profile == eep
+             for row, _offset, length, _condition, kind in rows
+             if row == name and unit in said(kind, length)[0] | {"-"}]
+    found = [value for kind, length in kinds[:1] for value in values(kind, length)]
+    return next(digits for digits in range(10) if all(
+        f"{float(one):.{digits}f}" != f"{float(other):.{digits}f}" for one, other in zip(found, found[1:])))
 
 
 def said(kind, length):
@@ -120,6 +140,17 @@ def faults_of_sensor(more, unit):
         yield "no class"
 
 
+def faults_of_digits(entity, more, reading):
+    """The faults in how many digits of a number are shown."""
+    if (entity == "sensor" and ("unit" in more or "state" in more)) != ("digits" in more):
+        yield "digits without a number, or the other way round"
+    elif "digits" in more and reading[0][:5] in CHOSEN:
+        if not 0 <= int(more["digits"]) <= CHOSEN[reading[0][:5]]:
+            yield "too many digits"
+    elif "digits" in more and int(more["digits"]) != digits_of(*reading):
+        yield f"{more['digits']} digits, and not {digits_of(*reading)}"
+
+
 def faults_of(line, reading, words):
     """The faults of a line for this reading."""
     _profiles, _name, unit, topic, by, entity, title, *more = line
@@ -129,6 +160,7 @@ def faults_of(line, reading, words):
     if (entity == "-") != (topic == "-") or entity == "-" and (by != "-" or more):
         yield "a topic without an entity, or the other way round"
     yield from faults_of_words(entity, more, reading, words)
+    yield from faults_of_digits(entity, more, reading)
     if entity == "sensor":
         yield from faults_of_sensor(more, unit)
     if component(reading) not in (None, entity) or entity in ("switch", "light", "cover") and not component(reading):

@@ -113,6 +113,7 @@ class Shown:
         for identifier, device in self.devices.items():
             if identifier != gateway:
                 assert device.pop("via_device") == gateway, identifier
+                assert device.pop("serial_number") == identifier.removeprefix(f"{gateway}_"), identifier
                 assert self.everywhere.get(identifier) == set(EVERYWHERE), identifier
 
     def print(self):

@@ -70,18 +70,19 @@ class Entities(unittest.TestCase):
     def test_a_measured_value(self):
         self.check("A5-02-05", "sensor TMP", {
             "name": "Temperature", "state_topic": f"{OWN}/TMP", "device_class": "temperature",
-            "state_class": "measurement", "unit_of_measurement": "°C",
+            "state_class": "measurement", "unit_of_measurement": "°C", "suggested_display_precision": 1,
             "value_template": "{{ value if value | is_number else None }}"})
 
     def test_a_diagnostic_value(self):
         self.check("A5-06-01", "sensor SVC", {
             "name": "Supply voltage", "state_topic": f"{OWN}/SVC", "device_class": "voltage",
             "state_class": "measurement", "unit_of_measurement": "V", "entity_category": "diagnostic",
-            "value_template": "{{ value if value | is_number else None }}"})
+            "suggested_display_precision": 2, "value_template": "{{ value if value | is_number else None }}"})
 
     def test_a_plain_number(self):
         self.check("A5-10-05", "sensor SP", {
-            "name": "Set point", "state_topic": f"{OWN}/SP", "state_class": "measurement"})
+            "name": "Set point", "state_topic": f"{OWN}/SP", "state_class": "measurement",
+            "suggested_display_precision": 0})
 
     def test_an_occupancy_button(self):
         for eep in ["A5-08-01", "A5-10-05"]:
@@ -291,11 +292,13 @@ class Descriptions(unittest.TestCase):
     def test_a_device(self):
         self.assertEqual(about("D2-01-12"), {
             "identifiers": ["enogate_hall_01800ABC"], "name": "D2-01-12 01800ABC",
-            "model": "Electronic switch, 2 channels (D2-01-12)", "via_device": "enogate_hall"})
+            "model": "Electronic switch, 2 channels (D2-01-12)", "serial_number": "01800ABC",
+            "via_device": "enogate_hall"})
 
     def test_its_label(self):
         for label in ["Front door", 'Meter "A" \\', "Tür", "{{ 1 }}"]:
             self.assertEqual(about("D5-00-01", label)["name"], label)
+            self.assertEqual(about("D5-00-01", label)["serial_number"], "01800ABC")
             rows = TABLE.of_profile("D5-00-01").values()
             for text in discovery.configs(TOPICS, DEVICE, about("D5-00-01", label), rows, [], None).values():
                 self.assertEqual(json.loads(text)["device"]["name"], label)

@@ -65,7 +65,9 @@ class Lines(unittest.TestCase):
 
     def test_a_wrong_line(self):
         for line in ["A5-02-?? TMP C TMP - sensor", 'A5-02-?? TMP C TMP - sensor "Temperature',
-                     "A5-02-?? TMP C TMP - sensor Temperature hiden", "A5-02-?? TMP C TMP TI:x sensor Temperature"]:
+                     "A5-02-?? TMP C TMP - sensor Temperature hiden",
+                     "A5-02-?? TMP C TMP - sensor Temperature digits", "A5-02-?? TMP C TMP - sensor T digits=-1",
+                     "A5-02-?? TMP C TMP - sensor T digits=10", "A5-02-?? TMP C TMP - sensor T digits=1.0", "A5-02-?? TMP C TMP TI:x sensor Temperature"]:
             with self.assertRaises(WrongTable, msg=line):
                 row_of(line)
 
@@ -130,6 +132,24 @@ class Lines(unittest.TestCase):
         ]:
             found = row(eep, "MR", unit)
             self.assertEqual((found.more.get("class"), found.name), (device_class, name), (eep, unit))
+
+    def test_digits(self):
+        """What a dashboard shows of a value. tests/around/entities.py compares them with the profiles."""
+        for eep, reading, unit, digits in [
+            ("A5-02-05", "TMP", "C", 1), ("A5-02-20", "TMP", "C", 2), ("A5-02-30", "TMP", "C", 1),
+            ("A5-04-01", "HUM", "%", 1), ("A5-06-01", "ILL1", "lx", 0), ("A5-07-01", "SVC", "V", 2),
+            ("A5-09-04", "CONC", "ppm", 0), ("A5-10-05", "SP", "", 0), ("A5-12-01", "MR", "W", 0),
+            ("A5-12-01", "MR", "kWh", 2), ("A5-12-03", "MR", "l/s", 3), ("D2-01-12", "MV", "W", 0),
+            ("D2-05-00", "ANG", "%", 0), ("D2-05-00", "POS", "%", None), ("D2-01-02", "OV", "%", None),
+            ("D5-00-01", "CO", "", None), ("D2-01-12", "EL", "", None),
+        ]:
+            self.assertEqual(row(eep, reading, unit).digits, digits, (eep, reading, unit))
+
+    def test_which_rows_have_digits(self):
+        """Each sensor with a unit or a state class is a number for Home Assistant."""
+        for found in TABLE.rows:
+            is_number = found.entity == "sensor" and ("unit" in found.more or "state" in found.more)
+            self.assertEqual(found.digits is not None, is_number, found)
 
     def test_cyclic_readings(self):
         self.assertTrue(row("A5-02-05", "TMP", "C").is_cyclic)
