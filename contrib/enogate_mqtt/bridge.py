@@ -29,6 +29,9 @@ END_WITHIN = 2.0
 # What the broker retains is compared on an open connection, too: each day, and when somebody has removed some of it and
 # has then removed nothing for so long, in seconds.
 COMPARE_EVERY, REMOVED_BEFORE = 86400.0, 5.0
+# The shortest time between two messages with counters, in seconds. The gateway is asked for its status more often, and
+# not only by the bridge.
+COUNTERS_EVERY = 60.0
 GATEWAY, UNKNOWN = "gateway", "unknown"
 # So long after its start the bridge waits for the clock to be set, in seconds.
 CLOCK_SET_WITHIN = 600.0
@@ -71,6 +74,8 @@ class Bridge:
         # what the broker retains about the gateway itself, once this is known, and the deletions that are under way
         self.reported: dict[str, str] | None = None
         self.deleting: dict[str, int] = {}
+        # when the counters were published
+        self.counted_at = -math.inf
         # whether its own message `online` has come back on this connection
         self.echo = Check(math.inf, ECHO_WITHIN)
         # when what is retained is compared again
@@ -358,8 +363,11 @@ class Bridge:
             now[self.topics.module] = "online" if gateway and module else "offline"
         if self.requests.status:
             now[self.topics.learn] = "OFF" if self.requests.status.mode == "closed" else "ON"
-            now[self.topics.counters] = json.dumps(self.requests.status.counters, separators=(",", ":"))
+            if self.topics.counters not in self.reported or self.clock() >= self.counted_at + COUNTERS_EVERY:
+                now[self.topics.counters] = json.dumps(self.requests.status.counters, separators=(",", ":"))
         new = {topic: text for topic, text in now.items() if self.reported.get(topic) != text}
+        if self.topics.counters in new:
+            self.counted_at = self.clock()
         self.publish([Message(topic, text, True) for topic, text in new.items()])
         self.reported |= new
 

@@ -77,7 +77,7 @@ def gateway(topics: Topics) -> dict[str, str]:
     for name, title in COUNTERS.items():
         entities["sensor", name] = {
             "name": title, "state_topic": topics.counters, "value_template": f"{{{{ value_json.{name} }}}}",
-            "state_class": "total_increasing", **shown("diagnostic"), **with_gateway,
+            "state_class": "total_increasing", **shown("hidden"), **with_gateway,
         }
     entities["switch", "learn"] = {
         "name": "Learn window", "state_topic": topics.learn, "command_topic": topics.learn_command,
@@ -162,7 +162,7 @@ def of_every_device(topics: Topics, device: str) -> Entities:
         },
         ("sensor", f"{device}_last_seen"): {
             "name": "Last seen", "state_topic": topics.last_seen(device), "device_class": "timestamp",
-            **shown("diagnostic"),
+            **shown("hidden"),
         },
     }
 

@@ -20,7 +20,9 @@ EVERYWHERE = {
         "name": "Signal strength", "device_class": "signal_strength", "state_class": "measurement",
         "unit_of_measurement": "dBm", "entity_category": "diagnostic", "enabled_by_default": False,
     },
-    "last_seen": {"name": "Last seen", "device_class": "timestamp", "entity_category": "diagnostic"},
+    "last_seen": {
+        "name": "Last seen", "device_class": "timestamp", "entity_category": "diagnostic", "enabled_by_default": False,
+    },
 }
 
 

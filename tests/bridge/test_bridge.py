@@ -406,6 +406,41 @@ class Bridging(Case):
         self.site.turns()
         self.assertEqual(len(self.site.told(HALL + "counters")), 1)
 
+    def count(self, readings, seconds=1.0):
+        """The numbers of readings in the counters that are published within some seconds after a status line."""
+        before = len(self.site.told(HALL + "counters"))
+        self.site.tell(status(readings=readings))
+        self.site.turns(10, seconds / 10)
+        return [json.loads(text)["readings"] for _, text in self.site.told(HALL + "counters")[before:]]
+
+    def test_counters_are_published_once_a_minute(self):
+        """However often they change, and the newest ones in the end."""
+        self.start()
+        self.assertEqual(self.count(1), [1])
+        self.assertEqual([self.count(readings, 5.8) for readings in range(2, 12)], [[]] * 10)
+        self.assertEqual(self.count(12, 2), [12])
+        self.assertEqual(self.count(13, 59), [])
+        self.assertEqual(self.count(13, 2), [13])
+        self.assertEqual(self.count(13, 300), [])
+        self.assertEqual(self.count(14, 2), [14])
+
+    def test_the_learn_window_does_not_wait_for_the_counters(self):
+        """The learn window is shown at once, whenever the counters were published."""
+        self.start()
+        self.count(1)
+        self.site.tell(status("on", readings=2))
+        self.site.turns()
+        self.assertEqual(self.site.told(HALL + "learn")[-1], (HALL + "learn", "ON"))
+        self.assertEqual(len(self.site.told(HALL + "counters")), 1)
+
+    def test_counters_on_a_new_connection(self):
+        """What the broker does not retain is published at once."""
+        self.start()
+        self.count(1)
+        self.site.broker.memory.clear()
+        self.site.broker.join()
+        self.assertEqual(self.count(2), [2])
+
     def test_the_learn_window(self):
         self.start()
         self.site.tell(status())

@@ -132,7 +132,7 @@ class Entities(unittest.TestCase):
                 "enabled_by_default": False})
             self.check(eep, "sensor last_seen", {
                 "name": "Last seen", "state_topic": f"{OWN}/last_seen", "device_class": "timestamp",
-                "entity_category": "diagnostic"})
+                "entity_category": "diagnostic", "enabled_by_default": False})
         self.assertEqual(set(configs("A5-FF-FF")), {"sensor dbm", "sensor last_seen"})
 
 
@@ -278,7 +278,8 @@ class Gateway(unittest.TestCase):
         ]:
             self.check(f"sensor {name}", {
                 "name": title, "state_topic": "enogate/hall/counters", "state_class": "total_increasing",
-                "value_template": f"{{{{ value_json.{name} }}}}", "entity_category": "diagnostic", **BOTH})
+                "value_template": f"{{{{ value_json.{name} }}}}", "entity_category": "diagnostic",
+                "enabled_by_default": False, **BOTH})
 
     def test_the_learn_window(self):
         self.check("switch learn", {
