@@ -58,7 +58,7 @@ EVENT_TYPE = "{{ value_json.event_type }}"
 def configs(topics: Topics, device: str, about: Config, rows: Iterable[Row], told: Collection[str],
             expire_after: int | None) -> dict[str, str]:
     """The messages of a device, by topic. `about` describes the device, and `told` are the places of its readings.
-    A cyclic reading becomes unavailable `expire_after` seconds after the last one."""
+    A cyclic reading becomes unavailable some time after the last one: `expire_after` is the setting for it."""
     entities = of_rows(topics, device, rows, told, expire_after)
     shared = {"device": about, **available(topics.status, topics.gateway, topics.module)}
     every = messages(topics, entities | of_every_device(topics, device), shared)
@@ -145,8 +145,9 @@ def of_rows(topics: Topics, device: str, rows: Iterable[Row], told: Collection[s
         for number in row.numbers(told) if row.entity else []:
             key = row.entity, f"{device}_{row.place(number).replace('/', '_')}"
             config = entity(topics, device, row, number)
-            if row.is_cyclic and expire_after is not None:
-                config["expire_after"] = expire_after
+            seconds = row.expires_after(expire_after)
+            if seconds is not None:
+                config["expire_after"] = seconds
             if row.entity == "event" and key in found:
                 config["event_types"] = list(dict.fromkeys(found[key]["event_types"] + config["event_types"]))
             found[key] = config

@@ -15,6 +15,9 @@ TABLE = pathlib.Path(__file__).with_name("entities")
 KEYS = {"class", "state", "unit", "digits", "on", "off", "options", "types", "diagnostic", "hidden", "cyclic"}
 # the highest channel that accepts orders, by the kind of entity
 GREATEST_CHANNEL = {"switch": 29, "light": 29, "cover": 0}
+# A setting in place of a number of seconds: a cyclic reading expires after so many of its own intervals. Telegrams are
+# lost, and two in a row may be.
+AUTO, INTERVALS = 0, 3
 # a number of an entity, as it is written in a topic
 NUMBER = re.compile("0|[1-9][0-9]?")
 
@@ -49,10 +52,12 @@ class Row:
             return self.name or None
         return f"{self.name} {number}".strip()
 
-    @property
-    def is_cyclic(self) -> bool:
-        """Whether the devices send this reading at intervals, even if it does not change."""
-        return "cyclic" in self.more
+    def expires_after(self, seconds: int | None) -> int | None:
+        """After how many seconds without a telegram this reading expires; None if it does not. `seconds` is the setting
+        for all cyclic readings: a number, AUTO, or None if they do not expire."""
+        if seconds is None or "cyclic" not in self.more:
+            return None
+        return INTERVALS * int(self.more["cyclic"]) if seconds == AUTO else seconds
 
     @property
     def digits(self) -> int | None:
@@ -83,7 +88,8 @@ def row_of(line: str) -> Row:
         row = Row(profiles, reading, unit, topic, by, int(count or 0), sign == ":", entity, name, more)
     except ValueError as error:
         raise WrongTable(line) from error
-    if not more.keys() <= KEYS or not re.fullmatch("[0-9]", more.get("digits", "0")):
+    if not (more.keys() <= KEYS and re.fullmatch("[0-9]", more.get("digits", "0"))
+            and re.fullmatch("[1-9][0-9]{0,6}", more.get("cyclic", "1"))):
         raise WrongTable(line)
     return row
 

@@ -8,6 +8,7 @@ from dataclasses import dataclass
 from typing import Mapping, NoReturn, Sequence
 
 from . import VERSION
+from .entities import AUTO
 
 STATUS = 2
 # How long a learn window stays open that was opened through the bridge, in seconds.
@@ -42,7 +43,8 @@ class Login:
 @dataclass(frozen=True)
 class Options:
     """The topic prefix of Home Assistant's discovery, or an empty string; how long a learn window stays open that was
-    opened through the bridge, and after which time without a telegram a sensor is unavailable, in seconds."""
+    opened through the bridge, in seconds; and after which time without a telegram a cyclic reading expires, in seconds:
+    AUTO, or None if it never does."""
     discovery: str
     learn_for: int
     expire_after: int | None
@@ -86,9 +88,18 @@ def read_discovery(environment: Mapping[str, str]) -> str:
 
 def read_options(environment: Mapping[str, str]) -> Options:
     """The settings of what is published, or WrongSetting."""
-    expire_after = read_seconds("MQTT_EXPIRE_AFTER", environment.get("MQTT_EXPIRE_AFTER") or "0")
     learn_for = read_seconds("MQTT_LEARN_SECONDS", environment.get("MQTT_LEARN_SECONDS") or str(LEARN_FOR))
-    return Options(read_discovery(environment), learn_for, expire_after or None)
+    return Options(read_discovery(environment), learn_for, read_expiry(environment))
+
+
+def read_expiry(environment: Mapping[str, str]) -> int | None:
+    """After which time a cyclic reading expires: AUTO, a number of seconds, or None."""
+    text = environment.get("MQTT_EXPIRE_AFTER", "auto")
+    if text == "auto":
+        return AUTO
+    if not re.fullmatch("[0-9]{0,7}", text):
+        raise WrongSetting(f"invalid MQTT_EXPIRE_AFTER: {text} (expected auto, a number of seconds, or nothing)")
+    return int(text or "0") or None
 
 
 def read_seconds(name: str, text: str) -> int:

@@ -171,6 +171,8 @@ def faults_of(line, reading, words):
         yield "a name that it has not, or none"
     if ("cyclic" in more) != (entity != "-" and reading[0][:5] in CYCLIC):
         yield "it is cyclic and the device not, or the other way round"
+    if not 100 <= int(more.get("cyclic", 100)) <= 1800:
+        yield "a device that sends at another interval"
 
 
 def main():

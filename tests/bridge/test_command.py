@@ -4,6 +4,7 @@ from __future__ import annotations
 import json
 import os
 import pathlib
+import re
 import subprocess
 import tempfile
 import unittest
@@ -144,6 +145,16 @@ class Print(Command):
             sum(it.startswith("ha/found/binary_sensor/enogate_hall/01800ABC_CO/config retained {") for it in found), 1)
 
 
+    def test_expiry(self):
+        """Without the setting, each kind of device has a time of its own."""
+        temperature = ACCEPTED.replace("D5-00-01", "A5-02-05")
+        for variables, wanted in (({}, [5400, 3600]), ({"MQTT_EXPIRE_AFTER": "auto"}, [5400, 3600]),
+                                  ({"MQTT_EXPIRE_AFTER": "60"}, [60, 60]), ({"MQTT_EXPIRE_AFTER": ""}, [])):
+            with self.subTest(variables):
+                found = self.printed(ACCEPTED, temperature, **variables)[0]
+                self.assertEqual([int(it) for it in re.findall('"expire_after":([0-9]+)', "\n".join(found))], wanted)
+
+
 class Refused(Command):
     """A wrong setting or word ends the command with one line, and the status at which its unit is not restarted."""
 
@@ -171,6 +182,8 @@ class Refused(Command):
             (f"cannot load MQTT_CERT_FILE and MQTT_KEY_FILE: {none}: {missing}",
              {"MQTT_TLS": "yes", "MQTT_CERT_FILE": none}),
             ("invalid MQTT_LEARN_SECONDS: 2m (expected a number of seconds)", {"MQTT_LEARN_SECONDS": "2m"}),
+            ("invalid MQTT_EXPIRE_AFTER: 1h (expected auto, a number of seconds, or nothing)",
+             {"MQTT_EXPIRE_AFTER": "1h"}),
             ("invalid MQTT_DISCOVERY: home/# (expected a topic without # and +)", {"MQTT_DISCOVERY": "home/#"}),
         ):
             with self.subTest(wanted):

@@ -6,7 +6,7 @@ import re
 import unittest
 
 from enogate_mqtt import VERSION, discovery
-from enogate_mqtt.entities import Table
+from enogate_mqtt.entities import AUTO, Table
 from enogate_mqtt.topics import Topics
 
 TOPICS = Topics("hall", "homeassistant")
@@ -212,6 +212,13 @@ class Expiry(unittest.TestCase):
         for eep in ["F6-01-01", "F6-02-01", "F6-03-01", "A5-12-01", "A5-12-02", "A5-12-03", "D2-01-02", "D2-01-12",
                     "D2-05-00"]:
             self.assertEqual(self.expiring(eep, "MV_W/0", "MR_W/1"), set(), eep)
+
+    def test_times_of_their_own(self):
+        for eep, key, seconds in [("D5-00-01", "binary_sensor CO", 5400), ("A5-02-05", "sensor TMP", 3600),
+                                  ("A5-07-01", "sensor SVC", 5400), ("A5-06-01", "sensor SVC", 3600)]:
+            self.assertEqual(configs(eep, expire_after=AUTO)[key]["expire_after"], seconds, eep)
+        for key, config in configs("D2-01-12", expire_after=AUTO).items():
+            self.assertNotIn("expire_after", config, key)
 
     def test_without_a_time(self):
         for key, config in configs("A5-08-01", expire_after=None).items():

@@ -6,7 +6,7 @@ import tempfile
 import unittest
 
 from enogate_mqtt.discovery import KINDS
-from enogate_mqtt.entities import GREATEST_CHANNEL, Table, WrongTable, row_of
+from enogate_mqtt.entities import AUTO, GREATEST_CHANNEL, Table, WrongTable, row_of
 from enogate_mqtt.lines import Reading, Telegram
 
 TABLE = Table()
@@ -67,7 +67,9 @@ class Lines(unittest.TestCase):
         for line in ["A5-02-?? TMP C TMP - sensor", 'A5-02-?? TMP C TMP - sensor "Temperature',
                      "A5-02-?? TMP C TMP - sensor Temperature hiden",
                      "A5-02-?? TMP C TMP - sensor Temperature digits", "A5-02-?? TMP C TMP - sensor T digits=-1",
-                     "A5-02-?? TMP C TMP - sensor T digits=10", "A5-02-?? TMP C TMP - sensor T digits=1.0", "A5-02-?? TMP C TMP TI:x sensor Temperature"]:
+                     "A5-02-?? TMP C TMP - sensor T digits=10", "A5-02-?? TMP C TMP - sensor T digits=1.0",
+                     "A5-02-?? TMP C TMP - sensor T cyclic", "A5-02-?? TMP C TMP - sensor T cyclic=0",
+                     "A5-02-?? TMP C TMP - sensor T cyclic=1h", "A5-02-?? TMP C TMP TI:x sensor Temperature"]:
             with self.assertRaises(WrongTable, msg=line):
                 row_of(line)
 
@@ -152,10 +154,21 @@ class Lines(unittest.TestCase):
             self.assertEqual(found.digits is not None, is_number, found)
 
     def test_cyclic_readings(self):
-        self.assertTrue(row("A5-02-05", "TMP", "C").is_cyclic)
-        self.assertTrue(row("D5-00-01", "CO").is_cyclic)
-        self.assertFalse(row("A5-12-01", "MR", "kWh").is_cyclic)
-        self.assertFalse(row("F6-02-01", "R1").is_cyclic)
+        """When they expire: by the setting, or after three times 20 or 30 minutes."""
+        for eep, reading, unit, own in [
+            ("A5-02-05", "TMP", "C", 3600), ("A5-02-20", "TMP", "C", 3600), ("A5-04-01", "HUM", "%", 3600),
+            ("A5-06-01", "ILL2", "lx", 3600), ("A5-07-01", "PIRS", "", 5400), ("A5-08-03", "OCC", "", 5400),
+            ("A5-09-04", "CONC", "ppm", 3600), ("A5-10-05", "SP", "", 3600), ("D5-00-01", "CO", "", 5400),
+        ]:
+            found = row(eep, reading, unit)
+            self.assertEqual([found.expires_after(setting) for setting in (AUTO, 1, 7200, None)],
+                             [own, 1, 7200, None], (eep, reading))
+
+    def test_readings_that_are_not_cyclic(self):
+        for eep, reading, unit in [("A5-12-01", "MR", "kWh"), ("F6-02-01", "R1", ""), ("D2-01-12", "OV", "%"),
+                                   ("D2-05-00", "POS", "%")]:
+            found = row(eep, reading, unit)
+            self.assertEqual([found.expires_after(setting) for setting in (AUTO, 7200, None)], [None] * 3, eep)
 
 
 class Entities(unittest.TestCase):

@@ -4,6 +4,7 @@ import re
 import unittest
 
 from enogate_mqtt import connection, desk, log, orders, outbox, requests, settings
+from enogate_mqtt.entities import AUTO, Table
 from enogate_mqtt.orders import orders_of
 from enogate_mqtt.topics import Topics
 
@@ -49,6 +50,13 @@ class Pages(unittest.TestCase):
             self.assert_said(f"{requests.PROBE_AFTER:.0f} seconds after the last", page)
             self.assert_said("within 15 seconds", page)
             self.assert_said("pauses that grow to a minute", page)
+
+    def test_expiry(self):
+        seconds = {row.expires_after(AUTO) for row in Table().rows} - {None}
+        self.assertEqual(seconds, {3600, 5400})
+        for page in (self.guide, self.page, words_of("contrib/enogate-mqtt.default").replace("# ", "")):
+            self.assert_said("90 minutes", page)
+            self.assert_said("60 minutes", page)
 
     def test_blinds(self):
         self.assertEqual((orders_of(TOPICS, "enogate/hall/01800ABD/POS/0/set", b"OPEN"),

@@ -10,6 +10,7 @@ from unittest import mock
 
 from enogate_mqtt import VERSION, main, settings
 from enogate_mqtt.devices import Device
+from enogate_mqtt.entities import AUTO
 from enogate_mqtt.settings import Login, Options, Words, WrongSetting, read_login, read_options, read_words
 from fakes import Case, Site, learned, reading
 
@@ -41,7 +42,7 @@ class CommandLine(unittest.TestCase):
 class Environment(unittest.TestCase):
     def test_defaults(self):
         self.assertEqual(read_login({}), Login("localhost", 1883, None, None, None))
-        self.assertEqual(read_options({}), Options("homeassistant", 120, None))
+        self.assertEqual(read_options({}), Options("homeassistant", 120, AUTO))
 
     def test_values(self):
         site = Site(self)
@@ -53,11 +54,13 @@ class Environment(unittest.TestCase):
         options = read_options({"MQTT_DISCOVERY": "a/b", "MQTT_LEARN_SECONDS": "30", "MQTT_EXPIRE_AFTER": "7200"})
         self.assertEqual(options, Options("a/b", 30, 7200))
         self.assertEqual(read_options({"MQTT_DISCOVERY": ""}).discovery, "")
+        for text, seconds in (("auto", AUTO), ("", None), ("0", None), ("1", 1), ("9999999", 9999999)):
+            self.assertEqual(read_options({"MQTT_EXPIRE_AFTER": text}).expire_after, seconds, text)
 
     def test_empty_values_are_the_defaults(self):
         names = ("MQTT_PORT", "MQTT_USER", "MQTT_PASSWORD_FILE", "MQTT_TLS", "MQTT_CA_FILE")
         self.assertEqual(read_login(dict.fromkeys(names, "")), read_login({}))
-        self.assertEqual(read_options({"MQTT_LEARN_SECONDS": "", "MQTT_EXPIRE_AFTER": ""}), read_options({}))
+        self.assertEqual(read_options({"MQTT_LEARN_SECONDS": ""}), read_options({}))
 
     def test_tls(self):
         login = read_login({"MQTT_TLS": "yes"})
@@ -106,7 +109,9 @@ class Environment(unittest.TestCase):
                                  ({"MQTT_DISCOVERY": "/a"}, "invalid MQTT_DISCOVERY"),
                                  ({"MQTT_DISCOVERY": "a+"}, "invalid MQTT_DISCOVERY"),
                                  ({"MQTT_LEARN_SECONDS": "-1"}, "invalid MQTT_LEARN_SECONDS: -1"),
-                                 ({"MQTT_EXPIRE_AFTER": "1h"}, "invalid MQTT_EXPIRE_AFTER: 1h")):
+                                 ({"MQTT_EXPIRE_AFTER": "1h"}, "invalid MQTT_EXPIRE_AFTER: 1h"),
+                                 ({"MQTT_EXPIRE_AFTER": "AUTO"}, "expected auto, a number of seconds, or nothing"),
+                                 ({"MQTT_EXPIRE_AFTER": "12345678"}, "invalid MQTT_EXPIRE_AFTER")):
             with self.subTest(environment), self.assertRaisesRegex(WrongSetting, why):
                 read_options(environment)
 
