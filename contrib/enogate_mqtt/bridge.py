@@ -126,6 +126,7 @@ class Bridge:
             self.connection = self.reconciler = None
             self.close_reader()
         self.take_lines(True)
+        self.publish(self.devices.end_waits())
         self.requests.turn(self.devices.needs_list)
         self.devices.needs_list = False
         if self.connection and self.reconciler:
@@ -235,7 +236,9 @@ class Bridge:
                 self.publish(self.devices.show(self.devices.known[part.name]))
             wanted = self.devices.retained(part.name)
         if part.name != UNKNOWN:
-            self.publish([Message(topic, text, True) for topic, text in wanted.items() if there.get(topic) != text])
+            # what the broker was not asked for was published meanwhile: the device was not shown before
+            self.publish([Message(topic, text, True) for topic, text in wanted.items()
+                          if there.get(topic) != text and part.matches(topic)])
         self.publish(self.devices.remove(topic for topic in there if topic not in wanted and self.is_stray(topic)))
 
     def is_stray(self, topic: str) -> bool:

@@ -2,9 +2,10 @@
 from __future__ import annotations
 
 import json
+import time
 from dataclasses import dataclass, field
 from datetime import datetime, timezone
-from typing import Iterable
+from typing import Callable, Iterable
 
 from . import discovery
 from .entities import Table
@@ -16,8 +17,8 @@ LAST_SEEN = "last_seen"
 
 @dataclass
 class Device:
-    """A device. Its label is None until a line reports it as learned. `told` has its last readings, by their places
-    below its topic."""
+    """A device. Its label is None until it is known that it has one or none; until then, Home Assistant is not shown
+    the device. `told` has its last readings, by their places below its topic."""
     name: str
     eep: str
     label: str | None = None
@@ -26,11 +27,17 @@ class Device:
 
 
 class Devices:
-    """The devices of a gateway, and the retained messages that the broker should have about them."""
+    """The devices of a gateway, and the retained messages that the broker should have about them. A device that is
+    learned without a label waits for one for `label_wait` seconds, because Home Assistant derives entity IDs from the
+    first name."""
 
     def __init__(self, topics: Topics, table: Table, expire_after: int | None = None, known: Iterable[Device] = (),
-                 removed: Iterable[str] = (), may_adopt: bool = False):
+                 removed: Iterable[str] = (), may_adopt: bool = False, label_wait: int = 0,
+                 clock: Callable[[], float] = time.monotonic):
         self.topics, self.table, self.expire_after = topics, table, expire_after
+        self.label_wait, self.clock = label_wait, clock
+        # the devices that wait for a label, each with the end of its wait
+        self.waiting: dict[str, float] = {}
         self.known = {device.name: device for device in known}
         self.shown = {device.name: self.configs(device) for device in self.known.values()}
         # the topics whose retained messages are to be deleted
@@ -72,7 +79,8 @@ class Devices:
                 self.listing.append(content.device)
                 if content.device not in self.known and self.may_adopt:
                     self.adopting.add(content.device)
-                return self.learn(content.device, content.eep, content.maker, content.label)
+                label = content.label or (None if content.device in self.waiting else "")
+                return self.learn(content.device, content.eep, content.maker, label)
             case EndOfList():
                 return self.end_list(content.count)
         self.listing = []
@@ -81,7 +89,8 @@ class Devices:
                 return self.receive(content, now)
             case Learned():
                 self.adopting.discard(content.device)
-                return self.learn(content.device, content.eep, content.maker, None)
+                label = self.label_of(content.device, now)
+                return self.learn(content.device, content.eep, content.maker, label)
             case Deleted():
                 return self.forget(content.device)
         return []
@@ -99,12 +108,32 @@ class Devices:
         self.lists += 1
         return [message for name in self.known.keys() - set(listing) for message in self.forget(name)]
 
+    def label_of(self, name: str, now: float | None) -> str | None:
+        """The label of a device that is taught in or added: it keeps the one that it had. A new device waits for one.
+        If this happened at an unknown time, the next list says which label it has got since then."""
+        label = self.known[name].label if name in self.known else None
+        if label is None and not self.label_wait:
+            return ""
+        if label is None and now is None:
+            self.needs_list = True
+        elif label is None:
+            self.waiting.setdefault(name, self.clock() + self.label_wait)
+        return label
+
     def learn(self, name: str, eep: str, maker: int | None, label: str | None) -> list[Message]:
-        """A device is learned. If it was learned before, it keeps its label."""
+        """A device is learned, with this label, or None if it is not known yet."""
         device = self.known.setdefault(name, Device(name, eep))
         messages = self.set_profile(device, eep)
-        device.maker, device.label = maker, label if label is not None else device.label or ""
+        device.maker, device.label = maker, label
+        if label is not None:
+            self.waiting.pop(name, None)
         return messages + self.show(device)
+
+    def end_waits(self) -> list[Message]:
+        """Shows the devices that have waited for a label for long enough."""
+        due = [name for name, end in self.waiting.items() if self.clock() >= end]
+        return [message for name in due
+                for message in self.learn(name, self.known[name].eep, self.known[name].maker, "")]
 
     def forget(self, name: str) -> list[Message]:
         """A device is deleted, with everything that is retained about it."""
@@ -112,13 +141,15 @@ class Devices:
         if device is None:
             return []
         self.adopting.discard(name)
+        self.waiting.pop(name, None)
         self.changed.add(name)
         return self.remove(self.shown.pop(name, {})) + self.remove_readings(device)
 
     def receive(self, telegram: Telegram, now: float | None) -> list[Message]:
         """Handles a telegram. If its device is unknown or has another profile, lines were missed: a list is needed."""
         device = self.known.setdefault(telegram.device, Device(telegram.device, telegram.eep))
-        self.needs_list |= device.label is None or device.eep != telegram.eep
+        is_unknown = device.label is None and device.name not in self.waiting
+        self.needs_list |= is_unknown or device.eep != telegram.eep
         messages = self.set_profile(device, telegram.eep)
         told = self.table.told_by(telegram)
         events = self.table.events_of(telegram)

@@ -49,7 +49,7 @@ def run(words: Words, options: Options) -> None:
     broker = Broker(lambda version, is_reader: Connection(paho, login, topics, version, clock, is_reader),
                     f"{login.host}:{login.port}", clock, time.sleep)
     devices = Devices(topics, Table(), options.expire_after, store.devices, store.removed | old_topics(topics, store),
-                      may_adopt=store.may_adopt)
+                      may_adopt=store.may_adopt, label_wait=options.label_wait, clock=clock)
     desk = Desk(words.desk, clock)
     requests = Requests(desk, clock, time.time, options.learn_for, store.learn_until)
     follower = Follower(words.lines, store.place, store.is_same_boot)

@@ -13,6 +13,8 @@ from .entities import AUTO
 STATUS = 2
 # How long a learn window stays open that was opened through the bridge, in seconds.
 LEARN_FOR = 120
+# How long a newly learned device waits for a label before it is shown without one, in seconds.
+LABEL_WAIT = 60
 
 
 class WrongSetting(Exception):
@@ -43,11 +45,12 @@ class Login:
 @dataclass(frozen=True)
 class Options:
     """The topic prefix of Home Assistant's discovery, or an empty string; how long a learn window stays open that was
-    opened through the bridge, in seconds; and after which time without a telegram a cyclic reading expires, in seconds:
-    AUTO, or None if it never does."""
+    opened through the bridge; after which time without a telegram a cyclic reading expires, AUTO, or None if it never
+    does; and how long a newly learned device waits for a label. All times are in seconds."""
     discovery: str
     learn_for: int
     expire_after: int | None
+    label_wait: int
 
 
 class Parser(argparse.ArgumentParser):
@@ -89,7 +92,8 @@ def read_discovery(environment: Mapping[str, str]) -> str:
 def read_options(environment: Mapping[str, str]) -> Options:
     """The settings of what is published, or WrongSetting."""
     learn_for = read_seconds("MQTT_LEARN_SECONDS", environment.get("MQTT_LEARN_SECONDS") or str(LEARN_FOR))
-    return Options(read_discovery(environment), learn_for, read_expiry(environment))
+    label_wait = read_seconds("MQTT_LABEL_SECONDS", environment.get("MQTT_LABEL_SECONDS") or str(LABEL_WAIT))
+    return Options(read_discovery(environment), learn_for, read_expiry(environment), label_wait)
 
 
 def read_expiry(environment: Mapping[str, str]) -> int | None:

@@ -125,9 +125,10 @@ class Bridge(Unit):
         self.password.write_text(BRIDGE[1] + "\n")
 
     def start(self, **settings: str) -> None:
-        """Starts it with the user and the password that it has at the broker, and these settings besides."""
+        """Starts it with the user and the password that it has at the broker, and these settings besides. Devices are
+        shown at once."""
         login = {"MQTT_PORT": str(self.broker.port), "MQTT_USER": BRIDGE[0], "MQTT_PASSWORD_FILE": str(self.password)}
-        self.run_unit(**{"MQTT_EXPIRE_AFTER": "7200", **login, **settings})
+        self.run_unit(**{"MQTT_EXPIRE_AFTER": "7200", "MQTT_LABEL_SECONDS": "0", **login, **settings})
 
     def saved(self) -> int:
         """Up to which offset its state file says that the lines were read; 0 if it does not say it yet."""

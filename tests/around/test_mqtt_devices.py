@@ -1,10 +1,11 @@
 """The bridge at a broker: what it publishes of devices, what the broker retains, and what Home Assistant is shown."""
 from __future__ import annotations
 
+import json
 import re
 import subprocess
 
-from bridge_testcase import MAY_SKIP, OWN, PYTHON, has_module
+from bridge_testcase import MAY_SKIP, OWN, PYTHON, GatewayTest, has_module
 from kinds import ADDED, END_OF_LIST, KINDS, KindsTest
 from services import HERE
 
@@ -27,6 +28,30 @@ SHOWN = "homeassistant/event/enogate_hall/{}_press/config "
 def kept_by_hand(name: str) -> list[str]:
     """The lines of a file beside this one that is kept by hand, without comments."""
     return [line for line in (HERE / name).read_text().splitlines() if not line.startswith("#")]
+
+
+class Labels(GatewayTest):
+    """Home Assistant is shown the label of a new device first."""
+
+    def names(self, device: str) -> list[str]:
+        """The names under which Home Assistant was shown the contact of a device."""
+        topic = f"homeassistant/binary_sensor/enogate_hall/{device}_CO/config "
+        return [json.loads(message.removeprefix(topic))["device"]["name"] for message in self.heard.messages()
+                if message.startswith(topic)]
+
+    def test_a_label_is_in_the_first_message(self):
+        self.start_bridge(MQTT_LABEL_SECONDS="3600")
+        self.order("add 01800A01 D5-00-01", "label 01800A01 Front door", "add 01800A02 D5-00-01")
+        self.bring("01800A02", "D5 09")
+        self.assert_soon(lambda: self.names("01800A01"), ["Front door"])
+        self.assert_published(f"{OWN}/01800A02/CO closed")
+        self.settle()
+        self.assert_seen((self.names("01800A01"), self.names("01800A02")), (["Front door"], []))
+
+    def test_a_device_without_a_label_appears_later(self):
+        self.start_bridge(MQTT_LABEL_SECONDS="2")
+        self.order("add 01800A01 D5-00-01")
+        self.assert_soon(lambda: self.names("01800A01"), ["D5-00-01 01800A01"])
 
 
 class Devices(KindsTest):

@@ -161,10 +161,11 @@ class Site:
         self.lines.touch()
         self.desk.touch()
 
-    def start(self, learn_for: int = 120) -> Bridge:
+    def start(self, learn_for: int = 120, label_wait: int = 0) -> Bridge:
         """A bridge, after it has read the lines that are there."""
         store = Store(str(self.state), self.topics.discovery, self.boot)
-        devices = Devices(self.topics, Table(), None, store.devices, store.removed, may_adopt=store.may_adopt)
+        devices = Devices(self.topics, Table(), None, store.devices, store.removed, may_adopt=store.may_adopt,
+                          label_wait=label_wait, clock=self.clock)
         desk = Desk(str(self.desk), self.clock)
         requests = Requests(desk, self.clock, self.wall, learn_for, store.learn_until)
         follower = Follower(str(self.lines), store.place, store.is_same_boot)

@@ -41,6 +41,8 @@ class Pages(unittest.TestCase):
         self.assert_said(f"within {requests.ANSWER_WITHIN:.0f} seconds", self.guide)
         self.assert_said(f"after {settings.LEARN_FOR} seconds (`MQTT_LEARN_SECONDS`)", self.guide)
         self.assert_said(f"The default is {settings.LEARN_FOR}.", self.page)
+        self.assert_said(f"after {settings.LABEL_WAIT} seconds without one (`MQTT_LABEL_SECONDS`)", self.guide)
+        self.assert_said(f"The default is {settings.LABEL_WAIT}.", self.page)
         self.assertEqual((log.MAX_MESSAGES, log.PERIOD, requests.STATUS_EVERY, connection.MAX_PAUSE), (10, 60, 60, 60))
         self.assertLess(requests.PROBE_AFTER + requests.SILENT_FOR, 15)
         self.assert_said(f"no line for {requests.SILENT_FOR:.0f} seconds after any order", self.guide)
