@@ -13,8 +13,8 @@ from .lines import Reading, Telegram
 TABLE = pathlib.Path(__file__).with_name("entities")
 # The words that configure an entity.
 KEYS = {"class", "state", "unit", "digits", "on", "off", "options", "types", "diagnostic", "hidden", "cyclic"}
-# the highest channel that accepts orders, by the kind of entity
-GREATEST_CHANNEL = {"switch": 29, "light": 29, "cover": 0}
+# the highest channel that accepts orders, by the kind of entity, and the number that means all channels in a query
+GREATEST_CHANNEL, ALL_CHANNELS = {"switch": 29, "light": 29, "cover": 0}, 30
 # A setting in place of a number of seconds: a cyclic reading expires after so many of its own intervals. Telegrams are
 # lost, and two in a row may be.
 AUTO, INTERVALS = 0, 3
@@ -110,6 +110,12 @@ class Table:
                 if fnmatch.fnmatchcase(eep, row.profiles):
                     rows.setdefault((row.reading, row.unit), row)
         return self.found[eep]
+
+    def channel_of_all(self, eep: str) -> int | None:
+        """The channel with which an actuator of this profile is asked for the states of all its channels; None if the
+        devices are no actuators."""
+        counts = [row.count for row in self.of_profile(eep).values() if row.entity in GREATEST_CHANNEL]
+        return None if not counts else 0 if counts[0] == 1 else ALL_CHANNELS
 
     def of_reading(self, eep: str, reading: Reading) -> Row | None:
         """The row of a reading. A word instead of a value has no unit: it uses the row of the value."""

@@ -16,6 +16,7 @@ from .desk import Desk
 from .devices import Devices
 from .entities import Table
 from .follow import NOWHERE, Follower, without_nuls
+from .queries import Queries
 from .requests import Requests
 from .settings import STATUS, Options, Words, WrongSetting, read_login, read_options, read_words
 from .store import Store
@@ -51,7 +52,8 @@ def run(words: Words, options: Options) -> None:
     devices = Devices(topics, Table(), options.expire_after, store.devices, store.removed | old_topics(topics, store),
                       may_adopt=store.may_adopt, label_wait=options.label_wait, clock=clock)
     desk = Desk(words.desk, clock)
-    requests = Requests(desk, clock, time.time, options.learn_for, store.learn_until)
+    queries = Queries(devices, desk) if options.queries else None
+    requests = Requests(desk, clock, time.time, options.learn_for, store.learn_until, queries)
     follower = Follower(words.lines, store.place, store.is_same_boot)
     bridge = Bridge(topics, broker, devices, follower, desk, requests, store, clock, time.time)
 

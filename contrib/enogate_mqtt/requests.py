@@ -1,5 +1,5 @@
-"""The orders that the bridge gives by itself: it asks for the list of devices, for the status, and for the radio
-module, and closes a learn window that it opened."""
+"""The orders that the bridge gives by itself: it asks for the list of devices, for the status, for the radio module and
+for the states of actuators, and closes a learn window that it opened."""
 from __future__ import annotations
 
 import logging
@@ -10,6 +10,7 @@ from typing import Callable
 
 from .desk import Desk, News
 from .lines import Content, EndOfList, Response, Status, Telegram
+from .queries import Queries
 
 # The pauses between two unanswered requests for the list, in seconds: the first, and the longest.
 FIRST_PAUSE, MAX_PAUSE = 5.0, 600.0
@@ -42,7 +43,7 @@ class ListRequest:
     def need(self, now: float, is_news: bool = True) -> None:
         """The answer may have changed. Without news, a list that is asked for already keeps its pauses: it may never be
         complete."""
-        if is_news or self.due == math.inf:
+        if is_news or self.is_answered:
             self.pause = FIRST_PAUSE
             self.due = min(self.due, max(now, self.asked + FIRST_PAUSE))
 
@@ -57,6 +58,11 @@ class ListRequest:
     def answer(self) -> None:
         """A complete list has arrived."""
         self.due = math.inf
+
+    @property
+    def is_answered(self) -> bool:
+        """Whether the devices are known."""
+        return self.due == math.inf
 
 
 @dataclass
@@ -103,11 +109,11 @@ class Window:
 class Requests:
     """Gives these orders at the desk of the gateway. `learn_for` is the time after which a learn window that was opened
     through the bridge closes, in seconds, and `learn_until` the end of one that an earlier run opened and did not
-    close, in seconds since 1970."""
+    close, in seconds since 1970. Without `queries`, actuators are not asked."""
 
     def __init__(self, desk: Desk, clock: Callable[[], float], wall: Callable[[], float], learn_for: float,
-                 learn_until: float | None = None):
-        self.desk, self.clock, self.wall, self.learn_for = desk, clock, wall, learn_for
+                 learn_until: float | None = None, queries: Queries | None = None):
+        self.desk, self.clock, self.wall, self.learn_for, self.queries = desk, clock, wall, learn_for, queries
         self.list = ListRequest()
         # whether the gateway answers `status`, whether it writes any line after an order, and whether the module works
         self.gateway, self.output = Check(STATUS_EVERY, ANSWER_WITHIN), Check(math.inf, SILENT_FOR)
@@ -136,10 +142,18 @@ class Requests:
             self.give(b"base\n")
         if self.window and now >= self.window.until:
             self.close_window()
+        self.ask_actuator(now)
         earliest = self.started + START_WITHIN
         if self.gateway.is_late(now) or self.gateway.is_online and self.output.is_late(now, earliest):
             self.report_silence()
         self.module.is_late(now, earliest)
+
+    def ask_actuator(self, now: float) -> None:
+        """Asks an actuator for its states, if one is to be asked and can be reached."""
+        if self.queries and self.list.is_answered and self.gateway.is_online and self.module.is_online:
+            query = self.queries.next(now)
+            if query and self.give(query + b"\n"):
+                self.queries.note(query)
 
     def look_at_desk(self, now: float) -> None:
         """Asks again if the gateway was started, or a label was given."""
@@ -155,6 +169,8 @@ class Requests:
                 # if it is started again and again, the first time counts
                 self.started = now
             self.change = news
+            if self.queries:
+                self.queries.start_again()
         if news is not News.NONE:
             self.list.need(now)
 

@@ -46,11 +46,13 @@ class Login:
 class Options:
     """The topic prefix of Home Assistant's discovery, or an empty string; how long a learn window stays open that was
     opened through the bridge; after which time without a telegram a cyclic reading expires, AUTO, or None if it never
-    does; and how long a newly learned device waits for a label. All times are in seconds."""
+    does; how long a newly learned device waits for a label; and whether actuators are asked for their states. All times
+    are in seconds."""
     discovery: str
     learn_for: int
     expire_after: int | None
     label_wait: int
+    queries: bool
 
 
 class Parser(argparse.ArgumentParser):
@@ -93,7 +95,8 @@ def read_options(environment: Mapping[str, str]) -> Options:
     """The settings of what is published, or WrongSetting."""
     learn_for = read_seconds("MQTT_LEARN_SECONDS", environment.get("MQTT_LEARN_SECONDS") or str(LEARN_FOR))
     label_wait = read_seconds("MQTT_LABEL_SECONDS", environment.get("MQTT_LABEL_SECONDS") or str(LABEL_WAIT))
-    return Options(read_discovery(environment), learn_for, read_expiry(environment), label_wait)
+    queries = read_yes("MQTT_QUERY", environment.get("MQTT_QUERY") or "yes")
+    return Options(read_discovery(environment), learn_for, read_expiry(environment), label_wait, queries)
 
 
 def read_expiry(environment: Mapping[str, str]) -> int | None:
@@ -110,6 +113,12 @@ def read_seconds(name: str, text: str) -> int:
     if not re.fullmatch("[0-9]{1,7}", text):
         raise WrongSetting(f"invalid {name}: {text} (expected a number of seconds)")
     return int(text)
+
+
+def read_yes(name: str, text: str) -> bool:
+    if text not in ("yes", "no"):
+        raise WrongSetting(f"invalid {name}: {text} (expected yes or no)")
+    return text == "yes"
 
 
 def read_login(environment: Mapping[str, str]) -> Login:
@@ -134,11 +143,9 @@ def read_port(port: str) -> int:
 
 def read_tls(environment: Mapping[str, str]) -> ssl.SSLContext | None:
     """How the broker and the bridge identify themselves on an encrypted connection; None without encryption."""
-    wanted = environment.get("MQTT_TLS") or "no"
-    if wanted not in ("yes", "no"):
-        raise WrongSetting(f"invalid MQTT_TLS: {wanted} (expected yes or no)")
+    is_wanted = read_yes("MQTT_TLS", environment.get("MQTT_TLS") or "no")
     files = {name: environment.get(name) or None for name in ("MQTT_CA_FILE", "MQTT_CERT_FILE", "MQTT_KEY_FILE")}
-    if wanted == "no":
+    if not is_wanted:
         for name, path in files.items():
             if path:
                 raise WrongSetting(f"{name} is set, but MQTT_TLS is not yes")

@@ -126,9 +126,10 @@ class Bridge(Unit):
 
     def start(self, **settings: str) -> None:
         """Starts it with the user and the password that it has at the broker, and these settings besides. Devices are
-        shown at once."""
+        shown at once, and actuators are not asked for their states."""
         login = {"MQTT_PORT": str(self.broker.port), "MQTT_USER": BRIDGE[0], "MQTT_PASSWORD_FILE": str(self.password)}
-        self.run_unit(**{"MQTT_EXPIRE_AFTER": "7200", "MQTT_LABEL_SECONDS": "0", **login, **settings})
+        own = {"MQTT_EXPIRE_AFTER": "7200", "MQTT_LABEL_SECONDS": "0", "MQTT_QUERY": "no"}
+        self.run_unit(**{**own, **login, **settings})
 
     def saved(self) -> int:
         """Up to which offset its state file says that the lines were read; 0 if it does not say it yet."""

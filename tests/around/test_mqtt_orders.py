@@ -32,6 +32,27 @@ OWN_ORDERS = ("list", "status", "base")
 OK = '{"type":"ok"}'
 
 
+class Queries(GatewayTest):
+    """Actuators are asked for their states."""
+
+    def test_each_actuator_is_asked_once_after_a_start_of_the_gateway(self):
+        """Two channels, one channel, and a blind, as the guide has its packet."""
+        self.order("add 01800ABC D2-01-12", "add 01800A10 D2-01-02", "add 01800ABD D2-05-00", "add 01800A01 D5-00-01")
+        packets = (sent(0xD2, bytes.fromhex("0300"), int(BASE, 16), 0x01800A10).hex()
+                   + sent(0xD2, bytes.fromhex("031E"), int(BASE, 16), 0x01800ABC).hex()
+                   + "55000707017ad203ff800000000301800abdff0038")
+        self.start_bridge(MQTT_QUERY="yes")
+        self.assert_soon(self.stick.sent, packets)
+        self.gateway.end()
+        self.gateway.start(self.stick)
+        self.assert_soon(self.stick.sent, 2 * packets)
+        self.bridge.end()
+        self.heard.forget()
+        self.start_bridge(MQTT_QUERY="yes")
+        self.settle()
+        self.assert_seen(self.stick.sent(), 2 * packets)
+
+
 class Orders(GatewayTest):
     """Orders and commands to actuators that the gateway knows."""
 

@@ -14,6 +14,7 @@ from enogate_mqtt.desk import Desk
 from enogate_mqtt.devices import Devices
 from enogate_mqtt.entities import Table
 from enogate_mqtt.follow import Follower
+from enogate_mqtt.queries import Queries
 from enogate_mqtt.requests import Requests
 from enogate_mqtt.store import Store
 from enogate_mqtt.topics import Topics
@@ -161,13 +162,14 @@ class Site:
         self.lines.touch()
         self.desk.touch()
 
-    def start(self, learn_for: int = 120, label_wait: int = 0) -> Bridge:
+    def start(self, learn_for: int = 120, label_wait: int = 0, asks_actuators: bool = False) -> Bridge:
         """A bridge, after it has read the lines that are there."""
         store = Store(str(self.state), self.topics.discovery, self.boot)
         devices = Devices(self.topics, Table(), None, store.devices, store.removed, may_adopt=store.may_adopt,
                           label_wait=label_wait, clock=self.clock)
         desk = Desk(str(self.desk), self.clock)
-        requests = Requests(desk, self.clock, self.wall, learn_for, store.learn_until)
+        queries = Queries(devices, desk) if asks_actuators else None
+        requests = Requests(desk, self.clock, self.wall, learn_for, store.learn_until, queries)
         follower = Follower(str(self.lines), store.place, store.is_same_boot)
         self.bridge = Bridge(self.topics, self.broker, devices, follower, desk, requests, store, self.clock,
                              self.wall)

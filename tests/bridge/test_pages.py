@@ -3,7 +3,7 @@ import pathlib
 import re
 import unittest
 
-from enogate_mqtt import connection, desk, log, orders, outbox, requests, settings
+from enogate_mqtt import connection, desk, log, orders, outbox, queries, requests, settings
 from enogate_mqtt.entities import AUTO, Table
 from enogate_mqtt.orders import orders_of
 from enogate_mqtt.topics import Topics
@@ -43,6 +43,9 @@ class Pages(unittest.TestCase):
         self.assert_said(f"The default is {settings.LEARN_FOR}.", self.page)
         self.assert_said(f"after {settings.LABEL_WAIT} seconds without one (`MQTT_LABEL_SECONDS`)", self.guide)
         self.assert_said(f"The default is {settings.LABEL_WAIT}.", self.page)
+        self.assertEqual(queries.EVERY, 1)
+        self.assert_said("one actuator per second", self.guide)
+        self.assert_said("one actuator per second", self.page)
         self.assertEqual((log.MAX_MESSAGES, log.PERIOD, requests.STATUS_EVERY, connection.MAX_PAUSE), (10, 60, 60, 60))
         self.assertLess(requests.PROBE_AFTER + requests.SILENT_FOR, 15)
         self.assert_said(f"no line for {requests.SILENT_FOR:.0f} seconds after any order", self.guide)

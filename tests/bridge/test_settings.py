@@ -42,7 +42,7 @@ class CommandLine(unittest.TestCase):
 class Environment(unittest.TestCase):
     def test_defaults(self):
         self.assertEqual(read_login({}), Login("localhost", 1883, None, None, None))
-        self.assertEqual(read_options({}), Options("homeassistant", 120, AUTO, 60))
+        self.assertEqual(read_options({}), Options("homeassistant", 120, AUTO, 60, True))
 
     def test_values(self):
         site = Site(self)
@@ -52,17 +52,19 @@ class Environment(unittest.TestCase):
                             "MQTT_PASSWORD_FILE": str(password)})
         self.assertEqual(found, Login("h", 65535, "u", "secret with a space ", None))
         options = read_options({"MQTT_DISCOVERY": "a/b", "MQTT_LEARN_SECONDS": "30", "MQTT_EXPIRE_AFTER": "7200",
-                                "MQTT_LABEL_SECONDS": "5"})
-        self.assertEqual(options, Options("a/b", 30, 7200, 5))
+                                "MQTT_LABEL_SECONDS": "5", "MQTT_QUERY": "no"})
+        self.assertEqual(options, Options("a/b", 30, 7200, 5, False))
         self.assertEqual(read_options({"MQTT_DISCOVERY": ""}).discovery, "")
         self.assertEqual(read_options({"MQTT_LABEL_SECONDS": "0"}).label_wait, 0)
+        self.assertEqual(read_options({"MQTT_QUERY": "yes"}).queries, True)
         for text, seconds in (("auto", AUTO), ("", None), ("0", None), ("1", 1), ("9999999", 9999999)):
             self.assertEqual(read_options({"MQTT_EXPIRE_AFTER": text}).expire_after, seconds, text)
 
     def test_empty_values_are_the_defaults(self):
         names = ("MQTT_PORT", "MQTT_USER", "MQTT_PASSWORD_FILE", "MQTT_TLS", "MQTT_CA_FILE")
         self.assertEqual(read_login(dict.fromkeys(names, "")), read_login({}))
-        self.assertEqual(read_options({"MQTT_LEARN_SECONDS": "", "MQTT_LABEL_SECONDS": ""}), read_options({}))
+        self.assertEqual(read_options({"MQTT_LEARN_SECONDS": "", "MQTT_LABEL_SECONDS": "", "MQTT_QUERY": ""}),
+                         read_options({}))
 
     def test_tls(self):
         login = read_login({"MQTT_TLS": "yes"})
@@ -111,6 +113,7 @@ class Environment(unittest.TestCase):
                                  ({"MQTT_DISCOVERY": "/a"}, "invalid MQTT_DISCOVERY"),
                                  ({"MQTT_DISCOVERY": "a+"}, "invalid MQTT_DISCOVERY"),
                                  ({"MQTT_LEARN_SECONDS": "-1"}, "invalid MQTT_LEARN_SECONDS: -1"),
+                                 ({"MQTT_QUERY": "on"}, r"invalid MQTT_QUERY: on \(expected yes or no\)"),
                                  ({"MQTT_LABEL_SECONDS": "1m"}, "invalid MQTT_LABEL_SECONDS: 1m"),
                                  ({"MQTT_EXPIRE_AFTER": "1h"}, "invalid MQTT_EXPIRE_AFTER: 1h"),
                                  ({"MQTT_EXPIRE_AFTER": "AUTO"}, "expected auto, a number of seconds, or nothing"),
@@ -154,7 +157,7 @@ class Program(Case):
         """The state file decides what is adopted, and what is to be deleted."""
         site = Site(self)
         words = Words("hall", str(site.lines), str(site.desk), str(site.state), "", False)
-        options = Options("homeassistant", 60, 7200, 30)
+        options = Options("homeassistant", 60, 7200, 30, True)
         found = []
         for removed in (set(), {"x/y"}):
             with mock.patch("enogate_mqtt.main.Bridge") as bridge, mock.patch("enogate_mqtt.main.import_paho"), \
@@ -166,6 +169,7 @@ class Program(Case):
                 broker.connect(4, True)
             self.assertEqual(connection.call_args.args[2:], (topics, 4, time.monotonic, True))
             self.assertEqual((devices.label_wait, devices.clock), (30, time.monotonic))
+            self.assertIs(requests.queries.devices, devices)
             found.append((topics.name, broker.name, devices.may_adopt, devices.removed, devices.expire_after,
                           follower.path, desk.path, requests.learn_for))
             store.save(main.NOWHERE, [], {}, {"x/y"})
@@ -175,7 +179,8 @@ class Program(Case):
                                  ("hall", "localhost:1883", False, {"x/y"}, 7200, *files)])
         with mock.patch("enogate_mqtt.main.Bridge") as bridge, mock.patch("enogate_mqtt.main.import_paho"), \
                 mock.patch("signal.signal"):
-            main.run(words, Options("other", 60, 7200, 30))
+            main.run(words, Options("other", 60, 7200, 30, False))
+        self.assertIsNone(bridge.call_args.args[5].queries)
         self.assertLess({"x/y", "homeassistant/binary_sensor/enogate_hall/status/config"},
                         bridge.call_args.args[2].removed)
 
