@@ -23,13 +23,14 @@ class Lines:
     def __init__(self, path: str, say: Callable[[str, str], None]):
         self.path, self.say = path, say
         self.waiting, self.rest = b"", b""
-        # how many of them report a packet, and how many were dropped since the last one was stored
-        self.packets = self.dropped = 0
+        # how many were added, how many of them report a packet, and how many were dropped since the last one was stored
+        self.count = self.packets = self.dropped = 0
         self.is_failing = False
 
     def add(self, text: bytes) -> None:
         """Takes what the gateway has written. A line that has not ended waits for its end."""
         whole, end, self.rest = (self.rest + text).rpartition(b"\n")
+        self.count += (whole + end).count(b"\n")
         self.packets += whole.count(PACKET)
         self.waiting += whole + end
 

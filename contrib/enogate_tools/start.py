@@ -111,8 +111,8 @@ class Starter:
         return port
 
     def compare_with_earlier(self) -> None:
-        """Says if the module is not that of earlier starts: of two sticks, the other one may have been taken. If its base
-        ID is set, it counts from now on."""
+        """Says if the module is not that of earlier starts: of two sticks, the other one may have been taken. If its
+        base ID is set, it counts from now on."""
         if not self.base_file or self.reported != self.base:
             return
         earlier = ""

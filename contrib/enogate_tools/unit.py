@@ -100,7 +100,6 @@ class Run:
         self.unit, self.gateway, self.port = unit, gateway, port
         self.watch = Watch(unit.path, "--explain" in unit.command())
         self.system = System()
-        self.packets_before = unit.lines.packets
         # why it is ended, and at how many looks since then it still ran
         self.fault, self.ending = "", -1
 
@@ -156,9 +155,8 @@ class Run:
             desk = None
         files = self.system.open_files(process) or []
         place = next((file.place for file in files if desk and file.is_read_only and is_same(file.status, desk)), 0)
-        return Sample(calls, None if received is None else received - place,
-                      self.unit.lines.packets - self.packets_before, place,
-                      max(0, desk.st_size - place) if desk else 0, ports.unsent(self.port))
+        return Sample(calls, None if received is None else received - place, self.unit.lines.count,
+                      self.unit.lines.packets, place, desk.st_size - place if desk else 0, ports.unsent(self.port))
 
 
 def is_same_node(one: os.stat_result, other: os.stat_result) -> bool:

@@ -3,9 +3,9 @@ from __future__ import annotations
 
 from dataclasses import dataclass
 
-# After so many looks, one a second, a fault counts: without a read call, with orders of which none was read, and with
-# bytes of which the stick takes none while it brings none. The module itself answers within 0.5 s (ESP3), and a slow
-# disk may delay a commit for some seconds.
+# After so many looks, one a second, a fault counts: without a read call, with orders of which none was read or a desk
+# that is shorter than what was read of it, or with bytes of which the stick takes none while it brings none. The module
+# itself answers within 0.5 s (ESP3), and a slow disk may delay a commit for a few seconds.
 STUCK, UNREAD, UNSENT = 30, 30, 10
 # The gateway is deaf if, for so many looks since a byte came, no packet was complete, although bytes came at so many of
 # these looks. A header may have been damaged so that the gateway waits for up to 65,535 bytes.
@@ -21,9 +21,10 @@ class Sample:
     # read calls since its start, and bytes that it has read in them, without its orders
     calls: int | None
     received: int | None
-    # packet lines since its start
+    # lines so far, and packet lines among them
+    lines: int
     packets: int
-    # the place up to which it has read its desk, and how many bytes of orders follow
+    # the place up to which it has read its desk, and how many bytes of orders follow; negative if the desk is shorter
     place: int
     unread: int
     # bytes that wait in the kernel for the stick
@@ -38,6 +39,8 @@ class Watch:
         self.path, self.explains = path, explains
         self.last: Sample | None = None
         self.stuck = self.unread = self.unsent = 0
+        # whether an order was read and no line was written since
+        self.is_asked = False
         # the looks since the first byte after the last packet, and those at which bytes had come
         self.looks = self.bursts = 0
 
@@ -50,12 +53,14 @@ class Watch:
         self.stuck = self.stuck + 1 if now.calls is not None and now.calls == last.calls else 0
         self.unread = self.unread + 1 if now.unread and last.unread and now.place == last.place else 0
         self.unsent = self.unsent + 1 if now.unsent and last.unsent and not comes else 0
-        self.listen(comes, now.packets > last.packets)
+        self.listen(comes, now, last)
         if self.unsent >= UNSENT:
             return f"the stick at {self.path} has taken no bytes for {UNSENT} s, {now.unsent} are waiting"
         if self.stuck >= STUCK:
             return (f"the gateway has read nothing for {STUCK} s: perhaps the stick at {self.path} takes no bytes, or "
                     "the disk does not answer")
+        if self.unread >= UNREAD and now.unread < 0:
+            return f"the desk was truncated: the next {-now.unread} bytes of orders would be lost"
         if self.unread >= UNREAD:
             return f"{now.unread} bytes of orders have not been read for {UNREAD} s: perhaps the desk was replaced"
         if self.explains and self.looks >= DEAF and self.bursts >= BURSTS:
@@ -63,13 +68,16 @@ class Watch:
                     "is not the port of a radio module")
         return ""
 
-    def listen(self, comes: bool, is_packet: bool) -> None:
-        """Counts the looks since bytes came without a packet."""
-        if is_packet:
+    def listen(self, comes: bool, now: Sample, last: Sample) -> None:
+        """Counts the looks since bytes came without a packet. While an order is carried out, the gateway may read the
+        database."""
+        is_asked = self.is_asked or now.place != last.place
+        self.is_asked = is_asked and now.lines == last.lines
+        if now.packets > last.packets:
             self.looks = self.bursts = 0
-        elif comes or self.looks:
+        elif self.looks or (comes and not is_asked):
             self.looks += 1
-            self.bursts += comes
+            self.bursts += comes and not is_asked
 
 
 class Pauses:
