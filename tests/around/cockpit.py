@@ -9,10 +9,12 @@ import subprocess
 from typing import Sequence
 
 from selenium import webdriver
+from selenium.common.exceptions import WebDriverException
 from selenium.webdriver.chrome.options import Options
 from selenium.webdriver.chrome.service import Service
 from selenium.webdriver.common.by import By
 from selenium.webdriver.remote.webelement import WebElement
+from urllib3.exceptions import HTTPError
 
 from programs import Program, wait_for
 from services import CONTRIB
@@ -110,6 +112,10 @@ class Browser:
     """A headless browser."""
 
     def __enter__(self) -> Browser:
+        self.start()
+        return self
+
+    def start(self) -> None:
         options = Options()
         for word in ("--headless=new", "--no-sandbox", "--disable-gpu", "--disable-dev-shm-usage",
                      "--window-size=1300,850"):
@@ -119,7 +125,15 @@ class Browser:
         # Cockpit makes a certificate of its own.
         options.set_capability("acceptInsecureCerts", True)
         self.driver = webdriver.Chrome(service=Service("/usr/bin/chromedriver"), options=options)
-        return self
+        self.driver.execute_cdp_cmd("Performance.enable", {})
+
+    def keep(self) -> None:
+        """Starts it again if it has crashed."""
+        try:
+            self.driver.title
+        except (WebDriverException, HTTPError):
+            self.driver.quit()
+            self.start()
 
     def __exit__(self, *_: object) -> None:
         self.driver.quit()

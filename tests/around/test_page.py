@@ -85,7 +85,6 @@ def setUpModule() -> None:
     cockpit = unittest.enterModuleContext(Cockpit(work))
     cockpit.start()
     browser = unittest.enterModuleContext(Browser())
-    browser.driver.execute_cdp_cmd("Performance.enable", {})
     ctl("--timeout", "20", "status")
 
 
@@ -109,6 +108,7 @@ class PageTest(unittest.TestCase):
 
     def open(self) -> None:
         cockpit.keep()
+        browser.keep()
         browser.open(cockpit.address)
         self.wait_for_text("#gateways [aria-selected=true]", "hall")
         self.wait_for_text("#feed", "live")
@@ -476,6 +476,10 @@ class Holds(PageTest):
     def test_a_server_that_has_ended_fails_no_other_test(self):
         browser.open("about:blank")
         cockpit.end()
+        self.open()
+
+    def test_a_browser_that_has_ended_fails_no_other_test(self):
+        browser.driver.service.process.kill()
         self.open()
 
     def test_a_click_means_the_row_under_the_pointer(self):
