@@ -143,6 +143,8 @@ class AnswerFinder:
         self.window: Window | None = None
         # The answers to the first orders, for each place where they may have begun.
         self.begun: list[list[Answer]] = []
+        # Whether the answers were found.
+        self.is_done = False
 
     @property
     def text(self) -> bytes:

@@ -129,7 +129,7 @@ class Desk:
                            "with `list` or `status` whether the order was carried out, and give it again if not"
                            ) from error
         except Stopped:
-            if file.text:
+            if file.text and not finder.is_done:
                 self.keep_lock(file, lines, finder)
             raise
         finally:
@@ -152,7 +152,10 @@ class Desk:
     def wait(self, file: DeskFile, lines: Lines, finder: AnswerFinder, limit: float) -> list[Answer]:
         """The answers, if they come in time and the desk still has the orders then."""
         while True:
-            answers = next(filter(None, map(finder.take, lines.read())), None)
+            # A line is read only once: a signal may not come before it is taken.
+            with held():
+                answers = next(filter(None, map(finder.take, lines.read())), None)
+                finder.is_done = answers is not None
             file.check()
             if answers:
                 return answers

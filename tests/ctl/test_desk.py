@@ -10,11 +10,12 @@ import unittest
 from unittest import mock
 
 from enogate_ctl import desk as desks, main as program
+from enogate_ctl.answers import AnswerFinder
 from enogate_ctl.command_line import Export, Give, Import, ShowRecorded
 from enogate_ctl.desk import KEPT_AFTER_ANSWER, LONG_PAUSE, LONGEST_KEPT, PAUSE, Desk, Lines, NoAnswer
 from enogate_ctl.desk_file import DeskFile, Unusable
 from enogate_ctl.places import Places
-from enogate_ctl.stops import Stopped
+from enogate_ctl.stops import SIGNALS, Stopped, Stops
 from enogate_tools import files
 from fakes import OK, Limited, Site, error, status, within
 
@@ -122,6 +123,41 @@ class Asking(DeskTest):
 
     def test_a_stop_while_it_waits_for_the_answer(self):
         self.assert_stop(1)
+
+    def stops_at_the_first_line(self):
+        """A signal comes while the command takes the first line that it reads."""
+        for number in SIGNALS:
+            self.addCleanup(signal.signal, number, signal.getsignal(number))
+        Stops().install()
+        take, signals = AnswerFinder.take, [signal.SIGTERM]
+
+        def stop(finder, line):
+            while signals:
+                signal.raise_signal(signals.pop())
+            return take(finder, line)
+        self.enterContext(mock.patch.object(AnswerFinder, "take", stop))
+
+    def test_a_stop_while_it_reads_the_answer(self):
+        """No lock is kept: no answer can come any more."""
+        self.stops_at_the_first_line()
+        self.clock.acts[2] = lambda: self.write(*ANSWER)
+        self.assertRaises(Stopped, self.made().ask, "learn on")
+        self.assertEqual(self.forks, 0)
+
+    def test_a_stop_while_it_reads_half_of_the_answer(self):
+        """The process that keeps the lock finds the answer when the rest of it comes."""
+        self.stops_at_the_first_line()
+        self.clock.acts[2] = lambda: self.write(*ANSWER[:3])
+        kept = []
+
+        def keep(_desk, file, lines, finder):
+            self.clock.acts[len(self.clock.slept) + 1] = lambda: self.write(*ANSWER[3:])
+            begin = self.clock.now
+            self.made().wait_for_end(file, lines, finder)
+            kept.append(self.clock.now - begin)
+        with mock.patch.object(Desk, "keep_lock", keep):
+            self.assertRaises(Stopped, self.made().ask, "learn on")
+        self.assertAlmostEqual(kept[0], LONG_PAUSE)
 
     def assert_stop(self, forks):
         """A signal stops the command. So many processes keep the lock."""
