@@ -27,12 +27,14 @@ class Lines:
         self.count = self.packets = self.dropped = 0
         self.is_failing = False
 
-    def add(self, text: bytes) -> None:
-        """Takes what the gateway has written. A line that has not ended waits for its end."""
+    def add(self, text: bytes) -> bytes:
+        """Takes what the gateway has written, and returns the lines that have ended. The rest waits for its end."""
         whole, end, self.rest = (self.rest + text).rpartition(b"\n")
-        self.count += (whole + end).count(b"\n")
+        whole += end
+        self.count += whole.count(b"\n")
         self.packets += whole.count(PACKET)
-        self.waiting += whole + end
+        self.waiting += whole
+        return whole
 
     def store(self) -> None:
         """Stores what waits, as far as possible."""

@@ -55,7 +55,9 @@ class Starter:
     def __init__(self, words: argparse.Namespace, say, sleep=time.sleep, clock=time.monotonic):
         self.path, self.unit, self.base_file = words.port, words.unit, words.base_file
         self.set_base = self.base = (words.base or "").upper()
+        # what the module reported at the start, and what it was compared with last
         self.reported: str | None = None
+        self.compared = ""
         self.words = words.command
         self.wants_base = bool(self.base) or words.base_id or PLACE in words.command
         self.announces = not words.base_id
@@ -75,7 +77,7 @@ class Starter:
 
     def find_base(self, reported: str | None) -> None:
         """Compares the base ID with the one that the module reported, or takes that one."""
-        self.reported = reported
+        self.reported, self.compared = reported, ""
         if not self.set_base and not reported:
             raise ports.PortError(f"no radio module at {self.path} reports its base ID: unplug it and plug it in, "
                                   "correct SERIAL, or set BASE")
@@ -86,9 +88,15 @@ class Starter:
         elif not reported:
             self.say(WARNING, f"no radio module at {self.path} reports its base ID: check SERIAL; the gateway starts "
                      f"with BASE={self.base}")
-        elif reported != self.base:
+        else:
+            self.compare(reported)
+
+    def compare(self, reported: str) -> None:
+        """Says if the module has reported another base ID than that of the gateway. The same one is reported once."""
+        if reported not in (self.base, self.compared):
             self.say(WARNING, f"BASE is {self.base}, but the base ID of the radio module at {self.path} is {reported}: "
                      "correct or remove BASE, and restart the gateway")
+        self.compared = reported
 
     def wait(self) -> int:
         """Like `prepare`, but waits until the port can be used. Each reason is reported once, even if it comes back:
@@ -170,7 +178,7 @@ def run_unit(words: argparse.Namespace, starter: Starter, say) -> int:
     """Prepares the files for a start of the unit, or runs the gateway."""
     try:
         if not words.clean:
-            return Unit(words.port, words.unit, words.lines, starter.wait, starter.command, say).run()
+            return Unit(words.port, words.unit, words.lines, starter, say).run()
         desk.empty(os.path.join(words.unit, "desk"))
         lines.prepare(words.lines, say)
     except OSError as error:

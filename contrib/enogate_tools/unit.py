@@ -2,12 +2,13 @@
 from __future__ import annotations
 
 import os
+import re
 import select
 import signal
 import stat
 import subprocess
 import time
-from typing import Callable
+from typing import Callable, Protocol
 
 from . import desk, port as ports
 from .lines import NOTICE, WARNING, Lines
@@ -19,15 +20,29 @@ LOOK = 1.0
 # After so many looks a gateway that does not end is killed.
 KILLED_AFTER = 10
 PART = 1 << 16
+# The line of a module's response with its base ID: no other response to an order has four bytes of data.
+REPORT = re.compile(rb'^\{"code":0,"data":"([0-9A-F]{8})","name":"OK","type":"response"\}$', re.MULTILINE)
+
+
+class Starting(Protocol):
+    """Prepares a start of the gateway: enogate_tools.start.Starter."""
+
+    def wait(self) -> int:
+        """Waits for the port, and returns it."""
+
+    def command(self) -> list[str]:
+        """The command of the gateway, once the base ID is known."""
+
+    def compare(self, reported: str) -> None:
+        """The module has reported this base ID."""
 
 
 class Unit:
-    """Runs a gateway at a port with this path, with its desk in a folder and its lines in a file. `prepare` waits for
-    the port and returns it, and `command` is that of the gateway, once the base ID is known."""
+    """Runs a gateway at a port with this path, with its desk in a folder and its lines in a file."""
 
-    def __init__(self, path: str, folder: str, lines: str, prepare: Callable[[], int], command: Callable[[], list[str]],
-                 say: Callable[[str, str], None], look: float = LOOK, clock: Callable[[], float] = time.monotonic):
-        self.path, self.folder, self.prepare, self.command = path, folder, prepare, command
+    def __init__(self, path: str, folder: str, lines: str, starter: Starting, say: Callable[[str, str], None],
+                 look: float = LOOK, clock: Callable[[], float] = time.monotonic):
+        self.path, self.folder, self.starter = path, folder, starter
         self.say, self.look, self.clock = say, look, clock
         self.desk = os.path.join(folder, "desk")
         self.lines = Lines(lines, say)
@@ -40,11 +55,11 @@ class Unit:
         work, it is started again."""
         signal.signal(signal.SIGTERM, self.stop)
         while True:
-            port = self.prepare()
+            port, command = self.starter.wait(), self.starter.command()
             try:
-                self.gateway = subprocess.Popen(self.command(), stdout=subprocess.PIPE)
+                self.gateway = subprocess.Popen(command, stdout=subprocess.PIPE)
             except OSError as error:
-                self.say("", f"{self.command()[0]} cannot be run: {error.strerror}")
+                self.say("", f"{command[0]} cannot be run: {error.strerror}")
                 return 127
             fault = Run(self, self.gateway, port).follow()
             status = self.gateway.wait()
@@ -98,7 +113,7 @@ class Run:
 
     def __init__(self, unit: Unit, gateway: subprocess.Popen[bytes], port: int):
         self.unit, self.gateway, self.port = unit, gateway, port
-        self.watch = Watch(unit.path, "--explain" in unit.command())
+        self.watch = Watch(unit.path, "--explain" in unit.starter.command())
         self.system = System()
         # why it is ended, and at how many looks since then it still ran
         self.fault, self.ending = "", -1
@@ -120,7 +135,8 @@ class Run:
                     poll.unregister(self.port)
                     self.end()
                 elif text := os.read(output, PART):
-                    lines.add(text)
+                    for report in REPORT.finditer(lines.add(text)):
+                        self.unit.starter.compare(report[1].decode())
                 else:
                     self.gateway.stdout.close()
                     return self.fault
