@@ -108,8 +108,8 @@ class Check:
     def findings(self):
         """The findings of all checks, whatever the files are."""
         checks = {"settings": self.of_settings, "port": self.of_port, "desk": self.of_desk, "base ID": self.of_base,
-                  "lines": self.of_lines, "database": self.of_database, "disk space": self.of_space,
-                  "units": self.of_units}
+                  "earlier base ID": self.of_earlier_base, "lines": self.of_lines, "database": self.of_database,
+                  "disk space": self.of_space, "units": self.of_units}
         for what, check in checks.items():
             try:
                 yield from check()
@@ -289,6 +289,20 @@ class Check:
                           f"{self.restart}")
         else:
             yield OK, f"base ID: {used}, as {module} reports"
+
+    def of_earlier_base(self):
+        """The base ID that a running gateway uses, compared with that of its first start, if no base ID is set."""
+        path = self.system.path(f"/var/lib/enogate/{self.name}.base")
+        if self.settings["BASE"] or not self.gateway or not exists(path):
+            return
+        if faults := self.odd(path):
+            yield from faults
+            return
+        with os.fdopen(files.open_file(path), encoding="ascii", errors="replace") as file:
+            earlier = file.read(9).strip()
+        used = self.system.option(self.gateway, "--base").upper()
+        if why := ports.other_stick(earlier, used, self.settings["SERIAL"]):
+            yield FAULT, why
 
     def odd(self, *paths: str):
         """The faults of files that are no regular files with one name. They are not opened: root could open a file of

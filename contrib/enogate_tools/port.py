@@ -45,6 +45,15 @@ def is_base(text: str) -> bool:
     return 0xFF800000 <= int(text, 16) <= 0xFFFFFF80 and int(text, 16) % 128 == 0
 
 
+def other_stick(earlier: str, base: str, path: str) -> str:
+    """What is wrong if the base ID at earlier starts of a gateway was another one; empty if it was not, or if this is
+    not known."""
+    if not is_base(earlier) or earlier == base:
+        return ""
+    return (f"at earlier starts the base ID was {earlier}: if {path} is the wrong stick, correct SERIAL; if the stick "
+            f"was replaced, set BASE={base}, and teach in actuators again")
+
+
 def crc8(data: bytes) -> int:
     """The CRC of ESP3, with the polynomial x^8 + x^2 + x + 1."""
     value = 0

@@ -126,9 +126,8 @@ class Starter:
         earlier = ""
         with contextlib.suppress(OSError), open(self.base_file, encoding="ascii", errors="replace") as file:
             earlier = file.read(9).strip()
-        if ports.is_base(earlier) and not self.set_base and earlier != self.base:
-            self.say(WARNING, f"at earlier starts the base ID was {earlier}: if {self.path} is the wrong stick, "
-                     f"correct SERIAL; if the stick was replaced, set BASE={self.base}, and teach in actuators again")
+        if not self.set_base and (why := ports.other_stick(earlier, self.base, self.path)):
+            self.say(WARNING, why)
         elif earlier != self.base:
             with contextlib.suppress(OSError), open(self.base_file, "w", encoding="ascii") as file:
                 print(self.base, file=file)
