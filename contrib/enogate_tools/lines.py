@@ -36,6 +36,10 @@ class Lines:
         self.waiting += whole
         return whole
 
+    def end(self) -> None:
+        """The gateway has ended. A line that has not ended is not stored."""
+        self.rest = b""
+
     def store(self) -> None:
         """Stores what waits, as far as possible."""
         if not self.waiting:
@@ -75,7 +79,7 @@ class Lines:
             self.waiting = self.waiting[start:]
 
     def close(self) -> None:
-        """The gateway has ended: says what could not be stored. A line that has not ended is not stored."""
+        """Says what could not be stored."""
         self.store()
         if lost := self.dropped + self.waiting.count(b"\n"):
             self.say(WARNING, f"{self.path}: {lost} lines are lost")

@@ -19,6 +19,9 @@ from .watch import Pauses, Sample, Watch
 LOOK = 1.0
 # After so many looks a gateway that does not end is killed.
 KILLED_AFTER = 10
+# How long to wait before a start after a fault of the program, in seconds: at first, and at most, for it doubles. After
+# a run of so many seconds it is the first one again.
+FIRST_WAIT, MAX_WAIT, LONG_RUN = 2.0, 60.0, 600.0
 PART = 1 << 16
 # The line of a module's response with its base ID: no other response to an order has four bytes of data.
 REPORT = re.compile(rb'^\{"code":0,"data":"([0-9A-F]{8})","name":"OK","type":"response"\}$', re.MULTILINE)
@@ -41,41 +44,48 @@ class Unit:
     """Runs a gateway at a port with this path, with its desk in a folder and its lines in a file."""
 
     def __init__(self, path: str, folder: str, lines: str, starter: Starting, say: Callable[[str, str], None],
-                 look: float = LOOK, clock: Callable[[], float] = time.monotonic):
+                 look: float = LOOK, clock: Callable[[], float] = time.monotonic,
+                 sleep: Callable[[float], None] = time.sleep):
         self.path, self.folder, self.starter = path, folder, starter
-        self.say, self.look, self.clock = say, look, clock
+        self.say, self.look, self.clock, self.sleep = say, look, clock, sleep
         self.desk = os.path.join(folder, "desk")
         self.lines = Lines(lines, say)
-        self.pauses = Pauses()
+        self.pauses, self.wait = Pauses(), FIRST_WAIT / 2
         self.gateway: subprocess.Popen[bytes] | None = None
         self.is_stopped = False
 
     def run(self) -> int:
-        """Runs the gateway until it ends by itself or a signal stops it, and returns its exit status. If it does not
-        work, it is started again."""
+        """Runs the gateway until its turns are over, its stick is unplugged, or a signal stops it, and returns its exit
+        status. After a fault it is started again. It reads the desk from its beginning, so the desk is emptied."""
         signal.signal(signal.SIGTERM, self.stop)
-        while True:
-            port, command = self.starter.wait(), self.starter.command()
-            try:
-                self.gateway = subprocess.Popen(command, stdout=subprocess.PIPE)
-            except OSError as error:
-                self.say("", f"{command[0]} cannot be run: {error.strerror}")
-                return 127
-            fault = Run(self, self.gateway, port).follow()
-            status = self.gateway.wait()
-            self.gateway = None
-            if self.is_stopped or not fault:
-                break
-            ports.release(port)
-            self.start_again(fault)
+        while (status := self.run_gateway()) is None:
+            desk.empty(self.desk)
         self.lines.close()
-        is_unplugged = ports.is_hung_up(port)
-        node = os.fstat(port)
+        return status
+
+    def run_gateway(self) -> int | None:
+        """Runs the gateway once. Returns the exit status of the unit, or None if it is to be started again."""
+        port, command, started = self.starter.wait(), self.starter.command(), self.clock()
+        try:
+            self.gateway = subprocess.Popen(command, stdout=subprocess.PIPE)
+        except OSError as error:
+            self.say("", f"{command[0]} cannot be run: {error.strerror}")
+            return 127
+        fault = Run(self, self.gateway, port).follow()
+        status, self.gateway = self.gateway.wait(), None
+        is_unplugged, node = ports.is_hung_up(port), os.fstat(port)
         ports.release(port)
         if self.is_stopped:
+            self.lines.close()
             end_by(signal.SIGTERM)
-        self.explain(status, is_unplugged, node)
-        return status if status >= 0 else 128 - status
+        if fault:
+            self.say(WARNING, f"{fault}; the gateway is started again")
+            return None
+        if not self.explain_end(status, is_unplugged, node):
+            return status if status >= 0 else 128 - status
+        self.explain_fault()
+        self.sleep_before_start(self.clock() - started)
+        return None
 
     def stop(self, *_: object) -> None:
         """The unit is stopped. systemd sends the signal to the gateway, too."""
@@ -85,13 +95,8 @@ class Unit:
         else:
             self.gateway.terminate()
 
-    def start_again(self, fault: str) -> None:
-        """Says what was wrong, and empties the desk: the next gateway reads it from its beginning."""
-        self.say(WARNING, f"{fault}; the gateway is started again")
-        desk.empty(self.desk)
-
-    def explain(self, status: int, is_unplugged: bool, node: os.stat_result) -> None:
-        """Says why the gateway has ended. If the program reported a fault, its cause is looked for."""
+    def explain_end(self, status: int, is_unplugged: bool, node: os.stat_result) -> bool:
+        """Says why the gateway has ended. Returns whether its program reported a fault for another reason."""
         try:
             now = os.stat(self.path)
         except OSError:
@@ -99,13 +104,23 @@ class Unit:
         if is_unplugged or now is None or not stat.S_ISCHR(now.st_mode):
             again = " and plugged in again" if now and stat.S_ISCHR(now.st_mode) and not is_same_node(now, node) else ""
             self.say(NOTICE, f"the stick at {self.path} was unplugged{again}")
-        elif status == 0:
+            return False
+        if status == 0:
             turns = os.environ.get("TURNS", "its")
             self.say(NOTICE, f"exited after {turns} read cycles (TURNS), with the stick plugged in")
-        elif status == 1:
-            name = os.path.basename(self.folder)
-            if run_check(name) == 0:
-                self.say(NOTICE, f"no cause found; more is checked by: sudo enogate-check {name}")
+        return status == 1
+
+    def explain_fault(self) -> None:
+        """Looks for the cause of a fault."""
+        name = os.path.basename(self.folder)
+        if run_check(name) == 0:
+            self.say(NOTICE, f"no cause found; more is checked by: sudo enogate-check {name}")
+
+    def sleep_before_start(self, ran: float) -> None:
+        """Waits before the next start, after a run of so many seconds that ended with a fault."""
+        self.wait = FIRST_WAIT if ran >= LONG_RUN else min(2 * self.wait, MAX_WAIT)
+        self.say(NOTICE, f"the gateway is started again in {self.wait:.0f} s")
+        self.sleep(self.wait)
 
 
 class Run:
@@ -138,6 +153,7 @@ class Run:
                     for report in REPORT.finditer(lines.add(text)):
                         self.unit.starter.compare(report[1].decode())
                 else:
+                    lines.end()
                     self.gateway.stdout.close()
                     return self.fault
             lines.store()
