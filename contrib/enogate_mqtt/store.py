@@ -16,8 +16,8 @@ from .devices import Device
 from .follow import Place
 from .lines import NAME
 
-# The version of the tables, in PRAGMA user_version. A file of another version is replaced. The tables `learn` and `boot`
-# were added without another version: programs that do not know them can use the file.
+# The version of the tables, in PRAGMA user_version. A file of another version is replaced. The tables `learn` and
+# `boot` were added without another version: programs that do not know them can use the file.
 VERSION = 2
 # No file is larger, in bytes.
 MAX_SIZE = 1 << 62

@@ -180,7 +180,7 @@ class PowerFailures(Case):
 
 
 class Histories(Case):
-    """Random histories of a bridge and of a gateway whose lines have the numbers of presses. Each is of another switch."""
+    """Random histories of a bridge and of a gateway. Each line is a press of another switch, whose ID is its number."""
 
     def begin(self, seed):
         self.site, self.chance = Site(self), random.Random(seed)

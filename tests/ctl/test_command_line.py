@@ -83,12 +83,6 @@ class CommandLines(Limited):
             ("learn on", "the name of the gateway comes first: enogatectl GATEWAY learn .."),
             ("devices --export", "the name of the gateway comes first: enogatectl GATEWAY devices .."),
             ("base", "the name of the gateway comes first: enogatectl GATEWAY base .."),
-            ("lines", "the name of the gateway comes first: enogatectl GATEWAY lines .."),
-            ("hall lines --json", "--json cannot be used with lines"),
-            ("hall lines --for 5", "--for cannot be used with lines"),
-            ("hall lines --export", "--export cannot be used with lines"),
-            ("hall lines --import", "--import cannot be used with lines"),
-            ("hall lines x", "'lines x' is not an order"),
             ("base hall", "base needs the path of a serial port, such as /dev/enocean; give the order as: enogatectl "
              "GATEWAY base"), ("base status now", "'status now' is not an order"),
             ("hall list --desk d", "--desk and --lines must be used together"),
@@ -99,11 +93,23 @@ class CommandLines(Limited):
             ("paths --desk d", "--desk cannot be used with paths"), ("paths --lines d", "--lines cannot be used"),
             ("--time 5 hall list", "unrecognized arguments: --time"), ("-- hall list", "required: GATEWAY"),
         ):
-            with self.subTest(words):
-                status, out, err = run(*filter(None, words.split(" ")))
-                self.assertEqual((status, out), (2, ""))
-                self.assertIn("usage: enogatectl [--timeout SECONDS]", err)
-                self.assertIn(text, err)
+            self.assert_bad(words, text)
+
+    def test_bad_usage_of_lines(self):
+        for words, text in (
+            ("lines", "the name of the gateway comes first: enogatectl GATEWAY lines .."),
+            ("hall lines x", "'lines x' is not an order"),
+            *((f"hall lines --{option}", f"--{option.split(' ')[0]} cannot be used with lines")
+              for option in ("json", "for 5", "export", "import")),
+        ):
+            self.assert_bad(words, text)
+
+    def assert_bad(self, words, text):
+        with self.subTest(words):
+            status, out, err = run(*filter(None, words.split(" ")))
+            self.assertEqual((status, out), (2, ""))
+            self.assertIn("usage: enogatectl [--timeout SECONDS]", err)
+            self.assertIn(text, err)
 
     def test_help_and_version(self):
         self.assertEqual(run("--version"), (0, f"enogatectl {VERSION}\n", ""))
