@@ -167,11 +167,12 @@ class Connection:
         """Does the network's work: waits for at most so many seconds, and handles what has arrived. Or raises Lost."""
         if self.failure:
             raise Lost(self.failure)
-        for number in range(MAX_LOOPS):
-            before = self.arrived
-            status = self.loop(0 if number else seconds)
+        before, status = self.arrived, self.call(self.client.loop, seconds)
+        for _ in range(MAX_LOOPS - 1):
             if status != 0 or self.arrived == before:
                 break
+            # without a system call that asks whether there is anything to read
+            before, status = self.arrived, self.call(self.client.loop_read)
         if self.is_unsupported:
             raise WrongProtocol(self.refusal)
         if self.refusal:
@@ -187,11 +188,12 @@ class Connection:
         if self.unacknowledged and self.clock() > self.acknowledged_at + ACKNOWLEDGE_WITHIN:
             raise Lost("the broker acknowledges nothing")
 
-    def loop(self, seconds: float) -> int:
-        """Calls paho's loop. It raises all kinds of exceptions if the broker sends malformed packets, and those of ssl
-        if TLS fails. Each of them is Lost, but not those that a callback has raised: these are errors of the bridge."""
+    def call(self, loop: Callable[..., Any], *arguments: Any) -> int:
+        """Calls a loop of paho. It raises all kinds of exceptions if the broker sends malformed packets, and those of
+        ssl if TLS fails. Each of them is Lost, but not those that a callback has raised: these are errors of the
+        bridge."""
         try:
-            return int(self.client.loop(seconds))
+            return int(loop(*arguments))
         except Exception as error:
             if error is self.fault:
                 raise

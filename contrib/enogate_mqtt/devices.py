@@ -123,10 +123,13 @@ class Devices:
     def learn(self, name: str, eep: str, maker: int | None, label: str | None) -> list[Message]:
         """A device is learned, with this label, or None if it is not known yet."""
         device = self.known.setdefault(name, Device(name, eep))
-        messages = self.set_profile(device, eep)
-        device.maker, device.label = maker, label
         if label is not None:
             self.waiting.pop(name, None)
+        if name in self.shown and (device.eep, device.maker, device.label) == (eep, maker, label):
+            # a list repeats what is known, and the discovery messages of 1,000 devices take seconds
+            return []
+        messages = self.set_profile(device, eep)
+        device.maker, device.label = maker, label
         return messages + self.show(device)
 
     def end_waits(self) -> list[Message]:

@@ -2,7 +2,6 @@
 the queue of a client, so it is never asked for everything at once."""
 from __future__ import annotations
 
-import re
 from collections import deque
 from typing import Callable, Iterable, Protocol
 
@@ -33,14 +32,22 @@ class Part:
         self.exact = {one for one in filters if "+" not in one}
         self.expected = self.exact.union(expected)
         self.unexpected = 0
-        self.shapes = [re.compile("[^/]*".join(map(re.escape, one.split("+")))) for one in filters if "+" in one]
+        # the other filters, each as the text before its first wildcard and its levels
+        self.shapes = [(one.partition("+")[0], one.split("/")) for one in filters if "+" in one]
         self.retained: dict[str, str] = {}
         # what the bridge has published since the request: an older message may still be under way
         self.published: set[str] = set()
         self.number, self.is_cancelled = -1, False
 
     def matches(self, topic: str) -> bool:
-        return topic in self.exact or any(shape.fullmatch(topic) for shape in self.shapes)
+        return topic in self.exact or self.has_shape(topic)
+
+    def has_shape(self, topic: str) -> bool:
+        """Whether a filter with a wildcard matches a topic."""
+        for start, levels in self.shapes:
+            if topic.startswith(start) and fits(levels, topic):
+                return True
+        return False
 
     def note(self, topic: str, text: str) -> None:
         """A retained message has arrived."""
@@ -50,6 +57,12 @@ class Part:
             self.unexpected += 1
         if topic in self.expected or topic in self.retained or self.unexpected <= MAX_UNKNOWN:
             self.retained[topic] = text
+
+
+def fits(levels: list[str], topic: str) -> bool:
+    """Whether a topic matches the filter with these levels."""
+    words = topic.split("/")
+    return len(words) == len(levels) and all(level in ("+", word) for level, word in zip(levels, words))
 
 
 class Reconciler:
@@ -71,9 +84,10 @@ class Reconciler:
     def take(self, topic: str, text: str) -> None:
         """Handles a retained message."""
         self.heard = self.clock()
-        for part in self.active:
-            if part.matches(topic):
-                part.note(topic, text)
+        # most topics are in a filter as they are, and no other part has the same
+        for part in ([part for part in self.active if topic in part.exact]
+                     or [part for part in self.active if part.has_shape(topic)]):
+            part.note(topic, text)
 
     def publish(self, topic: str, text: str) -> None:
         """The bridge has published a retained message."""

@@ -50,6 +50,13 @@ class Client:
 
     def loop(self, seconds):
         self.calls.append(("loop", (seconds,), {}))
+        return self.step()
+
+    def loop_read(self):
+        self.calls.append(("loop_read", (), {}))
+        return self.step()
+
+    def step(self):
         step = self.steps.pop(0) if self.steps else (lambda: 0)
         return step() or 0
 
@@ -267,7 +274,8 @@ class Connecting(Case):
         self.client.steps = [deliver] * 5
         found.turn(0.1)
         self.assertEqual(len(found.received), 5)
-        self.assertEqual([arguments for arguments, _ in self.client.called("loop")], [(0.1,), *[(0,)] * 5])
+        self.assertEqual([(name, *arguments) for name, arguments, _ in self.client.calls if name.startswith("loop")],
+                         [("loop", 0.1), *[("loop_read",)] * 5])
         self.client.steps = [deliver] * 500
         found.turn(0.1)
         self.assertEqual(len(found.received), 5 + connection.MAX_LOOPS)

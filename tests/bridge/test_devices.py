@@ -1,6 +1,7 @@
 """What is known about devices, and what is published about them."""
 import json
 import unittest
+from unittest import mock
 
 from enogate_mqtt.devices import Device, Devices
 from enogate_mqtt.entities import Table
@@ -148,6 +149,18 @@ class Known(unittest.TestCase):
     def test_other_devices_keep_what_they_do_not_repeat(self):
         self.take(reading("01800ABC"), reading("01800ABC", readings=[{"name": "X", "word": "y"}]))
         self.assertIn("TMP", self.devices.known["01800ABC"].told)
+
+    def test_a_list_that_repeats_what_is_known(self):
+        """It makes no discovery messages: those of 1,000 devices take a second, and a press behind the list waits."""
+        lines = listing(("01800ABC", "A5-02-05", "Attic"), ("01800ABD", "D2-01-12", ""))
+        self.take(*lines)
+        with mock.patch("enogate_mqtt.discovery.configs") as configs:
+            self.take(*lines, learned("01800ABC"))
+            self.assertEqual((configs.call_count, self.configs, self.devices.lists), (0, [], 2))
+        for changed in (("01800ABC", "A5-02-05", "Cellar"), ("01800ABC", "A5-04-01", "Cellar")):
+            self.take(*listing(changed, ("01800ABD", "D2-01-12", "")))
+            self.assertTrue(self.configs)
+            self.assertTrue(all("Cellar" in message.payload for message in self.configs if message.payload))
 
     def test_what_is_retained(self):
         self.take(learned("01800ABC"), reading("01800ABC"))
