@@ -84,10 +84,11 @@ class System:
         return None
 
     def start(self, folder: str) -> Process | None:
-        """The start of the unit with this folder, which waits for its port or asks the module."""
+        """The main process of the unit with this folder. The one that runs this program looks for the cause of a fault,
+        and does nothing else."""
         for process in self.processes():
             if process.name == "enogate-port" and self.option(process, "--unit") == folder:
-                return process
+                return process if process.number != os.getppid() else None
         return None
 
     def reads_of(self, process: Process) -> tuple[int | None, int | None]:
