@@ -165,8 +165,8 @@ class Group(RightsTest):
             os.chown(path, SERVICE, SERVICE)
         self.start()
         self.assertEqual(self.modes(), {
-            "desk": "0660", "hall.lines": "0640", "hall.lines.1": "0640", "hall.lines.2.gz": "0640", "hall.base": "0640",
-            "hall.db": "0640", "hall.db-wal": "0640"})
+            "desk": "0660", "hall.lines": "0640", "hall.lines.1": "0640", "hall.lines.2.gz": "0640",
+            "hall.base": "0640", "hall.db": "0640", "hall.db-wal": "0640"})
         self.assertEqual((self.desk.read_text(), self.lines.read_text()), ("", '{}\n{"type":"ok"}\n'))
 
     def test_a_start_replaces_a_desk_that_is_none(self):
