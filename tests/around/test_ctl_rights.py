@@ -361,9 +361,10 @@ class RootTools(RightsTest):
                 "member of the group enogate (log in again afterwards)\n"))
 
     def test_root_takes_on_the_rights_of_the_service(self):
+        """And keeps none of its own groups."""
         words = [PYTHON, "-B", self.tools / "enogatectl", "--timeout", "20", "--desk", self.desk, "--lines", self.lines,
                  "hall", "status"]
-        with subprocess.Popen(words, cwd="/", stderr=subprocess.DEVNULL) as process:
+        with subprocess.Popen(words, cwd="/", stderr=subprocess.DEVNULL, extra_groups=(SUPERUSER, OTHER)) as process:
             wait_for(self.desk.read_text, bool)
             status = pathlib.Path(f"/proc/{process.pid}/status").read_text()
             process.kill()
