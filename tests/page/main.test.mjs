@@ -2,7 +2,7 @@ import assert from "node:assert/strict";
 import { mock, test } from "node:test";
 
 import { byId, machine, settle, started } from "./page.mjs";
-import { RESPONSE } from "./samples.mjs";
+import { DEVICE, RESPONSE } from "./samples.mjs";
 
 const [LIST, BASE] = ["list", "base"].map(order => ["enogatectl", "--json", "hall", "--", order]);
 let run = 1;
@@ -66,4 +66,24 @@ test("a click on the tab of another gateway ends the reading of the first one's 
     await settle();
     assert.ok(first.isClosed);
     assert.equal(started("enogatectl", "yard", "lines").length, 1);
+});
+
+test("devices that are read late are not those of the gateway that was opened meanwhile", async () => {
+    const { outputOf } = machine;
+    machine.outputOf = words => words.at(-1) === "devices" ? null : outputOf(words);
+    const [hall, yard] = byId("gateways").children;
+    const device = { ...DEVICE, seen: null, dbm: null, readings: [] };
+    const read = async name => {
+        const process = started("enogatectl", "--json", name, "devices").at(-1);
+        process.write(`${JSON.stringify(device)}\n`);
+        process.resolve();
+        await pass(1);
+        return byId("devices-rows").children.length;
+    };
+    hall.click();
+    await settle();
+    yard.click();
+    await settle();
+    assert.equal(await read("hall"), 0);
+    assert.equal(await read("yard"), 1);
 });
