@@ -58,9 +58,11 @@ class Unit:
         """Runs the gateway until its turns are over, its stick is unplugged, or a signal stops it, and returns its exit
         status. After a fault it is started again. It reads the desk from its beginning, so the desk is emptied."""
         signal.signal(signal.SIGTERM, self.stop)
-        while (status := self.run_gateway()) is None:
-            desk.empty(self.desk)
-        self.lines.close()
+        try:
+            while (status := self.run_gateway()) is None:
+                desk.empty(self.desk)
+        finally:
+            self.close()
         return status
 
     def run_gateway(self) -> int | None:
@@ -77,8 +79,7 @@ class Unit:
         is_unplugged, node = ports.is_hung_up(port), os.fstat(port)
         ports.release(port)
         if self.is_stopped:
-            self.lines.close()
-            end_by(signal.SIGTERM)
+            self.end_stopped()
         if fault:
             self.say(WARNING, f"{fault}; the gateway is started again")
             return None
@@ -92,9 +93,19 @@ class Unit:
         """The unit is stopped. systemd sends the signal to the gateway, too."""
         self.is_stopped = True
         if self.gateway is None:
-            end_by(signal.SIGTERM)
+            self.end_stopped()
         else:
             self.gateway.terminate()
+
+    def end_stopped(self) -> None:
+        """Ends the unit, which is stopped."""
+        self.close()
+        end_by(signal.SIGTERM)
+
+    def close(self) -> None:
+        """Stores the lines that wait. A signal that came meanwhile would store them twice."""
+        signal.signal(signal.SIGTERM, signal.SIG_IGN)
+        self.lines.close()
 
     def explain_end(self, status: int, is_unplugged: bool, node: os.stat_result) -> bool:
         """Says why the gateway has ended. Returns whether its program reported a fault for another reason."""
