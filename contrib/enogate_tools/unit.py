@@ -73,7 +73,8 @@ class Unit:
             self.gateway = subprocess.Popen(command, stdout=subprocess.PIPE, restore_signals=False)
         except OSError as error:
             self.say("", f"{command[0]} cannot be run: {error.strerror}")
-            return 127
+            # systemd does not start the unit again after 127, but memory may be free later
+            return 127 if isinstance(error, (FileNotFoundError, PermissionError)) else 1
         fault = Run(self, self.gateway, port).follow()
         status, self.gateway = self.gateway.wait(), None
         is_unplugged, node = ports.is_hung_up(port), os.fstat(port)
