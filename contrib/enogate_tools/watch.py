@@ -3,9 +3,9 @@ from __future__ import annotations
 
 from dataclasses import dataclass
 
-# After so many looks, one a second, a fault counts: without a read call, with orders of which none was read or a desk
-# that is shorter than what was read of it, or with bytes of which the stick takes none while it brings none. The module
-# itself answers within 0.5 s (ESP3), and a slow disk may delay a commit for a few seconds.
+# After so many looks, one a second, a fault counts: without a read call or a line, with reads but orders of which none
+# was read or a desk that is shorter than what was read of it, or with bytes of which the stick takes none while it
+# brings none. The module itself answers within 0.5 s (ESP3), and a slow disk may delay a commit for a few seconds.
 STUCK, UNREAD, UNSENT = 30, 30, 10
 # The gateway is deaf if, for so many looks since a byte came, no packet was complete, although bytes came at so many of
 # these looks. A header may have been damaged so that the gateway waits for up to 65,535 bytes.
@@ -50,8 +50,10 @@ class Watch:
         if last is None:
             return ""
         comes = now.received is not None and last.received is not None and now.received > last.received
-        self.stuck = self.stuck + 1 if now.calls is not None and now.calls == last.calls else 0
-        self.unread = self.unread + 1 if now.unread and last.unread and now.place == last.place else 0
+        has_read = now.calls is None or now.calls != last.calls
+        self.stuck = 0 if has_read or now.lines != last.lines else self.stuck + 1
+        # between two reads it carries out a part of its orders, which takes long if the disk is slow
+        self.unread = self.unread + has_read if now.unread and last.unread and now.place == last.place else 0
         self.unsent = self.unsent + 1 if now.unsent and last.unsent and not comes else 0
         self.listen(comes, now, last)
         if self.unsent >= UNSENT:
@@ -71,7 +73,7 @@ class Watch:
     def listen(self, comes: bool, now: Sample, last: Sample) -> None:
         """Counts the looks since bytes came without a packet. While an order is carried out, the gateway may read the
         database."""
-        is_asked = self.is_asked or now.place != last.place
+        is_asked = self.is_asked or now.place != last.place or now.lines != last.lines
         self.is_asked = is_asked and now.lines == last.lines
         if now.packets > last.packets:
             self.looks = self.bursts = 0
