@@ -4,6 +4,7 @@ from __future__ import annotations
 import contextlib
 import enum
 import os
+import re
 import stat
 from collections import deque
 from typing import Callable
@@ -26,6 +27,8 @@ MAX_UNANSWERED = 100
 # So many orders are noted that may be lost.
 MAX_GIVEN = 1000
 LABEL = b"\nlabel "
+# So many bytes are looked at in a turn. Other programs may make the desk longer than the memory.
+MAX_NEWS = 1 << 20
 # Ends an incomplete line. If a full file system has cut off the end of an order, the rest could be another order: with
 # the control character NAK it is none.
 INVALID_END = b"\x15\n"
@@ -214,11 +217,13 @@ class Desk:
                 self.change = News.TRUNCATED if inode == before else News.REPLACED if before else News.CREATED
         return size
 
-    def lines(self) -> list[bytes]:
-        """All orders that were appended since the file was emptied."""
+    def orders(self, start: bytes) -> set[bytes]:
+        """The orders that begin with these bytes and were appended since the file was emptied. After MAX_SIZE bytes the
+        bridge has appended none."""
         inode, size = self.state()
         # opening a pipe that nobody writes would block
-        return self.read(0, size).split(b"\n")[:-1] if inode else []
+        text = self.read(0, min(size, MAX_SIZE)) if inode else b""
+        return {found[0] for found in re.finditer(rb"^%s.*(?=\n)" % re.escape(start), text, re.MULTILINE)}
 
     def take_lost(self) -> list[bytes]:
         """The orders of others that were lost since the last call."""
@@ -232,7 +237,7 @@ class Desk:
         if change is not News.NONE or self.inode == 0:
             # opening a pipe that nobody writes would block
             return change
-        added = self.last + self.read(self.seen, size - self.seen)
+        added = self.last + self.read(self.seen, min(size - self.seen, MAX_NEWS))
         self.seen += len(added) - len(self.last)
         self.last = added[1 - len(LABEL):]
         return News.LABELLED if LABEL in added else News.NONE

@@ -17,7 +17,7 @@ class Queries:
 
     def __init__(self, devices: Devices, desk: Desk):
         self.devices, self.due = devices, 0.0
-        self.given = {line for line in desk.lines() if line.startswith(QUERY)}
+        self.given = desk.orders(QUERY)
         # the devices that need not be looked at again
         self.done: set[str] = set()
 

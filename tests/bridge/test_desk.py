@@ -386,6 +386,25 @@ class Desks(Case):
         self.write("list label 01800ABC\nrelabel 01800ABC x\nlabels\n")
         self.assertIs(self.desk.news(), News.NONE)
 
+    def test_a_desk_that_is_longer_than_the_memory(self):
+        """Another program has made it so long. The labels that follow are found, a part in each turn."""
+        os.truncate(self.path, 1 << 36)
+        with mock.patch.object(Desk, "read", return_value=b"") as read:
+            self.desk.news()
+            self.assertEqual(self.desk.orders(b"query "), set())
+        self.assertLessEqual(max(call.args[1] for call in read.mock_calls), 16 << 20)
+        os.truncate(self.path, 0)
+        self.desk.news()
+        os.truncate(self.path, (1 << 20) + 100)
+        self.write("\nlabel 01800ABC x\n")
+        self.assertEqual([self.desk.news() for _ in range(3)], [News.NONE, News.LABELLED, News.NONE])
+
+    def test_orders_that_were_given(self):
+        self.write("query 01800ABC 1\nlist\nquery 01800ABC 30\nsubquery 01800ABC 2\nquery 01800ABC 1\nquery 0180")
+        self.assertEqual(self.desk.orders(b"query "), {b"query 01800ABC 1", b"query 01800ABC 30"})
+        self.path.unlink()
+        self.assertEqual(self.desk.orders(b"query "), set())
+
     def test_what_was_there_before_is_no_news(self):
         self.write("label 01800ABC x\n")
         self.assertIs(Desk(str(self.path), self.clock).news(), News.NONE)
