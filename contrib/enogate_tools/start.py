@@ -179,8 +179,12 @@ def run_unit(words: argparse.Namespace, starter: Starter, say) -> int:
         if not words.clean:
             return Unit(words.port, words.unit, words.lines, starter, say).run()
         desk.empty(os.path.join(words.unit, "desk"))
-        lines.prepare(words.lines, say)
     except OSError as error:
         say(WARNING, f"{error.filename}: {error.strerror}")
         return 1
+    try:
+        lines.prepare(words.lines, say)
+    except OSError as error:
+        # the gateway runs while its lines cannot be stored, so it starts, too
+        say(WARNING, f"{words.lines}: {error.strerror}")
     return 0
