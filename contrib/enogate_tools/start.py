@@ -155,7 +155,9 @@ def main(arguments: list[str] | None = None) -> int:
     def say(priority: str, text: str) -> None:
         """Writes a line, in a unit with its priority for the journal."""
         before = (priority if "JOURNAL_STREAM" in os.environ else "") if words.unit else "enogate-port: "
-        print(f"{before}{text}", file=sys.stderr, flush=True)
+        # without a journal the gateway runs on
+        with contextlib.suppress(OSError):
+            print(f"{before}{text}", file=sys.stderr, flush=True)
 
     starter = Starter(words, say)
     if words.unit:
