@@ -4,7 +4,7 @@ from __future__ import annotations
 import fcntl
 import os
 
-from enogate_mqtt.desk import INVALID_END, is_written
+from enogate_mqtt.desk import INVALID_END, MAX_SIZE, is_written
 from enogate_tools.files import IRREGULAR, Unsafe, open_file
 
 from .stops import held
@@ -45,7 +45,11 @@ class DeskFile:
 
     def read(self) -> bytes:
         """The content of the desk. After `append`, only the content before that call."""
-        return os.pread(self.file, self.start if self.text else os.fstat(self.file).st_size, 0)
+        size = self.start if self.text else os.fstat(self.file).st_size
+        if size > MAX_SIZE:
+            raise Unusable(f"the desk {self.path} has more than {MAX_SIZE >> 20} MB: restart the gateway, which empties "
+                           "it")
+        return os.pread(self.file, size, 0)
 
     def append(self, text: bytes) -> None:
         """Appends this text in a single write. If the file ends with an incomplete line, that line is made invalid

@@ -199,6 +199,19 @@ class Asking(DeskTest):
         self.clock.acts[1] = rotate
         self.made().ask("learn on")
 
+    def test_a_desk_that_is_longer_than_the_memory(self):
+        real = os.pread
+
+        def read(file, length, start):
+            if length > 16 << 20:
+                raise MemoryError
+            return real(file, length, start)
+
+        os.truncate(self.desk, 1 << 36)
+        with mock.patch("os.pread", read):
+            self.assert_no_answer(f"the desk {self.desk} has more than 16 MB: restart the gateway, which empties it")
+        self.assertEqual((self.desk.stat().st_size, self.forks), (1 << 36, 0))
+
     def test_an_incomplete_line(self):
         with self.lines.open("a") as file:
             file.write("{" * 100)
