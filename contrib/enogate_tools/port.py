@@ -82,6 +82,8 @@ def base_in(stream: bytes) -> str | None:
 
 def open_port(path: str) -> int:
     """Opens and locks a port. The lock lasts until this descriptor, and each copy of it, is closed."""
+    if not path:
+        raise PortError("no port is set: set SERIAL")
     try:
         if not stat.S_ISCHR(os.stat(path).st_mode):
             raise PortError(f"{path} is not a serial port: correct SERIAL")

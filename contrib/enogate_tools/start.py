@@ -39,7 +39,7 @@ def parsed(arguments: list[str]) -> argparse.Namespace:
     parser.add_argument("port", metavar="PORT", nargs="?")
     parser.add_argument("command", metavar="COMMAND", nargs=argparse.REMAINDER)
     words = parser.parse_args(arguments)
-    if [bool(words.command), words.base_id, words.clean].count(True) != 1 or bool(words.port) == words.clean:
+    if [bool(words.command), words.base_id, words.clean].count(True) != 1 or (words.port is not None) == words.clean:
         parser.error("either --base-id, --clean or a command is required")
     if bool(words.unit) != bool(words.lines) or (words.clean and not words.unit):
         parser.error("--unit, --lines: either both or none are required")
