@@ -66,6 +66,27 @@ class Element {
         this.listeners.get("click")();
     }
 
+    /** Somebody presses Enter in it. */
+    enter() {
+        this.listeners.get("keydown")({ key: "Enter", preventDefault: () => {} });
+    }
+
+    showModal() {
+        this.open = true;
+    }
+
+    close() {
+        this.open = false;
+    }
+
+    setCustomValidity(why) {
+        this.why = why;
+    }
+
+    reportValidity() {
+        return !this.why;
+    }
+
     matches() {
         return false;
     }
