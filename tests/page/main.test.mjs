@@ -2,7 +2,7 @@ import assert from "node:assert/strict";
 import { mock, test } from "node:test";
 
 import { byId, machine, settle, started } from "./page.mjs";
-import { DEVICE, RESPONSE } from "./samples.mjs";
+import { DEVICE, RESPONSE, TAUGHT } from "./samples.mjs";
 
 const [LIST, BASE] = ["list", "base"].map(order => ["enogatectl", "--json", "hall", "--", order]);
 let run = 1;
@@ -58,6 +58,16 @@ test("a base ID of the module that differs is reported while it does, and asked 
     assert.equal(byId("trouble").hidden, false);
     await reports("FF800000");
     assert.equal(byId("trouble").hidden, true);
+});
+
+test("the devices are asked for once after several teach lines", async () => {
+    const [lines] = started("enogatectl", "hall", "lines");
+    const asked = started(...LIST).length;
+    for (const count of [5, 1]) {
+        lines.write(`\n${JSON.stringify(TAUGHT)}`.repeat(count) + "\n");
+        await pass(10);
+    }
+    assert.equal(started(...LIST).length, asked + 2);
 });
 
 test("a click on the tab of another gateway ends the reading of the first one's lines", async () => {
