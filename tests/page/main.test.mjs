@@ -1,7 +1,7 @@
 import assert from "node:assert/strict";
 import { mock, test } from "node:test";
 
-import { byId, machine, settle, started } from "./page.mjs";
+import { byId, machine, permission, settle, started } from "./page.mjs";
 import { DEVICE, RESPONSE, TAUGHT } from "./samples.mjs";
 
 const [LIST, BASE] = ["list", "base"].map(order => ["enogatectl", "--json", "hall", "--", order]);
@@ -70,6 +70,36 @@ test("the devices are asked for once after several teach lines", async () => {
     assert.equal(started(...LIST).length, asked + 2);
 });
 
+test("orders are given once the user is an administrator, and not before", async () => {
+    const asked = started(...LIST).length;
+    permission.allowed = false;
+    permission.changed();
+    run = 4;
+    await pass(20);
+    assert.equal(started(...LIST).length, asked);
+    assert.equal(byId("read-only").hidden, false);
+    permission.allowed = true;
+    permission.changed();
+    permission.changed();
+    await settle();
+    assert.equal(started(...LIST).length, asked + 1);
+    assert.equal(byId("read-only").hidden, true);
+});
+
+test("the error of a button stays until it is closed, whatever the page asks by itself", async () => {
+    const { outputOf } = machine;
+    machine.outputOf = words => words.at(-1) === "off" ? null : outputOf(words);
+    byId("teach-close").click();
+    started("enogatectl", "--json", "hall", "--", "learn", "off").at(-1).reject({ message: "enogatectl: why" });
+    await settle();
+    byId("gateway-refresh").click();
+    await settle();
+    assert.deepEqual([byId("problem").hidden, byId("problem-text").textContent], [false, "why"]);
+    byId("problem-close").click();
+    assert.equal(byId("problem").hidden, true);
+    machine.outputOf = outputOf;
+});
+
 test("a click on the tab of another gateway ends the reading of the first one's lines", async () => {
     const [first] = started("enogatectl", "hall", "lines");
     byId("gateways").children[1].click();
@@ -96,4 +126,18 @@ test("devices that are read late are not those of the gateway that was opened me
     await settle();
     assert.equal(await read("hall"), 0);
     assert.equal(await read("yard"), 1);
+});
+
+test("the learn window of a gateway is closed when another one is opened", async () => {
+    const { outputOf } = machine;
+    machine.outputOf = words => words.includes("--for") ? null : outputOf(words);
+    const [hall, yard] = byId("gateways").children;
+    hall.click();
+    await settle();
+    byId("teach-open").click();
+    const opened = started("enogatectl", "--for").at(-1);
+    assert.deepEqual([opened.words[3], opened.isClosed], ["hall", false]);
+    yard.click();
+    await settle();
+    assert.equal(opened.isClosed, true);
 });

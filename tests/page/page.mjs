@@ -157,11 +157,17 @@ export async function settle() {
         await new Promise(resolve => setImmediate(resolve));
 }
 
+/** Whether the user is an administrator. The test calls `changed` after a change. */
+export const permission = {
+    allowed: true,
+    addEventListener: (_, listener) => { permission.changed = listener; },
+};
+
 globalThis.window = {
     cockpit: {
         spawn,
         file: () => ({ read: () => Promise.resolve("SERIAL=/dev/enocean\nBASE=ff800000\n") }),
-        permission: () => ({ allowed: true, addEventListener: () => {} }),
+        permission: () => permission,
     },
 };
 globalThis.document = {
