@@ -2,6 +2,7 @@
 from __future__ import annotations
 
 import contextlib
+import os
 import select
 from typing import BinaryIO, Callable
 
@@ -15,13 +16,16 @@ PAUSE = 100
 
 
 def print_lines(places: Places, out: BinaryIO, wait: Callable[[BinaryIO], bool]) -> None:
-    """Prints the lines until nobody reads what is printed: `wait` returns whether somebody does. Or Unreadable."""
+    """Prints the lines until nobody reads what is printed: `wait` returns whether somebody does. Or Unreadable, also if
+    there is neither a file of lines nor a desk: the name of the gateway is probably wrong."""
     try:
         lines = Lines(places.lines, EARLIER)
     except Unusable as error:
         raise Unreadable(str(error)) from error
     are_new = False
     with contextlib.closing(lines):
+        if not (os.path.exists(places.lines) or os.path.exists(places.desk)):
+            raise Unreadable(f"there are no lines {places.lines}: correct the name of the gateway, or start it")
         while True:
             out.write(b"".join(line + b"\n" for line in lines.read() if line))
             if lines.is_at_end and not are_new:

@@ -55,6 +55,13 @@ class Following(Site):
         self.lines.unlink()
         self.assertEqual(self.printed(lambda: self.write("a"), lambda: None), ["", "a", ""])
 
+    def test_no_gateway_of_this_name(self):
+        self.lines.unlink()
+        self.desk.unlink()
+        why = f"^there are no lines {self.lines}: correct the name of the gateway, or start it$"
+        with self.assertRaisesRegex(Unreadable, why):
+            self.printed()
+
     def test_a_link_or_a_pipe(self):
         for make, why in ((lambda: self.lines.symlink_to(self.desk), "it is a symbolic link"),
                           (lambda: os.mkfifo(self.lines), "it is not a regular file")):

@@ -38,7 +38,7 @@ export class Feed {
         this.process.close("cancelled");
     }
 
-    /** `enogatectl` waits without a word for a file that is missing, so this is checked first. */
+    /** `enogatectl` waits silently until a gateway writes its first line, so this is checked first. */
     start() {
         const path = linesOf(this.gateway);
         this.process = cockpit.spawn(["test", "-r", path], { superuser: "try", err: "ignore" });
