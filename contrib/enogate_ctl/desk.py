@@ -152,7 +152,7 @@ class Desk:
     def wait(self, file: DeskFile, lines: Lines, finder: AnswerFinder, limit: float) -> list[Answer]:
         """The answers, if they come in time and the desk still has the orders then."""
         while True:
-            # A line is read only once: a signal may not come before it is taken.
+            # A line is read only once, so a signal must not interrupt this before the line is taken.
             with held():
                 answers = next(filter(None, map(finder.take, lines.read())), None)
                 finder.is_done = answers is not None

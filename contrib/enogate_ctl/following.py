@@ -1,4 +1,4 @@
-"""Prints the lines of a gateway, for programs: those that are there, an empty line, and then each new one."""
+"""Prints the lines of a gateway: those that are there, an empty line, and then each new one."""
 from __future__ import annotations
 
 import contextlib

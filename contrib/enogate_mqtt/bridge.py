@@ -236,7 +236,7 @@ class Bridge:
                 self.publish(self.devices.show(self.devices.known[part.name]))
             wanted = self.devices.retained(part.name)
         if part.name != UNKNOWN:
-            # what the broker was not asked for was published meanwhile: the device was not shown before
+            # the topics of a device that was not shown before are not in this part, and were published meanwhile
             self.publish([Message(topic, text, True) for topic, text in wanted.items()
                           if there.get(topic) != text and part.matches(topic)])
         self.publish(self.devices.remove(topic for topic in there if topic not in wanted and self.is_stray(topic)))

@@ -15,8 +15,8 @@ TABLE = pathlib.Path(__file__).with_name("entities")
 KEYS = {"class", "state", "unit", "digits", "on", "off", "options", "types", "diagnostic", "hidden", "cyclic"}
 # the highest channel that accepts orders, by the kind of entity, and the number that means all channels in a query
 GREATEST_CHANNEL, ALL_CHANNELS = {"switch": 29, "light": 29, "cover": 0}, 30
-# A setting in place of a number of seconds: a cyclic reading expires after so many of its own intervals. Telegrams are
-# lost, and two in a row may be.
+# A setting in place of a number of seconds: a cyclic reading expires after so many of its own intervals, because two
+# telegrams in a row may be lost.
 AUTO, INTERVALS = 0, 3
 # a number of an entity, as it is written in a topic
 NUMBER = re.compile("0|[1-9][0-9]?")

@@ -79,7 +79,7 @@ class Lines:
             self.waiting = self.waiting[start:]
 
     def close(self) -> None:
-        """Says what could not be stored."""
+        """Stores what waits, and logs how many lines could not be stored."""
         self.store()
         if lost := self.dropped + self.waiting.count(b"\n"):
             self.say(WARNING, f"{self.path}: {lost} lines are lost")

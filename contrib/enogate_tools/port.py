@@ -29,8 +29,8 @@ OFF = {
 }
 
 
-# So long the end waits for a stick to take what was sent to it, in seconds. 4 KB, the most that the kernel holds for a
-# USB stick, take 0.7 s.
+# How long the end of a run waits for the stick to take what was sent to it, in seconds. 4 KB, the most that the kernel
+# holds for a USB stick, take 0.7 s.
 SENT_WITHIN, PAUSE = 1.0, 0.1
 
 

@@ -59,7 +59,7 @@ class Starter:
         self.reported: str | None = None
         self.compared = ""
         self.words = words.command
-        self.wants_base = bool(self.base) or words.base_id or PLACE in words.command
+        self.needs_base = bool(self.base) or words.base_id or PLACE in words.command
         self.announces = not words.base_id
         self.say, self.sleep, self.clock = say, sleep, clock
 
@@ -68,7 +68,7 @@ class Starter:
         port = ports.open_port(self.path)
         try:
             ports.configure(port, self.path)
-            if self.wants_base:
+            if self.needs_base:
                 self.find_base(ports.ask_base(port, self.path, self.clock))
         except ports.PortError:
             os.close(port)
@@ -92,7 +92,7 @@ class Starter:
             self.compare(reported)
 
     def compare(self, reported: str) -> None:
-        """Says if the module has reported another base ID than that of the gateway. The same one is reported once."""
+        """Logs a warning if the module has reported another base ID than that of the gateway; once for each one."""
         if reported not in (self.base, self.compared):
             self.say(WARNING, f"BASE is {self.base}, but the base ID of the radio module at {self.path} is {reported}: "
                      "correct or remove BASE, and restart the gateway")
@@ -119,8 +119,8 @@ class Starter:
         return port
 
     def compare_with_earlier(self) -> None:
-        """Says if the module is not that of earlier starts: of two sticks, the other one may have been taken. If its
-        base ID is set, it counts from now on."""
+        """Logs a warning if the module is not that of earlier starts: of two sticks, the other one may have been taken.
+        Its base ID is stored if it is set, or if none was stored."""
         if not self.base_file or self.reported != self.base:
             return
         earlier = ""

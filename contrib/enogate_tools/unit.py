@@ -19,8 +19,8 @@ from .watch import Pauses, Sample, Watch
 LOOK = 1.0
 # After so many looks a gateway that does not end is killed.
 KILLED_AFTER = 10
-# How long to wait before a start after a fault of the program, in seconds: at first, and at most, for it doubles. After
-# a run of so many seconds it is the first one again.
+# The pause before a start after a fault of the program, in seconds: the first one, which then doubles, and the longest
+# one. After a run of LONG_RUN seconds, the first one applies again.
 FIRST_WAIT, MAX_WAIT, LONG_RUN = 2.0, 60.0, 600.0
 PART = 1 << 16
 # The line of a module's response with its base ID: no other response to an order has four bytes of data.
@@ -109,7 +109,7 @@ class Unit:
         self.lines.close()
 
     def explain_end(self, status: int, is_unplugged: bool, node: os.stat_result) -> bool:
-        """Says why the gateway has ended. Returns whether its program reported a fault for another reason."""
+        """Logs why the gateway has ended. Returns whether its program reported a fault for another reason."""
         try:
             now = os.stat(self.path)
         except OSError:

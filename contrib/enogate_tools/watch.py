@@ -3,15 +3,15 @@ from __future__ import annotations
 
 from dataclasses import dataclass
 
-# After so many looks, one a second, a fault counts: without a read call or a line, with reads but orders of which none
-# was read or a desk that is shorter than what was read of it, or with bytes of which the stick takes none while it
-# brings none. The module itself answers within 0.5 s (ESP3), and a slow disk may delay a commit for a few seconds.
+# A fault is reported after so many looks, one a second: STUCK without a read call or a line, UNREAD with reads at which
+# no order was read although some wait or the desk was truncated, or UNSENT at which the stick took no byte that waits,
+# and brought none. The module answers within 0.5 s (ESP3), and a slow disk may delay a commit for a few seconds.
 STUCK, UNREAD, UNSENT = 30, 30, 10
-# The gateway is deaf if, for so many looks since a byte came, no packet was complete, although bytes came at so many of
-# these looks. A header may have been damaged so that the gateway waits for up to 65,535 bytes.
-DEAF, BURSTS = 60, 5
-# So long after an intervention the next one follows at the earliest, in seconds: at first, at most, and how long after
-# an intervention the first pause applies again.
+# No packet was complete at so many looks since a byte came, and bytes came at so many of these looks: the gateway may
+# be waiting for up to 65,535 bytes after a damaged header.
+NO_PACKET, BURSTS = 60, 5
+# The shortest time between two restarts by the watchdog, in seconds: at first, at most, and how long after a restart
+# the first one applies again.
 FIRST_PAUSE, MAX_PAUSE, FORGOTTEN = 60.0, 3600.0, 86400.0
 
 
@@ -32,8 +32,8 @@ class Sample:
 
 
 class Watch:
-    """Looks at one run of a gateway at the stick with this path. Without --explain, a gateway may be silent about all
-    that it receives, so it cannot be seen whether it is deaf."""
+    """Looks at one run of a gateway at the stick with this path. Without --explain, a gateway may write nothing for all
+    that it receives, so it is no fault if no packet is reported."""
 
     def __init__(self, path: str, explains: bool):
         self.path, self.explains = path, explains
@@ -65,9 +65,9 @@ class Watch:
             return f"the desk was truncated: the next {-now.unread} bytes of orders would be lost"
         if self.unread >= UNREAD:
             return f"{now.unread} bytes of orders have not been read for {UNREAD} s: perhaps the desk was replaced"
-        if self.explains and self.looks >= DEAF and self.bursts >= BURSTS:
-            return (f"bytes come from the stick at {self.path}, but no packet for {DEAF} s: they are damaged, or this "
-                    "is not the port of a radio module")
+        if self.explains and self.looks >= NO_PACKET and self.bursts >= BURSTS:
+            return (f"bytes come from the stick at {self.path}, but no packet for {NO_PACKET} s: they are damaged, or "
+                    "this is not the port of a radio module")
         return ""
 
     def listen(self, comes: bool, now: Sample, last: Sample) -> None:
@@ -83,13 +83,13 @@ class Watch:
 
 
 class Pauses:
-    """When an intervention may follow another one: where it does not help, it would only do harm."""
+    """When the watchdog may restart the gateway again: a restart that does not help only loses telegrams and orders."""
 
     def __init__(self) -> None:
         self.pause, self.last = FIRST_PAUSE, float("-inf")
 
     def allows(self, now: float) -> bool:
-        """Whether to intervene at this time; if so, this counts as an intervention."""
+        """Whether to restart it at this time; if so, this counts as a restart."""
         if now < self.last + self.pause:
             return False
         if self.last == float("-inf") or now >= self.last + FORGOTTEN:

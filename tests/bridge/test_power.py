@@ -163,7 +163,7 @@ class PowerFailures(Case):
         self.assertEqual(self.lines(), [json.dumps(contact("open")), json.dumps(RELEASE)])
 
     def test_a_restart_after_the_first_one_at_a_boot(self):
-        """It is the same boot, even if nothing was written meanwhile. Lines of then are published."""
+        """It is the same boot, even if nothing was written meanwhile. Lines of that time are published."""
         self.lose_power()
         self.connect()
         self.site.kill()

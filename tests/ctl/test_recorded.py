@@ -125,7 +125,7 @@ class Recorded(Site):
                          [(-60, closed), (None, closed), (None, []), (None, [])])
 
     def test_lines_with_nul_bytes(self):
-        """A power failure may leave them. A line behind them counts."""
+        """A power failure may leave them. A line after them counts."""
         opened = [{"name": "CO", "word": "open"}]
         learned, last = (json.dumps(line, separators=(",", ":"))
                          for line in (device("01800ABC", "Door"), reading("01800ABC", readings=opened)))

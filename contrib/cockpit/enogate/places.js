@@ -46,8 +46,8 @@ export function settingsIn(texts) {
 export const baseOf = settings => (settings.get("BASE") || "").toUpperCase();
 
 /**
- * Why actuators do not obey although the gateway works, in a sentence; empty if there is no such reason. Only a base ID
- * counts that was reported since the page was opened: one from before may be that of another stick.
+ * Why actuators do not obey although the gateway works, in a sentence; empty if there is no such reason. A base ID that
+ * was reported before the page was opened does not count: it may be that of another stick.
  */
 export function baseTrouble(name, settings, { base, baseTime }) {
     const set = baseOf(settings);
