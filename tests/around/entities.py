@@ -57,7 +57,7 @@ def values(kind, length):
 
 
 def digits_of(eep, name, unit):
-    """The fewest digits after the point with which no two raw numbers next to each other look alike."""
+    """The fewest digits after the point with which adjacent raw numbers look different."""
     kinds = [(kind, length) for profile, rows in rows_by_profile() if profile == eep
              for row, _offset, length, _condition, kind in rows
              if row == name and unit in said(kind, length)[0] | {"-"}]

@@ -1,11 +1,9 @@
 """The commands that systemd runs for a unit, as a script for sh: with ROOT before each folder, NAME for the instance,
-the umask of the unit, and its variables as the environment has them. BOOT is the ID of the boot. Those of ExecStopPost
-are run at its end, whatever ended it, and get the reason.
+the umask of the unit, and its variables as the environment has them. BOOT is the ID of the boot.
 
     tests/around/unit.py UNIT ROOT NAME
 """
 import re
-import shlex
 import sys
 
 unit, root, name = sys.argv[1:]
@@ -21,11 +19,7 @@ def commands(setting):
 
 
 print("umask", re.search(r"^UMask=(.*)$", text, re.MULTILINE)[1])
-# systemd's own words for an end, for which a unit may ask
-ends = "export EXIT_STATUS=${signal:-$?} SERVICE_RESULT=success\n"
-ends += "case $EXIT_STATUS in 0 | TERM) ;; *) SERVICE_RESULT=exit-code ;; esac\n"
-print("trap", shlex.quote(ends + "\n".join(commands("ExecStopPost"))), "EXIT")
 # a signal to all its processes, as systemd sends it, ends those of the start first
-print("trap 'signal=TERM; exit' TERM")
+print("trap exit TERM")
 for command in commands("ExecStart(?:Pre)?"):
     print(command, "|| exit")

@@ -309,7 +309,7 @@ class Following(Case):
         self.assertEqual(self.read(follower), ["c"])
 
     def test_a_turn_without_lines_does_not_list_the_folder(self):
-        """It asks the system for the size of the file, for new bytes, and whether the file has still its name."""
+        """It asks the system for the size of the file, for new bytes, and whether the file still has its name."""
         self.write("a\n")
         follower = self.follower()
         self.read(follower)

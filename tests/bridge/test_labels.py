@@ -148,7 +148,7 @@ class Waiting(Case):
         self.assertEqual((self.names(), self.names(OTHER)), (["Attic"], [f"A5-02-05 {OTHER}"]))
 
     def test_the_first_run(self):
-        """Lines of earlier do not have the labels: the list does."""
+        """Earlier lines do not have the labels: the list does."""
         self.site.tell(learned(ONE), learned(OTHER))
         self.site.start(label_wait=WAIT)
         self.site.broker.join()

@@ -172,7 +172,7 @@ class PowerFailures(Case):
         self.assertEqual((self.lines(), self.site.told(HALL + "01800AC1/press")), ([json.dumps(PRESS)], []))
 
     def test_a_state_without_a_boot(self):
-        """Of a version that noted none."""
+        """The state file of a version that stored no boot ID."""
         self.site.kill()
         self.site.tell(PRESS)
         self.site.bridge.store.connection.executescript("DROP TABLE boot")
