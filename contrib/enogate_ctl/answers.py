@@ -1,9 +1,9 @@
 """Finds the lines that answer an order.
 
 The gateway answers the orders of its desk one by one: `list` with a line for each device and a line with their number,
-any other order with one line. It handles all orders of one read of the desk (256 bytes) before it reads the serial port
-again. No line names its order, and a telegram can give the same line as an order. So an order is written between orders
-`status`, the fences, in a single write:
+any other order with one line. It handles all orders of one or more reads of the desk (256 bytes each) before it reads
+the serial port again. No line names its order, and a telegram can give the same line as an order. So an order is
+written between orders `status`, the fences, in a single write:
 
     status
     status

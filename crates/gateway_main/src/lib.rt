@@ -9,6 +9,7 @@ pub mod laws;
 mod program_run;
 pub mod registry_gateway;
 pub mod restart;
+mod serial_reader;
 
 pub use byte_io::{Failed, MAX_READ, OverRead, OverWrite, Sink, Source};
 pub use gateway_loop::{RunFault, Summary};

@@ -10,6 +10,7 @@ use crate::ending::{
 use crate::fault::Fault;
 use crate::gateway_start::{start, start_file};
 use crate::registry_gateway::{live, replay};
+use crate::serial_reader::SerialReader;
 use byte_io::{OverRead, OverWrite};
 use device_registry::{MAX_CACHED, RegistryOver, SqlConnection};
 use gateway_cli::{Access, CommandLineFault, FileToOpen, Options, Service};
@@ -138,7 +139,7 @@ fn live_on_files<C: SqlConnection>(
     let desk = open(rt, desk)?;
     let out = open(rt, out)?;
     Ok(live(
-        &mut OverRead::new(&serial),
+        &mut OverRead::new(SerialReader::new(rt, &serial, &desk)),
         &mut OverRead::new(&desk),
         &mut OverWrite::new(&serial),
         &mut OverWrite::new(&out),
