@@ -167,6 +167,11 @@ def release(port: int, sleep=time.sleep) -> None:
         if not unsent(port):
             break
         sleep(PAUSE)
+    discard(port)
+    os.close(port)
+
+
+def discard(port: int) -> None:
+    """Discards what the stick has not taken."""
     with contextlib.suppress(termios.error):
         termios.tcflush(port, termios.TCOFLUSH)
-    os.close(port)

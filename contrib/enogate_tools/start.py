@@ -58,6 +58,8 @@ class Starter:
         # what the module reported at the start, and what it was compared with last
         self.reported: str | None = None
         self.compared = ""
+        # the port while it is being prepared
+        self.asked: int | None = None
         self.words = words.command
         self.needs_base = bool(self.base) or words.base_id or PLACE in words.command
         self.announces = not words.base_id
@@ -65,15 +67,22 @@ class Starter:
 
     def prepare(self) -> int:
         """Opens, locks and configures the port, and finds the base ID. Returns the descriptor that holds the lock."""
-        port = ports.open_port(self.path)
+        self.asked = port = ports.open_port(self.path)
         try:
             ports.configure(port, self.path)
             if self.needs_base:
                 self.find_base(ports.ask_base(port, self.path, self.clock))
         except ports.PortError:
-            os.close(port)
+            ports.release(port)
             raise
+        finally:
+            self.asked = None
         return port
+
+    def discard(self) -> None:
+        """This process ends while it prepares a port: a stick that takes no bytes must not delay that."""
+        if self.asked is not None:
+            ports.discard(self.asked)
 
     def find_base(self, reported: str | None) -> None:
         """Compares the base ID with the one that the module reported, or takes that one."""

@@ -39,6 +39,9 @@ class Starting(Protocol):
     def compare(self, reported: str) -> None:
         """The module has reported this base ID."""
 
+    def discard(self) -> None:
+        """The unit ends, perhaps while a port is being prepared."""
+
 
 class Unit:
     """Runs a gateway at a port with this path, with its desk in a folder and its lines in a file."""
@@ -100,6 +103,7 @@ class Unit:
 
     def end_stopped(self) -> None:
         """Ends the unit, which is stopped."""
+        self.starter.discard()
         self.close()
         end_by(signal.SIGTERM)
 
