@@ -72,7 +72,7 @@ class Unit:
         """Runs the gateway once. Returns the exit status of the unit, or None if it is to be started again."""
         port, command, started = self.starter.wait(), self.starter.command(), self.clock()
         try:
-            # it ignores SIGPIPE and SIGXFSZ, as this process does: a write that fails is its own error
+            # SIGXFSZ and SIGPIPE stay ignored: a write that fails is an error of the gateway, which it reports
             self.gateway = subprocess.Popen(command, stdout=subprocess.PIPE, restore_signals=False)
         except OSError as error:
             self.say("", f"{command[0]} cannot be run: {error.strerror}")
