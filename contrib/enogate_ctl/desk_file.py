@@ -47,8 +47,8 @@ class DeskFile:
         """The content of the desk. After `append`, only the content before that call."""
         size = self.start if self.text else os.fstat(self.file).st_size
         if size > MAX_SIZE:
-            raise Unusable(f"the desk {self.path} has more than {MAX_SIZE >> 20} MB: restart the gateway, which empties "
-                           "it")
+            raise Unusable(f"the desk {self.path} has more than {MAX_SIZE >> 20} MB: restart the gateway, which "
+                           "empties it")
         return os.pread(self.file, size, 0)
 
     def append(self, text: bytes) -> None:
