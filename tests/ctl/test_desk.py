@@ -11,7 +11,7 @@ from unittest import mock
 
 from enogate_ctl import desk as desks, main as program
 from enogate_ctl.answers import AnswerFinder
-from enogate_ctl.command_line import Export, Give, Import, ShowRecorded
+from enogate_ctl.command_line import Export, Give, Import, ShowLines, ShowRecorded
 from enogate_ctl.desk import KEPT_AFTER_ANSWER, LONG_PAUSE, LONGEST_KEPT, PAUSE, Desk, Lines, NoAnswer
 from enogate_ctl.desk_file import DeskFile, Unusable
 from enogate_ctl.places import Places
@@ -624,7 +624,7 @@ class Rights(Limited):
     def test_each_command_at_a_gateway_takes_them_on(self):
         places = Places("/d/desk", "/l/hall.lines", "/b/hall.db")
         for command in (Give(places, 1, False, "list", None), Export(places, 1), Import(places, 1),
-                        ShowRecorded(places, False)):
+                        ShowRecorded(places, False), ShowLines(places)):
             with mock.patch.object(program.files, "become_owner", side_effect=OSError(1, "Not allowed")) as become, \
                     self.assertRaises(NoAnswer) as found:
                 program.run(command, mock.Mock())
