@@ -9,6 +9,9 @@ import re
 import stat
 import subprocess
 
+# How long a command may take that is asked, in seconds: systemctl, or enogatectl, which waits for an answer.
+LONGEST_RUN = 10.0
+
 
 @dataclasses.dataclass(frozen=True)
 class Process:
@@ -32,7 +35,7 @@ class OpenFile:
 def output_of(command: list[str]) -> str:
     """The first line that a command prints, or nothing if it cannot be run."""
     try:
-        done = subprocess.run(command, capture_output=True, text=True, timeout=10, check=False)
+        done = subprocess.run(command, capture_output=True, text=True, timeout=LONGEST_RUN, check=False)
     except (OSError, subprocess.TimeoutExpired):
         return ""
     return done.stdout.partition("\n")[0]
