@@ -128,10 +128,15 @@ test("a feed that is stopped while the file is checked, or before the next try, 
     await settle();
     mock.timers.tick(10000);
     assert.equal(processes.length, 1);
+    const checked = new Feed("hall", () => {}, () => assert.fail());
+    last().resolve();
+    checked.stop();
+    await settle();
+    assert.equal(started("enogatectl").length, 0);
     const { feed: lost } = await feed();
     last().resolve();
     await settle();
     lost.stop();
     mock.timers.tick(10000);
-    assert.equal(started("test").length, 2);
+    assert.equal(started("test").length, 3);
 });
