@@ -128,6 +128,26 @@ test("devices that are read late are not those of the gateway that was opened me
     assert.equal(await read("yard"), 1);
 });
 
+test("a state that is read late is not that of the gateway that was opened meanwhile", async () => {
+    const { outputOf } = machine;
+    machine.outputOf = words => words[0] === "systemctl" ? null : outputOf(words);
+    const [hall, yard] = byId("gateways").children;
+    const fails = async name => {
+        const process = started("systemctl").findLast(({ words }) => words.at(-1) === `enogate@${name}.service`);
+        process.write("ActiveState=failed\n");
+        process.resolve();
+        await pass(1);
+        return byId("trouble").textContent;
+    };
+    hall.click();
+    await settle();
+    yard.click();
+    await settle();
+    assert.equal(await fails("hall"), "");
+    assert.match(await fails("yard"), /^The gateway yard is stopped\./);
+    machine.outputOf = outputOf;
+});
+
 test("the learn window of a gateway is closed when another one is opened", async () => {
     const { outputOf } = machine;
     machine.outputOf = words => words.includes("--for") ? null : outputOf(words);
