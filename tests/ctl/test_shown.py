@@ -182,8 +182,10 @@ class Recent(Site):
         self.assertEqual(list(recent.last_telegrams(path)), ["01800AB1", "01800AB2"])
 
     def test_rotated_files_that_are_none(self):
-        """A pipe would hold up the command for good, and a link may lead to a file that only root may read."""
+        """A pipe would hold up the command for good, and a link of either kind may lead to a file that only root may
+        read."""
         self.put(self.folder / "other", "01800AB9")
+        (self.folder / "hall.lines.3").hardlink_to(self.folder / "other")
         (self.folder / "hall.lines.2").symlink_to(self.folder / "other")
         os.mkfifo(self.folder / "hall.lines.1")
         self.put(self.lines, "01800AB1")
