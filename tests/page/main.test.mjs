@@ -38,6 +38,17 @@ test("the devices are asked for once after each start of the gateway, and not at
     assert.equal(started(...LIST).length, 2);
 });
 
+test("a page that is hidden does not look at the service", async () => {
+    document.hidden = true;
+    await pass(2);
+    const looked = started("systemctl").length;
+    await pass(20);
+    assert.equal(started("systemctl").length, looked);
+    document.hidden = false;
+    await pass(3);
+    assert.ok(started("systemctl").length > looked);
+});
+
 test("a base ID of the module that differs is reported while it does, and asked for after each start", async () => {
     const [lines] = started("enogatectl", "hall", "lines");
     const reports = async data => {
