@@ -20,8 +20,8 @@ from .reconcile import Part, Reconciler
 from .requests import Check, ListRequest, Requests, opens_window
 from .store import Store
 from .topics import Message, Topics
+from .wake import LONGEST, TURN
 
-TURN = 0.1
 # The shortest time between two writes of the state, in seconds.
 SAVE_EVERY = 2.0
 # How long the end of the bridge waits for acknowledgements, in seconds.
@@ -56,9 +56,11 @@ class Bridge:
     """Connects one gateway to one broker."""
 
     def __init__(self, topics: Topics, broker: Broker, devices: Devices, follower: Follower, desk: Desk,
-                 requests: Requests, store: Store, clock: Callable[[], float], wall: Callable[[], float]):
+                 requests: Requests, store: Store, clock: Callable[[], float], wall: Callable[[], float],
+                 wait: Callable[[list[Connection], float, bool], None]):
         self.topics, self.broker, self.devices, self.follower = topics, broker, devices, follower
         self.desk, self.requests, self.store, self.clock, self.wall = desk, requests, store, clock, wall
+        self.wait = wait
         self.outbox, self.backlog = Outbox(), Backlog()
         self.seldom = Seldom(clock)
         self.connection: Connection | None = None
@@ -112,9 +114,11 @@ class Bridge:
         self.requests.list = ListRequest()
 
     def turn(self) -> None:
-        """One poll cycle."""
-        # with a reader, it is the reader that is waited for
-        if self.broker.turn(0 if self.reader else TURN):
+        """Waits until there is something to do, and does it."""
+        connections = [one for one in (self.broker.connection, self.reader) if one]
+        # a file that follows another one is not read at once: a line may still be written to the other one
+        self.wait(connections, self.longest_wait(), self.follower.seen_next is None)
+        if self.broker.turn():
             self.open()
         self.turn_reader()
         # what has arrived before a loss is handled too
@@ -145,6 +149,24 @@ class Bridge:
         if self.clock() >= self.saved_at + SAVE_EVERY:
             self.save()
 
+    def longest_wait(self) -> float:
+        """How long the next turn waits if nothing happens. It is not 0 if something is due: it may stay so."""
+        if not self.follower.is_at_end and self.follower.seen_next is None:
+            return 0.0
+        if self.follower.seen_next or self.is_busy():
+            return TURN
+        due = min(self.requests.next_due(), self.saved_at + SAVE_EVERY)
+        if not self.broker.connection:
+            due = min(due, self.broker.due)
+        return min(max(due - self.clock(), TURN), LONGEST)
+
+    def is_busy(self) -> bool:
+        """Whether something is under way at the broker."""
+        if not self.connection or not self.reconciler:
+            return self.broker.connection is not None
+        is_settled = self.is_online and self.reconciler.is_done and not self.reader
+        return not is_settled or bool(self.backlog or self.outbox.entries or self.connection.unacknowledged)
+
     def turn_reader(self) -> None:
         """Handles what the broker retains. The reader is opened when it is needed, and closed when all is compared."""
         if self.connection is not self.broker.connection:
@@ -155,7 +177,7 @@ class Bridge:
             self.reader = self.broker.read()
         if self.reader:
             try:
-                self.reader.turn(TURN)
+                self.reader.turn(0)
             except Lost as lost:
                 self.broker.lose(f"{lost} (on the connection that reads what is retained)")
 

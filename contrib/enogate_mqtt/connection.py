@@ -163,6 +163,17 @@ class Connection:
         self.received.append(Received(topic, message.payload, bool(message.retain)))
         self.arrived += 1
 
+    def sockets(self) -> tuple[list[Any], list[Any]]:
+        """What is to be waited for: the socket to be readable, and to be writable, if something could not be sent."""
+        socket = self.client.socket()
+        there = [socket] if socket and socket.fileno() >= 0 else []
+        return there, there if self.client.want_write() else []
+
+    def has_work(self) -> bool:
+        """Whether there is something to do without a wait: the connection is lost, or TLS has decrypted more."""
+        socket = self.client.socket()
+        return bool(self.failure) or not self.sockets()[0] or hasattr(socket, "pending") and socket.pending() > 0
+
     def turn(self, seconds: float) -> None:
         """Does the network's work: waits for at most so many seconds, and handles what has arrived. Or raises Lost."""
         if self.failure:
@@ -268,21 +279,23 @@ class Broker:
     """The broker. After a loss, connects again, with growing pauses."""
 
     def __init__(self, connect: Callable[[int, bool], Connection], name: str, clock: Callable[[], float],
-                 sleep: Callable[[float], None], fraction: Callable[[], float] = random.random):
-        self.connect, self.name, self.clock, self.sleep, self.fraction = connect, name, clock, sleep, fraction
+                 fraction: Callable[[], float] = random.random):
+        self.connect, self.name, self.clock, self.fraction = connect, name, clock, fraction
         self.connection: Connection | None = None
         self.pause, self.due, self.version = FIRST_PAUSE, 0.0, 5
         # the reasons that were logged since the last connection
         self.reasons: set[str] = set()
         self.short = 0
 
-    def turn(self, seconds: float) -> bool:
-        """A poll cycle of at most so many seconds. Returns whether a connection was opened."""
+    def turn(self) -> bool:
+        """Connects if this is due, or handles what has arrived. Returns whether a connection was opened."""
         try:
             if self.connection is None:
-                return self.wait_or_connect(seconds)
+                if self.clock() >= self.due:
+                    self.connection = self.connect(self.version, False)
+                return False
             was_open = self.connection.is_open
-            self.connection.turn(seconds)
+            self.connection.turn(0)
         except WrongProtocol:
             self.version = 4
             self.drop()
@@ -303,13 +316,6 @@ class Broker:
         """A message on this topic has not come back. The broker acknowledges messages that it drops, too."""
         logging.warning("the broker at %s accepts the connection, but refuses what is published: %s did not come back "
                         "within %.0f seconds; check the access rights of this user", self.name, topic, ECHO_WITHIN)
-
-    def wait_or_connect(self, seconds: float) -> bool:
-        if self.clock() < self.due:
-            self.sleep(min(seconds, self.due - self.clock()))
-        else:
-            self.connection = self.connect(self.version, False)
-        return False
 
     def read(self) -> Connection | None:
         """A reader, which is opened in its turns; None if there is no connection any more."""

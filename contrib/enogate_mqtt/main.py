@@ -21,6 +21,7 @@ from .requests import Requests
 from .settings import STATUS, Options, Words, WrongSetting, read_login, read_options, read_words
 from .store import Store
 from .topics import Message, Topics
+from .wake import Wake
 
 
 def main() -> int:
@@ -48,17 +49,19 @@ def run(words: Words, options: Options) -> None:
     paho = import_paho()
     store = Store(words.state, options.discovery, words.boot)
     broker = Broker(lambda version, is_reader: Connection(paho, login, topics, version, clock, is_reader),
-                    f"{login.host}:{login.port}", clock, time.sleep)
+                    f"{login.host}:{login.port}", clock)
     devices = Devices(topics, Table(), options.expire_after, store.devices, store.removed | old_topics(topics, store),
                       may_adopt=store.may_adopt, label_wait=options.label_wait, clock=clock)
     desk = Desk(words.desk, clock)
     queries = Queries(devices, desk) if options.queries else None
     requests = Requests(desk, clock, time.time, options.learn_for, store.learn_until, queries)
     follower = Follower(words.lines, store.place, store.is_same_boot)
-    bridge = Bridge(topics, broker, devices, follower, desk, requests, store, clock, time.time)
+    wake = Wake([words.lines, words.desk])
+    bridge = Bridge(topics, broker, devices, follower, desk, requests, store, clock, time.time, wake.wait)
 
     def stop(_number: int, _frame: object) -> None:
         bridge.is_stopped = True
+        wake.stop()
 
     signal.signal(signal.SIGTERM, stop)
     signal.signal(signal.SIGINT, stop)

@@ -90,10 +90,15 @@ class Check:
     def answer(self) -> None:
         self.asked, self.is_online = math.inf, True
 
+    @property
+    def late_at(self) -> float:
+        """When the answer has been missing for too long; never if this was reported."""
+        return math.inf if self.is_online is False else self.asked + self.within
+
     def is_late(self, now: float, earliest: float = 0.0) -> bool:
         """Whether the answer has been missing for too long, and this was not reported yet. It is not missing before the
         earliest time."""
-        if now < max(self.asked + self.within, earliest) or self.is_online is False:
+        if now < max(self.late_at, earliest):
             return False
         self.is_online = False
         return True
@@ -148,9 +153,25 @@ class Requests:
             self.report_silence()
         self.module.is_late(now, earliest)
 
+    def next_due(self) -> float:
+        """When `turn` has something to do again, as far as this is known now."""
+        due = [self.list.due, self.gateway.due, self.gateway.late_at]
+        if self.gateway.is_online:
+            earliest = self.started + START_WITHIN
+            due += [self.module.due, *(max(check.late_at, earliest) for check in (self.output, self.module))]
+        if self.window:
+            due.append(self.window.until)
+        if self.queries and self.can_ask():
+            due.append(self.queries.due)
+        return min(due)
+
+    def can_ask(self) -> bool:
+        """Whether actuators are known and can be reached."""
+        return bool(self.list.is_answered and self.gateway.is_online and self.module.is_online)
+
     def ask_actuator(self, now: float) -> None:
         """Asks an actuator for its states, if one is to be asked and can be reached."""
-        if self.queries and self.list.is_answered and self.gateway.is_online and self.module.is_online:
+        if self.queries and self.can_ask():
             query = self.queries.next(now)
             if query and self.give(query + b"\n"):
                 self.queries.note(query)

@@ -2,10 +2,16 @@
 from __future__ import annotations
 
 import os
+import pathlib
+import re
+import statistics
+import time
 
 from bridge_testcase import OWN, GatewayTest
 
 DEVICE = f"{OWN}/01800A02"
+READING = ('{{"dbm":-45,"eep":"A5-02-05","id":"01800A02","readings":'
+           '[{{"den":1,"name":"TMP","num":{},"unit":"C"}}],"type":"reading"}}\n')
 TORN = '{"dbm":-45,"eep":"D5-0'
 
 
@@ -14,14 +20,46 @@ class ManyLines(GatewayTest):
 
     def test_a_press_after_many_lines(self):
         self.start_bridge()
-        reading = ('{{"dbm":-45,"eep":"A5-02-05","id":"01800A02","readings":'
-                   '[{{"den":1,"name":"TMP","num":{},"unit":"C"}}],"type":"reading"}}\n')
         press = ('{"dbm":-45,"eep":"F6-02-01","id":"01800A0D","readings":[{"name":"R1","word":"BI"},'
                  '{"name":"EB","word":"pressed"}],"type":"reading"}\n')
-        self.gateway.append("".join(map(reading.format, range(9000))) + press)
+        self.gateway.append("".join(map(READING.format, range(9000))) + press)
         self.assert_published(f'{OWN}/01800A0D/press {{"event_type":"BI"}}')
         self.assert_published(f"{DEVICE}/TMP 8999")
         self.assertLess(len([it for it in self.heard.messages() if it.startswith(f"{DEVICE}/TMP ")]), 2000)
+
+
+class Waits(GatewayTest):
+    """The bridge is woken by lines, and by little else."""
+
+    def test_lines_are_published_at_once(self):
+        self.start_bridge()
+        self.settle()
+        self.assertLess(statistics.median(map(self.delay, range(20))), 0.02)
+
+    def delay(self, number: int) -> float:
+        """The seconds from a line to its message."""
+        began = time.monotonic()
+        self.gateway.append(READING.format(number))
+        while f"{DEVICE}/TMP {number}" not in self.heard.messages() and time.monotonic() < began + 1:
+            time.sleep(0.001)
+        return time.monotonic() - began
+
+    def test_an_idle_bridge(self):
+        self.start_bridge()
+        self.settle()
+        time.sleep(2)
+        before = self.wakes()
+        time.sleep(5)
+        self.assertLess(self.wakes() - before, 15)
+
+    def wakes(self) -> int:
+        """How often the bridge has waited."""
+        # it is a child, below `timeout`
+        pid = str(self.bridge.process.pid)
+        while children := pathlib.Path(f"/proc/{pid}/task/{pid}/children").read_text().split():
+            pid = children[0]
+        text = pathlib.Path(f"/proc/{pid}/status").read_text()
+        return int(re.findall(r"^voluntary_ctxt_switches:\s*(\d+)$", text, re.MULTILINE)[0])
 
 
 class Lines(GatewayTest):

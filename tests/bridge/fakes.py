@@ -53,7 +53,6 @@ class Retaining:
         self.unanswered: set[int] = set()
         self.published: list[tuple[str, str, bool]] = []
         self.requests: list[list[str]] = []
-        self.waits: list[float] = []
         self.acknowledges = self.answers = self.passes_on = True
         self.number = 0
         self.is_open, self.is_lost, self.is_ended, self.is_closed = True, False, False, False
@@ -88,8 +87,7 @@ class Retaining:
     def close(self):
         self.is_closed = True
 
-    def turn(self, seconds):
-        self.waits.append(seconds)
+    def turn(self, _seconds):
         if self.is_lost:
             raise Lost("it is lost")
         if self.acknowledges:
@@ -118,7 +116,7 @@ class FakeBroker:
         self.lost: list[str] = []
         # what the bridge has reported about the connection
         self.said: list[str] = []
-        self.waits: list[float] = []
+        self.due = 0.0
         self.is_new = False
 
     def read(self) -> Retaining:
@@ -140,8 +138,7 @@ class FakeBroker:
         self.lost.append(why)
         self.connection = None
 
-    def turn(self, seconds):
-        self.waits.append(seconds)
+    def turn(self):
         if self.connection:
             self.connection.turn(0)
         is_new, self.is_new = self.is_new, False
@@ -159,6 +156,8 @@ class Site:
         self.state, self.boot = self.folder / "hall.db", "a boot"
         self.clock, self.wall, self.broker = Clock(), Clock(1_800_000_000.0), FakeBroker()
         self.topics = Topics("hall", "homeassistant")
+        # the last wait of the bridge: for which connections, how long, and whether a change of a file ends it
+        self.waited: tuple[list, float, bool] = [], 0.0, True
         self.lines.touch()
         self.desk.touch()
 
@@ -172,9 +171,12 @@ class Site:
         requests = Requests(desk, self.clock, self.wall, learn_for, store.learn_until, queries)
         follower = Follower(str(self.lines), store.place, store.is_same_boot)
         self.bridge = Bridge(self.topics, self.broker, devices, follower, desk, requests, store, self.clock,
-                             self.wall)
+                             self.wall, self.wait)
         self.bridge.read_earlier_lines()
         return self.bridge
+
+    def wait(self, *waited) -> None:
+        self.waited = waited
 
     def kill(self) -> None:
         """The bridge is killed. The clock of the next one may begin anywhere."""

@@ -1084,14 +1084,6 @@ class Bridging(Case):
             self.site.turns(1, 5)
         self.assertLess(self.site.orders().count("list"), 12)
 
-    def test_turns_wait_for_one_connection(self):
-        self.start()
-        self.site.turns(20)
-        self.assertEqual(set(self.site.broker.waits[-5:]), {bridge.TURN})
-        self.site.broker.join()
-        self.site.turns(3)
-        self.assertEqual((self.site.broker.waits[-1], self.site.broker.readers[-1].waits[-1]), (0, bridge.TURN))
-
     def test_a_connection_that_is_lost(self):
         self.start()
         self.site.broker.connection.is_lost = True

@@ -471,7 +471,7 @@ class Brokers(Case):
         super().setUp()
         self.clock, self.versions, self.sessions = Clock(), [], []
         self.random = 1.0
-        self.broker = Broker(self.connect, "h:1883", self.clock, self.clock.sleep, lambda: self.random)
+        self.broker = Broker(self.connect, "h:1883", self.clock, lambda: self.random)
 
     def connect(self, version, is_reader):
         if is_reader:
@@ -484,8 +484,14 @@ class Brokers(Case):
             raise Lost("cannot connect")
         return self.session
 
+    def turn(self):
+        """A turn of the bridge, which waits until the next attempt is due."""
+        if not self.broker.connection:
+            self.clock.now += min(0.1, max(self.broker.due - self.clock(), 0.0))
+        return self.broker.turn()
+
     def turns(self, count):
-        return [self.broker.turn(0.1) for _ in range(count)]
+        return [self.turn() for _ in range(count)]
 
     def test_a_reader_that_cannot_connect(self):
         self.turns(2)
@@ -502,12 +508,12 @@ class Brokers(Case):
     def test_the_hint_at_another_bridge_is_given_once(self):
         for _ in range(3):
             while not (self.broker.connection and self.broker.connection.is_open):
-                self.broker.turn(0.1)
+                self.turn()
             self.session.lost = Lost("x")
-            self.broker.turn(0.1)
+            self.turn()
         self.sessions = [(OSError(),)] * 20
         while self.sessions:
-            self.broker.turn(1)
+            self.turn()
         self.assert_logged("is there another bridge with this name?")
 
     def test_an_opening_is_told_once(self):
@@ -544,7 +550,7 @@ class Brokers(Case):
     def test_a_loss_is_logged_once(self):
         self.sessions = [(OSError(),)] * 3
         for _ in range(1000):
-            self.broker.turn(0.1)
+            self.turn()
             if len(self.versions) == 4:
                 break
         self.assert_logged("WARNING: no connection to h:1883: cannot connect")
@@ -552,13 +558,13 @@ class Brokers(Case):
     def test_another_reason_is_logged(self):
         self.sessions = [(Lost("one"),), (Lost("two"),), (Lost("two"),), (Lost("one"),)]
         for _ in range(1000):
-            self.broker.turn(0.1)
+            self.turn()
         self.assertEqual([line.rsplit(" ", 1)[1] for line in self.logged], ["one", "two"])
 
     def test_pauses_grow_to_a_minute(self):
         self.sessions = [(OSError(),)] * 9
         while len(self.versions) < 10:
-            self.broker.turn(0.1)
+            self.turn()
         pauses = [round(later - sooner) for sooner, later in zip(self.times, self.times[1:])]
         self.assertEqual(pauses, [1, 2, 4, 8, 16, 32, 60, 60, 60])
 
@@ -573,7 +579,7 @@ class Brokers(Case):
             return found
         self.broker.connect = connect
         while len(getattr(self, "times", [])) < 9:
-            self.broker.turn(0.1)
+            self.turn()
         pauses = [round(later - sooner) for sooner, later in zip(self.times, self.times[1:])]
         self.assertEqual(pauses, [1, 2, 4, 8, 16, 32, 60, 60])
         self.assertEqual(self.logged, ["WARNING: no connection to h:1883: invalid packet from the broker "
@@ -583,16 +589,10 @@ class Brokers(Case):
         self.random = 0.0
         self.sessions = [(OSError(),)] * 8
         while len(self.versions) < 9:
-            self.broker.turn(0.1)
+            self.turn()
         pauses = [later - sooner for sooner, later in zip(self.times, self.times[1:])]
         for pause, wanted in zip(pauses, [0.5, 1, 2, 4, 8, 16, 30, 30]):
             self.assertAlmostEqual(pause, wanted, delta=0.2)
-
-    def test_it_sleeps_in_turns(self):
-        self.sessions = [(OSError(),)]
-        self.turns(3)
-        self.assertEqual(self.clock.slept[0], 0.1)
-        self.assertTrue(all(seconds <= 0.1 for seconds in self.clock.slept))
 
     def test_a_long_connection_begins_with_a_short_pause_again(self):
         self.broker.pause = 32
@@ -620,27 +620,27 @@ class Brokers(Case):
     def test_a_name_that_is_used_twice(self):
         for _ in range(4):
             while not (self.broker.connection and self.broker.connection.is_open):
-                self.broker.turn(0.1)
+                self.turn()
             self.session.lost = Lost("x")
-            self.broker.turn(0.1)
+            self.turn()
         self.assert_logged("is there another bridge with this name?")
         self.assertEqual((connection.SHORT, connection.OFTEN), (10, 3))
 
     def test_a_long_connection_between_short_ones(self):
         for seconds in (0, 0, connection.SHORT, 0, 0):
             while not (self.broker.connection and self.broker.connection.is_open):
-                self.broker.turn(0.1)
+                self.turn()
             self.clock.now += seconds
             self.session.lost = Lost("x")
-            self.broker.turn(0.1)
+            self.turn()
         self.assert_logged("is there another bridge", 0)
 
     def test_the_same_reason_after_a_connection(self):
         for _ in range(2):
             while not (self.broker.connection and self.broker.connection.is_open):
-                self.broker.turn(0.1)
+                self.turn()
             self.session.lost = Lost("x")
-            self.broker.turn(0.1)
+            self.turn()
         self.assert_logged("no connection to h:1883: x", 2)
 
     def test_constants(self):
@@ -649,10 +649,10 @@ class Brokers(Case):
     def test_losses_after_some_time_are_no_sign_of_that(self):
         for _ in range(4):
             while not (self.broker.connection and self.broker.connection.is_open):
-                self.broker.turn(0.1)
+                self.turn()
             self.clock.now += connection.SHORT
             self.session.lost = Lost("x")
-            self.broker.turn(0.1)
+            self.turn()
         self.assert_logged("is there another bridge", 0)
 
 
@@ -667,7 +667,7 @@ class Day(Case):
         self.site, self.session, self.attempts = Site(self), None, 0
         self.reasons = ["Connection refused"]
         # all pauses are as short as they may be
-        self.site.broker = Broker(self.connect, "h:1883", self.site.clock, lambda _: None, lambda: 0.0)
+        self.site.broker = Broker(self.connect, "h:1883", self.site.clock, lambda: 0.0)
         patch = unittest.mock.patch.object(outbox, "MAX_LINES", self.KEPT)
         patch.start()
         self.addCleanup(patch.stop)

@@ -1,0 +1,397 @@
+"""The wait of the bridge, over real files, without a clock: each wait says at once whether it would go on."""
+import ctypes
+import errno
+import math
+import os
+import pathlib
+import select
+import socket
+import tempfile
+import types
+import unittest.mock
+
+from enogate_mqtt import wake
+from enogate_mqtt.connection import Connection
+from enogate_mqtt.settings import Login
+from enogate_mqtt.wake import LONGEST, TURN, Files, Wake
+from fakes import Case, Clock, Site, listing, reading, status
+from test_connection import TOPICS, paho
+
+HOUR = 3600
+RESPONSE = {"code": 0, "data": "FF800000", "name": "OK", "type": "response"}
+ANSWERS = {"status": [status()], "list": listing(("01800000", "D2-01-12", "lamp"))}
+
+
+class Waited:
+    """A connection with these sockets."""
+
+    def __init__(self, reading, writing, has_work=False):
+        self.found, self.works = (reading, writing), has_work
+
+    def sockets(self):
+        return self.found
+
+    def has_work(self):
+        return self.works
+
+
+class Waits(Case):
+    """A bridge with its lines and its desk in two directories."""
+
+    def setUp(self):
+        super().setUp()
+        folder = tempfile.TemporaryDirectory()
+        self.addCleanup(folder.cleanup)
+        self.log, self.run_folder = pathlib.Path(folder.name, "log"), pathlib.Path(folder.name, "run")
+        self.lines, self.desk = self.log / "hall.lines", self.run_folder / "desk"
+        for file in (self.lines, self.desk):
+            file.parent.mkdir()
+            file.touch()
+        # what select was called with
+        self.seconds, self.reading, self.writing = 0.0, [], []
+        patch = unittest.mock.patch.object(wake.select, "select", self.look)
+        self.select = select.select
+        patch.start()
+        self.addCleanup(patch.stop)
+
+    def look(self, reading, writing, _, seconds):
+        self.seconds, self.reading, self.writing = seconds, reading, writing
+        found = self.select(reading, writing, [], 0)
+        self.is_over = seconds == 0 or any(found)
+        return found
+
+    def start(self):
+        """A bridge that has waited before."""
+        self.wake = Wake([str(self.lines), str(self.desk)])
+        self.addCleanup(lambda: [os.close(file) for file in (self.wake.stops, self.wake.files.file) if file >= 0])
+        self.assertTrue(self.waits())
+        self.assertFalse(self.waits())
+
+    def waits(self, *connections, seconds=10.0, watches=True):
+        """Whether a wait would end at once."""
+        self.wake.wait(connections, seconds, watches)
+        return self.is_over
+
+    def assert_notices(self, change):
+        """A change ends a wait that has begun before, and not more than two after that."""
+        change()
+        self.assertTrue(self.select([self.wake.files.file], [], [], 0)[0])
+        count = 0
+        while self.waits():
+            count += 1
+        self.assertLessEqual(count, 3)
+
+    def test_an_idle_wait(self):
+        self.start()
+        self.assertEqual(self.seconds, LONGEST)
+        self.waits(seconds=0.5)
+        self.assertEqual(self.seconds, 0.5)
+
+    def test_lines_end_a_wait(self):
+        self.start()
+        self.assert_notices(lambda: append(self.lines, b"line\n"))
+
+    def test_a_burst_ends_one_wait(self):
+        self.start()
+        self.assert_notices(lambda: [append(self.lines, b"%d\n" % number) for number in range(1000)])
+
+    def test_an_order_ends_a_wait(self):
+        self.start()
+        self.assert_notices(lambda: append(self.desk, b"status\n"))
+
+    def test_a_start_of_the_gateway_ends_a_wait(self):
+        append(self.desk, b"status\n")
+        self.start()
+        self.assert_notices(lambda: os.truncate(self.desk, 0))
+
+    def test_lines_of_another_gateway_end_none(self):
+        other = self.log / "roof.lines"
+        other.touch()
+        self.start()
+        append(other, b"line\n")
+        self.assertFalse(self.waits())
+
+    def test_a_rotation(self):
+        self.start()
+        self.assert_notices(lambda: self.lines.rename(self.log / "hall.lines-20261127"))
+        # the old file may still be written to
+        self.assert_notices(lambda: append(self.log / "hall.lines-20261127", b"line\n"))
+        self.assert_notices(self.lines.touch)
+        self.assert_notices(lambda: append(self.lines, b"line\n"))
+
+    def test_a_line_before_a_new_file_is_watched(self):
+        """Nothing that is written between the look at the lines and the wait is missed."""
+        self.start()
+        self.lines.unlink()
+        while self.waits():
+            pass
+        self.lines.touch()
+        self.wake.files.drop()
+        append(self.lines, b"line\n")
+        self.assertTrue(self.waits())
+
+    def test_a_file_that_is_replaced(self):
+        self.start()
+        new = self.run_folder / "new"
+        self.assert_notices(new.touch)
+        self.assert_notices(lambda: new.replace(self.desk))
+        self.assert_notices(lambda: append(self.desk, b"status\n"))
+
+    def test_lines_that_may_be_read_now(self):
+        self.start()
+        self.assert_notices(lambda: self.lines.chmod(0o600))
+
+    def test_a_directory_that_does_not_exist_yet(self):
+        self.lines.unlink()
+        self.log.rmdir()
+        self.start()
+        self.assertEqual(self.seconds, TURN)
+        self.log.mkdir()
+        self.assertTrue(self.waits())
+        self.assertFalse(self.waits())
+        self.assertEqual(self.seconds, LONGEST)
+        self.assert_notices(self.lines.touch)
+
+    def test_a_directory_that_is_replaced(self):
+        self.start()
+        self.assert_notices(lambda: self.log.rename(self.log.with_name("old")))
+        self.assertEqual(self.seconds, TURN)
+        self.log.mkdir()
+        self.lines.touch()
+        while self.waits():
+            pass
+        self.assertEqual(self.seconds, LONGEST)
+        self.assert_notices(lambda: append(self.lines, b"line\n"))
+
+    def test_files_that_are_not_looked_at(self):
+        self.start()
+        append(self.lines, b"line\n")
+        self.assertFalse(self.waits(watches=False))
+        self.assertTrue(self.waits())
+
+    def test_messages_end_a_wait(self):
+        self.start()
+        near, far = socket.socketpair()
+        self.addCleanup(near.close)
+        self.addCleanup(far.close)
+        connection = Waited([near], [])
+        self.assertFalse(self.waits(connection))
+        far.send(b"x")
+        self.assertTrue(self.waits(connection))
+
+    def test_what_cannot_be_sent_yet_ends_a_wait(self):
+        self.start()
+        near, far = socket.socketpair()
+        self.addCleanup(near.close)
+        self.addCleanup(far.close)
+        self.assertTrue(self.waits(Waited([near], [near])))
+
+    def test_a_connection_with_work_ends_a_wait(self):
+        self.start()
+        self.assertTrue(self.waits(Waited([], [], True)))
+
+    def test_a_signal_ends_all_waits(self):
+        self.start()
+        self.wake.stop()
+        self.assertTrue(self.waits())
+        self.assertTrue(self.waits(watches=False))
+
+
+class WithoutInotify(Case):
+    """Where inotify does not work, the files are looked at ten times a second."""
+
+    def longest(self, number, **calls):
+        """The longest wait, the second time, with these functions of the C library, which fail with this number."""
+        library = types.SimpleNamespace(**calls)
+        with unittest.mock.patch.object(ctypes, "CDLL", lambda *_, **__: library), \
+             unittest.mock.patch.object(ctypes, "get_errno", lambda: number):
+            files = Files(["/log/hall.lines", "/run/desk"])
+            files.longest()
+            return files.longest()
+
+    def test_no_function(self):
+        self.assertEqual(self.longest(0), 0.1)
+        self.assert_logged("WARNING: no inotify (")
+
+    def test_too_many_instances(self):
+        self.assertEqual(self.longest(errno.EMFILE, inotify_init1=lambda _: -1), 0.1)
+        self.assert_logged("WARNING: no inotify (Too many open files)")
+
+    def test_a_wait(self):
+        with unittest.mock.patch.object(ctypes, "CDLL", side_effect=OSError("none")):
+            waits = Wake(["/log/hall.lines"])
+        self.addCleanup(os.close, waits.stops)
+        with unittest.mock.patch.object(wake.select, "select", return_value=([], [], [])) as looked:
+            waits.wait([], 1.0, True)
+        looked.assert_called_once_with([waits.stops], [], [], 0.1)
+
+    def test_a_file_that_may_not_be_watched(self):
+        for number, longest in ((errno.EACCES, 0.1), (errno.ENOSPC, 0.1), (errno.ENOENT, 1.0)):
+            with self.subTest(number):
+                self.assertEqual(longest, self.longest(
+                    number, inotify_init1=lambda _: 3, inotify_add_watch=lambda _, path, __: -1 if b"." in path else 1))
+        self.assertEqual(self.logged, [])
+
+
+class Connections(Case):
+    """What is waited for of a connection."""
+
+    def setUp(self):
+        super().setUp()
+        module = paho(1)
+        self.connection = Connection(module, Login("h", 1883, None, None, None), TOPICS, 5, Clock())
+        self.client, self.socket = module.clients[0], types.SimpleNamespace(fileno=lambda: 4)
+        self.client.socket, self.client.want_write = lambda: self.socket, lambda: False
+
+    def test_a_connection(self):
+        self.assertEqual((self.connection.sockets(), self.connection.has_work()), (([self.socket], []), False))
+
+    def test_something_to_send(self):
+        self.client.want_write = lambda: True
+        self.assertEqual(self.connection.sockets(), ([self.socket], [self.socket]))
+
+    def test_bytes_that_tls_has_decrypted(self):
+        for count in (0, 1):
+            self.socket.pending = lambda: count
+            self.assertEqual(self.connection.has_work(), count == 1)
+
+    def test_a_message_that_could_not_be_sent(self):
+        self.connection.failure = "broken pipe"
+        self.assertTrue(self.connection.has_work())
+
+    def test_a_socket_that_is_closed(self):
+        self.client.want_write = lambda: True
+        for self.socket in (None, types.SimpleNamespace(fileno=lambda: -1)):
+            self.assertEqual((self.connection.sockets(), self.connection.has_work()), (([], []), True))
+
+
+class Turns(Case):
+    """How long a bridge waits. The clock goes on by each wait, as if nothing happened meanwhile."""
+
+    def setUp(self):
+        super().setUp()
+        self.site = Site(self)
+        self.site.wait = self.wait
+        self.answers, self.answered = True, 0
+
+    def wait(self, *waited):
+        """A wait, which lasts a little longer than it was asked for."""
+        self.site.waited = waited
+        self.site.clock.now += waited[1] + 0.001
+
+    def turn(self):
+        """A turn, after which the gateway answers. Returns how long it has waited."""
+        self.site.turns(1, 0)
+        orders = self.site.orders() if self.answers else []
+        for order in orders[self.answered:]:
+            self.site.tell(*ANSWERS.get(order, [RESPONSE]))
+        self.answered = len(orders)
+        return round(self.site.waited[1], 6)
+
+    def connect(self, **options):
+        self.site.start(**options)
+        self.site.broker.join()
+        for _ in range(100):
+            self.turn()
+        # from now on it is silent, until more is wanted
+        self.answers = False
+        while self.turn() != LONGEST:
+            pass
+        self.site.bridge.saved_at = self.site.clock()
+
+    def waits(self, answers=True):
+        """The waits in an hour, in which the gateway answers its orders, or does not."""
+        self.answers = answers
+        waits, end = [], self.site.clock() + HOUR
+        while self.site.clock() < end:
+            waits.append(self.turn())
+        return waits
+
+    def test_an_idle_bridge(self):
+        for asks in (False, True):
+            self.connect(asks_actuators=asks)
+            self.assertTrue(self.site.bridge.requests.can_ask())
+            waits = self.waits()
+            self.assertLess(len(waits), 2 * HOUR)
+            self.assertGreater(len(waits), HOUR)
+
+    def test_a_bridge_whose_gateway_does_not_answer(self):
+        self.connect(asks_actuators=True)
+        self.assertLess(len(self.waits(answers=False)), 2 * HOUR)
+        self.assertIs(self.site.bridge.requests.gateway.is_online, False)
+
+    def test_a_bridge_without_a_broker(self):
+        self.site.start()
+        self.site.broker.due = math.inf
+        self.assertLess(len(self.waits()), 2 * HOUR)
+
+    def test_the_next_attempt_to_connect(self):
+        self.answers = False
+        self.site.start()
+        self.turn()
+        for pause in (0.5, 60.0):
+            self.site.broker.due = self.site.clock() + pause
+            self.assertEqual(self.turn(), min(pause, 1.0))
+
+    def test_an_order_that_is_due(self):
+        self.connect()
+        requests = self.site.bridge.requests
+        requests.gateway.due = self.site.clock() + 0.25
+        self.assertEqual(self.turn(), 0.25)
+        self.assertEqual(self.site.orders()[-1], "status")
+
+    def test_a_module_that_does_not_respond(self):
+        """It is reported at once when the time is over."""
+        self.connect()
+        requests = self.site.bridge.requests
+        requests.module.due, requests.module.asked = math.inf, self.site.clock() + 0.25 - requests.module.within
+        self.assertEqual(self.turn(), 0.25)
+        self.assertIs(requests.module.is_online, False)
+
+    def test_what_is_due_but_cannot_be_done(self):
+        """It is tried again, but not without a pause."""
+        self.connect()
+        self.site.bridge.requests.open_window(0)
+        self.site.desk.unlink()
+        self.site.desk.mkdir()
+        self.turn()
+        self.assertEqual([self.turn() for _ in range(3)], [TURN] * 3)
+
+    def test_something_under_way(self):
+        self.connect()
+        self.site.broker.connection.acknowledges = False
+        self.site.tell(reading("01800000"))
+        self.turn()
+        self.assertEqual([self.turn() for _ in range(3)], [0.0, TURN, TURN])
+
+    def test_more_to_read(self):
+        """After lines there may be more."""
+        self.connect()
+        self.site.tell(reading("01800000"))
+        self.turn()
+        self.assertEqual(self.turn(), 0.0)
+        self.assertGreater(self.turn(), 0.0)
+
+    def test_a_rotation(self):
+        """The old file may still be written to: events of the new one do not end the wait."""
+        self.connect()
+        self.site.lines.rename(self.site.lines.with_suffix(".lines.1"))
+        self.site.lines.touch()
+        self.turn()
+        self.turn()
+        self.assertEqual(self.site.waited[1:], (TURN, False))
+        self.turn()
+        self.turn()
+        self.assertIs(self.site.waited[2], True)
+
+    def test_both_connections_are_waited_for(self):
+        self.site.start()
+        publishing = self.site.broker.join()
+        self.turn()
+        self.turn()
+        self.assertEqual(self.site.waited, ([publishing, self.site.broker.readers[0]], TURN, True))
+
+
+def append(path, text):
+    with path.open("ab") as file:
+        file.write(text)
