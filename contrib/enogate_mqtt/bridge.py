@@ -80,8 +80,8 @@ class Bridge:
         self.counted_at = -math.inf
         # whether its own message `online` has come back on this connection
         self.echo = Check(math.inf, ECHO_WITHIN)
-        # when what is retained is compared again
-        self.compare_at = 0.0
+        # when what is retained is compared again, and until when the lines are not looked at
+        self.compare_at = self.look_at = 0.0
         self.saved: Place | None = store.place if store.is_same_boot else None
         self.saved_at = 0.0
         # the newest time of a telegram in an earlier run, and until when an earlier time is not published
@@ -116,7 +116,6 @@ class Bridge:
     def turn(self) -> None:
         """Waits until there is something to do, and does it."""
         connections = [one for one in (self.broker.connection, self.reader) if one]
-        # a file that follows another one is not read at once: a line may still be written to the other one
         self.wait(connections, self.longest_wait(), self.follower.seen_next is None)
         if self.broker.turn():
             self.open()
@@ -129,7 +128,10 @@ class Bridge:
         if self.connection is not self.broker.connection:
             self.connection = self.reconciler = None
             self.close_reader()
-        self.take_lines(True)
+        if self.clock() >= self.look_at:
+            self.take_lines(True)
+            # a file that follows another one is not read at once: a line may still be written to the other one
+            self.look_at = self.clock() + TURN if self.follower.seen_next else 0.0
         self.publish(self.devices.end_waits())
         self.requests.turn(self.devices.needs_list)
         self.devices.needs_list = False

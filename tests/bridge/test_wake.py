@@ -1,6 +1,7 @@
 """The wait of the bridge, over real files, without a clock: each wait says at once whether it would go on."""
 import ctypes
 import errno
+import json
 import math
 import os
 import pathlib
@@ -272,12 +273,12 @@ class Turns(Case):
         super().setUp()
         self.site = Site(self)
         self.site.wait = self.wait
-        self.answers, self.answered = True, 0
+        self.answers, self.answered, self.ends_at_once = True, 0, False
 
     def wait(self, *waited):
-        """A wait, which lasts a little longer than it was asked for."""
+        """A wait, which lasts a little longer than it was asked for, or ends at once."""
         self.site.waited = waited
-        self.site.clock.now += waited[1] + 0.001
+        self.site.clock.now += 0.001 + (0 if self.ends_at_once else waited[1])
 
     def turn(self):
         """A turn, after which the gateway answers. Returns how long it has waited."""
@@ -383,6 +384,21 @@ class Turns(Case):
         self.turn()
         self.turn()
         self.assertIs(self.site.waited[2], True)
+
+    def test_a_line_that_is_written_to_the_old_file(self):
+        """The broker ends each wait at once, but the old file is not left at once."""
+        self.connect()
+        old = self.site.lines.with_suffix(".lines.1")
+        self.site.lines.rename(old)
+        self.site.tell(reading("01800002"))
+        self.ends_at_once = True
+        self.site.turns(5, 0)
+        self.ends_at_once = False
+        append(old, json.dumps(reading("01800001")).encode() + b"\n")
+        for _ in range(10):
+            self.turn()
+        lines = [json.loads(text) for _, text in self.site.told("enogate/hall/lines")]
+        self.assertEqual([line["id"] for line in lines if line["type"] == "reading"], ["01800001", "01800002"])
 
     def test_both_connections_are_waited_for(self):
         self.site.start()
