@@ -83,6 +83,15 @@ test("a list whose beginning is missing changes nothing", () => {
     assert.equal(model.isListed, false);
 });
 
+test("a list after one whose end is missing changes nothing", () => {
+    // The gateway was started again while it answered. Its device was deleted meanwhile.
+    const model = modelOf({ ...DEVICE, id: "01800AC1" }, DEVICE, { ...LIST, count: 1 });
+    assert.deepEqual([model.isListed, [...model.devices.keys()]], [false, []]);
+    model.take(DEVICE, 9000);
+    model.take({ ...LIST, count: 1 }, 9000);
+    assert.deepEqual([model.isListed, [...model.devices.keys()]], [true, ["01800ABC"]]);
+});
+
 const RECORDED = { ...DEVICE, seen: 500, dbm: -60, readings: [{ name: "CO", word: "open" }] };
 
 test("recorded devices are shown with their labels and times until there is a list", () => {
