@@ -4,7 +4,6 @@ from __future__ import annotations
 import os
 import pathlib
 import re
-import statistics
 import time
 
 from bridge_testcase import OWN, GatewayTest
@@ -29,20 +28,7 @@ class ManyLines(GatewayTest):
 
 
 class Waits(GatewayTest):
-    """The bridge is woken by lines, and by little else."""
-
-    def test_lines_are_published_at_once(self):
-        self.start_bridge()
-        self.settle()
-        self.assertLess(statistics.median(map(self.delay, range(20))), 0.02)
-
-    def delay(self, number: int) -> float:
-        """The seconds from a line to its message."""
-        began = time.monotonic()
-        self.gateway.append(READING.format(number))
-        while f"{DEVICE}/TMP {number}" not in self.heard.messages() and time.monotonic() < began + 1:
-            time.sleep(0.001)
-        return time.monotonic() - began
+    """The bridge waits until something happens."""
 
     def test_an_idle_bridge(self):
         self.start_bridge()
