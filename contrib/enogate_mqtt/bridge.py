@@ -85,7 +85,7 @@ class Bridge:
         self.saved: Place | None = store.place if store.is_same_boot else None
         self.saved_at = 0.0
         # the newest time of a telegram in an earlier run, and until when an earlier time is not published
-        self.newest = max((device.told.get(LAST_SEEN, "") for device in store.devices), default="")
+        self.newest = max((device.reported.get(LAST_SEEN, "") for device in store.devices), default="")
         self.waits_until = clock() + CLOCK_SET_WITHIN
         self.is_unknown_asked = False
 

@@ -18,12 +18,12 @@ LAST_SEEN = "last_seen"
 @dataclass
 class Device:
     """A device. Its label is None until it is known that it has one or none; until then, Home Assistant is not shown
-    the device. `told` has its last readings, by their places below its topic."""
+    the device. `reported` has its last readings, by their places below its topic."""
     name: str
     eep: str
     label: str | None = None
     maker: int | None = None
-    told: dict[str, str] = field(default_factory=dict)
+    reported: dict[str, str] = field(default_factory=dict)
 
 
 class Devices:
@@ -50,13 +50,13 @@ class Devices:
         # the devices of a list that has not ended
         self.listing: list[str] = []
         # without a state file, the readings that the broker retains are adopted for devices that only a list reported
-        self.adopting = {name for name, device in self.known.items() if may_adopt and not device.told}
+        self.adopting = {name for name, device in self.known.items() if may_adopt and not device.reported}
         self.may_adopt = may_adopt
 
     def retained(self, device: str) -> dict[str, str]:
         """Everything that the broker should retain about a device, by topic."""
-        told = self.known[device].told
-        return self.shown[device] | {self.topics.told(device, place): text for place, text in told.items()}
+        reported = self.known[device].reported
+        return self.shown[device] | {self.topics.reading(device, place): text for place, text in reported.items()}
 
     def adopt(self, topic: str, text: str) -> bool:
         """Takes a reading that the broker retains as the last one of its device: the state file was lost, or another
@@ -65,9 +65,9 @@ class Devices:
         if name not in self.adopting:
             return False
         device = self.known[name]
-        if place in device.told or not (place == LAST_SEEN or self.table.tells(device.eep, place)):
+        if place in device.reported or not (place == LAST_SEEN or self.table.reports(device.eep, place)):
             return False
-        device.told[place] = text
+        device.reported[place] = text
         self.changed.add(name)
         return True
 
@@ -154,21 +154,21 @@ class Devices:
         is_unknown = device.label is None and device.name not in self.waiting
         self.needs_list |= is_unknown or device.eep != telegram.eep
         messages = self.set_profile(device, telegram.eep)
-        told = self.table.told_by(telegram)
+        reported = self.table.reported_by(telegram)
         events = self.table.events_of(telegram)
         if self.has_events(telegram.eep):
             # a rocker that is not pressed any more is not retained as pressed
-            old = [place for place in device.told if place not in told and place not in ("dbm", LAST_SEEN)]
-            messages += self.remove(self.topics.told(device.name, place) for place in old)
-            device.told = {place: text for place, text in device.told.items() if place not in old}
+            old = [place for place in device.reported if place not in reported and place not in ("dbm", LAST_SEEN)]
+            messages += self.remove(self.topics.reading(device.name, place) for place in old)
+            device.reported = {place: text for place, text in device.reported.items() if place not in old}
         if now is not None:
-            told[LAST_SEEN] = time_text(now)
-        is_new = not told.keys() <= device.told.keys()
-        device.told |= told
+            reported[LAST_SEEN] = time_text(now)
+        is_new = not reported.keys() <= device.reported.keys()
+        device.reported |= reported
         self.changed.add(device.name)
         messages += self.show(device) if is_new else []
-        messages += self.publish({self.topics.told(device.name, place): text for place, text in told.items()})
-        return messages + [Message(self.topics.told(device.name, place), event_payload(kind), False)
+        messages += self.publish({self.topics.reading(device.name, place): text for place, text in reported.items()})
+        return messages + [Message(self.topics.reading(device.name, place), event_payload(kind), False)
                            for place, kind in events]
 
     def has_events(self, eep: str) -> bool:
@@ -185,8 +185,8 @@ class Devices:
 
     def remove_readings(self, device: Device) -> list[Message]:
         """Removes all readings of a device."""
-        topics = [self.topics.told(device.name, place) for place in device.told]
-        device.told = {}
+        topics = [self.topics.reading(device.name, place) for place in device.reported]
+        device.reported = {}
         return self.remove(topics)
 
     def show(self, device: Device) -> list[Message]:
@@ -215,7 +215,7 @@ class Devices:
             return {}
         about = discovery.about_device(self.topics, device.name, device.eep, device.label, device.maker)
         rows = self.table.of_profile(device.eep).values()
-        return discovery.configs(self.topics, device.name, about, rows, device.told, self.expire_after)
+        return discovery.configs(self.topics, device.name, about, rows, device.reported, self.expire_after)
 
 
 def time_text(seconds: float) -> str:

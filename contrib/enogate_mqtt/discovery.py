@@ -55,11 +55,11 @@ OPEN_CLOSED_OR_NONE = "{{ None if not value | is_number else 'closed' if value |
 EVENT_TYPE = "{{ value_json.event_type }}"
 
 
-def configs(topics: Topics, device: str, about: Config, rows: Iterable[Row], told: Collection[str],
+def configs(topics: Topics, device: str, about: Config, rows: Iterable[Row], reported: Collection[str],
             expire_after: int | None) -> dict[str, str]:
-    """The messages of a device, by topic. `about` describes the device, and `told` are the places of its readings.
+    """The messages of a device, by topic. `about` describes the device, and `reported` are the places of its readings.
     A cyclic reading becomes unavailable some time after the last one: `expire_after` is the setting for it."""
-    entities = of_rows(topics, device, rows, told, expire_after)
+    entities = of_rows(topics, device, rows, reported, expire_after)
     shared = {"device": about, **available(topics.status, topics.gateway, topics.module)}
     every = messages(topics, entities | of_every_device(topics, device), shared)
     return every | triggers(topics, about, entities)
@@ -137,12 +137,12 @@ def connectivity(title: str, state: str) -> Config:
             "device_class": "connectivity", **shown("diagnostic")}
 
 
-def of_rows(topics: Topics, device: str, rows: Iterable[Row], told: Collection[str],
+def of_rows(topics: Topics, device: str, rows: Iterable[Row], reported: Collection[str],
             expire_after: int | None) -> Entities:
     """The entities of a device according to the table. Rows with the same topic are one entity."""
     found: Entities = {}
     for row in rows:
-        for number in row.numbers(told) if row.entity else []:
+        for number in row.numbers(reported) if row.entity else []:
             key = row.entity, f"{device}_{row.place(number).replace('/', '_')}"
             config = entity(topics, device, row, number)
             seconds = row.expires_after(expire_after)
@@ -158,7 +158,7 @@ def of_every_device(topics: Topics, device: str) -> Entities:
     """The entities that each device has, whatever its profile is."""
     return {
         ("sensor", f"{device}_dbm"): {
-            "name": "Signal strength", "state_topic": topics.told(device, "dbm"), "device_class": "signal_strength",
+            "name": "Signal strength", "state_topic": topics.reading(device, "dbm"), "device_class": "signal_strength",
             "state_class": "measurement", "unit_of_measurement": "dBm", **shown("hidden"),
         },
         ("sensor", f"{device}_last_seen"): {
@@ -185,7 +185,7 @@ def triggers(topics: Topics, about: Config, entities: Entities) -> dict[str, str
 def entity(topics: Topics, device: str, row: Row, number: int | None) -> Config:
     """The configuration of one entity, without what all entities of the device share."""
     place = row.place(number)
-    special = KINDS[row.entity](row, topics.told(device, place), topics.command(device, place))
+    special = KINDS[row.entity](row, topics.reading(device, place), topics.command(device, place))
     words: Config = {NAMES[key]: value for key, value in row.more.items() if key in NAMES}
     if row.digits is not None:
         words["suggested_display_precision"] = row.digits

@@ -67,12 +67,12 @@ class Row:
     def words(self, key: str) -> list[str]:
         return self.more[key].split("|") if key in self.more else []
 
-    def numbers(self, told: Iterable[str]) -> list[int | None]:
+    def numbers(self, reported: Iterable[str]) -> list[int | None]:
         """The numbers of its entities, for a device with readings at these places."""
         if not self.by:
             return [None]
         start = set(range(self.count)) if self.from_the_start else set()
-        ends = (place.removeprefix(self.topic + "/") for place in told if place.startswith(self.topic + "/"))
+        ends = (place.removeprefix(self.topic + "/") for place in reported if place.startswith(self.topic + "/"))
         every = sorted(start | {int(end) for end in ends if NUMBER.fullmatch(end)})
         return [number for number in every if number <= GREATEST_CHANNEL.get(self.entity, number)]
 
@@ -125,8 +125,8 @@ class Table:
         named = [row for row in rows.values() if row.reading == reading.name]
         return named[0] if len(named) == 1 else None
 
-    def tells(self, eep: str, place: str) -> bool:
-        """Whether `told_by` has this place for some telegram of the profile."""
+    def reports(self, eep: str, place: str) -> bool:
+        """Whether `reported_by` has this place for some telegram of the profile."""
         rows = self.of_profile(eep).values()
         shown = [row for row in rows if row.entity not in ("", "event")]
         name, slash, number = place.partition("/")
@@ -134,18 +134,18 @@ class Table:
             return name in {row.topic for row in shown if row.by} and bool(NUMBER.fullmatch(number))
         return name in {"dbm", *(row.reading for row in rows), *(row.topic for row in shown if not row.by)}
 
-    def told_by(self, telegram: Telegram) -> dict[str, str]:
+    def reported_by(self, telegram: Telegram) -> dict[str, str]:
         """The readings of a telegram, by their topics below that of its device."""
-        told = {}
+        reported = {}
         numbers = {reading.name: reading.number for reading in telegram.readings}
         for reading in telegram.readings:
-            told[reading.name] = reading.text
+            reported[reading.name] = reading.text
             row = self.of_reading(telegram.eep, reading)
             if row and row.topic and row.entity != "event" and (not row.by or numbers.get(row.by) is not None):
-                told[row.place(numbers.get(row.by))] = reading.text
+                reported[row.place(numbers.get(row.by))] = reading.text
         if telegram.dbm is not None:
-            told["dbm"] = str(telegram.dbm)
-        return told
+            reported["dbm"] = str(telegram.dbm)
+        return reported
 
     def events_of(self, telegram: Telegram) -> list[tuple[str, str]]:
         """The events of a telegram, each with the topic of its entity and its type. A release is a single event."""

@@ -121,7 +121,7 @@ class Store:
 
     def read(self, connection: sqlite3.Connection) -> None:
         self.forget()
-        self.devices = [Device(name, eep, label, maker, told_of(told)) for name, eep, label, maker, told
+        self.devices = [Device(name, eep, label, maker, reported_of(reported)) for name, eep, label, maker, reported
                         in connection.execute("SELECT id, eep, label, maker, told FROM device")]
         self.removed = {topic for topic, in connection.execute("SELECT topic FROM removed")}
         row = connection.execute("SELECT inode, offset, last, discovery, may_adopt FROM place").fetchone()
@@ -174,7 +174,7 @@ class Store:
         """Saves a device, or that there is none of this ID."""
         connection.execute("DELETE FROM device WHERE id = ?", (name,))
         if device:
-            values = (name, device.eep, device.label, device.maker, json.dumps(device.told))
+            values = (name, device.eep, device.label, device.maker, json.dumps(device.reported))
             connection.execute("INSERT INTO device VALUES (?, ?, ?, ?, ?)", values)
 
 
@@ -193,14 +193,14 @@ def place_of(inode: object, offset: object, last: object) -> Place:
     return Place(inode, offset, last)
 
 
-def told_of(text: str) -> dict[str, str]:
+def reported_of(text: str) -> dict[str, str]:
     """The readings of a device, by their places."""
-    told = json.loads(text)
-    if not isinstance(told, dict) or not all(isinstance(value, str) for value in told.values()):
+    reported = json.loads(text)
+    if not isinstance(reported, dict) or not all(isinstance(value, str) for value in reported.values()):
         raise Foreign("readings of an unknown form")
-    for place, value in told.items():
+    for place, value in reported.items():
         # an earlier version accepted lines with such readings, which cannot be published
         if not REPORTED_PLACE.fullmatch(place) or any("\ud800" <= character <= "\udfff" for character in value):
             raise Foreign("readings that cannot be published")
-    return told
+    return reported
 

@@ -78,13 +78,13 @@ class Topics:
         """Filters for everything that the bridge receives as an order."""
         return [self.orders, self.learn_command, self.command("+", "+/+")]
 
-    def told(self, device: str, place: str) -> str:
+    def reading(self, device: str, place: str) -> str:
         """The topic of a reading, at this place below the topic of the device."""
         return f"{self.own}/{device}/{place}"
 
     def last_seen(self, device: str) -> str:
         """The time of the last telegram of a device, retained, in ISO 8601 with the time zone."""
-        return self.told(device, "last_seen")
+        return self.reading(device, "last_seen")
 
     def of_device(self, device: str) -> list[str]:
         """Filters for everything that is retained below the topic of a device."""

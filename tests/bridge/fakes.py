@@ -214,7 +214,7 @@ class Site:
             if topic in WATCHED:
                 self.send(topic, b"")
 
-    def told(self, start: str = "") -> list[tuple[str, str]]:
+    def published(self, start: str = "") -> list[tuple[str, str]]:
         """The topics and messages that were published on this connection."""
         return [(topic, text) for topic, text, _ in self.broker.connection.published if topic.startswith(start)]
 

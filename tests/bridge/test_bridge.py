@@ -33,16 +33,16 @@ class Bridging(Case):
         self.site.start()
 
     def lines(self):
-        return [text for topic, text in self.site.told(HALL + "lines")]
+        return [text for topic, text in self.site.published(HALL + "lines")]
 
     def test_the_first_run(self):
         self.start(*listing(*DEVICES), reading("01800ABC"))
-        told = self.site.told()
-        self.assertEqual([text for text in told if text[0] == HALL + "status"], [(HALL + "status", "online")])
-        self.assertLess(told.index((HALL + "01800ABC/TMP", "20")), told.index((HALL + "status", "online")))
-        self.assertIn((HALL + "01800ABC/TMP", "20"), told)
-        self.assertIn("homeassistant/sensor/enogate_hall/01800ABC_TMP/config", dict(told))
-        self.assertIn("homeassistant/binary_sensor/enogate_hall/status/config", dict(told))
+        reported = self.site.published()
+        self.assertEqual([text for text in reported if text[0] == HALL + "status"], [(HALL + "status", "online")])
+        self.assertLess(reported.index((HALL + "01800ABC/TMP", "20")), reported.index((HALL + "status", "online")))
+        self.assertIn((HALL + "01800ABC/TMP", "20"), reported)
+        self.assertIn("homeassistant/sensor/enogate_hall/01800ABC_TMP/config", dict(reported))
+        self.assertIn("homeassistant/binary_sensor/enogate_hall/status/config", dict(reported))
         self.assertEqual(self.lines(), [])
         self.assertEqual(self.site.orders(), ["list", "status"])
 
@@ -51,15 +51,15 @@ class Bridging(Case):
         self.site.tell(OK, learned("01800ABC"), reading("01800ABC"))
         self.site.turns()
         self.assertEqual(self.lines(), [json.dumps(line) for line in (OK, learned("01800ABC"), reading("01800ABC"))])
-        self.assertIn((HALL + "01800ABC/last_seen", "2027-01-15T08:00:00+00:00"), self.site.told())
+        self.assertIn((HALL + "01800ABC/last_seen", "2027-01-15T08:00:00+00:00"), self.site.published())
 
     def last_seen(self):
         """What is published as the time of a telegram that comes now."""
-        before = len(self.site.told(HALL + "01800ABC/last_seen"))
+        before = len(self.site.published(HALL + "01800ABC/last_seen"))
         self.site.tell(reading("01800ABC"))
         self.site.turns(2, 0.01)
         self.assertEqual(self.site.broker.memory[HALL + "01800ABC/TMP"], "20")
-        return [text for _, text in self.site.told(HALL + "01800ABC/last_seen")[before:]]
+        return [text for _, text in self.site.published(HALL + "01800ABC/last_seen")[before:]]
 
     def test_a_clock_that_is_not_set_yet(self):
         """Soon after a start, no time is published that is earlier than one of an earlier run."""
@@ -106,7 +106,8 @@ class Bridging(Case):
         self.start(learned("01800AC1", "F6-02-01"))
         self.site.tell(press)
         self.site.turns()
-        self.assertEqual(self.site.told(HALL + "01800AC1/press"), [(HALL + "01800AC1/press", '{"event_type":"BI"}')])
+        topic = HALL + "01800AC1/press"
+        self.assertEqual(self.site.published(topic), [(topic, '{"event_type":"BI"}')])
         self.site.broker.lose()
         self.site.turns()
         self.site.tell(press)
@@ -114,13 +115,13 @@ class Bridging(Case):
         self.site.tell(press)
         self.site.broker.join()
         self.site.turns()
-        self.assertEqual(self.site.told(HALL + "01800AC1/press"), [])
+        self.assertEqual(self.site.published(HALL + "01800AC1/press"), [])
         self.assertEqual(len(self.lines()), 2)
         self.again()
         self.site.tell(press)
         self.site.broker.join()
         self.site.turns()
-        self.assertEqual(self.site.told(HALL + "01800AC1/press"), [])
+        self.assertEqual(self.site.published(HALL + "01800AC1/press"), [])
 
     def test_lines_that_were_not_acknowledged_are_published_again(self):
         self.start()
@@ -145,7 +146,7 @@ class Bridging(Case):
         self.site.tell(OK)
         self.site.broker.join()
         self.site.turns(20)
-        self.assertEqual(sorted(topic for topic, _ in self.site.told()), [HALL + "lines", HALL + "status"])
+        self.assertEqual(sorted(topic for topic, _ in self.site.published()), [HALL + "lines", HALL + "status"])
 
     def test_what_the_broker_lost_is_published_again(self):
         self.start(*listing(*DEVICES), reading("01800ABC"))
@@ -155,7 +156,7 @@ class Bridging(Case):
         self.again()
         self.site.broker.join()
         self.site.turns(20)
-        self.assertEqual(self.site.told(HALL + "01800ABC"),
+        self.assertEqual(self.site.published(HALL + "01800ABC"),
                          [(HALL + "01800ABC/TMP", "20"), (HALL + "01800ABC/dbm", "-45")])
 
     def test_strays_below_a_device_are_removed(self):
@@ -165,7 +166,8 @@ class Bridging(Case):
         self.again()
         self.site.broker.join()
         self.site.turns(20)
-        self.assertEqual(self.site.told(HALL + "01800ABC"), [(HALL + "01800ABC/CO", ""), (HALL + "01800ABC/OV/0", "")])
+        self.assertEqual(self.site.published(HALL + "01800ABC"), [
+            (HALL + "01800ABC/CO", ""), (HALL + "01800ABC/OV/0", "")])
         self.assertIn(HALL + "note/x", self.site.broker.memory)
 
     def test_another_profile_while_the_broker_is_away(self):
@@ -213,7 +215,7 @@ class Bridging(Case):
         self.site.turns()
         self.site.broker.join()
         self.site.turns()
-        self.assertIn((HALL + "01800ABC/TMP", ""), self.site.told())
+        self.assertIn((HALL + "01800ABC/TMP", ""), self.site.published())
         self.assertEqual(self.site.bridge.devices.removed, set())
 
     def test_a_lost_state_file(self):
@@ -232,7 +234,7 @@ class Bridging(Case):
         self.assertLess(stray.keys(), self.site.broker.memory.keys())
         self.site.tell(*listing(*DEVICES))
         self.site.turns(30)
-        self.assertEqual(self.site.bridge.devices.known["01800ABC"].told, {"TMP": "20", "dbm": "-45"})
+        self.assertEqual(self.site.bridge.devices.known["01800ABC"].reported, {"TMP": "20", "dbm": "-45"})
         self.assertEqual([self.site.broker.memory[HALL + "01800ABC/" + place] for place in ("TMP", "dbm")],
                          ["20", "-45"])
         self.assertFalse(stray.keys() & self.site.broker.memory.keys())
@@ -273,17 +275,17 @@ class Bridging(Case):
         closed = real()
         closed.is_open = False
         self.site.turns(5)
-        self.assertEqual((closed.requests, self.site.told(HALL + "status")), ([], []))
+        self.assertEqual((closed.requests, self.site.published(HALL + "status")), ([], []))
         closed.is_open = True
         self.site.turns(5)
-        self.assertEqual(self.site.told(HALL + "status"), [(HALL + "status", "online")])
+        self.assertEqual(self.site.published(HALL + "status"), [(HALL + "status", "online")])
 
     def test_without_discovery(self):
         self.site.topics = type(self.site.topics)("hall", "")
         self.start(*listing(*DEVICES), reading("01800ABC"))
         self.site.turns(20)
-        self.assertEqual(self.site.told("homeassistant"), [])
-        self.assertIn((HALL + "01800ABC/TMP", "20"), self.site.told())
+        self.assertEqual(self.site.published("homeassistant"), [])
+        self.assertIn((HALL + "01800ABC/TMP", "20"), self.site.published())
 
     def test_orders(self):
         self.start()
@@ -372,46 +374,47 @@ class Bridging(Case):
 
     def test_the_gateway(self):
         self.start()
-        self.assertEqual(self.site.told(HALL + "gateway"), [])
+        self.assertEqual(self.site.published(HALL + "gateway"), [])
         self.site.tell(status(readings=5))
         self.site.turns()
-        self.assertEqual(self.site.told(HALL + "gateway"), [(HALL + "gateway", "online")])
-        self.assertEqual(self.site.told(HALL + "learn"), [(HALL + "learn", "OFF")])
-        counters = dict(self.site.told(HALL + "counters"))[HALL + "counters"]
+        self.assertEqual(self.site.published(HALL + "gateway"), [(HALL + "gateway", "online")])
+        self.assertEqual(self.site.published(HALL + "learn"), [(HALL + "learn", "OFF")])
+        counters = dict(self.site.published(HALL + "counters"))[HALL + "counters"]
         self.assertEqual(json.loads(counters), {"ignored": 0, "readings": 5, "refused": 0, "responses": 0, "teach": 0})
         self.assertEqual(self.site.orders()[-1], "base")
         self.site.tell({"code": 0, "data": "FF800000", "name": "OK", "type": "response"})
         self.site.turns()
-        self.assertEqual(self.site.told(HALL + "module"), [(HALL + "module", "online")])
+        self.assertEqual(self.site.published(HALL + "module"), [(HALL + "module", "online")])
         self.site.turns(2, 61)
         self.site.turns(2, 20)
-        self.assertEqual(self.site.told(HALL + "gateway")[-1], (HALL + "gateway", "offline"))
-        self.assertEqual(self.site.told(HALL + "module")[-1], (HALL + "module", "offline"))
+        self.assertEqual(self.site.published(HALL + "gateway")[-1], (HALL + "gateway", "offline"))
+        self.assertEqual(self.site.published(HALL + "module")[-1], (HALL + "module", "offline"))
         self.site.tell(status("on"))
         self.site.turns()
-        self.assertEqual(self.site.told(HALL + "gateway")[-1], (HALL + "gateway", "online"))
-        self.assertEqual(self.site.told(HALL + "learn")[-1], (HALL + "learn", "ON"))
+        self.assertEqual(self.site.published(HALL + "gateway")[-1], (HALL + "gateway", "online"))
+        self.assertEqual(self.site.published(HALL + "learn")[-1], (HALL + "learn", "ON"))
 
     def test_the_same_is_reported_once(self):
         self.start()
         for _ in range(3):
             self.site.tell(status())
             self.site.turns()
-        self.assertEqual([len(self.site.told(HALL + name)) for name in ("counters", "learn", "gateway")], [1, 1, 1])
+        for name in ("counters", "learn", "gateway"):
+            self.assertEqual(len(self.site.published(HALL + name)), 1, name)
         self.site.broker.join()
         self.site.turns()
-        self.assertEqual([self.site.told(HALL + name) for name in ("counters", "learn", "gateway")], [[], [], []])
+        self.assertEqual([self.site.published(HALL + name) for name in ("counters", "learn", "gateway")], [[], [], []])
         self.site.broker.memory.clear()
         self.site.broker.join()
         self.site.turns()
-        self.assertEqual(len(self.site.told(HALL + "counters")), 1)
+        self.assertEqual(len(self.site.published(HALL + "counters")), 1)
 
     def count(self, readings, seconds=1.0):
         """The numbers of readings in the counters that are published within some seconds after a status line."""
-        before = len(self.site.told(HALL + "counters"))
+        before = len(self.site.published(HALL + "counters"))
         self.site.tell(status(readings=readings))
         self.site.turns(10, seconds / 10)
-        return [json.loads(text)["readings"] for _, text in self.site.told(HALL + "counters")[before:]]
+        return [json.loads(text)["readings"] for _, text in self.site.published(HALL + "counters")[before:]]
 
     def test_counters_are_published_once_a_minute(self):
         """However often they change, and the newest ones in the end."""
@@ -430,8 +433,8 @@ class Bridging(Case):
         self.count(1)
         self.site.tell(status("on", readings=2))
         self.site.turns()
-        self.assertEqual(self.site.told(HALL + "learn")[-1], (HALL + "learn", "ON"))
-        self.assertEqual(len(self.site.told(HALL + "counters")), 1)
+        self.assertEqual(self.site.published(HALL + "learn")[-1], (HALL + "learn", "ON"))
+        self.assertEqual(len(self.site.published(HALL + "counters")), 1)
 
     def test_counters_on_a_new_connection(self):
         """What the broker does not retain is published at once."""
@@ -549,7 +552,7 @@ class Bridging(Case):
         for payload, times in ((b"online", 1), (b"offline", 2), (b"online", 2)):
             self.site.send(HALL + "status", payload)
             self.site.turns()
-            self.assertEqual(self.site.told(HALL + "status"), [(HALL + "status", "online")] * times)
+            self.assertEqual(self.site.published(HALL + "status"), [(HALL + "status", "online")] * times)
 
     def show_all(self):
         """A bridge that has published everything, and what the broker retains then."""
@@ -608,9 +611,9 @@ class Bridging(Case):
                 self.site.send(HALL + name, payload)
                 self.site.turns(2)
                 self.assertEqual(self.site.broker.memory[HALL + name], before[HALL + name], (name, payload))
-        count = len(self.site.told())
+        count = len(self.site.published())
         self.site.turns(20)
-        self.assertEqual(len(self.site.told()), count)
+        self.assertEqual(len(self.site.published()), count)
 
     def test_it_is_connected_when_its_message_has_come_back(self):
         self.start()
@@ -695,7 +698,7 @@ class Bridging(Case):
         self.assertLess(len(self.site.bridge.backlog), 20)
         connection.acknowledges = True
         self.site.turns(1)
-        later = [(topic.removeprefix(HALL), text) for topic, text in self.site.told()[500:]]
+        later = [(topic.removeprefix(HALL), text) for topic, text in self.site.published()[500:]]
         self.assertEqual(later[0], ("01800AC1/press", '{"event_type":"BI"}'))
         places = [place for place, _ in later]
         self.assertEqual(sorted(text for place, text in later if place.endswith("ABC/TMP")), ["299"])
@@ -711,7 +714,7 @@ class Bridging(Case):
         self.congest()
         self.site.broker.join()
         self.site.turns(20)
-        self.assertEqual(self.site.told(HALL + "01800AC1/press"), [])
+        self.assertEqual(self.site.published(HALL + "01800AC1/press"), [])
         self.assertEqual(self.site.broker.memory[HALL + "01800ABC/TMP"], "299")
         self.assertEqual(len(self.lines()), 601)
 
@@ -740,7 +743,7 @@ class Bridging(Case):
             connection.acknowledges = False
             self.site.turns(50, 1)
             self.assertTrue(self.site.bridge.is_online)
-            self.assertNotIn(("enogate/hall/status", "online"), self.site.told())
+            self.assertNotIn(("enogate/hall/status", "online"), self.site.published())
             self.assertEqual(self.site.broker.said, ["connected"])
             connection.acknowledges = True
             self.site.turns(200)
@@ -752,7 +755,7 @@ class Bridging(Case):
         self.site.turns()
         self.site.stop()
         connection = self.site.broker.connection
-        self.assertEqual((self.site.told()[-1], connection.is_ended), ((HALL + "status", "offline"), True))
+        self.assertEqual((self.site.published()[-1], connection.is_ended), ((HALL + "status", "offline"), True))
         self.site.broker.lose()
         self.site.start()
         self.site.broker.join()
@@ -838,7 +841,7 @@ class Bridging(Case):
         self.again()
         self.site.broker.join()
         self.site.turns(60)
-        self.assertEqual([topic for topic, _ in self.site.told()], [HALL + "status"])
+        self.assertEqual([topic for topic, _ in self.site.published()], [HALL + "status"])
 
     def test_lines_of_the_last_turn_are_not_published_twice(self):
         self.start()
@@ -894,7 +897,7 @@ class Bridging(Case):
         self.site.turns(1)
         self.site.tell(reading("01800ABC", readings=[{"den": 1, "name": "TMP", "num": 21, "unit": "C"}]))
         self.site.turns(20)
-        self.assertEqual(self.site.told(HALL + "01800ABC/TMP"), [(HALL + "01800ABC/TMP", "21")])
+        self.assertEqual(self.site.published(HALL + "01800ABC/TMP"), [(HALL + "01800ABC/TMP", "21")])
 
     def test_late_lines_have_no_time(self):
         self.start(*listing(*DEVICES))
@@ -917,7 +920,7 @@ class Bridging(Case):
     def test_a_module_of_a_gateway_that_never_answered(self):
         self.start()
         self.site.turns(2, 20)
-        self.assertEqual(self.site.told(HALL + "module"), [(HALL + "module", "offline")])
+        self.assertEqual(self.site.published(HALL + "module"), [(HALL + "module", "offline")])
 
     def test_each_change_is_saved(self):
         self.start(*listing(*DEVICES), reading("01800ABC"))
@@ -1075,7 +1078,7 @@ class Bridging(Case):
         self.site.send(HALL + "status", b"offline")
         self.site.send(HALL + "status", b"something")
         self.site.turns(1)
-        self.assertEqual(self.site.told(HALL + "status"), [])
+        self.assertEqual(self.site.published(HALL + "status"), [])
 
     def test_a_list_that_is_never_complete(self):
         self.start()

@@ -42,7 +42,7 @@ class Known(unittest.TestCase):
         self.assertEqual(self.take(reading("01800ABC"), now=NOW)[-1],
                          ("01800ABC/last_seen", "2027-01-15T08:00:00+00:00", True))
         self.take(reading("01800ABC"))
-        self.assertEqual(self.devices.known["01800ABC"].told["last_seen"], "2027-01-15T08:00:00+00:00")
+        self.assertEqual(self.devices.known["01800ABC"].reported["last_seen"], "2027-01-15T08:00:00+00:00")
 
     def test_a_device_is_shown_when_it_is_learned(self):
         self.take(reading("01800ABC"))
@@ -83,12 +83,12 @@ class Known(unittest.TestCase):
 
     def test_another_profile(self):
         self.take(learned("01800ABC"), reading("01800ABC"))
-        told = self.take(learned("01800ABC", "D5-00-01"))
-        self.assertEqual(sorted(told), [("01800ABC/TMP", "", True), ("01800ABC/dbm", "", True)])
+        reported = self.take(learned("01800ABC", "D5-00-01"))
+        self.assertEqual(sorted(reported), [("01800ABC/TMP", "", True), ("01800ABC/dbm", "", True)])
         added, removed = self.shown()
         self.assertIn("01800ABC_CO", added)
         self.assertIn("01800ABC_TMP", removed)
-        self.assertEqual(self.devices.known["01800ABC"].told, {})
+        self.assertEqual(self.devices.known["01800ABC"].reported, {})
 
     def test_a_reading_of_another_profile(self):
         self.take(*listing(("01800ABC", "D5-00-01", "")))
@@ -129,26 +129,26 @@ class Known(unittest.TestCase):
 
     def test_a_switch(self):
         self.take(learned("01800AC1", "F6-02-01"))
-        told = self.take(reading("01800AC1", "F6-02-01", ROCKER))
-        self.assertEqual(told,
+        reported = self.take(reading("01800AC1", "F6-02-01", ROCKER))
+        self.assertEqual(reported,
                          [("01800AC1/R1", "BI", True), ("01800AC1/EB", "pressed", True), ("01800AC1/dbm", "-45", True),
                                 ("01800AC1/press", '{"event_type":"BI"}', False)])
 
     def test_a_switch_that_is_released_is_not_retained_as_pressed(self):
         self.take(learned("01800AC1", "F6-02-01"), reading("01800AC1", "F6-02-01", ROCKER, -50), now=NOW)
-        told = self.take(reading("01800AC1", "F6-02-01", RELEASED, None))
-        self.assertEqual(told[0], ("01800AC1/R1", "", True))
-        self.assertEqual(told[-1], ("01800AC1/press", '{"event_type":"released"}', False))
-        self.assertEqual(sorted(self.devices.known["01800AC1"].told), ["EB", "buttons", "dbm", "last_seen"])
+        reported = self.take(reading("01800AC1", "F6-02-01", RELEASED, None))
+        self.assertEqual(reported[0], ("01800AC1/R1", "", True))
+        self.assertEqual(reported[-1], ("01800AC1/press", '{"event_type":"released"}', False))
+        self.assertEqual(sorted(self.devices.known["01800AC1"].reported), ["EB", "buttons", "dbm", "last_seen"])
 
     def test_a_press_that_is_no_event(self):
         self.take(learned("01800AC1", "F6-03-01"), reading("01800AC1", "F6-03-01", ROCKER))
         self.take(reading("01800AC1", "F6-03-01", [{"name": "buttons", "raw": 3}, {"name": "EB", "word": "pressed"}]))
-        self.assertEqual(sorted(self.devices.known["01800AC1"].told), ["EB", "buttons", "dbm"])
+        self.assertEqual(sorted(self.devices.known["01800AC1"].reported), ["EB", "buttons", "dbm"])
 
     def test_other_devices_keep_what_they_do_not_repeat(self):
         self.take(reading("01800ABC"), reading("01800ABC", readings=[{"name": "X", "word": "y"}]))
-        self.assertIn("TMP", self.devices.known["01800ABC"].told)
+        self.assertIn("TMP", self.devices.known["01800ABC"].reported)
 
     def test_a_list_that_repeats_what_is_known(self):
         """It makes no discovery messages: those of 1,000 devices take a second, and a press behind the list waits."""
@@ -193,7 +193,7 @@ class Known(unittest.TestCase):
         self.assertTrue(self.devices.adopt("enogate/hall/01800ABC/last_seen", "2026"))
         for place in ("TMP", "nonsense", "OV/0", "TMP/0/1", "TMP/x"):
             self.assertFalse(self.devices.adopt(f"enogate/hall/01800ABC/{place}", "30"))
-        self.assertEqual(self.devices.known["01800ABC"].told, {"TMP": "20", "last_seen": "2026"})
+        self.assertEqual(self.devices.known["01800ABC"].reported, {"TMP": "20", "last_seen": "2026"})
         self.assertFalse(self.devices.adopt("enogate/hall/01800ABD/TMP", "20"))
 
     def test_adoption_after_another_start(self):

@@ -35,10 +35,10 @@ def about(eep: str, label: str = "", maker: int | None = None) -> dict:
     return discovery.about_device(TOPICS, DEVICE, eep, label, maker)
 
 
-def configs(eep: str, *told: str, expire_after: int | None = None) -> dict[str, dict]:
+def configs(eep: str, *reported: str, expire_after: int | None = None) -> dict[str, dict]:
     """The messages of a device with this profile and readings at these places."""
     rows = TABLE.of_profile(eep).values()
-    return read(discovery.configs(TOPICS, DEVICE, about(eep), rows, told, expire_after))
+    return read(discovery.configs(TOPICS, DEVICE, about(eep), rows, reported, expire_after))
 
 
 def result(template: str, value: str) -> str:
@@ -56,11 +56,11 @@ class Entities(unittest.TestCase):
     def setUp(self):
         self.maxDiff = None
 
-    def check(self, eep: str, key: str, wanted: dict, *told: str):
+    def check(self, eep: str, key: str, wanted: dict, *reported: str):
         name = key.split()[1]
         wanted = {**wanted, **ALL, "unique_id": f"enogate_hall_{DEVICE}_{name}", "device": about(eep),
                   "origin": ORIGIN}
-        self.assertEqual(configs(eep, *told)[key], wanted)
+        self.assertEqual(configs(eep, *reported)[key], wanted)
 
     def test_a_contact(self):
         self.check("D5-00-01", "binary_sensor CO", {
@@ -191,8 +191,8 @@ class Devices(unittest.TestCase):
 class Expiry(unittest.TestCase):
     """Which entities expire."""
 
-    def expiring(self, eep: str, *told: str) -> set[str]:
-        found = {key: config["expire_after"] for key, config in configs(eep, *told, expire_after=7200).items()
+    def expiring(self, eep: str, *reported: str) -> set[str]:
+        found = {key: config["expire_after"] for key, config in configs(eep, *reported, expire_after=7200).items()
                  if "expire_after" in config}
         self.assertEqual(set(found.values()) | {7200}, {7200})
         return set(found)

@@ -217,10 +217,10 @@ class Entities(unittest.TestCase):
 
     def test_channels_that_take_no_commands(self):
         self.assertEqual(GREATEST_CHANNEL, {"switch": 29, "light": 29, "cover": 0})
-        told = ["OV/29", "OV/30", "PF/30"]
-        self.assertEqual(row("D2-01-12", "OV", "%").numbers(told), [0, 1, 29])
-        self.assertEqual(row("D2-01-02", "OV", "%").numbers(told), [0, 29])
-        self.assertEqual(row("D2-01-12", "PF").numbers(told), [0, 1, 30])
+        reported = ["OV/29", "OV/30", "PF/30"]
+        self.assertEqual(row("D2-01-12", "OV", "%").numbers(reported), [0, 1, 29])
+        self.assertEqual(row("D2-01-02", "OV", "%").numbers(reported), [0, 29])
+        self.assertEqual(row("D2-01-12", "PF").numbers(reported), [0, 1, 30])
         self.assertEqual(row("D2-05-00", "POS", "%").numbers(["POS/0", "POS/1", "ANG/1"]), [0])
         self.assertEqual(row("D2-05-00", "ANG", "%").numbers(["POS/0", "POS/1", "ANG/1"]), [0, 1])
 
@@ -244,7 +244,7 @@ class Readings(unittest.TestCase):
             self.assertIsNone(TABLE.of_reading(eep, reading), reading)
 
     def test_places_of_readings(self):
-        for eep, readings, told in [
+        for eep, readings, reported in [
             ("D5-00-01", [word("CO", "closed")], {"CO": "closed"}),
             ("A5-06-01", [value("SVC", "5.1", "V"), value("ILL2", "300", "lx")],
              {"SVC": "5.1", "ILL2": "300", "ILL": "300"}),
@@ -255,22 +255,22 @@ class Readings(unittest.TestCase):
             ("D2-01-12", [raw("IO", 0), raw("UN", 3), value("MV", "1234", "W")],
              {"IO": "0", "UN": "3", "MV": "1234", "MV_W/0": "1234"}),
         ]:
-            self.assertEqual(TABLE.told_by(telegram(eep, *readings)), told, eep)
+            self.assertEqual(TABLE.reported_by(telegram(eep, *readings)), reported, eep)
 
     def test_channels_of_readings(self):
-        told = {"PF": "0", "PF/1": "0", "EL": "ok", "EL/1": "ok", "IO": "1", "OV": "100", "OV/1": "100"}
-        self.assertEqual(TABLE.told_by(telegram("D2-01-12", *state(1))), told)
-        self.assertEqual(TABLE.told_by(telegram("D2-01-12", *reversed(state(1)))), told)
+        reported = {"PF": "0", "PF/1": "0", "EL": "ok", "EL/1": "ok", "IO": "1", "OV": "100", "OV/1": "100"}
+        self.assertEqual(TABLE.reported_by(telegram("D2-01-12", *state(1))), reported)
+        self.assertEqual(TABLE.reported_by(telegram("D2-01-12", *reversed(state(1)))), reported)
 
     def test_a_reading_without_its_channel(self):
-        self.assertEqual(TABLE.told_by(telegram("D2-01-12", value("OV", "0", "%"))), {"OV": "0"})
-        self.assertEqual(TABLE.told_by(telegram("D2-01-12", value("OV", "0", "%"), word("IO", "out_of_range"))),
+        self.assertEqual(TABLE.reported_by(telegram("D2-01-12", value("OV", "0", "%"))), {"OV": "0"})
+        self.assertEqual(TABLE.reported_by(telegram("D2-01-12", value("OV", "0", "%"), word("IO", "out_of_range"))),
                          {"OV": "0", "IO": "out_of_range"})
 
     def test_the_signal_strength(self):
-        self.assertEqual(TABLE.told_by(telegram("D5-00-01", dbm=-45)), {"dbm": "-45"})
-        self.assertEqual(TABLE.told_by(telegram("D5-00-01", dbm=0)), {"dbm": "0"})
-        self.assertEqual(TABLE.told_by(telegram("D5-00-01")), {})
+        self.assertEqual(TABLE.reported_by(telegram("D5-00-01", dbm=-45)), {"dbm": "-45"})
+        self.assertEqual(TABLE.reported_by(telegram("D5-00-01", dbm=0)), {"dbm": "0"})
+        self.assertEqual(TABLE.reported_by(telegram("D5-00-01")), {})
 
     def test_tells_each_place_that_is_told(self):
         for one in [telegram("D2-01-12", *state(1), dbm=-45), telegram("D5-00-01", word("CO", "open"), dbm=-45),
@@ -278,8 +278,8 @@ class Readings(unittest.TestCase):
                     telegram("A5-12-01", value("MR", "7", "W"), raw("TI", 15)),
                     telegram("A5-06-01", value("ILL1", "1", "lx")),
                     telegram("F6-02-01", word("R1", "AI"), word("EB", "pressed"))]:
-            for place in TABLE.told_by(one):
-                self.assertTrue(TABLE.tells(one.eep, place), (one.eep, place))
+            for place in TABLE.reported_by(one):
+                self.assertTrue(TABLE.reports(one.eep, place), (one.eep, place))
 
     def test_tells_nothing_else(self):
         for eep, place in [
@@ -290,7 +290,7 @@ class Readings(unittest.TestCase):
             ("D2-01-12", "nonsense/0"), ("D2-01-12", "/0"), ("D2-01-12", "IO/0"), ("F6-02-01", "press"),
             ("A5-FF-FF", "TMP"),
         ]:
-            self.assertFalse(TABLE.tells(eep, place), (eep, place))
+            self.assertFalse(TABLE.reports(eep, place), (eep, place))
 
 
 class Events(unittest.TestCase):

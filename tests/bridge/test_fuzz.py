@@ -91,7 +91,7 @@ class Lines(Case):
         site.broker.join()
         site.tell(learned("01800AFF"))
         site.turns(30)
-        self.assertIn(json.dumps(learned("01800AFF")), [text for _, text in site.told("enogate/hall/lines")])
+        self.assertIn(json.dumps(learned("01800AFF")), [text for _, text in site.published("enogate/hall/lines")])
 
 
 if __name__ == "__main__":

@@ -32,7 +32,7 @@ class Waiting(Case):
     def names(self, device=ONE):
         """The names under which the temperature of a device was shown on this connection; None if it was removed."""
         topic = TMP.replace(ONE, device)
-        return [json.loads(text)["device"]["name"] if text else None for _, text in self.site.told(topic)]
+        return [json.loads(text)["device"]["name"] if text else None for _, text in self.site.published(topic)]
 
     def shown(self):
         """The devices of all discovery messages that the broker retains."""
@@ -94,7 +94,7 @@ class Waiting(Case):
         before = self.site.orders().count("list")
         self.site.tell(reading(ONE))
         self.site.turns(10, 1)
-        self.assertIn((HALL + f"{ONE}/TMP", "20"), self.site.told())
+        self.assertIn((HALL + f"{ONE}/TMP", "20"), self.site.published())
         self.assertEqual((self.names(), self.site.orders().count("list")), ([], before))
 
     def test_a_device_that_was_shown(self):

@@ -56,16 +56,17 @@ class PowerFailures(Case):
         store.close()
 
     def lines(self):
-        return [text for _, text in self.site.told(HALL + "lines")]
+        return [text for _, text in self.site.published(HALL + "lines")]
 
     def assert_nothing_old(self):
         """Nothing that was written before the failure is published, and what comes after it is."""
         self.connect()
-        self.assertEqual((self.lines(), self.site.told(HALL + "01800AC1/press")), ([], []))
+        self.assertEqual((self.lines(), self.site.published(HALL + "01800AC1/press")), ([], []))
         self.site.tell(PRESS, OK)
         self.site.turns(30)
         self.assertEqual(self.lines(), [json.dumps(PRESS), json.dumps(OK)])
-        self.assertEqual(self.site.told(HALL + "01800AC1/press"), [(HALL + "01800AC1/press", '{"event_type":"BI"}')])
+        topic = HALL + "01800AC1/press"
+        self.assertEqual(self.site.published(topic), [(topic, '{"event_type":"BI"}')])
 
     def state(self):
         return self.site.broker.memory[HALL + "01800ABC/CO"]
@@ -169,7 +170,7 @@ class PowerFailures(Case):
         self.site.kill()
         self.site.tell(PRESS)
         self.connect()
-        self.assertEqual((self.lines(), self.site.told(HALL + "01800AC1/press")), ([json.dumps(PRESS)], []))
+        self.assertEqual((self.lines(), self.site.published(HALL + "01800AC1/press")), ([json.dumps(PRESS)], []))
 
     def test_a_state_without_a_boot(self):
         """The state file of a version that stored no boot ID."""

@@ -192,17 +192,17 @@ class Stores(Case):
 
     def test_readings_of_another_form(self):
         long = f'{{"{"x" * 70_000}": ""}}'
-        for told in ("no JSON", "[]", '{"CO": 3}', "3", '{"CO": "\\ud800"}', '{"C/O": ""}', long):
-            with self.subTest(told[:40]):
+        for reported in ("no JSON", "[]", '{"CO": 3}', "3", '{"CO": "\\ud800"}', '{"C/O": ""}', long):
+            with self.subTest(reported[:40]):
                 self.setUp()
                 self.open()
-                self.sql(f"INSERT INTO device VALUES ('01800ABC', 'D5-00-01', '', NULL, '{told}')")
+                self.sql(f"INSERT INTO device VALUES ('01800ABC', 'D5-00-01', '', NULL, '{reported}')")
                 self.is_replaced("")
 
     def test_readings_of_each_form_are_kept(self):
-        told = {"CO": "open", "MR_l_s/0": "0.5", "OV/18446744073709551615": "1", "last_seen": "ä \U0001f600"}
-        self.open().save(PLACE, ["01800ABC"], {"01800ABC": Device("01800ABC", "D5-00-01", told=told)}, set())
-        self.assertEqual(self.open().devices[0].told, told)
+        reported = {"CO": "open", "MR_l_s/0": "0.5", "OV/18446744073709551615": "1", "last_seen": "ä \U0001f600"}
+        self.open().save(PLACE, ["01800ABC"], {"01800ABC": Device("01800ABC", "D5-00-01", reported=reported)}, set())
+        self.assertEqual(self.open().devices[0].reported, reported)
         self.assertEqual(self.logged, [])
 
     def test_a_file_that_cannot_be_opened_is_left(self):

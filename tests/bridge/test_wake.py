@@ -397,7 +397,7 @@ class Turns(Case):
         append(old, json.dumps(reading("01800001")).encode() + b"\n")
         for _ in range(10):
             self.turn()
-        lines = [json.loads(text) for _, text in self.site.told("enogate/hall/lines")]
+        lines = [json.loads(text) for _, text in self.site.published("enogate/hall/lines")]
         self.assertEqual([line["id"] for line in lines if line["type"] == "reading"], ["01800001", "01800002"])
 
     def test_both_connections_are_waited_for(self):

@@ -142,10 +142,10 @@ def bridge(site, name, time, place=None):
     connection."""
     store = Store(str(site.state), "")
     site.addCleanup(store.connection.close)
-    told = {"CO": "closed", "last_seen": time.isoformat(timespec="seconds")}
-    other = Device("01800AFF", "D5-00-01", "", None, {})
-    store.save(place or end_of(str(site.lines)), [name, "01800AFF"], {name: Device(name, "D5-00-01", "", None, told),
-                                                                     "01800AFF": other}, set())
+    reported = {"CO": "closed", "last_seen": time.isoformat(timespec="seconds")}
+    devices = {device: Device(device, "D5-00-01", "", None, readings)
+               for device, readings in ((name, reported), ("01800AFF", {}))}
+    store.save(place or end_of(str(site.lines)), list(devices), devices, set())
     return store
 
 
