@@ -28,8 +28,7 @@ many as there are orders, each with an answer that its order can have.
 The order `status` is given alone and needs no fences: each status line after it is written answers it."""
 from __future__ import annotations
 
-from dataclasses import dataclass, field
-from typing import Any
+from typing import NamedTuple
 
 from enogate_mqtt.lines import BadLine, Content, Deleted, EndOfList, Learned, Listed, Status, Strange
 from enogate_mqtt.lines import content_of_members, members_of
@@ -51,21 +50,20 @@ REFUSALS = {
 }
 
 
-@dataclass(frozen=True)
-class Line:
+class Line(NamedTuple):
     """A line of the gateway."""
     raw: bytes
-    members: dict[str, Any]
+    members: dict[str, object]
     content: Content
 
     @property
     def kind(self) -> str:
-        return self.members["type"]
+        return str(self.members["type"])
 
     @property
     def error(self) -> str | None:
         """The name of the error, if it is one."""
-        return self.members["error"] if self.kind == "error" else None
+        return str(self.members["error"]) if self.kind == "error" else None
 
     @property
     def is_own(self) -> bool:
@@ -73,8 +71,7 @@ class Line:
         return self.kind in ("ok", "device", "list") or (self.kind == "error" and self.error not in SHARED)
 
 
-@dataclass(frozen=True)
-class Answer:
+class Answer(NamedTuple):
     """The lines that answer an order."""
     lines: list[Line]
 
@@ -83,16 +80,23 @@ class Answer:
         """The name of the error, if the order was refused or failed."""
         return self.lines[-1].error
 
+    @property
+    def devices(self) -> list[Listed]:
+        """The devices of an answer to `list`."""
+        return [line.content for line in self.lines if isinstance(line.content, Listed)]
 
-@dataclass
+
 class Window:
     """The lines after a status line: those that only orders give, teach lines, and errors that orders and packets have
-    in common. `follows_failed` says that the last line explained a packet that failed: the next line is its error."""
-    opening: Status
-    own: list[Line] = field(default_factory=list)
-    teach: list[Line] = field(default_factory=list)
-    failed: list[Line] = field(default_factory=list)
-    follows_failed: bool = False
+    in common."""
+
+    def __init__(self, opening: Status):
+        self.opening = opening
+        self.own: list[Line] = []
+        self.teach: list[Line] = []
+        self.failed: list[Line] = []
+        # whether the last line explained a packet that failed: the next line is its error
+        self.follows_failed = False
 
     def take(self, line: Line) -> None:
         """Adds a line, unless a packet gave it."""
@@ -145,6 +149,11 @@ class AnswerFinder:
         self.begun: list[list[Answer]] = []
         # Whether the answers were found.
         self.is_done = False
+
+    @property
+    def count(self) -> int:
+        """How many of the orders may have been answered so far."""
+        return max(map(len, self.begun), default=0)
 
     @property
     def text(self) -> bytes:

@@ -12,8 +12,7 @@ from enogate_tools.port import is_base
 
 from .answers import Answer, Line, line_of
 from .desk import PAUSE, Desk, Lines, NoAnswer
-
-ORDER = "base"
+from .grammar import BASE
 
 
 def reported(line: Line | None) -> str | None:
@@ -30,7 +29,7 @@ def ask_base(desk: Desk) -> Answer:
     limit = desk.clock() + desk.timeout
     with contextlib.closing(desk.follow()) as lines:
         # This order has no errors.
-        answer = desk.ask(ORDER)
+        answer = desk.ask(BASE)
         return Answer([*answer.lines, wait(desk, lines, limit)])
 
 

@@ -3,8 +3,8 @@ from __future__ import annotations
 
 import argparse
 import math
-from dataclasses import dataclass
-from typing import NoReturn, Sequence
+from collections.abc import Sequence
+from typing import NamedTuple, NoReturn
 
 from enogate_tools import VERSION
 
@@ -17,26 +17,24 @@ USAGE = """enogatectl [--timeout SECONDS] [--json] [--desk PATH] [--lines PATH] 
        enogatectl [..] GATEWAY devices [--export|--import]
        enogatectl [..] GATEWAY lines
        enogatectl base PORT
-       enogatectl paths"""
+       enogatectl paths
+       enogatectl --serve"""
 EPILOG = ("GATEWAY is the name of a gateway, for example `hall` for enogate@hall.service. ORDER is one of: "
           f"{', '.join(grammar.FORMS)}. Words after -- are part of the order, even if they begin with -. "
           "The exit status is 0 if the order was carried out, 1 if the gateway refused it or it failed, 2 if the "
           "command line is invalid, and 3 if the gateway did not answer in time. See enogatectl(1).")
 
 
-@dataclass(frozen=True)
-class AskBase:
+class AskBase(NamedTuple):
     """Asks the radio module at this port for its base ID."""
     port: str
 
 
-@dataclass(frozen=True)
-class ShowPaths:
+class ShowPaths(NamedTuple):
     """Prints where the files of the gateways are."""
 
 
-@dataclass(frozen=True)
-class Give:
+class Give(NamedTuple):
     """Gives an order to a gateway. With `seconds`, it opens the learn window for this time."""
     places: Places
     timeout: float
@@ -45,34 +43,34 @@ class Give:
     seconds: float | None
 
 
-@dataclass(frozen=True)
-class Export:
+class Export(NamedTuple):
     """Writes the devices of a gateway as CSV."""
     places: Places
     timeout: float
 
 
-@dataclass(frozen=True)
-class Import:
+class Import(NamedTuple):
     """Learns the devices of a CSV file."""
     places: Places
     timeout: float
 
 
-@dataclass(frozen=True)
-class ShowRecorded:
+class ShowRecorded(NamedTuple):
     """Prints the devices of a gateway as its lines record them."""
     places: Places
     is_json: bool
 
 
-@dataclass(frozen=True)
-class ShowLines:
+class ShowLines(NamedTuple):
     """Prints the lines of a gateway, also those that are written later."""
     places: Places
 
 
-Command = AskBase | ShowPaths | Give | Export | Import | ShowRecorded | ShowLines
+class Serve(NamedTuple):
+    """Runs the commands that another program requests."""
+
+
+Command = AskBase | ShowPaths | Serve | Give | Export | Import | ShowRecorded | ShowLines
 
 
 def seconds_of(text: str) -> float:
@@ -104,12 +102,16 @@ def parser() -> argparse.ArgumentParser:
                       help="with `devices`: print the learned devices as CSV (id,eep,label)")
     made.add_argument("--import", action="store_true", dest="imports",
                       help="with `devices`: learn and label the devices of such a CSV file, from standard input")
+    made.add_argument("--serve", action="store_true",
+                      help="run the commands that a program requests on standard input")
     made.add_argument("--version", action="version", version=f"enogatectl {VERSION}")
     return made
 
 
 def parsed(arguments: Sequence[str]) -> Command:
     """The command of this command line. If it is invalid, the program ends with status 2."""
+    if list(arguments) == ["--serve"]:
+        return Serve()
     made = parser()
     place = arguments.index("--") if "--" in arguments else len(arguments)
     # Options may come between the words of an order.
@@ -131,6 +133,8 @@ class CommandLine:
     def command(self) -> Command:
         """The command."""
         words = self.words
+        if words.serve:
+            self.fail("--serve cannot be used with other words")
         if words.gateway == "base" and len(words.order) == 1 and "/" in words.order[0]:
             self.forbid("base", "json", "seconds", "exports", "imports", "desk", "lines")
             return AskBase(words.order[0])

@@ -4,9 +4,9 @@ from __future__ import annotations
 import os
 import sys
 import time
-from typing import Callable, Sequence
+from collections.abc import Callable, Sequence
 
-from enogate_mqtt.follow import Follower, end_of
+from enogate_mqtt.follow import Follower, end_of, silent
 from enogate_tools.files import Unsafe, open_file
 
 from .answers import Answer, AnswerFinder, is_of_order
@@ -51,7 +51,7 @@ class Lines:
             raise Unusable(f"the lines {path} cannot be read: {error.strerror}; become root, or a member of the group "
                            "enogate (log in again afterwards)") from error
         place = end_of(path, earlier)
-        self.follower = Follower(path, place)
+        self.follower = Follower(path, place, silent)
         # The rest of a line that was begun before.
         self.is_torn = place is not None and place.offset > 0 and not place.last.endswith(b"\n")
 
@@ -59,6 +59,11 @@ class Lines:
     def is_at_end(self) -> bool:
         """Whether the last call of `read` found the end of the lines."""
         return self.follower.is_at_end
+
+    @property
+    def are_rotated(self) -> bool:
+        """Whether the last call of `read` found the end of a rotated file. A line may still be written to it."""
+        return self.follower.seen_next is not None
 
     def read(self) -> list[bytes]:
         """The lines that have ended since the last call."""
@@ -150,7 +155,9 @@ class Desk:
             raise Unrecognizable
 
     def wait(self, file: DeskFile, lines: Lines, finder: AnswerFinder, limit: float) -> list[Answer]:
-        """The answers, if they come in time and the desk still has the orders then."""
+        """The answers, if they come in time and the desk still has the orders then. The time limit begins again with
+        each answer."""
+        count = 0
         while True:
             # A line is read only once, so a signal must not interrupt this before the line is taken.
             with held():
@@ -159,6 +166,8 @@ class Desk:
             file.check()
             if answers:
                 return answers
+            if finder.count > count:
+                count, limit = finder.count, self.clock() + self.timeout
             if self.clock() >= limit:
                 raise TooLate
             self.sleep(PAUSE)
@@ -179,12 +188,16 @@ class Desk:
             os._exit(0)
 
     def wait_for_end(self, file: DeskFile, lines: Lines, finder: AnswerFinder) -> None:
-        """Returns or fails once no answer to the order can come any more."""
-        limit = self.clock() + LONGEST_KEPT
+        """Returns or fails once no answer to the orders can come any more. KEPT_AFTER_ANSWER begins again with each
+        answer to them."""
+        end = limit = self.clock() + LONGEST_KEPT
+        count = finder.count
         while self.clock() < limit:
             for line in lines.read():
                 if finder.take(line):
                     return
+                if finder.count > count:
+                    count, limit = finder.count, end
                 if is_of_order(line):
                     limit = min(limit, self.clock() + KEPT_AFTER_ANSWER)
             file.check()

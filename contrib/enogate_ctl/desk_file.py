@@ -4,7 +4,7 @@ from __future__ import annotations
 import fcntl
 import os
 
-from enogate_mqtt.desk import INVALID_END, MAX_SIZE, is_written
+from enogate_tools.desk import INVALID_END, MAX_SIZE, is_written
 from enogate_tools.files import IRREGULAR, Unsafe, open_file
 
 from .stops import held

@@ -18,7 +18,7 @@ from __future__ import annotations
 
 import re
 
-from enogate_mqtt.desk import INVALID_END
+from enogate_tools.desk import INVALID_END
 
 from .answers import LEAST, REFUSALS, SHARED
 

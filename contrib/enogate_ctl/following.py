@@ -4,20 +4,24 @@ from __future__ import annotations
 import contextlib
 import os
 import select
-from typing import BinaryIO, Callable
+from collections.abc import Callable
+from typing import BinaryIO
+
+from enogate_mqtt.follow import silent
+from enogate_mqtt.wake import TURN, Files
 
 from .desk import Lines
 from .desk_file import Unusable
 from .places import Places, Unreadable
 
-# How many bytes of earlier lines are printed, and how long to wait for new ones, in milliseconds.
+# How many bytes of earlier lines are printed.
 EARLIER = 1 << 20
-PAUSE = 100
 
 
-def print_lines(places: Places, out: BinaryIO, wait: Callable[[BinaryIO], bool]) -> None:
-    """Prints the lines until nobody reads what is printed: `wait` returns whether somebody does. Or Unreadable, also if
-    there is neither a file of lines nor a desk: the name of the gateway is probably wrong."""
+def print_lines(places: Places, out: BinaryIO, wait: Callable[[bool], bool]) -> None:
+    """Prints the lines until nobody reads the output. `wait(True)` waits for new lines, `wait(False)` for a short time.
+    Both return whether somebody still reads. Raises Unreadable, also if there is neither a file of lines nor a desk:
+    the name of the gateway is probably wrong."""
     try:
         lines = Lines(places.lines, EARLIER)
     except Unusable as error:
@@ -32,12 +36,25 @@ def print_lines(places: Places, out: BinaryIO, wait: Callable[[BinaryIO], bool])
                 out.write(b"\n")
                 are_new = True
             out.flush()
-            if lines.is_at_end and not wait(out):
+            if (lines.is_at_end or lines.are_rotated) and not wait(not lines.are_rotated):
                 return
 
 
-def is_read(out: BinaryIO) -> bool:
-    """Whether somebody reads what is printed, after a pause."""
-    poll = select.poll()
-    poll.register(out, 0)
-    return not poll.poll(PAUSE)
+class Reader:
+    """Whoever reads the output, to which the lines at this path are printed."""
+
+    def __init__(self, path: str, out: BinaryIO):
+        self.out, self.files = out.fileno(), Files([path], silent)
+
+    def wait(self, is_woken: bool) -> bool:
+        """Waits for 0.1 s or, if `is_woken`, until the lines change, for a second at most. Returns whether somebody
+        still reads."""
+        poll = select.poll()
+        poll.register(self.out, 0)
+        seconds = self.files.longest() if is_woken else TURN
+        if is_woken and self.files.file >= 0:
+            poll.register(self.files.file, select.POLLIN)
+        changed = {file for file, _ in poll.poll(seconds * 1000)}
+        if self.files.file in changed:
+            self.files.drop()
+        return self.out not in changed

@@ -7,6 +7,7 @@ ID = "[0-9A-Fa-f]{8}"
 EEP = "[0-9A-Fa-f]{2}-[0-9A-Fa-f]{2}-[0-9A-Fa-f]{2}"
 NUMBER = "(?:0|[1-9][0-9]{0,4})"
 LABEL = "[!-~](?:[ -~]{0,30}[!-~])?"
+BASE = "base"
 # The forms of each order: for the check, and as they are shown.
 FORMS = {
     "learn": (f"learn (?:on|on answer|off|as {EEP})", "learn on | learn on answer | learn as EEP | learn off"),
@@ -15,7 +16,7 @@ FORMS = {
     "label": (f"label {ID}(?: {LABEL})?", "label ID TEXT | label ID"),
     "list": ("list", "list"),
     "status": ("status", "status"),
-    "base": ("base", "base"),
+    BASE: ("base", "base"),
     "switch": (f"switch {ID} {NUMBER} (?:on|off)", "switch ID CH on | switch ID CH off"),
     "dim": (f"dim {ID} {NUMBER} {NUMBER}", "dim ID CH VAL"),
     "query": (f"query {ID} {NUMBER}", "query ID CH"),

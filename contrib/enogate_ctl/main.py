@@ -1,51 +1,48 @@
-"""The program: gives an order, and prints its answer."""
+"""The program: carries out the command of its command line. Each command imports only the modules that it needs,
+because the imports take longer than an order."""
 from __future__ import annotations
 
-import json
-import logging
 import os
 import sys
-from datetime import datetime, timezone
-from typing import Sequence
+from collections.abc import Sequence
 
 from enogate_mqtt.lines import Listed
-from enogate_tools import files, port as ports
+from enogate_tools import files
 
-from . import following, recorded, sheet, words
-from .answers import SHARED, Answer
-from .base import ORDER as BASE, ask_base
-from .command_line import AskBase, Command, Export, Give, Import, ShowLines, ShowPaths, ShowRecorded, parsed
+from .answers import Answer
+from .command_line import AskBase, Command, Export, Give, Import, Serve, ShowLines, ShowPaths, ShowRecorded, parsed
 from .desk import Desk, NoAnswer
+from .grammar import BASE
 from .places import Places, Unreadable, paths
-from .shown import devices, shown
 from .stops import Stopped, Stops
-from .window import LearnWindow
 
 OK, REFUSED, SILENT = 0, 1, 3
 
 
 class Refused(Exception):
-    """The gateway refused the order, or it failed. The text is the name of the error, and what to do."""
-
-    def __init__(self, error: str):
-        super().__init__(words.advice(error))
+    """The gateway refused the order, or it failed. The text is the name of the error."""
 
 
 def main(arguments: Sequence[str] | None = None) -> int:
     """Runs the program, and returns its exit status."""
-    # The lines are followed by a module that logs for the journal of the bridge.
-    logging.disable()
-    command = parsed(list(sys.argv[1:] if arguments is None else arguments))
+    return carry_out(parsed(list(sys.argv[1:] if arguments is None else arguments)))
+
+
+def carry_out(command: Command) -> int:
+    """Carries out a command, prints why it failed if it did, and returns the exit status."""
     stops = Stops()
-    stops.install()
     try:
+        stops.install()
         status = run(command, stops)
         sys.stdout.flush()
         return status
-    except (Refused, Unreadable, ports.PortError) as error:
-        return complain(error, REFUSED)
+    except Refused as error:
+        from .words import advice
+        return complain(advice(str(error)), REFUSED)
+    except Unreadable as error:
+        return complain(str(error), REFUSED)
     except NoAnswer as error:
-        return complain(error, SILENT)
+        return complain(str(error), SILENT)
     except Stopped as stopped:
         return stopped.status
     except BrokenPipeError:
@@ -54,44 +51,38 @@ def main(arguments: Sequence[str] | None = None) -> int:
         return OK
 
 
-def complain(error: Exception, status: int) -> int:
+def complain(why: str, status: int) -> int:
     """Prints the reason of a failure, and returns the status."""
-    print(f"enogatectl: {words.printable(str(error))}", file=sys.stderr)
+    from .words import printable
+    print(f"enogatectl: {printable(why)}", file=sys.stderr)
     return status
 
 
 def run(command: Command, stops: Stops) -> int:
     """Carries out a command, and returns the exit status."""
     match command:
+        case Serve():
+            from .serve import serve
+            return serve(sys.stdin.fileno(), sys.stdout.fileno(), stops)
         case AskBase(port):
             return ask_module(port)
         case ShowPaths():
-            print(json.dumps(paths(), separators=(",", ":"), sort_keys=True))
-            return OK
+            return show_paths()
     become_owner(command.places)
     match command:
         case ShowRecorded(places, is_json):
             return show_recorded(places, is_json)
         case ShowLines(places):
-            following.print_lines(places, sys.stdout.buffer, following.is_read)
+            from . import following
+            following.print_lines(places, sys.stdout.buffer, following.Reader(places.lines, sys.stdout.buffer).wait)
             return OK
         case Export(places, timeout):
-            print(sheet.exported(listed(Desk(places, timeout))), end="")
-            return OK
+            return export_devices(Desk(places, timeout))
         case Import(places, timeout):
             return import_devices(Desk(places, timeout))
-    assert isinstance(command, Give)
-    desk = Desk(command.places, command.timeout)
-    if command.seconds is not None:
-        def give(order: str) -> None:
-            checked(desk.ask(order))
-
-        def report(text: str) -> None:
-            print(text, flush=True)
-
-        LearnWindow(desk, give, report, stops, command.is_json).open_for(command.order, command.seconds)
-        return OK
-    return give_order(desk, command)
+        case Give(seconds=None):
+            return give_order(command)
+    return open_window(command, stops)
 
 
 def become_owner(places: Places) -> None:
@@ -103,16 +94,29 @@ def become_owner(places: Places) -> None:
         raise NoAnswer(f"the rights of the owner of {folders[0]} cannot be taken on: {error.strerror}") from error
 
 
-def give_order(desk: Desk, command: Give) -> int:
+def give_order(command: Give) -> int:
     """Gives an order, and prints its answer."""
-    answer = ask_base(desk) if command.order == BASE else desk.ask(command.order)
+    desk = Desk(command.places, command.timeout)
+    if command.order == BASE:
+        from .base import ask_base
+        answer = ask_base(desk)
+    else:
+        answer = desk.ask(command.order)
     if command.is_json:
         for line in answer.lines:
             print(line.raw.decode("ascii"))
     checked(answer)
     if not command.is_json:
-        print(shown(answer, command.places, now))
+        print(text_of(answer, command.places))
     return OK
+
+
+def text_of(answer: Answer, places: Places) -> str:
+    """An answer, which is not an error, as text."""
+    if answer.lines[-1].kind == "list":
+        return table_of(answer.devices, places)
+    from .shown import shown
+    return shown(answer)
 
 
 def checked(answer: Answer) -> Answer:
@@ -122,55 +126,85 @@ def checked(answer: Answer) -> Answer:
     return answer
 
 
+def open_window(command: Give, stops: Stops) -> int:
+    """Opens the learn window for the time of the command."""
+    from .window import LearnWindow
+    desk = Desk(command.places, command.timeout)
+
+    def give(order: str) -> None:
+        checked(desk.ask(order))
+
+    def report(text: str) -> None:
+        print(text, flush=True)
+
+    LearnWindow(desk, give, report, stops, command.is_json).open_for(command.order, command.seconds)
+    return OK
+
+
+def show_paths() -> int:
+    """Prints where the files of the gateways are."""
+    import json
+    print(json.dumps(paths(), separators=(",", ":"), sort_keys=True))
+    return OK
+
+
 def show_recorded(places: Places, is_json: bool) -> int:
     """Prints the devices as the lines record them."""
+    from . import recorded
     found = recorded.devices(places)
-    if not is_json:
-        print(devices(found, places, now()))
-        return OK
-    for line in recorded.as_json(found, places):
+    for line in recorded.as_json(found, places) if is_json else [table_of(found, places)]:
         print(line)
     return OK
 
 
-def now() -> datetime:
-    return datetime.now(timezone.utc)
+def table_of(devices: Sequence[Listed], places: Places) -> str:
+    """The table of these devices, for people."""
+    from datetime import datetime, timezone
+
+    from .device_table import device_table
+    return device_table(devices, places, datetime.now(timezone.utc))
 
 
-def listed(desk: Desk) -> list[Listed]:
-    """The learned devices."""
-    return [line.content for line in checked(desk.ask("list")).lines if isinstance(line.content, Listed)]
+def export_devices(desk: Desk) -> int:
+    """Prints the learned devices as CSV."""
+    from .sheet import exported
+    print(exported(checked(desk.ask("list")).devices), end="")
+    return OK
 
 
 def import_devices(desk: Desk) -> int:
     """Learns and labels the devices of the CSV file on standard input."""
+    from . import sheet
+    from .words import advice, printable
     if sys.stdin.isatty():
         print("enogatectl: enter the devices as CSV, and end with Ctrl-D; to read a file, append <FILE to the command",
               file=sys.stderr)
     text = sys.stdin.buffer.read().decode("utf-8", "replace")
-    known = {device.device: device for device in listed(desk)}
+    known = {device.device: device for device in checked(desk.ask("list")).devices}
+
+    giver = sheet.Giver(desk)
 
     def give(orders: list[str]) -> list[str | None]:
-        answers = desk.ask_all(orders)
-        if any(answer.error in SHARED for answer in answers):
-            # The error may be that of a telegram, and the answers those of other orders.
-            answers = [desk.ask(order) for order in orders]
-        return [words.advice(answer.error) if answer.error else None for answer in answers]
+        return [advice(answer.error) if answer.error else None for answer in giver.give(orders)]
 
     def report(line: str) -> None:
-        print(words.printable(line), flush=True)
+        print(printable(line), flush=True)
 
     return OK if sheet.Import(known, give, report).run(text) else REFUSED
 
 
 def ask_module(path: str) -> int:
     """Asks the radio module at this port for its base ID, and prints it."""
-    port = ports.open_port(path)
+    from enogate_tools import port as ports
     try:
-        ports.configure(port, path)
-        base = ports.ask_base(port, path)
-    finally:
-        os.close(port)
+        port = ports.open_port(path)
+        try:
+            ports.configure(port, path)
+            base = ports.ask_base(port, path)
+        finally:
+            os.close(port)
+    except ports.PortError as error:
+        return complain(str(error), REFUSED)
     if not base:
         raise NoAnswer(f"no radio module answers at {path}: check that this is its port, and that it uses ESP3 at "
                        "57,600 baud")

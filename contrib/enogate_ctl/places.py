@@ -3,7 +3,7 @@ from __future__ import annotations
 
 import os
 import re
-from dataclasses import dataclass
+from typing import NamedTuple
 
 NAME = re.compile(r"(?!mqtt)[A-Za-z0-9_-]+")
 SETTINGS, RUNNING = "/etc/default", "/run/enogate"
@@ -18,8 +18,7 @@ class Unreadable(Exception):
     """A directory cannot be read. The text is a sentence that says why, and what to do."""
 
 
-@dataclass(frozen=True)
-class Places:
+class Places(NamedTuple):
     """The files of a gateway: its desk, its lines, and the state of its MQTT bridge."""
     desk: str
     lines: str

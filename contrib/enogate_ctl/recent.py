@@ -3,25 +3,20 @@ have no times."""
 from __future__ import annotations
 
 import contextlib
-import json
 import os
-import sqlite3
-import urllib.parse
+from collections.abc import Iterator
 from datetime import datetime
-from typing import BinaryIO, Iterator
+from typing import BinaryIO
 
-from enogate_mqtt.devices import LAST_SEEN
-from enogate_mqtt.follow import Follower, Place, files_of, without_nuls
+from enogate_mqtt.follow import Follower, Place, files_of, silent, without_nuls
 from enogate_mqtt.lines import BadLine, Telegram, content_of
-from enogate_mqtt.store import Foreign, place_of
+from enogate_mqtt.state import last_seen
 from enogate_tools.files import is_safe, open_file
 
 # How much of the lines is read for the last readings, how much at once, and the end of a line with readings.
 MOST_READ = 1 << 20
 BLOCK = 1 << 20
 READING = b'"type":"reading"}'
-# How long to wait for the state of the bridge while the bridge writes it, in seconds.
-WAIT = 1.0
 
 
 def last_telegrams(path: str, most: int = MOST_READ) -> dict[str, Telegram]:
@@ -88,23 +83,17 @@ def last_times(path: str, lines: str, most: int = MOST_READ) -> dict[str, dateti
     state."""
     if not (is_safe(path) and is_safe(f"{path}-wal")):
         return {}
-    try:
-        address = f"file:{urllib.parse.quote(path)}?mode=ro"
-        with contextlib.closing(sqlite3.connect(address, uri=True, timeout=WAIT)) as connection:
-            saved = connection.execute("SELECT inode, offset, last FROM place").fetchone()
-            place = place_of(*saved) if saved else None
-            rows = connection.execute("SELECT id, told FROM device").fetchall()
-    except (sqlite3.Error, Foreign):
+    saved = last_seen(path)
+    if saved is None:
         return {}
-    later = devices_after(place, lines, most) if place else None
-    if later is None:
-        return {}
-    return {device: time for device, text in rows if device not in later and (time := time_in(text))}
+    place, times = saved
+    later = devices_after(place, lines, most)
+    return {} if later is None else {device: time for device, time in times.items() if device not in later}
 
 
 def devices_after(place: Place, path: str, most: int) -> set[str] | None:
     """The devices with telegrams after this place in the lines; None if it is not found, or further back than this."""
-    follower, devices = Follower(path, place), set()
+    follower, devices = Follower(path, place, silent), set()
     if follower.file is None:
         return None
     with contextlib.closing(follower):
@@ -113,11 +102,3 @@ def devices_after(place: Place, path: str, most: int) -> set[str] | None:
                 most -= len(line)
                 devices |= {telegram.device} if (telegram := telegram_in(line)) else set()
     return devices if most >= 0 else None
-
-
-def time_in(text: str) -> datetime | None:
-    """The time in the readings of a device, as the bridge stores them; None if it has none."""
-    try:
-        return datetime.fromisoformat(json.loads(text)[LAST_SEEN])
-    except (ValueError, TypeError, KeyError):
-        return None

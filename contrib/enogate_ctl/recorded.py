@@ -3,7 +3,7 @@ while the gateway does not run: those of the last list, with what was learned an
 from __future__ import annotations
 
 import json
-from typing import Iterable, Iterator
+from collections.abc import Iterable, Iterator
 
 from enogate_mqtt.lines import BadLine, Content, Deleted, EndOfList, Learned, Listed, content_of
 

@@ -4,12 +4,14 @@ from __future__ import annotations
 import csv
 import io
 import re
+from collections.abc import Callable, Iterable, Iterator
 from dataclasses import dataclass
-from typing import Callable, Iterable, Iterator
 
 from enogate_mqtt.lines import Listed
 
 from . import grammar
+from .answers import SHARED, Answer
+from .desk import PAUSE, Desk
 
 HEADING = ["id", "eep", "label"]
 # A spreadsheet takes a text that begins like this for a formula. The apostrophe before it says that it is a text.
@@ -20,8 +22,10 @@ SEPARATORS = ",;\t"
 # A number that a spreadsheet makes of an ID with the letter E.
 FLOAT = re.compile("[0-9.,]+[Ee][+-]?[0-9]+")
 
-# How many rows are handled at once.
-MOST_ROWS = 16
+# How many rows are handled at once: their orders wait for a turn of the gateway together.
+MOST_ROWS = 100
+# How many orders are given at once at first. Later, as many are given as take this time, in seconds.
+FIRST_ORDERS, LONGEST_LOCKED = 16, 2.0
 
 
 class BadRow(ValueError):
@@ -108,6 +112,36 @@ def groups(rows: Iterable[tuple[int, Row | BadRow]]) -> Iterator[list[tuple[int,
         devices |= {device} - {""}
     if group:
         yield group
+
+
+class Giver:
+    """Gives the orders of an import to this desk. It is locked until all orders that were given at once are answered,
+    and other commands wait meanwhile, so a slow gateway gets fewer orders at once."""
+
+    def __init__(self, desk: Desk):
+        self.desk, self.most = desk, FIRST_ORDERS
+
+    def give(self, orders: list[str]) -> list[Answer]:
+        """The answers to these orders."""
+        answers: list[Answer] = []
+        while len(answers) < len(orders):
+            part = orders[len(answers):len(answers) + self.most]
+            found = self.ask(part)
+            if any(answer.error in SHARED for answer in found):
+                # The error may be that of a telegram, and each answer that of another order.
+                found = [self.ask([order])[0] for order in part]
+            answers += found
+        return answers
+
+    def ask(self, orders: list[str]) -> list[Answer]:
+        """The answers to these orders, which are given at once."""
+        start = self.desk.clock()
+        answers = self.desk.ask_all(orders)
+        seconds = max(PAUSE, self.desk.clock() - start)
+        self.most = max(1, min(MOST_ROWS, int(len(orders) * LONGEST_LOCKED / seconds)))
+        # Other commands look at the lock of the desk once in each pause.
+        self.desk.sleep(2 * PAUSE)
+        return answers
 
 
 class Import:

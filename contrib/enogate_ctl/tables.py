@@ -1,7 +1,7 @@
 """Tables of text."""
 from __future__ import annotations
 
-from typing import Sequence
+from collections.abc import Sequence
 
 GAP = "  "
 

@@ -1,10 +1,7 @@
 """Names and values of a gateway in words, for people."""
 from __future__ import annotations
 
-from decimal import Decimal
-
-from enogate_mqtt.entities import Table
-from enogate_mqtt.lines import Deleted, Learned, Reading, Telegram
+from enogate_mqtt.lines import Deleted, Learned
 
 from .answers import Line
 
@@ -39,8 +36,6 @@ PROFILES = {
     "A5-10": "room panel", "A5-12-01": "electricity meter", "A5-12-02": "gas meter", "A5-12-03": "water meter",
     "D2-01": "electronic switch or dimmer", "D2-05-00": "blinds",
 }
-# The kinds of entities whose name is not that of a reading: those of events, and those of the channels of actuators.
-NAMELESS = ("event", "switch", "light")
 MINUTE, HOUR, DAY = 60, 3600, 86400
 
 
@@ -52,39 +47,6 @@ def advice(error: str) -> str:
 def profile(eep: str) -> str:
     """The name of a profile; empty if it has none."""
     return PROFILES.get(eep) or PROFILES.get(eep[:5], "")
-
-
-def readings(telegram: Telegram, table: Table) -> str:
-    """The readings of a telegram without those that are only for diagnosis."""
-    shown = [item for item in telegram.readings if is_shown(item, telegram.eep, table)] or telegram.readings
-    return ", ".join(channel(item, telegram, table) + reading(item, telegram.eep, table) for item in shown)
-
-
-def is_shown(item: Reading, eep: str, table: Table) -> bool:
-    """Whether the table has an entity for a reading, which is not only for diagnosis."""
-    row = table.of_reading(eep, item)
-    return row is not None and row.entity != "" and not {"diagnostic", "hidden"} & row.more.keys()
-
-
-def channel(item: Reading, telegram: Telegram, table: Table) -> str:
-    """Before a reading: the channel of an actuator with several ones. Otherwise empty."""
-    row = table.of_reading(telegram.eep, item)
-    numbers = {other.name: other.number for other in telegram.readings}
-    return f"channel {numbers[row.by]}: " if row and row.count > 1 and numbers.get(row.by) is not None else ""
-
-
-def reading(item: Reading, eep: str, table: Table) -> str:
-    """A reading with its name, two decimals, and its unit."""
-    row = table.of_reading(eep, item)
-    unit = row.more.get("unit", item.unit) if row and item.unit else item.unit
-    name = row.name if row and row.name and row.entity not in NAMELESS else item.name
-    return " ".join(filter(None, (name, rounded(item.text) if item.unit else item.text, unit)))
-
-
-def rounded(number: str) -> str:
-    """A number with at most two decimals."""
-    shown = f"{round(Decimal(number), 2):f}"
-    return shown.rstrip("0").rstrip(".") if "." in shown else shown
 
 
 def age(seconds: float) -> str:

@@ -5,12 +5,12 @@ import json
 import logging
 import math
 import re
-from typing import Callable, Iterable, Iterator
+from collections.abc import Callable, Iterable, Iterator
 
 from . import discovery
 from .connection import ECHO_WITHIN, Broker, Connection, Lost, Received
 from .desk import Desk
-from .devices import LAST_SEEN, Devices, time_text
+from .devices import Devices, time_text
 from .follow import Follower, Place
 from .lines import BadLine, Content, Strange, content_of
 from .log import Seldom
@@ -18,6 +18,7 @@ from .orders import DEVICE, Refused, orders_of
 from .outbox import MAX_UNDER_WAY, Backlog, Outbox
 from .reconcile import Part, Reconciler
 from .requests import Check, ListRequest, Requests, opens_window
+from .state import LAST_SEEN
 from .store import Store
 from .topics import Message, Topics
 from .wake import LONGEST, TURN

@@ -1,20 +1,19 @@
 """The desk of a gateway: the file to which orders are appended."""
 from __future__ import annotations
 
-import contextlib
 import enum
 import os
 import re
 import stat
 from collections import deque
-from typing import Callable
+from collections.abc import Callable
+
+from enogate_tools.desk import INVALID_END, MAX_SIZE, is_written
 
 from .lines import Answer, Content, Deleted, EndOfList, Learned, Status
 
-# The desk, which is in memory, may grow to this size until the gateway restarts, once a day.
-MAX_SIZE = 16 * 1024 * 1024
-# The gateway reads about 2,500 bytes of its desk per second. So many bytes may be appended at once, and so many more
-# with each second: what it has not read stays below MAX_BURST, and another order waits for a few seconds at most.
+# So many bytes may be appended at once, and so many more with each second. The gateway reads more per second, unless
+# its disk is slow: what it has not read stays below MAX_BURST, and another order waits for a few seconds at most.
 MAX_BURST, BYTES_PER_SECOND = 16384, 2000
 # The gateway reads nothing from the stick while it writes an answer, and the answer to `list` has a line for each
 # device. Each of these lines counts like the shortest order, which is answered with one line.
@@ -29,9 +28,6 @@ MAX_GIVEN = 1000
 LABEL = b"\nlabel "
 # So many bytes are looked at in a turn. Other programs may make the desk longer than the memory.
 MAX_NEWS = 1 << 20
-# Ends an incomplete line. If a full file system has cut off the end of an order, the rest could be another order: with
-# the control character NAK it is none.
-INVALID_END = b"\x15\n"
 
 
 class News(enum.Enum):
@@ -258,13 +254,3 @@ class Desk:
         except OSError:
             return 0, 0
         return (found.st_ino, found.st_size) if stat.S_ISREG(found.st_mode) else (0, 0)
-
-
-def is_written(file: int, text: bytes) -> bool:
-    """Writes a text to a desk in a single write. Returns whether all of it was written. If the last line was not, it is
-    made invalid; if there is no space for that, the program that writes next does it."""
-    written = os.write(file, text)
-    if 0 < written < len(text) and text[written - 1:written] != b"\n":
-        with contextlib.suppress(OSError):
-            os.write(file, INVALID_END)
-    return written == len(text)

@@ -3,16 +3,15 @@ from __future__ import annotations
 
 import json
 import time
+from collections.abc import Callable, Iterable
 from dataclasses import dataclass, field
 from datetime import datetime, timezone
-from typing import Callable, Iterable
 
 from . import discovery
 from .entities import Table
 from .lines import Content, Deleted, EndOfList, Learned, Listed, Telegram
+from .state import LAST_SEEN
 from .topics import Message, Topics
-
-LAST_SEEN = "last_seen"
 
 
 @dataclass

@@ -5,7 +5,8 @@ import fnmatch
 import functools
 import json
 import pathlib
-from typing import Any, Callable, Collection, Iterable
+from collections.abc import Callable, Collection, Iterable
+from typing import Any
 
 from . import VERSION
 from .entities import Row

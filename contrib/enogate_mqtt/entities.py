@@ -5,8 +5,8 @@ import fnmatch
 import pathlib
 import re
 import shlex
+from collections.abc import Iterable
 from dataclasses import dataclass, field
-from typing import Iterable
 
 from .lines import Reading, Telegram
 

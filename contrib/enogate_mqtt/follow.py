@@ -1,10 +1,10 @@
 """Follows a file to which lines are appended, across rotation."""
 from __future__ import annotations
 
-import logging
 import os
 import re
-from dataclasses import dataclass
+from collections.abc import Callable
+from typing import NamedTuple
 
 from enogate_tools.files import open_regular
 
@@ -15,8 +15,7 @@ MAX_LAST = 64
 SHOWN_OF_A_LINE = 60
 
 
-@dataclass(frozen=True)
-class Place:
+class Place(NamedTuple):
     """How far a file was read. The inode and the last bytes of that part identify the file."""
     inode: int
     offset: int
@@ -34,10 +33,11 @@ class Follower:
     """Reads the lines of the file at this path from a place on; without a place, or if it is not found, from the
     beginning. A file that was rotated (renamed) is read to its end first, and then those that were written after it:
     their sequence is that of their names, since a clock may have been set back. If the computer was started since the
-    place was noted, the end of its file may be lost. What is left of it was read before, or is not new."""
+    place was noted, the end of its file may be lost. What is left of it was read before, or is not new. `warn` logs
+    what goes wrong."""
 
-    def __init__(self, path: str, place: Place | None, is_same_boot: bool = True):
-        self.path = path
+    def __init__(self, path: str, place: Place | None, warn: Callable[[str], None], is_same_boot: bool = True):
+        self.path, self.warn = path, warn
         self.file: int | None = None
         self.place = place or NOWHERE
         # the beginning of a line whose end has not been written yet
@@ -54,7 +54,7 @@ class Follower:
         # whether the file of the place was found
         self.is_found = bool(self.place.inode) and self.open_at_place(is_same_boot)
         if self.place.inode and not self.is_found:
-            logging.warning("%s: previous file not found, reading from the beginning", path)
+            warn(f"{path}: previous file not found, reading from the beginning")
             self.place = NOWHERE
 
     def open_at_place(self, is_same_boot: bool) -> bool:
@@ -69,7 +69,7 @@ class Follower:
             if there == self.place or (there.inode == self.place.inode and not is_same_boot):
                 self.file, self.older = file, inodes(paths[:number])
                 if there != self.place:
-                    logging.warning("%s: lines were lost, continuing at the end", path)
+                    self.warn(f"{path}: lines were lost, continuing at the end")
                     self.place = end_of_lines(file)
                 return True
             os.close(file)
@@ -84,7 +84,7 @@ class Follower:
                 return []
             if was_barred:
                 # its lines may be old
-                logging.warning("%s: can be read now, continuing at its end", self.path)
+                self.warn(f"{self.path}: can be read now, continuing at its end")
                 self.place = end_of_lines(self.file)
         assert self.file is not None
         size = os.fstat(self.file).st_size
@@ -92,7 +92,7 @@ class Follower:
             self.rest = b""
         if size < self.place.offset:
             # what is left of the file was read before
-            logging.warning("%s: file truncated, continuing at its end", self.path)
+            self.warn(f"{self.path}: file truncated, continuing at its end")
             self.place = end_of_lines(self.file)
         added = os.pread(self.file, MAX_READ, self.place.offset + len(self.rest))
         if len(added) < MAX_READ:
@@ -123,10 +123,10 @@ class Follower:
         self.is_at_end = following is None
         if following and following == self.seen_next:
             if self.rest:
-                logging.warning("incomplete line ignored: %r", self.rest[:SHOWN_OF_A_LINE])
+                self.warn(f"incomplete line ignored: {self.rest[:SHOWN_OF_A_LINE]!r}")
             self.is_at_end = not self.open_at_start(following)
             if self.is_at_end and not self.is_failing:
-                logging.warning("cannot open %s: %s; retrying", following, self.fault)
+                self.warn(f"cannot open {following}: {self.fault}; retrying")
             self.is_failing = self.is_at_end
         else:
             self.seen_next = following
@@ -168,6 +168,10 @@ class Follower:
         if self.file is not None:
             os.close(self.file)
             self.file = None
+
+
+def silent(_message: str) -> None:
+    """Logs nothing."""
 
 
 def without_nuls(line: bytes) -> bytes:

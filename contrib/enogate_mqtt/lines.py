@@ -3,12 +3,8 @@ from __future__ import annotations
 
 import json
 import re
-from dataclasses import dataclass
-from decimal import ROUND_HALF_EVEN, Context, Decimal
-from fractions import Fraction
-from typing import Any, Union
+from typing import NamedTuple
 
-SIX_DIGITS = 6
 SHOWN_OF_A_LINE = 60
 # What a gateway writes is within these bounds. Texts are printable ASCII: labels have at most 32 characters
 # (docs/guide/orders.md), and names, words and units are shorter. A signal strength is a negated byte.
@@ -31,8 +27,7 @@ class Unfitting(ValueError):
     """A member of a line has an unexpected value."""
 
 
-@dataclass(frozen=True)
-class Reading:
+class Reading(NamedTuple):
     """A named value of a telegram. `number` is set if the value has no unit."""
     name: str
     unit: str
@@ -40,8 +35,7 @@ class Reading:
     number: int | None
 
 
-@dataclass(frozen=True)
-class Telegram:
+class Telegram(NamedTuple):
     """The readings of a telegram."""
     device: str
     eep: str
@@ -49,22 +43,19 @@ class Telegram:
     readings: tuple[Reading, ...]
 
 
-@dataclass(frozen=True)
-class Learned:
+class Learned(NamedTuple):
     """A device was learned."""
     device: str
     eep: str
     maker: int | None
 
 
-@dataclass(frozen=True)
-class Deleted:
+class Deleted(NamedTuple):
     """A device was deleted."""
     device: str
 
 
-@dataclass(frozen=True)
-class Listed:
+class Listed(NamedTuple):
     """A device, as `list` reports it."""
     device: str
     eep: str
@@ -72,47 +63,41 @@ class Listed:
     maker: int | None
 
 
-@dataclass(frozen=True)
-class EndOfList:
+class EndOfList(NamedTuple):
     """The end of a list, with the number of its devices."""
     count: int
 
 
-@dataclass(frozen=True)
-class Status:
+class Status(NamedTuple):
     """The answer to `status`: the mode of the learn window, and the counters by their names."""
     mode: str
     counters: dict[str, int]
 
 
-@dataclass(frozen=True)
-class Response:
+class Response(NamedTuple):
     """A response of the radio module: its return code, and the data after it as hexadecimal digits."""
     code: int
     data: str
 
 
-@dataclass(frozen=True)
-class Answer:
+class Answer(NamedTuple):
     """An order was carried out or refused; a packet that failed gives the same error."""
 
 
-@dataclass(frozen=True)
-class Other:
+class Other(NamedTuple):
     """A line that the bridge only passes on."""
 
 
-@dataclass(frozen=True)
-class Strange:
+class Strange(NamedTuple):
     """A line of a known type with unexpected members: some are missing, of another kind, or beyond their bounds."""
     complaint: str
 
 
-Content = Union[Telegram, Learned, Deleted, Listed, EndOfList, Status, Response, Answer, Other, Strange]
+Content = Telegram | Learned | Deleted | Listed | EndOfList | Status | Response | Answer | Other | Strange
 COUNTERS = ("ignored", "readings", "refused", "responses", "teach")
 
 
-def members_of(line: bytes) -> dict[str, Any]:
+def members_of(line: bytes) -> dict[str, object]:
     """The members of a line, one of which is its type, or BadLine."""
     try:
         members = json.loads(line.decode("ascii"))
@@ -127,7 +112,7 @@ def content_of(line: bytes) -> Content:
     return content_of_members(members_of(line), line)
 
 
-def content_of_members(members: dict[str, Any], line: bytes) -> Content:
+def content_of_members(members: dict[str, object], line: bytes) -> Content:
     """The contents of a line with these members."""
     try:
         return content_by_type(members["type"], members)
@@ -135,7 +120,7 @@ def content_of_members(members: dict[str, Any], line: bytes) -> Content:
         return Strange(f"line with unexpected members, not decoded: {line[:SHOWN_OF_A_LINE]!r}")
 
 
-def content_by_type(kind: str, members: dict[str, Any]) -> Content:
+def content_by_type(kind: str, members: dict[str, object]) -> Content:
     """The contents of a line of this type."""
     match kind, members.get("result"):
         case "reading", _:
@@ -158,19 +143,21 @@ def content_by_type(kind: str, members: dict[str, Any]) -> Content:
     return Other()
 
 
-def readings_of(members: Any) -> tuple[Reading, ...]:
+def readings_of(members: object) -> tuple[Reading, ...]:
     """The readings of a telegram."""
     if not isinstance(members, list) or len(members) > MAX_READINGS:
         raise Unfitting
     return tuple(map(reading_of, members))
 
 
-def reading_of(members: dict[str, Any]) -> Reading:
+def reading_of(members: dict[str, object]) -> Reading:
     """A reading of a telegram."""
     name = text(members["name"], NAME)
     if "num" in members:
-        value = Fraction(number(members["num"], -MAX_SIGNED - 1, MAX_SIGNED), number(members["den"], 1, MAX_SIGNED))
-        return Reading(name, text(members["unit"], TEXT_OR_NOTHING), decimal(value), None)
+        # imported only here, since most commands of enogatectl(1) need no numbers, and imports take most of their time
+        from .decimals import decimal
+        value = decimal(number(members["num"], -MAX_SIGNED - 1, MAX_SIGNED), number(members["den"], 1, MAX_SIGNED))
+        return Reading(name, text(members["unit"], TEXT_OR_NOTHING), value, None)
     if "word" in members:
         return Reading(name, "", text(members["word"], TEXT), None)
     if "raw" in members:
@@ -180,50 +167,35 @@ def reading_of(members: dict[str, Any]) -> Reading:
     return Reading(name, "", "out_of_range", None)
 
 
-def decimal(value: Fraction) -> str:
-    """An integer, or a fraction that is a finite decimal number, exactly: so a counter never steps backwards. Any other
-    fraction has six significant digits, or all digits before the point if these are more, rounded half to even."""
-    rest = value.denominator
-    for factor in (2, 5):
-        while rest % factor == 0:
-            rest //= factor
-    digits = len(str(abs(value.numerator) // value.denominator))
-    # a finite decimal number with this denominator has at most so many digits
-    precision = digits + value.denominator.bit_length() if rest == 1 else max(SIX_DIGITS, digits)
-    context = Context(prec=precision, rounding=ROUND_HALF_EVEN)
-    shown = f"{context.divide(Decimal(value.numerator), Decimal(value.denominator)):f}"
-    return shown.rstrip("0").rstrip(".") if "." in shown else shown
-
-
-def device_of(members: dict[str, Any]) -> str:
+def device_of(members: dict[str, object]) -> str:
     return text(members["id"], "[0-9A-F]{8}")
 
 
-def eep_of(members: dict[str, Any]) -> str:
+def eep_of(members: dict[str, object]) -> str:
     return text(members["eep"], PROFILE)
 
 
-def maker_of(members: dict[str, Any]) -> int | None:
+def maker_of(members: dict[str, object]) -> int | None:
     return None if members["maker"] is None else number(members["maker"], 0, MAX_MAKER)
 
 
-def dbm_of(members: dict[str, Any]) -> int | None:
+def dbm_of(members: dict[str, object]) -> int | None:
     return None if members["dbm"] is None else number(members["dbm"], -MAX_BYTE, 0)
 
 
-def text(value: Any, shape: str) -> str:
+def text(value: object, shape: str) -> str:
     """A string that matches this pattern."""
     if not isinstance(value, str) or not re.fullmatch(shape, value):
         raise Unfitting
     return value
 
 
-def number(value: Any, least: int, greatest: int) -> int:
+def number(value: object, least: int, greatest: int) -> int:
     """An integer within these bounds."""
     if not isinstance(value, int) or isinstance(value, bool) or not least <= value <= greatest:
         raise Unfitting
     return value
 
 
-def count(value: Any) -> int:
+def count(value: object) -> int:
     return number(value, 0, MAX_UNSIGNED)

@@ -55,7 +55,7 @@ def run(words: Words, options: Options) -> None:
     desk = Desk(words.desk, clock)
     queries = Queries(devices, desk) if options.queries else None
     requests = Requests(desk, clock, time.time, options.learn_for, store.learn_until, queries)
-    follower = Follower(words.lines, store.place, store.is_same_boot)
+    follower = Follower(words.lines, store.place, logging.warning, store.is_same_boot)
     wake = Wake([words.lines, words.desk])
     bridge = Bridge(topics, broker, devices, follower, desk, requests, store, clock, time.time, wake.wait)
 

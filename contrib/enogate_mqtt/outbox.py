@@ -3,8 +3,8 @@ from __future__ import annotations
 
 import logging
 from collections import deque
+from collections.abc import Callable, Container
 from dataclasses import dataclass
-from typing import Callable, Container
 
 from .follow import Place
 from .topics import Message

@@ -3,7 +3,8 @@ the queue of a client, so it is never asked for everything at once."""
 from __future__ import annotations
 
 from collections import deque
-from typing import Callable, Iterable, Protocol
+from collections.abc import Callable, Iterable
+from typing import Protocol
 
 # So many devices are compared at the same time.
 MAX_PARTS = 8

@@ -5,8 +5,8 @@ from __future__ import annotations
 import logging
 import math
 import re
+from collections.abc import Callable
 from dataclasses import dataclass
-from typing import Callable
 
 from .desk import Desk, News
 from .lines import Content, EndOfList, Response, Status, Telegram

@@ -4,8 +4,9 @@ from __future__ import annotations
 import argparse
 import re
 import ssl
+from collections.abc import Mapping, Sequence
 from dataclasses import dataclass
-from typing import Mapping, NoReturn, Sequence
+from typing import NoReturn
 
 from . import VERSION
 from .entities import AUTO

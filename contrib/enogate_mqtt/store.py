@@ -7,20 +7,15 @@ import contextlib
 import json
 import logging
 import os
-import pathlib
 import re
 import sqlite3
-from typing import Iterable
+from collections.abc import Iterable
 
 from .devices import Device
 from .follow import Place
 from .lines import NAME
+from .state import VERSION, Foreign, check_version, place_of, uri_of
 
-# The version of the tables, in PRAGMA user_version. A file of another version is replaced. The tables `learn` and
-# `boot` were added without another version: programs that do not know them can use the file.
-VERSION = 2
-# No file is larger, in bytes.
-MAX_SIZE = 1 << 62
 # So long the start waits for a file that another program has locked, in seconds.
 WAIT = 5.0
 TABLES = f"""
@@ -37,10 +32,6 @@ COMMIT;
 """
 # The place of a reading below the topic of its device.
 REPORTED_PLACE = re.compile(f"{NAME}(?:/[0-9]{{1,20}})?")
-
-
-class Foreign(Exception):
-    """The file is not a state file of this version."""
 
 
 class Store:
@@ -106,7 +97,7 @@ class Store:
         SQLite needs to read the log of a bridge that was killed, this log is left out: the state is then older."""
         for option in ("mode=ro", "immutable=1"):
             try:
-                uri = f"{pathlib.Path(self.path).absolute().as_uri()}?{option}"
+                uri = uri_of(self.path, option)
                 with contextlib.closing(sqlite3.connect(uri, timeout=WAIT, uri=True)) as connection:
                     check_version(connection)
                     self.read(connection)
@@ -176,21 +167,6 @@ class Store:
         if device:
             values = (name, device.eep, device.label, device.maker, json.dumps(device.reported))
             connection.execute("INSERT INTO device VALUES (?, ?, ?, ?, ?)", values)
-
-
-def check_version(connection: sqlite3.Connection) -> None:
-    """Whether this is a state file of this version, or a new one. If not, it is Foreign."""
-    version = connection.execute("PRAGMA user_version").fetchone()[0]
-    tables = connection.execute("SELECT count(*) FROM sqlite_master").fetchone()[0]
-    if tables and version != VERSION:
-        raise Foreign(f"version {version} of the state, expected {VERSION}")
-
-
-def place_of(inode: object, offset: object, last: object) -> Place:
-    """How far the lines were read."""
-    if not (isinstance(inode, int) and isinstance(offset, int) and isinstance(last, bytes) and 0 <= offset <= MAX_SIZE):
-        raise Foreign("place of an unknown form")
-    return Place(inode, offset, last)
 
 
 def reported_of(text: str) -> dict[str, str]:

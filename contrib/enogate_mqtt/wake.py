@@ -6,7 +6,8 @@ import errno
 import logging
 import os
 import select
-from typing import Iterable, Protocol
+from collections.abc import Callable, Iterable
+from typing import Protocol
 
 # The longest wait without inotify, or while something is under way, and the longest one of all, in seconds.
 TURN, LONGEST = 0.1, 1.0
@@ -28,9 +29,9 @@ class Waited(Protocol):
 
 class Files:
     """Notices changes of these files. A file is found by its directory when it is created. Files are watched by
-    themselves, since the lines of other gateways are in the same directory."""
+    themselves, since the lines of other gateways are in the same directory. Without inotify, `warn` logs why."""
 
-    def __init__(self, paths: Iterable[str]):
+    def __init__(self, paths: Iterable[str], warn: Callable[[str], None]):
         folders = sorted({os.path.dirname(os.path.abspath(path)) for path in paths})
         self.watches = [(os.fsencode(path), OF_FILE) for path in paths] + [
             (os.fsencode(folder), OF_FOLDER) for folder in folders]
@@ -43,7 +44,7 @@ class Files:
         except (OSError, AttributeError) as error:
             self.file, fault = -1, str(error)
         if self.file < 0:
-            logging.warning("no inotify (%s): the lines are looked at every %s seconds", fault, TURN)
+            warn(f"no inotify ({fault}): the lines are looked at every {TURN} seconds")
 
     def longest(self) -> float:
         """How long the wait may be. It is 0 if other files than before are watched now: what was written to them
@@ -68,7 +69,7 @@ class Wake:
     """The wait of the bridge."""
 
     def __init__(self, paths: Iterable[str]):
-        self.files = Files(list(paths))
+        self.files = Files(list(paths), logging.warning)
         self.stops = os.eventfd(0, os.EFD_NONBLOCK | os.EFD_CLOEXEC)
 
     def wait(self, connections: Iterable[Waited], seconds: float, watches: bool) -> None:

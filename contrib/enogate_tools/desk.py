@@ -7,6 +7,11 @@ import stat
 
 # The group may write to it.
 MODE = 0o660
+# The desk is in memory, and may grow to this size until the gateway restarts, once a day.
+MAX_SIZE = 16 * 1024 * 1024
+# Ends an incomplete line. If a full file system has cut off the end of an order, the rest could be another order: with
+# the control character NAK it is none.
+INVALID_END = b"\x15\n"
 
 
 def empty(path: str) -> int:
@@ -25,3 +30,13 @@ def empty(path: str) -> int:
     finally:
         os.close(file)
     return size
+
+
+def is_written(file: int, text: bytes) -> bool:
+    """Writes a text to a desk in a single write. Returns whether all of it was written. If the last line was not, it is
+    made invalid; if there is no space for that, the program that writes next does it."""
+    written = os.write(file, text)
+    if 0 < written < len(text) and text[written - 1:written] != b"\n":
+        with contextlib.suppress(OSError):
+            os.write(file, INVALID_END)
+    return written == len(text)

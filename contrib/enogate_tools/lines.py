@@ -6,7 +6,7 @@ import errno
 import glob
 import os
 import stat
-from typing import Callable
+from collections.abc import Callable
 
 NEW_MODE = 0o640
 PART = 1 << 16

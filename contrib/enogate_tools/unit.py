@@ -8,7 +8,8 @@ import signal
 import stat
 import subprocess
 import time
-from typing import Callable, Protocol
+from collections.abc import Callable
+from typing import Protocol
 
 from . import desk, port as ports
 from .lines import NOTICE, WARNING, Lines

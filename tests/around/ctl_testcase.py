@@ -6,16 +6,15 @@ import os
 import pathlib
 import signal
 import subprocess
-import sys
 import tempfile
 import unittest
 from dataclasses import dataclass
 from typing import Any
 
 from programs import WITHIN, wait_for
-from services import CONTRIB, Gateway, Stick
+from services import CTL as COMMAND
+from services import Gateway, Stick
 
-COMMAND = CONTRIB / "enogatectl"
 OK, REFUSED, USAGE, SILENT = 0, 1, 2, 3
 
 
@@ -54,8 +53,7 @@ class CtlTest(unittest.TestCase):
     @classmethod
     def words(cls, *words: str) -> list[str | pathlib.Path]:
         """The words of a command for the gateway."""
-        files = ["--desk", cls.gateway.desk, "--lines", cls.gateway.lines_path]
-        return [sys.executable, "-B", COMMAND, *files, "hall", *words]
+        return cls.gateway.ctl_words(*words)
 
     @classmethod
     def ctl(cls, *words: str, text: str = "") -> Run:

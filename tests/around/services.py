@@ -17,6 +17,7 @@ ROOT = HERE.parents[1]
 CONTRIB = ROOT / "contrib"
 PROGRAM = ROOT / os.environ.get("TESTED_PROGRAM", "crates/enogate/out/enogate")
 COMMANDS = {"enogate": PROGRAM, **{name: CONTRIB / name for name in ("enogate-mqtt", "enogate-port", "enogate-check")}}
+CTL = CONTRIB / "enogatectl"
 BASE = "FF800000"
 
 
@@ -90,6 +91,10 @@ class Gateway(Unit):
         """Gives orders at the desk itself."""
         with self.desk.open("a") as desk:
             desk.writelines(f"{order}\n" for order in orders)
+
+    def ctl_words(self, *words: str) -> list[str | pathlib.Path]:
+        """The command of enogatectl with these words for this gateway."""
+        return [sys.executable, "-B", CTL, "--desk", self.desk, "--lines", self.lines_path, "hall", *words]
 
     def lines(self) -> list[str]:
         """The text that it has printed since its lines were rotated."""

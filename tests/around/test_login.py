@@ -7,6 +7,7 @@ import contextlib
 import http.client
 import os
 import pathlib
+import re
 import ssl
 import unittest
 from dataclasses import dataclass
@@ -30,6 +31,12 @@ GIVE = """
 const [done] = arguments;
 window.cockpit.spawn(["enogatectl", "hall", "learn", "on"], { superuser: "require" })
     .then(() => done(""), error => done(error.problem));
+"""
+# A click on a button that the page has disabled.
+CLICK = """
+const button = document.querySelector(arguments[0]);
+button.disabled = false;
+button.click();
 """
 UNAUTHORIZED = 401
 # The certificate is one that nobody knows.
@@ -56,6 +63,22 @@ def login(user: str, password: str) -> Response:
     """The response to a login."""
     words = base64.b64encode(f"{user}:{password}".encode()).decode()
     return get("/cockpit/login", Authorization=f"Basic {words}")
+
+
+def running() -> list[pathlib.Path]:
+    """The processes that give the orders of pages on the system."""
+    found = []
+    for process in pathlib.Path("/proc").glob("[0-9]*"):
+        with contextlib.suppress(OSError):
+            words = (process / "cmdline").read_text().split("\0")
+            if "--serve" in words and os.path.samefile(process / "root", ROOT):
+                found.append(process)
+    return found
+
+
+def mode() -> str:
+    """The mode of the learn window that the last line with a status reports."""
+    return re.findall('"mode":"([^"]*)"', LINES.read_text())[-1]
 
 
 class Files(unittest.TestCase):
@@ -130,6 +153,14 @@ class Shell(unittest.TestCase):
         self.browser.type(field, password)
         self.browser.click(".pf-c-modal-box__footer .pf-m-primary")
 
+    def turn_off_administrative_access(self) -> None:
+        """Limits the access at the top of Cockpit."""
+        self.browser.driver.switch_to.default_content()
+        self.browser.click("#super-user-indicator button")
+        button = ".pf-c-modal-box__footer .pf-m-primary"
+        self.wait(lambda: self.browser.find(button).is_displayed())
+        self.browser.click(button)
+
     def shoot(self, name: str) -> None:
         self.browser.driver.switch_to.default_content()
         if SCREENSHOTS:
@@ -175,6 +206,24 @@ class Shell(unittest.TestCase):
         """The other tests look for this label."""
         self.browser.click("#tab-devices")
         self.rename("Front door")
+
+    def test_all_orders_end_with_the_administrative_access(self):
+        self.log_in(*CHIEF, state="lost")
+        self.assertEqual(running(), [])
+        self.turn_on_administrative_access(CHIEF[1])
+        self.enter_frame()
+        self.wait_for_text("#feed", "live")
+        self.browser.click("#tab-teach")
+        self.wait(lambda: self.browser.find("#teach-open").is_enabled())
+        self.browser.click("#teach-open")
+        self.wait_for_text("#window", "learn window: on")
+        self.assertNotEqual(running(), [])
+        self.turn_off_administrative_access()
+        self.enter_frame()
+        self.wait(lambda: running() == [] and mode() == "closed")
+        self.assert_is_read_only()
+        self.browser.run(CLICK, "#teach-close")
+        self.wait_for_text("#problem-text", "You have no administrative access: turn it on at the top of Cockpit.")
 
     def test_a_member_of_the_group_sees_all_and_may_change_nothing(self):
         self.log_in(*TECH)

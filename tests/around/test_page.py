@@ -7,6 +7,7 @@ import json
 import os
 import pathlib
 import re
+import signal
 import subprocess
 import tempfile
 import time
@@ -92,6 +93,16 @@ def ctl(*words: str) -> str:
     """What enogatectl prints about an order to the gateway."""
     command = [work / "bin/enogatectl", "--json", "hall", *words]
     return subprocess.run(command, check=True, capture_output=True, text=True).stdout
+
+
+def running(*words: str) -> set[int]:
+    """The processes of enogatectl that have all of these words on their command lines."""
+    found = set()
+    for path in pathlib.Path("/proc").glob("[0-9]*/cmdline"):
+        with contextlib.suppress(OSError):
+            if {str(work / "bin/enogatectl"), *words} <= set(path.read_text().split("\0")):
+                found.add(int(path.parent.name))
+    return found
 
 
 class PageTest(unittest.TestCase):
@@ -340,11 +351,7 @@ class Acts(PageTest):
 
     def test_a_device_is_renamed_and_removed(self):
         self.learn("01800B05", "D5-00-01", "Old name")
-        browser.click(self.row("01800B05") + " button")
-        browser.type("#edit-label", "New name")
-        browser.click("#edit-save")
-        self.leave()
-        self.wait_for_text(self.row("01800B05"), "New name")
+        self.rename("01800B05", "New name")
         browser.click(self.row("01800B05") + " button")
         browser.click("#edit-remove")
         browser.click("#edit-sure")
@@ -369,8 +376,34 @@ class Acts(PageTest):
         self.tab("teach")
         browser.click("#teach-open")
         self.wait_for_text("#window", "learn window: on")
+        self.wait(lambda: running("--serve"), lambda found: len(found) == 2, "the processes for orders")
         browser.open("about:blank")
         self.wait(lambda: json.loads(ctl("status"))["mode"], lambda mode: mode == "closed", "the learn window")
+        self.wait(running, lambda found: not found, "the processes of the page")
+
+    def test_one_process_gives_the_orders_and_is_started_again_if_it_was_killed(self):
+        self.learn("01800B07", "D5-00-01", "One")
+        [server] = self.wait(lambda: running("--serve"), lambda found: len(found) == 1, "the process")
+        self.rename("01800B07", "Two")
+        self.tab("teach")
+        browser.click("#teach-open")
+        self.wait_for_text("#window", "learn window: on")
+        [window] = self.wait(lambda: running("--serve") - {server}, lambda found: len(found) == 1, "the window")
+        os.kill(server, signal.SIGKILL)
+        self.wait_for_text("#problem-text", "enogatectl has ended, and may not have carried out the order")
+        os.kill(window, signal.SIGTERM)
+        self.wait_for_text("#window", "learn window: closed")
+        self.tab("devices")
+        self.rename("01800B07", "Three")
+        self.wait(lambda: running("--serve"), lambda found: len(found - {server, window}) == 1, "another process")
+
+    def rename(self, device: str, label: str) -> None:
+        """Changes the label of a device."""
+        browser.click(self.row(device) + " button")
+        browser.type("#edit-label", label)
+        browser.click("#edit-save")
+        self.leave()
+        self.wait_for_text(self.row(device), label)
 
     def test_actuators_are_switched_dimmed_and_moved(self):
         for device, eep in (("01800B11", "D2-01-12"), ("01800B12", "D2-01-02"), ("01800B13", "D2-05-00")):

@@ -169,7 +169,7 @@ class Site:
         desk = Desk(str(self.desk), self.clock)
         queries = Queries(devices, desk) if asks_actuators else None
         requests = Requests(desk, self.clock, self.wall, learn_for, store.learn_until, queries)
-        follower = Follower(str(self.lines), store.place, store.is_same_boot)
+        follower = Follower(str(self.lines), store.place, logging.warning, store.is_same_boot)
         self.bridge = Bridge(self.topics, self.broker, devices, follower, desk, requests, store, self.clock,
                              self.wall, self.wait)
         self.bridge.read_earlier_lines()

@@ -1,4 +1,5 @@
 """Following the lines across rotation."""
+import logging
 import os
 import unittest
 from unittest import mock
@@ -34,7 +35,7 @@ class Following(Case):
             file.write(text)
 
     def follower(self, place=None):
-        return Follower(str(self.path), place)
+        return Follower(str(self.path), place, logging.warning)
 
     def read(self, follower, turns=8):
         return [line.decode() for _ in range(turns) for line, _ in follower.read()]
@@ -191,7 +192,7 @@ class Following(Case):
                 follower = self.follower()
                 self.read(follower)
                 self.path.write_bytes(left)
-                again = Follower(str(self.path), follower.place, is_same_boot=False)
+                again = Follower(str(self.path), follower.place, logging.warning, is_same_boot=False)
                 self.assertTrue(again.is_found)
                 self.assertEqual(again.place.offset, left.rfind(b"\n") + 1)
                 self.assertEqual(self.read(again), [])
@@ -207,13 +208,13 @@ class Following(Case):
         self.read(follower)
         os.truncate(self.rotate(), 4)
         self.write("three\n")
-        again = Follower(str(self.path), follower.place, is_same_boot=False)
+        again = Follower(str(self.path), follower.place, logging.warning, is_same_boot=False)
         self.assertEqual(self.read(again), ["three"])
 
     def test_a_place_that_is_found_after_a_power_failure(self):
         self.write("one\ntwo\n")
         place = self.follower().read()[1][1]
-        again = Follower(str(self.path), place, is_same_boot=False)
+        again = Follower(str(self.path), place, logging.warning, is_same_boot=False)
         self.assertEqual((again.is_found, self.read(again), self.logged), (True, ["two"], []))
 
     def test_whether_the_place_is_found(self):
@@ -224,7 +225,7 @@ class Following(Case):
         self.path.write_text("one")
         self.assertFalse(self.follower(place).is_found)
         self.path.unlink()
-        gone = Follower(str(self.path), place, is_same_boot=False)
+        gone = Follower(str(self.path), place, logging.warning, is_same_boot=False)
         self.assertEqual((gone.is_found, gone.place), (False, NOWHERE))
 
     def test_a_file_that_is_truncated(self):

@@ -4,8 +4,9 @@ import unittest
 from fractions import Fraction
 
 from enogate_mqtt import lines
+from enogate_mqtt.decimals import decimal
 from enogate_mqtt.lines import Answer, BadLine, Deleted, EndOfList, Learned, Listed, Other, Reading, Response, Status
-from enogate_mqtt.lines import Strange, Telegram, content_of, decimal
+from enogate_mqtt.lines import Strange, Telegram, content_of
 
 
 CONTACT = ('{"dbm":-45,"eep":"D5-00-01","id":"01800ABC","readings":[{"name":"CO","word":"closed"}],'
@@ -24,19 +25,27 @@ class Decimals(unittest.TestCase):
                             (Fraction(2**24 - 1, 1000), "16777.215"), (Fraction(1, 2**20), "0.00000095367431640625"),
                             (Fraction(100), "100"), (Fraction(1000, 10), "100")):
             with self.subTest(value):
-                self.assertEqual(decimal(value), text)
+                self.assertEqual(decimal(value.numerator, value.denominator), text)
 
     def test_other_fractions_have_six_digits_rounded_half_to_even(self):
         for value, text in ((Fraction(1024, 51), "20.0784"), (Fraction(-1, 3), "-0.333333"),
                             (Fraction(2, 3), "0.666667"),
                             (Fraction(1, 3000), "0.000333333"), (Fraction(10**7, 3), "3333333"),
-                            (Fraction(1999999, 3), "666666"), (Fraction(200, 3), "66.6667")):
+                            (Fraction(1999999, 3), "666666"), (Fraction(200, 3), "66.6667"),
+                            (Fraction(-1234567, 3), "-411522")):
             with self.subTest(value):
-                self.assertEqual(decimal(value), text)
+                self.assertEqual(decimal(value.numerator, value.denominator), text)
+
+    def test_fractions_that_are_not_reduced(self):
+        for value, text in (((1000, 10), "100"), ((6, 48), "0.125"), ((-36, 48), "-0.75"), ((0, 51), "0"),
+                            ((3 * 2**40, 3 * 2**41), "0.5"), ((7 * 2**40, 7 * 2**60), "0.00000095367431640625"),
+                            ((2048, 102), "20.0784"), ((21 * 10**7, 63), "3333333")):
+            with self.subTest(value):
+                self.assertEqual(decimal(*value), text)
 
     def test_a_counter_does_not_step_backwards(self):
         for divisor in (1, 10, 100, 1000):
-            texts = [decimal(Fraction(raw, divisor)) for raw in range(999_990, 1_000_040)]
+            texts = [decimal(raw, divisor) for raw in range(999_990, 1_000_040)]
             numbers = list(map(Fraction, texts))
             self.assertEqual(numbers, sorted(set(numbers)))
 
@@ -65,7 +74,8 @@ class Contents(unittest.TestCase):
             (b'{"type":"new"}', Other()),
         ):
             with self.subTest(line):
-                self.assertEqual(content_of(line), content)
+                found = content_of(line)
+                self.assertEqual((type(found), found), (type(content), content))
 
     def test_lines_of_no_gateway(self):
         for line in (b"", b"{", b"3", b"[]", b"null", b'{"kind":1}', b'{"type":"ok"}\xff', "{\"type\":\"ö\"}".encode(),

@@ -7,7 +7,7 @@ import shutil
 import unittest
 from unittest import mock
 
-from enogate_mqtt.follow import Follower
+from enogate_mqtt.follow import Follower, silent
 from enogate_mqtt.store import Store
 from fakes import OK, Case, Site, listing, reading
 
@@ -48,7 +48,7 @@ class PowerFailures(Case):
 
     def place_back(self, offset, boot="a boot"):
         """The state file gets an older place."""
-        follower = Follower(str(self.site.lines), None)
+        follower = Follower(str(self.site.lines), None, silent)
         places = [place for _, place in follower.read()]
         store = Store(str(self.site.state), self.site.topics.discovery, boot)
         known = {device.name: device for device in store.devices}

@@ -2,6 +2,7 @@
 import ctypes
 import errno
 import json
+import logging
 import math
 import os
 import pathlib
@@ -206,7 +207,7 @@ class WithoutInotify(Case):
         library = types.SimpleNamespace(**calls)
         with unittest.mock.patch.object(ctypes, "CDLL", lambda *_, **__: library), \
              unittest.mock.patch.object(ctypes, "get_errno", lambda: number):
-            files = Files(["/log/hall.lines", "/run/desk"])
+            files = Files(["/log/hall.lines", "/run/desk"], logging.warning)
             files.longest()
             return files.longest()
 
@@ -216,7 +217,7 @@ class WithoutInotify(Case):
 
     def test_too_many_instances(self):
         self.assertEqual(self.longest(errno.EMFILE, inotify_init1=lambda _: -1), 0.1)
-        self.assert_logged("WARNING: no inotify (Too many open files)")
+        self.assert_logged("WARNING: no inotify (Too many open files): the lines are looked at every 0.1 seconds")
 
     def test_a_wait(self):
         with unittest.mock.patch.object(ctypes, "CDLL", side_effect=OSError("none")):

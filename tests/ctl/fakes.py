@@ -3,7 +3,6 @@ from __future__ import annotations
 
 import faulthandler
 import json
-import logging
 import pathlib
 import signal
 import tempfile
@@ -51,8 +50,6 @@ class Site(Limited):
     maxDiff = None
 
     def setUp(self) -> None:
-        logging.disable()
-        self.addCleanup(logging.disable, logging.NOTSET)
         self.folder = pathlib.Path(self.enterContext(tempfile.TemporaryDirectory()))
         self.desk, self.lines, self.state = (self.folder / name for name in ("desk", "hall.lines", "bridge.db"))
         self.desk.touch()

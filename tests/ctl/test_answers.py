@@ -244,6 +244,14 @@ class SeveralOrders(Limited):
         self.assertIsNone(all_found(self.ADDS, status(), status(), ACCEPTED, one, other, one))
         self.assertIsNone(all_found(self.ADDS, status(), status(), ACCEPTED, status(), other, two))
 
+    def test_how_many_orders_may_be_answered(self):
+        """The error may be that of a packet: the answers begin with it or after it."""
+        finder, counts = AnswerFinder(*self.LABELS), []
+        for line in (status(), status(), error("store"), status(), OK, status(), OK, OK, status()):
+            finder.take(json.dumps(line).encode())
+            counts.append(finder.count)
+        self.assertEqual(counts, [0, 0, 0, 1, 1, 2, 2, 2, 0])
+
     def test_orders_of_others_before(self):
         """Of another program are an answer that the first order can have, and one that it cannot have."""
         own = status(), status(), OK, status(), OK, status(), error("range"), status()

@@ -6,9 +6,10 @@ import re
 import unittest
 from unittest import mock
 
-from enogate_ctl import command_line, grammar, main as program
+from enogate_ctl import command_line, following, grammar, main as program
 from enogate_ctl.answers import Answer, line_of
-from enogate_ctl.command_line import AskBase, Export, Give, Import, ShowLines, ShowPaths, ShowRecorded, parsed
+from enogate_ctl.command_line import AskBase, Export, Give, Import, Serve, ShowLines, ShowPaths, ShowRecorded
+from enogate_ctl.command_line import parsed
 from enogate_ctl.desk import NoAnswer
 from enogate_ctl.places import Places, Unreadable, places_of
 from enogate_ctl.stops import Stopped
@@ -24,7 +25,7 @@ def run(*arguments, text="", is_terminal=False):
     out, err = io.StringIO(), io.StringIO()
     stdin = mock.Mock(buffer=io.BytesIO(text.encode("utf-8", "surrogateescape")), isatty=lambda: is_terminal)
     with contextlib.redirect_stdout(out), contextlib.redirect_stderr(err), mock.patch("sys.stdin", stdin), \
-            mock.patch.object(program.Stops, "install"), mock.patch("logging.disable"):
+            mock.patch.object(program.Stops, "install"):
         try:
             status = program.main(arguments)
         except SystemExit as end:
@@ -54,9 +55,11 @@ class CommandLines(Limited):
             ("hall devices --import", Import(HALL, 10.0)), ("hall --timeout 3 devices --import", Import(HALL, 3.0)),
             ("hall lines", ShowLines(HALL)), ("--timeout 3 hall lines", ShowLines(HALL)),
             ("--desk d --lines l hall lines", ShowLines(Places("d", "l", HALL.bridge))),
+            ("--serve", Serve()),
         ):
             with self.subTest(words):
-                self.assertEqual(parsed(words.split(" ")), wanted)
+                found = parsed(words.split(" "))
+                self.assertEqual((type(found), found), (type(wanted), wanted))
         self.assertEqual(parsed(["hall", "label", "01800ABC", "a  b"]).order, "label 01800ABC a  b")
 
     def test_bad_usage(self):
@@ -232,12 +235,17 @@ class Programs(Limited):
 
     def test_lines(self):
         for why, status in ((None, 0), (Unreadable("why"), 1)):
-            with mock.patch.object(program.following, "print_lines", side_effect=why) as printed, \
-                    mock.patch("sys.stdout", mock.Mock(buffer=7)), mock.patch.object(program.Stops, "install"), \
-                    mock.patch("logging.disable"), contextlib.redirect_stderr(io.StringIO()) as err:
+            with mock.patch.object(following, "print_lines", side_effect=why) as printed, \
+                    mock.patch.object(following, "Reader") as reader, mock.patch("sys.stdout", mock.Mock(buffer=7)), \
+                    mock.patch.object(program.Stops, "install"), contextlib.redirect_stderr(io.StringIO()) as err:
                 self.assertEqual(program.main(["hall", "lines"]), status)
             self.assertEqual(err.getvalue(), "enogatectl: why\n" if why else "")
-            printed.assert_called_once_with(HALL, 7, program.following.is_read)
+            reader.assert_called_once_with(HALL.lines, 7)
+            printed.assert_called_once_with(HALL, 7, reader.return_value.wait)
+
+    def test_a_signal_before_the_command_begins(self):
+        with mock.patch.object(program.Stops, "install", side_effect=Stopped(15)):
+            self.assertEqual(program.main(["paths"]), 143)
 
     def test_nobody_reads(self):
         with self.ask(['{"type":"ok"}']), mock.patch("builtins.print", side_effect=BrokenPipeError), \

@@ -17,7 +17,7 @@ from enogate_ctl.desk_file import DeskFile, Unusable
 from enogate_ctl.places import Places
 from enogate_ctl.stops import SIGNALS, Stopped, Stops
 from enogate_tools import files
-from fakes import OK, Limited, Site, error, status, within
+from fakes import OK, Limited, Site, error, status, teach, within
 
 RESTARTED = ("the gateway was restarted, or its desk was truncated: find out with `list` or `status` whether the order "
              "was carried out, and give it again if not")
@@ -283,6 +283,37 @@ class OrdersOfOthers(DeskTest):
         answers = self.made().ask_all(["label 01800ABD x", "label 01800ABE x"])
         self.assertEqual([answer.error for answer in answers], ["unknown_device", None])
 
+    def test_each_answer_gives_time_for_the_next_one(self):
+        orders = [f"label 01800A{number:02X} x" for number in range(5)]
+        for seconds, is_late in ((9.5, False), (10.5, True)):
+            desk = self.made()
+            pauses = round(seconds / PAUSE)
+            self.clock.slept.clear()
+            self.clock.acts = {1: lambda: self.write(status(), status())} | {
+                1 + number * pauses: lambda: self.write(OK, status()) for number in range(1, 6)}
+            if is_late:
+                with self.assertRaises(NoAnswer):
+                    desk.ask_all(orders)
+                self.assertAlmostEqual(sum(self.clock.slept), desk.timeout, delta=PAUSE)
+            else:
+                self.assertEqual(len(desk.ask_all(orders)), 5)
+        self.assertEqual(self.forks, 1)
+
+    def test_only_answers_give_time(self):
+        """Status lines of other programs do not, nor do answers to their orders. One that looks like the first answer
+        does so once."""
+        orders = [f"label 01800A{number:02X} x" for number in range(5)]
+        alike = (status(), status(), OK, status())
+        taught = teach("01800ABC"), status(teach=1)
+        for seconds, texts in ((10, [(status(),)]), (10, [(OK, OK, status())]), (10, [taught]),
+                               (10.1, [alike, alike[:2]])):
+            self.clock.slept.clear()
+            self.clock.acts = {place: lambda place=place: self.write(*texts[place % len(texts)])
+                               for place in range(10, 2000, 7)}
+            with self.assertRaises(NoAnswer):
+                self.made().ask_all(orders)
+            self.assertAlmostEqual(sum(self.clock.slept), seconds, delta=PAUSE)
+
     def write_at_once(self, text):
         """Another program appends this just before the command."""
         def write(file, own):
@@ -355,7 +386,7 @@ class Keeping(DeskTest):
         """How long the lock is kept, and why it ends."""
         file = DeskFile(self.places.desk)
         self.addCleanup(file.close)
-        finder = desks.AnswerFinder("learn on")
+        finder = desks.AnswerFinder(*orders or ["learn on"])
         file.append(finder.text)
         lines = Lines(self.places.lines)
         try:
@@ -381,6 +412,13 @@ class Keeping(DeskTest):
         seconds, end = self.keep()
         self.assertAlmostEqual(seconds, 5 + KEPT_AFTER_ANSWER, 0)
         self.assertEqual((end, KEPT_AFTER_ANSWER), ("returned", 10))
+
+    def test_each_answer_gives_time_for_the_next_one(self):
+        self.clock.acts = {50: lambda: self.write(status(), status(), OK, status())} | {
+            number: lambda: self.write(OK, status()) for number in (140, 230)}
+        seconds, end = self.keep(*(f"label 01800A0{number} x" for number in range(3)))
+        self.assertAlmostEqual(seconds, 23, 0)
+        self.assertEqual(end, "returned")
 
     def test_packets_do_not_end_it(self):
         for number in range(1, 300, 10):

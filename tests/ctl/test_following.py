@@ -2,7 +2,9 @@
 import contextlib
 import io
 import os
+import select
 import unittest
+from unittest import mock
 
 from enogate_ctl import following
 from enogate_ctl.places import Unreadable
@@ -13,10 +15,10 @@ from fakes import Site
 class Following(Site):
     def printed(self, *acts):
         """What is printed while each of these is done in a pause; then nobody reads it any more."""
-        out, left = io.BytesIO(), list(acts)
+        out, left, self.woken = io.BytesIO(), list(acts), []
 
-        def wait(found):
-            self.assertIs(found, out)
+        def wait(is_woken):
+            self.woken.append(is_woken)
             if left:
                 left.pop(0)()
             return bool(left)
@@ -50,6 +52,25 @@ class Following(Site):
             self.write("b")
         self.write("a")
         self.assertEqual(self.printed(rotate, lambda: None, lambda: None), ["a", "", "b", ""])
+        self.assertEqual(self.woken, [True, False, True])
+
+    def test_a_line_that_is_still_written_to_a_rotated_file(self):
+        def rotate():
+            self.lines.rename(self.folder / "hall.lines.1")
+            self.write("c")
+
+        def write():
+            with (self.folder / "hall.lines.1").open("a") as file:
+                file.write("b\n")
+        self.write("a")
+        self.assertEqual(self.printed(rotate, write, lambda: None, lambda: None), ["a", "", "b", "c", ""])
+
+    def test_what_is_wrong_with_the_file_is_not_printed(self):
+        self.write("a", "b")
+        with contextlib.redirect_stdout(io.StringIO()) as out, contextlib.redirect_stderr(out):
+            self.assertEqual(self.printed(lambda: self.lines.write_text("c\n"), lambda: self.write("d"), lambda: None),
+                             ["a", "b", "", "d", ""])
+        self.assertEqual(out.getvalue(), "")
 
     def test_no_file(self):
         self.lines.unlink()
@@ -79,13 +100,52 @@ class Following(Site):
         self.assertEqual(os.listdir("/proc/self/fd"), before)
 
 
-class Reader(unittest.TestCase):
+class Reader(Site):
+    def setUp(self):
+        super().setUp()
+        self.reads, writes = os.pipe()
+        self.addCleanup(lambda: os.close(self.reads))
+        self.out = self.enterContext(os.fdopen(writes, "wb"))
+        self.reader = following.Reader(str(self.lines), self.out)
+        self.waits = []
+        poll = mock.Mock(register=lambda *_: None, poll=lambda wait: self.waits.append(wait) or [])
+        self.poll = mock.patch.object(following.select, "poll", return_value=poll)
+
     def test_whether_somebody_reads(self):
-        reads, writes = os.pipe()
-        with os.fdopen(writes, "wb") as out:
-            self.assertTrue(following.is_read(out))
-            os.close(reads)
-            self.assertFalse(following.is_read(out))
+        self.assertTrue(self.reader.wait(True))
+        reads, self.reads = self.reads, os.open(os.devnull, os.O_RDONLY)
+        os.close(reads)
+        self.assertFalse(self.reader.wait(True))
+
+    def test_a_line_ends_the_wait(self):
+        """Otherwise it takes a second, in which nothing is looked at."""
+        for change in (lambda: self.write("a"), lambda: self.write("b"),
+                       lambda: self.lines.rename(self.folder / "hall.lines.1"), lambda: self.write("c")):
+            while self.reader.files.longest() == 0 or select.select([self.reader.files.file], [], [], 0)[0]:
+                self.assertTrue(self.reader.wait(True))
+            with self.poll:
+                self.reader.wait(True)
+            self.assertEqual(self.waits.pop(), 1000)
+            change()
+            self.assertTrue(select.select([self.reader.files.file], [], [], 0)[0])
+
+    def test_a_line_does_not_end_a_pause(self):
+        self.assertTrue(self.reader.wait(True))
+        with mock.patch.object(following.select, "poll", return_value=mock.Mock(poll=lambda _: [])) as poll:
+            self.assertTrue(self.reader.wait(False))
+        poll.return_value.register.assert_called_once_with(self.out.fileno(), 0)
+        with self.poll:
+            self.reader.wait(False)
+        self.assertEqual(self.waits, [100])
+
+    def test_without_inotify(self):
+        library = mock.Mock(inotify_init1=lambda _: -1)
+        with mock.patch("enogate_mqtt.wake.ctypes.CDLL", return_value=library), \
+                contextlib.redirect_stderr(io.StringIO()) as err:
+            reader = following.Reader(str(self.lines), self.out)
+        with self.poll:
+            self.assertTrue(reader.wait(True))
+        self.assertEqual((self.waits, err.getvalue()), ([100], ""))
 
 
 if __name__ == "__main__":

@@ -12,6 +12,7 @@ from enogate_ctl import main as program, recent, recorded
 from enogate_ctl.places import Unreadable
 from enogate_mqtt.devices import Device
 from enogate_mqtt.follow import end_of
+from enogate_mqtt.state import last_seen
 from enogate_mqtt.store import Store
 from fakes import OK, Limited, Site, device, end_of_list, packet, reading, status, teach
 
@@ -104,6 +105,20 @@ class Recorded(Site):
         self.assertEqual((status, [json.loads(line) for line in out.splitlines()]), (0, [
             {**members, "id": "01800ABC", "label": 'A "b"', "seen": None},
             {**members, "id": "01800ABD", "label": "", "seen": 1795867200}, end_of_list(2)]))
+
+    def test_text(self):
+        self.write(device("01800ABC", "Door"), device("01800ABD", "Lamp"), end_of_list(2))
+        status, out = self.run_command()
+        self.assertEqual((status, [line.split()[:2] for line in out.splitlines()[1:]]),
+                         (0, [["Door", "01800ABC"], ["Lamp", "01800ABD"]]))
+
+    def test_a_state_that_is_missing_or_locked(self):
+        """The first one is not created, and the other one is waited for."""
+        self.assertIsNone(last_seen(str(self.state)))
+        self.assertFalse(self.state.exists())
+        with mock.patch.object(sqlite3, "connect", side_effect=sqlite3.OperationalError("locked")) as connect:
+            self.assertIsNone(last_seen(str(self.state)))
+        self.assertEqual(connect.call_args.kwargs, {"uri": True, "timeout": 1.0})
 
     def test_a_damaged_state_of_the_bridge(self):
         self.write(device("01800ABC"), end_of_list(1))

@@ -1,10 +1,14 @@
 """Devices as CSV."""
+import json
 import unittest
+from unittest import mock
 
 from enogate_ctl import sheet
+from enogate_ctl.answers import Answer, line_of
+from enogate_ctl.desk import PAUSE
 from enogate_ctl.sheet import MOST_ROWS, BadRow, Row
 from enogate_mqtt.lines import Listed
-from fakes import Limited
+from fakes import OK, Clock, Limited, error
 
 ADD = "the form is add ID EEP (ID: 8 hexadecimal digits; EEP: a profile such as D5-00-01)"
 LABEL = "the form is label ID TEXT | label ID (ID: 8 hexadecimal digits; TEXT: 1 to 32 ASCII characters)"
@@ -123,12 +127,13 @@ class Importing(Limited):
 
     def test_groups(self):
         """So many rows are handled at once. A device that occurs again begins a group."""
-        self.assertEqual(MOST_ROWS, 16)
-        rows = [f"{number:08X},D5-00-01,Lamp {number}" for number in range(35)]
+        self.assertEqual(MOST_ROWS, 100)
+        rows = [f"{number:08X},D5-00-01,Lamp {number}" for number in range(235)]
         self.assertTrue(self.run_import("\n".join(rows)))
-        self.assertEqual(self.groups, [16, 16, 16, 16, 3, 3])
-        self.assertEqual(self.lines, [f"line {number + 1}: {number:08X}: learned and labelled" for number in range(35)])
-        self.assertEqual((self.orders[16], self.orders[-1]), ("label 00000000 Lamp 0", "label 00000022 Lamp 34"))
+        self.assertEqual(self.groups, [100, 100, 100, 100, 35, 35])
+        self.assertEqual(self.lines, [f"line {number + 1}: {number:08X}: learned and labelled"
+                                      for number in range(235)])
+        self.assertEqual((self.orders[100], self.orders[-1]), ("label 00000000 Lamp 0", "label 000000EA Lamp 234"))
         self.setUp()
         rows = ["01800ABC,D5-00-01,Door", "x", "01800ABD,D5-00-01", "01800ABC,F6-02-01,Gate", "01800ABD,F6-02-01"]
         self.assertFalse(self.run_import("\n".join(rows)))
@@ -143,6 +148,41 @@ class Importing(Limited):
         for text, succeeds in (("", False), ("\n", False), ("id,eep,label\n", True)):
             self.assertEqual(self.run_import(text), succeeds)
         self.assertEqual((self.orders, self.lines), ([], ["the input has no devices"] * 3))
+
+
+class Giving(Limited):
+    """The orders of an import at a desk that needs so many seconds for each of them."""
+
+    def setUp(self):
+        self.clock, self.orders, self.parts, self.seconds, self.errors = Clock(), [], [], 0.0, {}
+        self.giver = sheet.Giver(mock.Mock(clock=self.clock, sleep=self.clock.sleep, ask_all=self.ask_all))
+
+    def ask_all(self, orders):
+        self.clock.now += self.seconds * len(orders)
+        self.orders += orders
+        self.parts.append(len(orders))
+        lines = [error(self.errors[order]) if order in self.errors else OK for order in orders]
+        return [Answer([line_of(json.dumps(line).encode())]) for line in lines]
+
+    def test_a_slow_gateway_gets_fewer_orders_at_once(self):
+        orders = list(map(str, range(250)))
+        for seconds, parts in ((0.0, [16, 100, 100, 34]), (0.01, [16, 100, 100, 34]), (0.09, [16] + 10 * [22] + [14]),
+                               (0.3, [16] + 39 * [6]), (5.0, [16] + 234 * [1])):
+            self.setUp()
+            self.seconds = seconds
+            self.assertEqual([answer.error for answer in self.giver.give(orders)], [None] * 250)
+            self.assertEqual((self.orders, self.parts), (orders, parts))
+            self.assertEqual(self.clock.slept, [2 * PAUSE] * len(parts))
+
+    def test_an_error_that_telegrams_have_too(self):
+        """Each order of its part is given again. Another error is that of its order."""
+        orders = list(map(str, range(20)))
+        self.errors = {"1": "range", "3": "store", "17": "range"}
+        self.seconds = 0.09
+        found = [answer.error for answer in self.giver.give(orders)]
+        self.assertEqual(found, [self.errors.get(order) for order in orders])
+        self.assertEqual((self.orders, self.parts), (orders[:16] * 2 + orders[16:], [16, *[1] * 16, 4]))
+        self.assertEqual(self.clock.slept, [2 * PAUSE] * 18)
 
 
 if __name__ == "__main__":

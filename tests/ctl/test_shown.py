@@ -11,6 +11,8 @@ from unittest import mock
 
 from enogate_ctl import recent, words
 from enogate_ctl.answers import REFUSALS, Answer, line_of
+from enogate_ctl.device_table import device_table
+from enogate_ctl.readings import readings
 from enogate_ctl.shown import shown
 from enogate_ctl.tables import table
 from enogate_mqtt.devices import Device
@@ -56,7 +58,7 @@ class Words(Limited):
         self.assertEqual((words.profile("A5-99-01"), words.profile("F6-01-02")), ("", ""))
 
     def test_readings(self):
-        for eep, readings, text in (
+        for eep, members, text in (
             ("D5-00-01", [{"name": "CO", "word": "closed"}], "Contact closed"),
             ("A5-02-05", TEMPERATURE, "Temperature 20.08 °C"),
             ("A5-02-05", [{"den": 2, "name": "TMP", "num": -1, "unit": "C"}], "Temperature -0.5 °C"),
@@ -75,8 +77,8 @@ class Words(Limited):
             ("D2-01-0F", [{"name": "LC", "raw": 1}], "Local control 1"),
         ):
             with self.subTest(text):
-                telegram, = lines_of(reading("01800ABC", eep, readings))
-                self.assertEqual(words.readings(telegram.content, Table()), text)
+                telegram, = lines_of(reading("01800ABC", eep, members))
+                self.assertEqual(readings(telegram.content, Table()), text)
 
     def test_ages(self):
         for seconds, text in ((-5, "0 s ago"), (0.9, "0 s ago"), (59.9, "59 s ago"), (60, "1 min ago"),
@@ -110,13 +112,14 @@ class Tables(Limited):
 
 class Shown(Site):
     def shown(self, *lines):
-        return shown(Answer(lines_of(*lines)), self.places, lambda: NOW)
+        return device_table(Answer(lines_of(*lines)).devices, self.places, NOW)
 
     def test_short_answers(self):
-        self.assertEqual(self.shown(OK), "ok")
-        self.assertEqual(self.shown(teach("01800ABC")), "accepted")
-        self.assertEqual(self.shown(teach("01800ABC", result="deleted")), "deleted")
-        self.assertEqual(self.shown(status("as F6-02-01", readings=12)), "learn window  as F6-02-01\nignored       0\n"
+        deleted = teach("01800ABC", result="deleted")
+        for line, text in ((OK, "ok"), (teach("01800ABC"), "accepted"), (deleted, "deleted")):
+            self.assertEqual(shown(Answer(lines_of(line))), text)
+        answer = Answer(lines_of(status("as F6-02-01", readings=12)))
+        self.assertEqual(shown(answer), "learn window  as F6-02-01\nignored       0\n"
                          "readings      12\nrefused       0\nresponses     0\nteach         0")
         self.assertEqual(self.shown(end_of_list(0)), "no device is learned")
 

@@ -2,7 +2,7 @@ import assert from "node:assert/strict";
 import { mock, test } from "node:test";
 
 import { byId, machine, permission, settle, started } from "./page.mjs";
-import { DEVICE, RESPONSE, TAUGHT } from "./samples.mjs";
+import { DEVICE, RESPONSE, STATUS, TAUGHT } from "./samples.mjs";
 
 const [LIST, BASE] = ["list", "base"].map(order => ["enogatectl", "--json", "hall", "--", order]);
 let run = 1;
@@ -25,6 +25,8 @@ async function pass(seconds) {
 }
 
 mock.timers.enable({ apis: ["setTimeout", "setInterval", "Date"], now: 1000 });
+byId("tab-teach").dataset.section = "teach";
+document.querySelectorAll = () => [byId("tab-teach")];
 await import("../../contrib/cockpit/enogate/main.js");
 await settle();
 
@@ -171,4 +173,17 @@ test("the learn window of a gateway is closed when another one is opened", async
     yard.click();
     await settle();
     assert.equal(opened.isClosed, true);
+});
+
+test("a learn window is counted down once a line reports that it is open", async () => {
+    const { outputOf } = machine;
+    machine.outputOf = words => words.includes("--for") ? null : outputOf(words);
+    byId("tab-teach").click();
+    byId("gateways").children[0].click();
+    await settle();
+    byId("teach-open").click();
+    assert.equal(byId("teach-left").textContent, "opening …");
+    started("enogatectl", "hall", "lines").at(-1).write(`\n${JSON.stringify({ ...STATUS, mode: "on" })}\n`);
+    await pass(1);
+    assert.equal(byId("teach-left").textContent, "open for 119 s");
 });

@@ -130,14 +130,40 @@ export class Process {
     }
 }
 
+/** `enogatectl --serve`, which starts a process for each requested command. The end of this process is the answer. */
+class Serve extends Process {
+    constructor(words, options) {
+        super(words, options);
+        Object.assign(this, { commands: new Map(), requests: "" });
+    }
+
+    input(text, hasMore) {
+        this.requests += text;
+        text.split("\n").filter(Boolean).map(JSON.parse).forEach(request => this.take(request));
+        if (!hasMore)
+            this.resolve("");
+    }
+
+    take({ id, arguments: words, stop }) {
+        if (stop) {
+            this.commands.get(id).isClosed = true;
+            return;
+        }
+        const answer = members => this.write(`${JSON.stringify({ id, ...members })}\n`);
+        const command = start(new Process(["enogatectl", ...words], this.options));
+        command.then((output = "") => answer({ error: "", output, status: 0 }),
+                     ({ message, status = 1 }) => answer({ error: `${message}\n`, output: "", status }));
+        this.commands.set(id, command);
+    }
+}
+
 export const processes = [];
 /** What a process prints before it ends; null if it does not end by itself. The test sets it. */
 export const machine = { outputOf: () => null };
 
-function spawn(words, options) {
-    const process = new Process(words, options);
+function start(process) {
     processes.push(process);
-    const output = machine.outputOf(words);
+    const output = process instanceof Serve ? null : machine.outputOf(process.words);
     if (output !== null) {
         setImmediate(() => {
             process.write?.(output);
@@ -146,6 +172,8 @@ function spawn(words, options) {
     }
     return process;
 }
+
+const spawn = (words, options) => start(new (words[1] === "--serve" ? Serve : Process)(words, options));
 
 /** The processes that were started with a command that begins with these words. */
 export const started = (...words) =>

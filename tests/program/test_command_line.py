@@ -89,10 +89,9 @@ class Streams(ProgramTest):
 
     def test_the_reads_of_a_script_of_1000_bytes(self):
         """A read takes at most 256 bytes: four reads take the script, and the fifth finds its end."""
-        reads = self.work / "reads"
-        run = self.replay(script=1000 * "0", env=self.preloading("count_reads.c", COUNT_READS=reads))
+        run = self.replay(script=1000 * "0", env=self.counting())
         self.assert_ended(run, '{"error":"too_long","type":"error"}\n')
-        self.assert_content(reads, "0 5\n")
+        self.assertEqual(self.calls("read"), {"read file": 5})
 
 
 class Pages(ProgramTest):

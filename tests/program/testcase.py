@@ -42,6 +42,15 @@ class ProgramTest(unittest.TestCase):
         """The environment of a run that preloads the library of this source in tests/preload."""
         return preloading(self.libraries, source, **variables)
 
+    def counting(self, **variables):
+        """The environment of a run whose calls are counted by a library. The library reads these variables."""
+        return self.preloading("count_calls.c", COUNT_CALLS=self.work / "calls", **variables)
+
+    def calls(self, kind=""):
+        """How many calls that run has made, by those of the names in the library that begin like this."""
+        pairs = (line.rsplit(" ", 1) for line in (self.work / "calls").read_text().splitlines())
+        return {name: int(count) for name, count in pairs if name.startswith(kind)}
+
     def run_program(self, *words, script=NOTHING, program=PROGRAM, **settings):
         """Runs the program, or a copy of it. Its standard input is the file `script`, or a new file with this text. The
         settings are those of `subprocess.run`."""

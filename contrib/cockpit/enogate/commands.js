@@ -4,6 +4,7 @@ import { cockpit } from "./cockpit.js";
 import { recordedIn } from "./lines.js";
 import * as orders from "./orders.js";
 import * as places from "./places.js";
+import { Server } from "./server.js";
 
 const READS = { superuser: "try", err: "ignore" };
 
@@ -39,13 +40,13 @@ export function hasStick(serial) {
 /** The devices as the lines record them; none if this user may not read the lines. */
 export const recorded = async gateway => recordedIn(await outputOf(orders.recordedCommand(gateway)));
 
+const server = new Server();
+
 /** Gives an order. The promise is rejected if the gateway refuses it or does not answer. */
-export const give = (gateway, order) =>
-    cockpit.spawn(orders.command(gateway, order), { superuser: "require", err: "message" });
+export const give = (gateway, order) => server.run(orders.command(gateway, order));
 
 /**
- * Opens the learn window for a time. Closing the returned process ends the command, which then closes the window. It is
- * also ended when the page is left.
+ * Opens the learn window for a time. The returned promise is settled when the window is closed. Its `close` closes the
+ * window earlier, and so does leaving the page.
  */
-export const openWindow = (gateway, order, seconds) =>
-    cockpit.spawn(orders.windowCommand(gateway, order, seconds), { superuser: "require", err: "message" });
+export const openWindow = (gateway, order, seconds) => server.run(orders.windowCommand(gateway, order, seconds));

@@ -132,6 +132,7 @@ class Page {
 
     take(line, now) {
         this.model.take(line, now);
+        this.sections.teach.take(line, now);
         // A device that is learned may have a label already, and the learn window may have closed.
         if (now !== null && line.type === "teach")
             this.refreshTimer ??= setTimeout(() => this.refresh(), REFRESH_AFTER);

@@ -12,8 +12,7 @@ export class TeachSection {
     constructor(page) {
         this.page = page;
         this.rows = new Rows(byId("teach-rows"), (_, item) => new TaughtRow(item));
-        this.process = null;
-        this.until = null;
+        this.forget();
         const profiles = [...words.PROFILES.keys()].map(eep => [eep, words.profileWithName(eep)]);
         setOptions(byId("teach-profile"), profiles, words.USUAL_SWITCH);
         byId("teach-open").addEventListener("click", () => this.open(["learn", "on"]));
@@ -22,40 +21,47 @@ export class TeachSection {
         byId("teach-close").addEventListener("click", () => this.close());
     }
 
-    /** Opens the window. The command prints a line when it is open, and closes it after the time. */
+    /** Opens the window. The command closes it after the time, and then ends. */
     open(order) {
         if (this.process)
             return;
         const process = openWindow(this.page.gateway, order, SECONDS);
         this.process = process;
-        process.stream(() => {
-            this.until ??= Date.now() + SECONDS * 1000;
-            this.page.painter.now();
-        });
-        process.then(() => this.page.complain(""), error => {
-            if (error.problem !== "cancelled")
-                this.page.complain(sentence(error));
-        }).then(() => this.end());
+        process.then(() => this.end(process, null), error => this.end(process, error));
         this.page.painter.now();
     }
 
-    end() {
-        this.process = null;
-        this.until = null;
+    /** Takes a line. enogatectl asks for the status after each order, so a new line reports that the window is open. */
+    take({ type, mode }, now) {
+        if (this.process && now !== null && type === "status" && mode !== "closed")
+            this.until ??= now + SECONDS * 1000;
+    }
+
+    /** The command has ended. The error of a command for another gateway is not shown. */
+    end(process, error) {
+        if (process !== this.process)
+            return;
+        this.forget();
+        if (error?.problem !== "cancelled")
+            this.page.complain(error ? sentence(error) : "");
         this.page.refresh();
     }
 
-    /** Closes the window, whoever opened it. */
+    forget() {
+        this.process = null;
+        this.until = null;
+    }
+
+    /** Closes the window, whoever opened it. Another one can be opened once the command has ended. */
     close() {
-        if (this.process)
-            this.process.close("cancelled");
+        this.process?.close();
         this.page.act(["learn", "off"], byId("teach-close"));
     }
 
     /** Forgets the gateway: the window that the page has opened there is closed. */
     clear() {
-        if (this.process)
-            this.process.close("cancelled");
+        this.process?.close();
+        this.forget();
         this.rows.clear();
     }
 

@@ -1,0 +1,43 @@
+"""Readings in words, for people."""
+from __future__ import annotations
+
+from decimal import Decimal
+
+from enogate_mqtt.entities import Table
+from enogate_mqtt.lines import Reading, Telegram
+
+# The kinds of entities whose name is not that of a reading: those of events, and those of the channels of actuators.
+NAMELESS = ("event", "switch", "light")
+
+
+def readings(telegram: Telegram, table: Table) -> str:
+    """The readings of a telegram without those that are only for diagnosis."""
+    shown = [item for item in telegram.readings if is_shown(item, telegram.eep, table)] or telegram.readings
+    return ", ".join(channel(item, telegram, table) + reading(item, telegram.eep, table) for item in shown)
+
+
+def is_shown(item: Reading, eep: str, table: Table) -> bool:
+    """Whether the table has an entity for a reading, and not only one for diagnosis."""
+    row = table.of_reading(eep, item)
+    return row is not None and row.entity != "" and not {"diagnostic", "hidden"} & row.more.keys()
+
+
+def channel(item: Reading, telegram: Telegram, table: Table) -> str:
+    """The text before a reading: the channel, if the actuator has several. Otherwise empty."""
+    row = table.of_reading(telegram.eep, item)
+    numbers = {other.name: other.number for other in telegram.readings}
+    return f"channel {numbers[row.by]}: " if row and row.count > 1 and numbers.get(row.by) is not None else ""
+
+
+def reading(item: Reading, eep: str, table: Table) -> str:
+    """A reading with its name, at most two decimals, and its unit."""
+    row = table.of_reading(eep, item)
+    unit = row.more.get("unit", item.unit) if row and item.unit else item.unit
+    name = row.name if row and row.name and row.entity not in NAMELESS else item.name
+    return " ".join(filter(None, (name, rounded(item.text) if item.unit else item.text, unit)))
+
+
+def rounded(number: str) -> str:
+    """A number with at most two decimals."""
+    shown = f"{round(Decimal(number), 2):f}"
+    return shown.rstrip("0").rstrip(".") if "." in shown else shown

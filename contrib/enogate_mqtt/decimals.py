@@ -1,0 +1,23 @@
+"""Fractions as decimal numbers."""
+from __future__ import annotations
+
+import math
+from decimal import ROUND_HALF_EVEN, Context, Decimal
+
+SIX_DIGITS = 6
+
+
+def decimal(numerator: int, denominator: int) -> str:
+    """An integer, or a fraction that is a finite decimal number, exactly: so a counter never steps backwards. Any other
+    fraction has six significant digits, or all digits before the point if these are more, rounded half to even."""
+    rest = denominator // math.gcd(numerator, denominator)
+    bits = rest.bit_length()
+    for factor in (2, 5):
+        while rest % factor == 0:
+            rest //= factor
+    digits = len(str(abs(numerator) // denominator))
+    # a finite decimal number with a denominator of so many bits has at most so many digits after the point
+    precision = digits + bits if rest == 1 else max(SIX_DIGITS, digits)
+    context = Context(prec=precision, rounding=ROUND_HALF_EVEN)
+    shown = f"{context.divide(Decimal(numerator), Decimal(denominator)):f}"
+    return shown.rstrip("0").rstrip(".") if "." in shown else shown

@@ -1,0 +1,65 @@
+"""The file with the state of the bridge: its version, and what enogatectl(1) reads there too."""
+from __future__ import annotations
+
+import contextlib
+import json
+import pathlib
+import sqlite3
+from datetime import datetime
+
+from .follow import Place
+
+# The version of the tables, in PRAGMA user_version. A file of another version is replaced. The tables `learn` and
+# `boot` were added without another version: programs that do not know them can use the file.
+VERSION = 2
+# No file is larger, in bytes.
+MAX_SIZE = 1 << 62
+# How long `last_seen` waits for a bridge that is writing, in seconds.
+WAIT = 1.0
+# The place of the reading with the time of the last telegram.
+LAST_SEEN = "last_seen"
+
+
+class Foreign(Exception):
+    """The file is not a state file of this version."""
+
+
+def uri_of(path: str, option: str) -> str:
+    """The file as SQLite opens it with this option."""
+    return f"{pathlib.Path(path).absolute().as_uri()}?{option}"
+
+
+def check_version(connection: sqlite3.Connection) -> None:
+    """Raises Foreign, unless this is a state file of this version, or a new one."""
+    version = connection.execute("PRAGMA user_version").fetchone()[0]
+    tables = connection.execute("SELECT count(*) FROM sqlite_master").fetchone()[0]
+    if tables and version != VERSION:
+        raise Foreign(f"version {version} of the state, expected {VERSION}")
+
+
+def place_of(inode: object, offset: object, last: object) -> Place:
+    """How far the lines were read."""
+    if not (isinstance(inode, int) and isinstance(offset, int) and isinstance(last, bytes) and 0 <= offset <= MAX_SIZE):
+        raise Foreign("place of an unknown form")
+    return Place(inode, offset, last)
+
+
+def last_seen(path: str) -> tuple[Place, dict[str, datetime]] | None:
+    """How far the bridge with this state file has read the lines, and when it received the last telegram of each
+    device. None if the bridge has read none, or if the file cannot be read."""
+    try:
+        with contextlib.closing(sqlite3.connect(uri_of(path, "mode=ro"), uri=True, timeout=WAIT)) as connection:
+            check_version(connection)
+            place = connection.execute("SELECT inode, offset, last FROM place").fetchone()
+            rows = connection.execute("SELECT id, told FROM device").fetchall()
+        return (place_of(*place), {device: time for device, text in rows if (time := time_in(text))}) if place else None
+    except (sqlite3.Error, Foreign):
+        return None
+
+
+def time_in(text: str) -> datetime | None:
+    """The time in the readings of a device, as the bridge stores them; None if it has none."""
+    try:
+        return datetime.fromisoformat(json.loads(text)[LAST_SEEN])
+    except (ValueError, TypeError, KeyError):
+        return None
