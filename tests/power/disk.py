@@ -1,0 +1,61 @@
+#!/usr/bin/python3
+"""A disk in user space, which records what is written to it: disk.py FOLDER SIZE LOG [IMAGE]
+
+The folder gets a file `disk` of this size, with the contents of IMAGE if there is one. Each write is appended to LOG as
+its offset, its length and its bytes, and each flush as the offset -1 and the length 0 (records.py reads this)."""
+import errno
+import stat
+import sys
+
+from fusepy import FUSE, FuseOSError, Operations
+
+import records
+
+NAME = "disk"
+
+
+class Disk(Operations):
+    """The folder with the file."""
+
+    def __init__(self, size, log, image=None):
+        self.data = bytearray(size)
+        if image:
+            with open(image, "rb") as file:
+                file.readinto(self.data)
+        self.log = open(log, "ab", buffering=0)
+
+    def getattr(self, path, fh=None):
+        if path == "/":
+            return {"st_mode": stat.S_IFDIR | 0o755, "st_nlink": 2}
+        if path == f"/{NAME}":
+            return {"st_mode": stat.S_IFREG | 0o600, "st_nlink": 1, "st_size": len(self.data)}
+        raise FuseOSError(errno.ENOENT)
+
+    def readdir(self, path, fh):
+        return [".", "..", NAME]
+
+    def open(self, path, flags):
+        return 0
+
+    def read(self, path, size, offset, fh):
+        return bytes(self.data[offset:offset + size])
+
+    def write(self, path, data, offset, fh):
+        self.data[offset:offset + len(data)] = data
+        self.log.write(records.written(offset, data))
+        return len(data)
+
+    def fsync(self, path, datasync, fh):
+        self.log.write(records.FLUSHED)
+        return 0
+
+    def flush(self, path, fh):
+        return 0
+
+    def fallocate(self, *_):
+        raise FuseOSError(errno.EOPNOTSUPP)
+
+
+if __name__ == "__main__":
+    folder, size, *files = sys.argv[1:]
+    FUSE(Disk(int(size), *files), folder, foreground=True, nothreads=True)

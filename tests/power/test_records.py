@@ -1,0 +1,107 @@
+"""The images after power failures, without a disk."""
+import pathlib
+import random
+import tempfile
+import unittest
+
+from records import FLUSHED, MODES, PAGE, SECTOR, Cutter, Image, chosen, interrupted, records_in, written
+
+
+def records(*parts):
+    """The records of these writes; None is a flush."""
+    return records_in(b"".join(FLUSHED if part is None else written(*part) for part in parts))
+
+
+def content(image, size):
+    found = bytearray(size)
+    for number, page in image.pages.items():
+        found[number * PAGE:number * PAGE + PAGE] = page
+    return bytes(found[:size])
+
+
+class Records(unittest.TestCase):
+    def test_a_log(self):
+        first, second, third = records((5, b"abc"), None, (4096, b""))
+        self.assertEqual((first.offset, first.data, first.end, first.is_flush), (5, b"abc", 15, False))
+        self.assertEqual((second.is_flush, second.end), (True, 27))
+        self.assertEqual((third.offset, third.data, third.end, third.is_flush), (4096, b"", 39, False))
+
+    def test_an_image(self):
+        image = Image()
+        image.write(PAGE - 2, b"abcd")
+        image.write(0, b"x")
+        with tempfile.TemporaryDirectory() as folder:
+            path = pathlib.Path(folder, "image")
+            image.save(path, 3 * PAGE)
+            text = path.read_bytes()
+            self.assertEqual(Image.of(path).pages, image.pages)
+        self.assertEqual(text, b"x" + bytes(PAGE - 3) + b"abcd" + bytes(2 * PAGE - 2))
+        image.copy().write(0, b"y")
+        self.assertEqual(image.pages[0][0], ord("x"))
+
+
+class Cuts(unittest.TestCase):
+    def images(self, found, cut, mode, size, tries=200):
+        """All images that a cut leaves."""
+        rng = random.Random(1)
+        return {content(Cutter(Image(), found).after(cut, mode, rng), size) for _ in range(tries)}
+
+    def test_what_was_flushed_is_there(self):
+        found = records((0, b"a"), (1, b"b"), None, (2, b"c"), (3, b"d"), None, (4, b"e"))
+        for mode in MODES:
+            for text in self.images(found, 4, mode, 4):
+                self.assertEqual(text[:2], b"ab", mode)
+            self.assertEqual(self.images(found, 3, mode, 3) if mode in ("none", "all") else {b"ab\0"},
+                             {b"ab\0"})
+        self.assertEqual(self.images(found, 5, "none", 4), {b"ab\0\0"})
+        self.assertEqual(self.images(found, 5, "all", 4), {b"abcd"})
+        self.assertEqual(self.images(found, 5, "writes", 4), {b"ab\0\0", b"abc\0", b"ab\0d", b"abcd"})
+
+    def test_nothing_after_the_cut_is_there(self):
+        found = records((0, b"a"), (1, b"b"), None, (2, b"c"))
+        self.assertEqual(self.images(found, 1, "all", 3), {b"a\0\0"})
+
+    def test_parts_of_a_write(self):
+        size = 2 * PAGE
+        found = records((0, b"x" * size))
+        full = {mode: self.images(found, 1, mode, size) for mode in ("writes", "pages", "sectors", "bytes")}
+        self.assertEqual([len(full[mode]) for mode in ("writes", "pages")], [2, 4])
+        for mode, part in (("pages", PAGE), ("sectors", SECTOR), ("bytes", SECTOR)):
+            for text in full[mode]:
+                for start in range(0, size, part):
+                    self.assertIn(text[start:start + part], (bytes(part), b"x" * part))
+        self.assertGreater(len(full["sectors"]), 100)
+
+    def test_bytes_of_the_files_of_the_gateway(self):
+        found = records((0, b"x" * 2 * SECTOR))
+        rng, values = random.Random(1), set()
+        for _ in range(50):
+            image = Cutter(Image(), found, [(found[0].end - 1, [(0, SECTOR)]), (found[0].end, [(SECTOR, 2 * SECTOR)]),
+                                            (found[0].end + 1, [(0, SECTOR)])]).after(1, "bytes", rng)
+            text = content(image, 2 * SECTOR)
+            self.assertIn(text[:SECTOR], (bytes(SECTOR), b"x" * SECTOR))
+            self.assertIn(0, text[SECTOR:])
+            self.assertIn(ord("x"), text[SECTOR:])
+            values |= set(text[SECTOR:])
+        self.assertEqual(len(values), 256)
+
+    def test_bytes_that_do_not_change(self):
+        for _ in range(100):
+            text = interrupted(b"abcdef", b"abxdey", random.Random(1))
+            self.assertEqual((text[:2], text[3:5]), (b"ab", b"de"))
+
+    def test_later_and_later_cuts(self):
+        found = records((0, b"a"), None, (0, b"b"), (1, b"c"), None, (0, b"d"))
+        cutter, rng = Cutter(Image(), found), random.Random(1)
+        self.assertEqual([content(cutter.after(cut, "all", rng), 2) for cut in range(1, 7)],
+                         [b"a\0", b"a\0", b"b\0", b"bc", b"bc", b"dc"])
+
+    def test_the_choice(self):
+        places = chosen(50, 400, random.Random(1))
+        self.assertEqual(places, sorted(places))
+        self.assertEqual({place for place, _ in places}, set(range(1, 51)))
+        self.assertEqual({mode for _, mode in places}, set(MODES))
+
+
+if __name__ == "__main__":
+    unittest.main()

@@ -1,0 +1,66 @@
+/* Preloaded, it makes the program lose syncs of its files. LOSE_SYNC says which:
+
+     all      every sync
+     commit   the sync of the log after the last byte of a commit
+     late     the same, but the log is synced when the program next reads its input: after the answer */
+#define _GNU_SOURCE
+#include <stdio.h>
+#include <stdlib.h>
+#include <string.h>
+#include <sys/syscall.h>
+#include <unistd.h>
+
+/* The size of the last write to a log, and the log that has yet to be synced, or -1. */
+static size_t last_size;
+static int late = -1;
+
+static int is(const char *fault)
+{
+    const char *chosen = getenv("LOSE_SYNC");
+    return chosen && strcmp(chosen, fault) == 0;
+}
+
+static int is_log(int file)
+{
+    char link[32], path[4096];
+    snprintf(link, sizeof link, "/proc/self/fd/%d", file);
+    ssize_t length = readlink(link, path, sizeof path);
+    return length > 4 && memcmp(path + length - 4, "-wal", 4) == 0;
+}
+
+static int is_lost(int file)
+{
+    if (is("all"))
+        return 1;
+    if (!is_log(file))
+        return 0;
+    if (is("late") && last_size == 1)
+        late = file;
+    return (is("commit") || is("late")) && last_size == 1;
+}
+
+ssize_t pwrite(int file, const void *from, size_t size, off_t place)
+{
+    if (is_log(file))
+        last_size = size;
+    return syscall(SYS_pwrite64, file, from, size, place);
+}
+
+int fsync(int file)
+{
+    return is_lost(file) ? 0 : syscall(SYS_fsync, file);
+}
+
+int fdatasync(int file)
+{
+    return is_lost(file) ? 0 : syscall(SYS_fdatasync, file);
+}
+
+ssize_t read(int file, void *to, size_t size)
+{
+    if (file == 0 && late >= 0) {
+        syscall(SYS_fdatasync, late);
+        late = -1;
+    }
+    return syscall(SYS_read, file, to, size);
+}
