@@ -1,14 +1,14 @@
 """The sessions on the orders. `orders` has every order at both ends of its ranges, and past them, and lines that one
 letter, digit, space or word keeps from being an order; `orders-to-devices` each order to a device, against devices of
 every profile, and unknown ones; `orders-to-all` the orders that send and need no device; `label-texts` labels with
-every character, and texts that are no labels; `full-registry` a thousand devices, and one more."""
+every character, and texts that are no labels."""
 import itertools
 
 from oracle.esp3 import ALL, radio, sent, telegram
 from oracle.gateway import BASE, LONGEST
 from oracle.orders import BY_NAME, GREATEST, ORDERS
 from oracle.profiles import IN_TABLES, eep_of
-from oracle.sessions import Session
+from oracle.sessions import Session, sample
 
 # Devices that are known, by what an order has to find; a device for the orders that need none; and an unknown one.
 SWITCH, BLIND, CONTACT, STRANGER = 0x01800ABC, 0x01800ABD, 0xABCDEF09, 0x01800ABE
@@ -179,8 +179,8 @@ def word_for_word(row):
         for place in range(len(words) - 1):
             lines.append(" ".join([*words[:place], words[place + 1], words[place], *words[place + 2 :]]))
         row.try_each(lines)
-    for order in EACH:
-        row.try_each(with_word(words_for(order), 0, named(other)) for other in EACH)
+    for number, order in enumerate(EACH):
+        row.try_each(with_word(words_for(order), 0, named(other)) for other in sample(EACH, number, 3))
     for order, place, word in places(("on", "energy", "answer")):
         others = ("off", "power", "energy", "answer", "as", "0", "1", "100", "true")
         row.try_each(with_word(words_for(order), place, other) for other in others)
@@ -238,12 +238,18 @@ def each_profile(row):
     row.clear()
 
 
+def spread(greatest):
+    """Numbers up to the one after this: the ends, and all with one bit, and the numbers next to these."""
+    near = {number + step for number in (1 << place for place in range(9)) for step in (-1, 0, 1)}
+    return sorted(number for number in near | {greatest - 1, greatest, greatest + 1} if number <= greatest + 1)
+
+
 def each_number(row):
-    """Every channel and every value, and the next ones."""
+    """Channels and values at the ends of each bit, and the next ones."""
     row.add(DEVICES)
-    for channel in range(32):
+    for channel in spread(GREATEST["CH"]):
         row.say(f"query {SWITCH:08X} {channel}")
-    for value in range(102):
+    for value in spread(GREATEST["VAL"]):
         row.say(f"dim {SWITCH:08X} {value % 31} {value}")
     row.say("status")
     row.clear()
@@ -342,9 +348,9 @@ def orders_to_all():
         row.say("status")
     row.say("level 128 101 256", "level 127 101 256", "level 128 0 255", "level 128 0 256", "level 128 101 007")
     row.say("central 128 onn", "teach 128 on", "teach 99999", "base 128")
-    for offset in range(129):
+    for offset in spread(GREATEST["OFF"]):
         row.say(f"teach {offset}")
-    for ramp in range(257):
+    for ramp in spread(GREATEST["RAMP"]):
         row.say(f"level {ramp % 128} {ramp % 101} {ramp}")
     row.say("status", "list")
     in_each_mode(row, TO_ALL)
@@ -376,7 +382,7 @@ NO_LABELS += [" " + 32 * "x", 32 * "x" + "\x7f", 33 * "\u00fc", 33 * " ", 100 * 
 def all_labels(row):
     """`list` shows each label. A text that is no label leaves the label before it."""
     characters = [chr(code) for code in range(0x20, 0x7F)]
-    texts = LABELS + characters[1:] + [f"a{one}b" for one in characters]
+    texts = LABELS + characters[1:]
     texts += ["".join(characters[start : start + 32]).strip() for start in range(0, 95, 31)]
     texts += [length * "x" for length in (2, 15, 16, 17, 30, 31, 32)] + ["x" + 30 * " " + "y", 16 * '"\\', 32 * "\\"]
     for text in dict.fromkeys(texts):
@@ -425,17 +431,9 @@ def label_texts():
     return row
 
 
-def full_registry():
-    """A thousand devices, one more, a profile that cannot be learned, and a device once more."""
-    row = Session()
-    row.say(*(f"add {sender:08X} D5-00-01" for sender in range(1001)), "add 01800ABD A5-38-08", "add 000003E7 D5-00-01")
-    return row
-
-
 SESSIONS = {
     "orders": orders,
     "orders-to-devices": orders_to_devices,
     "orders-to-all": orders_to_all,
     "label-texts": label_texts,
-    "full-registry": full_registry,
 }

@@ -4,7 +4,7 @@ devices that are learned, and then send."""
 import itertools
 
 from oracle.profiles import BLIND, FOUR_BYTE, IN_TABLES, MESSAGES, SWITCHES, eep_of, with_fields
-from oracle.sessions import Session
+from oracle.sessions import Session, sample
 
 # The RORGs of the five kinds of telegrams.
 RORGS = (0xF6, 0xD5, 0xA5, 0xD2, 0xD4)
@@ -45,24 +45,32 @@ class Row(Session):
         assert ('"type":"reading"' in self.steps[-1][1]) == is_read, f"{self.eep}: {payload.hex()}"
 
 
+def pairs_of_values():
+    """Bytes in which every two of the fields (0,3), (3,1), (4,3) and (7,1) have each pair of values."""
+    for first, second in itertools.product(range(8), repeat=2):
+        total = first + second
+        yield first << 5 | (total & 1) << 4 | second << 1 | (total >> 1 & 1)
+
+
 def switches():
-    """Each switch at all payloads, with NU 0 and 1. The bit (4,1) of a contact is 0 at teach-in."""
+    """Each switch at these payloads, with NU 0 and 1. The bit (4,1) of a contact is 0 at teach-in."""
     row = Row()
     for eep in SWITCHES:
         row.learn(eep)
         for status in (0x20, 0x30):
-            for byte in range(256):
+            for byte in pairs_of_values():
                 row.hear(bytes([byte]), status, is_read=not (eep.startswith("D5") and byte & 8 == 0))
     row.say("status")
     return row
 
 
 def four_byte():
-    """Each 4BS profile; the bit (28,1) is 0 at teach-in."""
+    """Each 4BS profile; the bit (28,1) is 0 at teach-in. The other bits are 0 with every second profile, and 1 with the
+    others."""
     row = Row()
-    for eep, rows in FOUR_BYTE.items():
+    for number, (eep, rows) in enumerate(FOUR_BYTE.items()):
         row.learn(eep)
-        for payload in payloads(rows, 4, {(28, 1): 1}):
+        for payload in payloads(rows, 4, {(28, 1): 1}, fills=(number % 2,)):
             row.hear(payload)
         row.hear(with_fields(4, {(16, 8): 127}), is_read=False)
     row.say("status")
@@ -70,19 +78,18 @@ def four_byte():
 
 
 def variable_length():
-    """Each VLD profile; other commands and other lengths are not read. The types of D2-01 have the same rows, so the
-    other bits are 0 with every second type, and 1 with the others."""
+    """Each VLD profile; other commands and other lengths are not read. The types of D2-01 have the same rows, so each
+    has one of three telegrams, and the other bits are 0 with every second type, and 1 with the others."""
     row = Row()
     for kind in range(0x13):
         row.learn(f"D2-01-{kind:02X}")
         for command, (size, rows) in MESSAGES.items():
-            for payload in payloads(rows, size, {(4, 4): command}, fills=(kind % 2,)):
+            for payload in sample(payloads(rows, size, {(4, 4): command}, fills=(kind % 2,)), kind, 3):
                 row.hear(payload)
-            for size_of_other in {1, size - 1, size + 1, 14}:
+            for size_of_other in sample(sorted({1, size - 1, size + 1, 14}), kind, 3):
                 row.hear(with_fields(size_of_other, {(4, 4): command}), is_read=False)
-        for command in set(range(16)) - set(MESSAGES):
-            for size in (1, 3, 6):
-                row.hear(with_fields(size, {(4, 4): command}), is_read=False)
+        for command, size in sample(itertools.product(set(range(16)) - set(MESSAGES), (1, 3, 6)), kind, 3):
+            row.hear(with_fields(size, {(4, 4): command}), is_read=False)
     row.learn("D2-05-00")
     for payload in payloads(BLIND, 4, {(28, 4): 4}):
         row.hear(payload)

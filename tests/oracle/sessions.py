@@ -7,6 +7,11 @@ from oracle.session import NO_LF, read, steps
 MODE_ORDERS = {"closed": "learn off", "on": "learn on", "answer": "learn on answer"}
 
 
+def sample(items, number, of):
+    """One of so many of these items. The case with the next number has other ones, and so many cases have them all."""
+    return [item for place, item in enumerate(items) if (place + number) % of == 0]
+
+
 class Session:
     def __init__(self):
         self.gateway, self.steps = Gateway(), []

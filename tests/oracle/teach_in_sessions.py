@@ -1,10 +1,14 @@
 """The sessions on learning by telegram. `verdicts` has every kind of telegram in every mode, from known and unknown
-senders; `verdicts-full` the same with 1,000 devices, and at its end the lines of where-full.session, which is kept by
-hand: 01800ABC is none of these devices, and 00000001 is one. `every-kind-of-item`, which is kept by hand, is
-also made with each of its lines left out: the answers to the other lines if that line is refused."""
+senders. Of the telegrams of one kind that the gateway handles for the same reason, each mode has another one: the
+contract of `teach_in::plan_for` is proved for all of them. `verdicts-full` has the same with 1,000 devices, and at its
+end the lines of where-full.session, which is kept by hand: 01800ABC is none of these devices, and 00000001 is one.
+`every-kind-of-item`, which is kept by hand, is also made with each of its lines left out: the answers to the other
+lines if that line is refused."""
+import copy
 import functools
 import itertools
 import pathlib
+import re
 
 from oracle.esp3 import ALL, packet, pieces, radio
 from oracle.gateway import BASE, MOST
@@ -107,27 +111,43 @@ def known_by(rorg):
     return {0x01900000 + 16 * int(rorg, 16) + place: eep for place, eep in enumerate(KNOWN[rorg])}
 
 
-def in_mode(row, mode, from_strangers, from_known):
-    """These telegrams in this mode. Removing the device shows what was learned."""
+def send_in_mode(row, mode, text, sender, eep):
+    """A telegram in this mode, of a sender that is learned with this profile, or not learned if it is None."""
+    if eep is None:
+        row.bring(mode, sender)
+    else:
+        row.bring(mode)
+        row.know(sender, eep)
+    row.send(text, sender)
+
+
+def reasons(row, *telegram):
+    """Why the gateway would handle the telegram as it does."""
+    trial = Row()
+    trial.gateway = copy.deepcopy(row.gateway)
+    send_in_mode(trial, *telegram)
+    return tuple(re.findall(r'"(?:result|why)":"(\w+)"', trial.steps[-1][1]))
+
+
+def in_mode(row, mode, number, from_strangers, from_known):
+    """Telegrams of these kinds in the mode with this number. Removing the device shows what was learned."""
     row.bring("closed", STRANGER)
     for sender, eep in itertools.chain(*(known_by(rorg).items() for rorg in KNOWN)):
         row.know(sender, eep)
-    for text in from_strangers:
-        row.bring(mode, STRANGER)
-        row.send(text, STRANGER)
+    known = [(text, *device) for text in from_known for device in known_by(text[:2]).items()]
+    alike = {}
+    for text, sender, eep in [*((text, STRANGER, None) for text in from_strangers), *known]:
+        kind = text[:2], eep and eep[:2], reasons(row, mode, text, sender, eep)
+        alike.setdefault(kind, []).append((text, sender, eep))
+    for telegrams in alike.values():
+        send_in_mode(row, mode, *telegrams[number % len(telegrams)])
         row.say("status")
-    for text in from_known:
-        for sender, eep in known_by(text[:2]).items():
-            row.bring(mode)
-            row.know(sender, eep)
-            row.send(text, sender)
-            row.say("status")
 
 
 def each_kind(row):
     """Every kind of telegram in every mode."""
-    for mode in MODES:
-        in_mode(row, mode, FROM_KNOWN if mode in SECOND else FROM_STRANGERS, FROM_KNOWN)
+    for number, mode in enumerate(MODES):
+        in_mode(row, mode, number, FROM_KNOWN if mode in SECOND else FROM_STRANGERS, FROM_KNOWN)
         row.say("list")
     row.clear()
 
@@ -141,11 +161,10 @@ def single_bits(length):
 def bits(row):
     """Bits that determine the kind, and bits that do not."""
     row.bring("answer", STRANGER)
-    for last in range(256):
+    for last in dict.fromkeys([*range(0, 256, 16), *single_bits(8)]):
         if last & 0x08 == 0:
             row.send(f"A5 082846{last:02X}", STRANGER)
-        if last % 32 == 31:
-            row.say("status")
+    row.say("status")
     row.bring("on", STRANGER)
     for high in range(16):
         row.send(f"A5 082846{high:X}8", STRANGER)
@@ -167,10 +186,10 @@ def bits(row):
             row.send("D2 " + length * fill, STRANGER)
     row.say("status")
     row.bring("on", STRANGER)
-    for first in range(256):
-        row.send(f"D4 {first:02X}0146001201D2", STRANGER)
-        if first % 16 == 15:
-            row.say("status", "list")
+    for high in range(16):
+        for low in (0, 1, max(2, high)):
+            row.send(f"D4 {high:X}{low:X}0146001201D2", STRANGER)
+        row.say("status", "list")
     row.bring("answer")
     for number, places in ((0xA00146001201D2, range(56)), (0x20FEB9FFEDFE2D, range(24, 40))):
         for place in places:
@@ -487,15 +506,15 @@ def verdicts_full():
         row.know(sender, eep)
     for sender in range(1, MOST - len(fixed) + 1):
         row.know(sender, "D5-00-01")
-    for mode, text in (
+    for number, (mode, text) in enumerate((
         ("on", "D5 00"),
         ("answer", "A5 08284680"),
         ("as D5-00-01", "D5 00"),
         ("as A5-02-05", "A5 E047FF80"),
         ("as F6-02-01", "F6 10"),
         ("as D2-01-12", "D2 00"),
-    ):
-        in_mode(row, mode, FROM_KNOWN + ["A5 E047FF80", "A5 10080080"], TEACHING)
+    )):
+        in_mode(row, mode, number, FROM_KNOWN + ["A5 E047FF80", "A5 10080080"], TEACHING)
         # If 999 are learned, one unknown sender is learned, and not the next.
         row.say("remove 00000001")
         row.bring(mode)
