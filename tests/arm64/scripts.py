@@ -1,30 +1,22 @@
 #!/usr/bin/env python3
-"""Runs the random scripts of bench/same on two builds of the program, which have to write the same bytes: with and
+"""Runs the random scripts of the oracle on two builds of the program, which have to write the same bytes: with and
 without `--explain`, in memory and on a file. Then it runs each script in four parts on one file, with a start for each
 part. The output and the bytes in the file have to be the same, whichever build runs which part.
 
     scripts.py ONE OTHER COUNT
 """
 import concurrent.futures
-import importlib.machinery
-import importlib.util
 import os
 import pathlib
 import subprocess
 import sys
 import tempfile
 
-ROOT = pathlib.Path(__file__).resolve().parent.parent.parent
+sys.path.insert(0, str(pathlib.Path(__file__).resolve().parent.parent))
+
+from oracle.random_scripts import numbered
+
 PARTS = 4
-
-
-def same():
-    """The module bench/same."""
-    sys.path.insert(0, str(ROOT / "bench"))
-    loader = importlib.machinery.SourceFileLoader("same", str(ROOT / "bench" / "same"))
-    module = importlib.util.module_from_spec(importlib.util.spec_from_loader("same", loader))
-    loader.exec_module(module)
-    return module
 
 
 def run(program, base, script, options):
@@ -77,8 +69,7 @@ def compared(one, other, base, script):
 
 def main():
     one, other, count = *sys.argv[1:3], int(sys.argv[3])
-    module = same()
-    scripts = [module.numbered(number) for number in range(count)]
+    scripts = [numbered(number) for number in range(count)]
     with concurrent.futures.ThreadPoolExecutor(os.cpu_count()) as pool:
         results = list(pool.map(lambda it: compared(one, other, *it), scripts))
     differ = [number for number, (is_same, _) in enumerate(results) if not is_same]

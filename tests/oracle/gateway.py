@@ -33,22 +33,22 @@ def radio_line(stream):
 class Telegram:
     """The telegram of a packet. Optional data of fewer than seven bytes is ignored: the telegram is to all."""
 
-    def __init__(self, data, optional):
+    def __init__(self, data, optional, base):
         self.rorg, self.payload, self.status = data[0], data[1:-5], data[-1]
         self.sender = int.from_bytes(data[-5:-1], "big")
-        self.destination, self.dbm = ALL, None
+        self.base, self.destination, self.dbm = base, ALL, None
         if len(optional) >= 7:
             self.destination, self.dbm = int.from_bytes(optional[1:5], "big"), -optional[5]
 
     def is_for_gateway(self):
-        return self.destination == ALL or BASE <= self.destination < BASE + 128
+        return self.destination == ALL or self.base <= self.destination < self.base + 128
 
 
 class Gateway:
-    """The lines that the gateway must write for each line of a script."""
+    """The lines that the gateway with this base ID must write for each line of a script."""
 
-    def __init__(self):
-        self.devices, self.labels, self.mode, self.held = {}, {}, "closed", b""
+    def __init__(self, base=BASE):
+        self.base, self.devices, self.labels, self.mode, self.held = base, {}, {}, "closed", b""
         self.counts = dict.fromkeys(("ignored", "readings", "refused", "responses", "teach"), 0)
 
     def answer(self, text):
@@ -72,9 +72,10 @@ class Gateway:
         rows = fitting(text)
         if not rows:
             return error("syntax")
-        if not all(is_in_range(values) for values, _, _ in rows):
-            return error("range")
         values, does, by = rows[0]
+        # the ID of all is no sender
+        if not all(is_in_range(values) for values, _, _ in rows) or self.base + values.get("OFF", 0) == ALL:
+            return error("range")
         sender, eep = values.get("ID"), values.get("EEP")
         if eep is not None and not is_supported(eep):
             return error("unsupported_profile")
@@ -88,7 +89,7 @@ class Gateway:
         if does == "module":
             return radio_line(packet(5, payload_of(by, values))) + OK
         if does == "all":
-            return radio_line(sent(0xA5, payload_of(by, values), BASE + values["OFF"])) + OK
+            return radio_line(sent(0xA5, payload_of(by, values), self.base + values["OFF"])) + OK
         if does == "add":
             if self.is_full_for(sender):
                 return error("full")
@@ -104,7 +105,7 @@ class Gateway:
         own = self.devices[sender][0]
         for values, profile, by in rows:
             if own.startswith(profile):
-                return radio_line(sent(0xD2, payload_of(by, values), BASE, sender)) + OK
+                return radio_line(sent(0xD2, payload_of(by, values), self.base, sender)) + OK
         return error("wrong_profile")
 
     def listed(self):
@@ -120,7 +121,7 @@ class Gateway:
 
     def packet(self, kind, data, optional):
         if kind == 1 and data and len(data) - 6 in LENGTHS.get(data[0], []):
-            heard = Telegram(data, optional)
+            heard = Telegram(data, optional, self.base)
             mode, known = self.mode, self.devices.get(heard.sender)
             count, answer, taught = self.telegram(heard)
             why = reasons.of_telegram(heard, mode, known, taught)
@@ -155,7 +156,7 @@ class Gateway:
         if taught is None:
             return "ignored", "", None
         answer = reply(kind, heard.payload, self.mode, taught[2])
-        radio = radio_line(sent(heard.rorg, answer, BASE, heard.sender)) if answer else ""
+        radio = radio_line(sent(heard.rorg, answer, self.base, heard.sender)) if answer else ""
         return "teach", radio + teach_line(heard.sender, *taught), taught
 
     def verdict(self, kind, own, sender):

@@ -1,24 +1,9 @@
-#!/usr/bin/env python3
-"""Compares what `enogate replay` and the program of `bench/baseline.c` write, byte for byte, on random scripts: orders,
-valid and invalid labels, packets split anywhere, noise, false headers, wrong CRCs, responses, lines with odd digits,
-and lines that are too long. In two scripts of three the learn window is opened and closed, and there are teach-in
-telegrams from few senders: half of them are UTE telegrams, which also forget devices. Half of the scripts have orders
-to actuators, valid and invalid ones. Each script is run twice: without and with `--explain`.
-
-    bench/same [PROGRAM [COUNT]]    the program (default: the one that `make build` makes); how many scripts (300)
-
-A script of one number is the same in each run. The first on which the two differ is kept among the temporary files.
-"""
+"""Random scripts: orders, valid and invalid labels, packets split anywhere, noise, false headers, wrong CRCs,
+responses, lines with odd digits, and lines that are too long. In two scripts of three the learn window is opened and
+closed, and there are teach-in telegrams from few senders: half of them are UTE telegrams, which also forget devices.
+Half of the scripts have orders to actuators, valid and invalid ones. A script of one number is the same in each
+run."""
 import random
-import shutil
-import subprocess
-import sys
-import tempfile
-
-import baseline
-from workloads import PROGRAM, ROOT
-
-sys.path.insert(0, str(ROOT / "tests"))
 
 from oracle.esp3 import packet
 from oracle.profiles import IN_TABLES
@@ -299,34 +284,3 @@ def numbered(number):
     rng = random.Random(number)
     base = 0xFF800000 + 128 * rng.choice([0, 1, 0xFFFF, rng.randrange(0x10000)])
     return f"{base:08X}", script(rng, base)
-
-
-def same_lines(programs, words, text, name):
-    """How many lines both programs write for this text. If they do not write the same, that is the end."""
-    runs = [subprocess.run([one, *words], input=text, stdout=subprocess.PIPE, check=True) for one in programs]
-    return baseline.same_output([run.stdout for run in runs], text, f"{name}, with {' '.join(words)}").count(b"\n")
-
-
-def main():
-    if sys.argv[1:] in (["-h"], ["--help"]):
-        print(__doc__.strip())
-        return
-    program = sys.argv[1] if sys.argv[1:] else PROGRAM
-    count = sys.argv[2] if sys.argv[2:] else "300"
-    if not shutil.which(program):
-        sys.exit(f"{program}: not found or not executable")
-    if not count.isdecimal():
-        sys.exit(f"{count}: no number")
-    told = 0
-    with tempfile.TemporaryDirectory() as work:
-        programs = [baseline.built(work), program]
-        for number in range(int(count)):
-            base, text = numbered(number)
-            orders = ["replay", "--base", base]
-            for words in (orders, [*orders, "--explain"]):
-                told += same_lines(programs, words, text, f"script {number}")
-    print(f"{count} scripts: the same {told:,} lines")
-
-
-if __name__ == "__main__":
-    main()
