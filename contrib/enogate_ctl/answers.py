@@ -22,16 +22,16 @@ orders and from packets; the counter `teach` of two status lines says how many c
    or `store` that does not directly follow the packet line of a packet that failed.
 3. Otherwise these were status lines of another program, and the search continues with the last of them.
 
-Several orders are written with a `status` order after each one. Their answers are in windows that follow each other: as
-many as there are orders, each with an answer that its order can have.
+Several orders are written with a `status` order after each one. Their answers are in intervals that follow each other:
+as many as there are orders, each with an answer that its order can have.
 
 The order `status` is given alone and needs no fences: each status line after it is written answers it."""
 from __future__ import annotations
 
 from typing import NamedTuple
 
-from enogate_mqtt.lines import BadLine, Content, Deleted, EndOfList, Learned, Listed, Status, Strange
-from enogate_mqtt.lines import content_of_members, members_of
+from enogate_lines.contents import BadLine, Content, Deleted, EndOfList, Learned, Listed, Status, Strange
+from enogate_lines.contents import content_of_members, members_of
 
 # A fence, and the last fence of a text, which shows where the text ends. The gateway removes one CR before LF.
 FENCE, LAST_FENCE = b"status\n", b"status\r\n"
@@ -86,7 +86,7 @@ class Answer(NamedTuple):
         return [line.content for line in self.lines if isinstance(line.content, Listed)]
 
 
-class Window:
+class Interval:
     """The lines after a status line: those that only orders give, teach lines, and errors that orders and packets have
     in common."""
 
@@ -144,8 +144,8 @@ class AnswerFinder:
         # How many status lines have come without a line of an order between them, and how many of them after the last
         # error `memory` or `store`. An error that the packet line of a failed packet explains does not count.
         self.fences = self.fences_after_error = 0
-        self.window: Window | None = None
-        # The answers to the first orders, for each place where they may have begun.
+        self.interval: Interval | None = None
+        # The answers to the first orders, for each line where they may have begun.
         self.begun: list[list[Answer]] = []
         # Whether the answers were found.
         self.is_done = False
@@ -174,25 +174,25 @@ class AnswerFinder:
             return None
         if isinstance(line.content, Status):
             return self.take_status(line, line.content)
-        if self.window:
-            self.window.take(line)
+        if self.interval:
+            self.interval.take(line)
         return None
 
     def take_status(self, line: Line, closing: Status) -> list[Answer] | None:
         """The answers, if this status line is the closing fence of the last order."""
         if self.is_status:
             return [Answer([line])]
-        window, self.window = self.window, Window(closing)
-        if window is None:
+        interval, self.interval = self.interval, Interval(closing)
+        if interval is None:
             self.fences = self.fences_after_error = 1
             return None
         if self.fences_after_error >= self.least or self.fences >= self.least_with_errors:
             self.begun.append([])
         self.begun = [[*answers, answer] for answers in self.begun
-                      if (answer := self.orders[len(answers)].answer_in(window, closing))]
-        has_order = bool(window.own) or window.taught_by_orders(closing) != 0
+                      if (answer := self.orders[len(answers)].answer_in(interval, closing))]
+        has_order = bool(interval.own) or interval.taught_by_orders(closing) != 0
         self.fences = 1 if has_order else self.fences + 1
-        self.fences_after_error = 1 if has_order or window.failed else self.fences_after_error + 1
+        self.fences_after_error = 1 if has_order or interval.failed else self.fences_after_error + 1
         return next((answers for answers in self.begun if len(answers) == len(self.orders)), None)
 
 
@@ -208,15 +208,15 @@ class Order:
         """The order as a line."""
         return " ".join(self.words).encode("ascii") + b"\n"
 
-    def answer_in(self, window: Window, closing: Status) -> Answer | None:
+    def answer_in(self, interval: Interval, closing: Status) -> Answer | None:
         """The answer between two status lines, if they are those next to the order."""
-        taught = window.taught_by_orders(closing)
-        if window.own:
-            return Answer(window.own) if taught == 0 and self.are_answer(window.own) else None
+        taught = interval.taught_by_orders(closing)
+        if interval.own:
+            return Answer(interval.own) if taught == 0 and self.are_answer(interval.own) else None
         if taught:
-            fitting = [line for line in window.teach if self.fits(line)]
+            fitting = [line for line in interval.teach if self.fits(line)]
             return Answer(fitting[-1:]) if taught == 1 and fitting else None
-        fitting = [line for line in window.failed if self.fits(line)]
+        fitting = [line for line in interval.failed if self.fits(line)]
         return Answer(fitting[-1:]) if fitting else None
 
     def are_answer(self, own: list[Line]) -> bool:

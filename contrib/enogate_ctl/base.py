@@ -7,11 +7,11 @@ from __future__ import annotations
 
 import contextlib
 
-from enogate_mqtt.lines import Response
+from enogate_lines.contents import Response
 from enogate_tools.port import is_base
 
 from .answers import Answer, Line, line_of
-from .desk import PAUSE, Desk, Lines, NoAnswer
+from .client import PAUSE, Client, Lines, NoAnswer
 from .grammar import BASE
 
 
@@ -23,23 +23,23 @@ def reported(line: Line | None) -> str | None:
     return None
 
 
-def ask_base(desk: Desk) -> Answer:
+def base_answer(client: Client) -> Answer:
     """The answer to the order `base` and the response with the base ID, or NoAnswer if one of them does not come in
     time."""
-    limit = desk.clock() + desk.timeout
-    with contextlib.closing(desk.follow()) as lines:
+    limit = client.clock() + client.timeout
+    with contextlib.closing(client.follow()) as lines:
         # This order has no errors.
-        answer = desk.ask(BASE)
-        return Answer([*answer.lines, wait(desk, lines, limit)])
+        answer = client.ask(BASE)
+        return Answer([*answer.lines, wait(client, lines, limit)])
 
 
-def wait(desk: Desk, lines: Lines, limit: float) -> Line:
+def wait(client: Client, lines: Lines, limit: float) -> Line:
     """The line that reports the base ID, or NoAnswer if it does not come in time. The desk is not locked meanwhile."""
     while True:
         for line in map(line_of, lines.read()):
             if line and reported(line):
                 return line
-        if desk.clock() >= limit:
+        if client.clock() >= limit:
             raise NoAnswer(f"the gateway has asked the radio module, which did not report its base ID within "
-                           f"{desk.timeout:g} s: check with enogate-check that the stick is at SERIAL")
-        desk.sleep(PAUSE)
+                           f"{client.timeout:g} s: check with enogate-check that the stick is at SERIAL")
+        client.sleep(PAUSE)

@@ -9,7 +9,7 @@ from typing import NamedTuple, NoReturn
 from enogate_tools import VERSION
 
 from . import grammar
-from .places import NoName, Places, places_of
+from .paths import NoName, Paths, paths_of
 
 TIMEOUT = 10.0
 USAGE = """enogatectl [--timeout SECONDS] [--json] [--desk PATH] [--lines PATH] GATEWAY ORDER..
@@ -36,7 +36,7 @@ class ShowPaths(NamedTuple):
 
 class Give(NamedTuple):
     """Gives an order to a gateway. With `seconds`, it opens the learn window for this time."""
-    places: Places
+    paths: Paths
     timeout: float
     is_json: bool
     order: str
@@ -45,25 +45,25 @@ class Give(NamedTuple):
 
 class Export(NamedTuple):
     """Writes the devices of a gateway as CSV."""
-    places: Places
+    paths: Paths
     timeout: float
 
 
 class Import(NamedTuple):
     """Learns the devices of a CSV file."""
-    places: Places
+    paths: Paths
     timeout: float
 
 
 class ShowRecorded(NamedTuple):
     """Prints the devices of a gateway as its lines record them."""
-    places: Places
+    paths: Paths
     is_json: bool
 
 
 class ShowLines(NamedTuple):
     """Prints the lines of a gateway, also those that are written later."""
-    places: Places
+    paths: Paths
 
 
 class Serve(NamedTuple):
@@ -113,10 +113,10 @@ def parsed(arguments: Sequence[str]) -> Command:
     if list(arguments) == ["--serve"]:
         return Serve()
     made = parser()
-    place = arguments.index("--") if "--" in arguments else len(arguments)
+    end = arguments.index("--") if "--" in arguments else len(arguments)
     # Options may come between the words of an order.
-    words = made.parse_intermixed_args(arguments[:place])
-    words.order += arguments[place + 1:]
+    words = made.parse_intermixed_args(arguments[:end])
+    words.order += arguments[end + 1:]
     return CommandLine(made, words).command()
 
 
@@ -145,18 +145,18 @@ class CommandLine:
             return self.devices()
         if words.order == ["lines"]:
             self.forbid("lines", "json", "seconds", "exports", "imports")
-            return ShowLines(self.places())
+            return ShowLines(self.paths())
         if hint := self.hint():
             self.fail(hint)
         self.forbid("an order", "exports", "imports")
         order = " ".join(words.order)
         try:
-            grammar.check(order)
+            grammar.check_order(order)
         except grammar.NoOrder as error:
             self.fail(str(error) if order else "an order is required")
         if words.seconds is not None and not grammar.opens_window(order):
             self.fail("--for needs an order that opens the learn window: learn on, learn on answer, or learn as EEP")
-        return Give(self.places(), words.timeout, words.json, order, words.seconds)
+        return Give(self.paths(), words.timeout, words.json, order, words.seconds)
 
     def hint(self) -> str:
         """What to write instead, if the name of the gateway or the path of the port is missing; otherwise empty."""
@@ -172,22 +172,22 @@ class CommandLine:
         """The command `devices`."""
         self.forbid("devices", "seconds")
         if not self.words.exports and not self.words.imports:
-            return ShowRecorded(self.places(), self.words.json)
+            return ShowRecorded(self.paths(), self.words.json)
         if self.words.exports and self.words.imports:
             self.fail("--export and --import cannot be used together")
         self.forbid("devices --export and devices --import", "json")
         kind = Export if self.words.exports else Import
-        return kind(self.places(), self.words.timeout)
+        return kind(self.paths(), self.words.timeout)
 
-    def places(self) -> Places:
+    def paths(self) -> Paths:
         """The files of the gateway."""
         try:
-            places = places_of(self.words.gateway)
+            paths = paths_of(self.words.gateway)
         except NoName as error:
             self.fail(str(error))
         if (self.words.desk is None) != (self.words.lines is None):
             self.fail("--desk and --lines must be used together")
-        return Places(self.words.desk or places.desk, self.words.lines or places.lines, places.bridge)
+        return Paths(self.words.desk or paths.desk, self.words.lines or paths.lines, paths.bridge)
 
     def forbid(self, where: str, *options: str) -> None:
         """Fails if one of these options was given."""

@@ -1,4 +1,4 @@
-"""The file of a desk: its lock, and the place of an order in it."""
+"""The file of a desk: its lock, and the offset of an order in it."""
 from __future__ import annotations
 
 import fcntl

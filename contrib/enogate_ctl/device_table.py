@@ -4,21 +4,21 @@ from __future__ import annotations
 from collections.abc import Iterable
 from datetime import datetime
 
-from enogate_mqtt.entities import Table
-from enogate_mqtt.lines import Listed
+from enogate_lines.contents import Listed
+from enogate_lines.entities import Table
 
 from . import recent, words
-from .places import Places
+from .paths import Paths
 from .readings import readings
 from .tables import table
 
 HEADINGS = ("LABEL", "ID", "PROFILE", "NAME", "LAST READINGS", "SIGNAL", "LAST SEEN")
 
 
-def device_table(listed: Iterable[Listed], places: Places, now: datetime) -> str:
+def device_table(listed: Iterable[Listed], paths: Paths, now: datetime) -> str:
     """The table of these devices."""
-    telegrams = recent.last_telegrams(places.lines)
-    times = recent.last_times(places.bridge, places.lines)
+    telegrams = recent.last_telegrams(paths.lines)
+    times = recent.last_times(paths.bridge, paths.lines)
     names, rows = Table(), [HEADINGS]
     for device in listed:
         telegram, time = telegrams.get(device.device), times.get(device.device)

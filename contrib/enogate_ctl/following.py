@@ -7,29 +7,29 @@ import select
 from collections.abc import Callable
 from typing import BinaryIO
 
-from enogate_mqtt.follow import silent
-from enogate_mqtt.wake import TURN, Files
+from enogate_lines.follow import silent
+from enogate_lines.inotify import TURN, WatchedFiles
 
-from .desk import Lines
+from .client import Lines
 from .desk_file import Unusable
-from .places import Places, Unreadable
+from .paths import Paths, Unreadable
 
 # How many bytes of earlier lines are printed.
 EARLIER = 1 << 20
 
 
-def print_lines(places: Places, out: BinaryIO, wait: Callable[[bool], bool]) -> None:
+def print_lines(paths: Paths, out: BinaryIO, wait: Callable[[bool], bool]) -> None:
     """Prints the lines until nobody reads the output. `wait(True)` waits for new lines, `wait(False)` for a short time.
     Both return whether somebody still reads. Raises Unreadable, also if there is neither a file of lines nor a desk:
     the name of the gateway is probably wrong."""
     try:
-        lines = Lines(places.lines, EARLIER)
+        lines = Lines(paths.lines, EARLIER)
     except Unusable as error:
         raise Unreadable(str(error)) from error
     are_new = False
     with contextlib.closing(lines):
-        if not (os.path.exists(places.lines) or os.path.exists(places.desk)):
-            raise Unreadable(f"there are no lines {places.lines}: correct the name of the gateway, or start it")
+        if not (os.path.exists(paths.lines) or os.path.exists(paths.desk)):
+            raise Unreadable(f"there are no lines {paths.lines}: correct the name of the gateway, or start it")
         while True:
             out.write(b"".join(line + b"\n" for line in lines.read() if line))
             if lines.is_at_end and not are_new:
@@ -44,7 +44,7 @@ class Reader:
     """Whoever reads the output, to which the lines at this path are printed."""
 
     def __init__(self, path: str, out: BinaryIO):
-        self.out, self.files = out.fileno(), Files([path], silent)
+        self.out, self.files = out.fileno(), WatchedFiles([path], silent)
 
     def wait(self, is_woken: bool) -> bool:
         """Waits for 0.1 s or, if `is_woken`, until the lines change, for a second at most. Returns whether somebody

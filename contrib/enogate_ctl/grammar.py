@@ -40,7 +40,7 @@ class NoOrder(ValueError):
     """A text is not an order. The text of the error says which form is expected."""
 
 
-def check(order: str) -> None:
+def check_order(order: str) -> None:
     """Raises NoOrder if the gateway would answer with `syntax`, or if a label is too long for it."""
     verb = order.split(" ", 1)[0]
     if verb not in FORMS:

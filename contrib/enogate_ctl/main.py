@@ -6,20 +6,20 @@ import os
 import sys
 from collections.abc import Sequence
 
-from enogate_mqtt.lines import Listed
+from enogate_lines.contents import Listed
 from enogate_tools import files
 
 from .answers import Answer
 from .command_line import AskBase, Command, Export, Give, Import, Serve, ShowLines, ShowPaths, ShowRecorded, parsed
-from .desk import Desk, NoAnswer
+from .client import Client, NoAnswer
 from .grammar import BASE
-from .places import Places, Unreadable, paths
+from .paths import Paths, Unreadable, all_paths
 from .stops import Stopped, Stops
 
 OK, REFUSED, SILENT = 0, 1, 3
 
 
-class Refused(Exception):
+class OrderFailed(Exception):
     """The gateway refused the order, or it failed. The text is the name of the error."""
 
 
@@ -36,7 +36,7 @@ def carry_out(command: Command) -> int:
         status = run(command, stops)
         sys.stdout.flush()
         return status
-    except Refused as error:
+    except OrderFailed as error:
         from .words import advice
         return complain(advice(str(error)), REFUSED)
     except Unreadable as error:
@@ -68,26 +68,26 @@ def run(command: Command, stops: Stops) -> int:
             return ask_module(port)
         case ShowPaths():
             return show_paths()
-    become_owner(command.places)
+    become_gateway_user(command.paths)
     match command:
-        case ShowRecorded(places, is_json):
-            return show_recorded(places, is_json)
-        case ShowLines(places):
+        case ShowRecorded(paths, is_json):
+            return show_recorded(paths, is_json)
+        case ShowLines(paths):
             from . import following
-            following.print_lines(places, sys.stdout.buffer, following.Reader(places.lines, sys.stdout.buffer).wait)
+            following.print_lines(paths, sys.stdout.buffer, following.Reader(paths.lines, sys.stdout.buffer).wait)
             return OK
-        case Export(places, timeout):
-            return export_devices(Desk(places, timeout))
-        case Import(places, timeout):
-            return import_devices(Desk(places, timeout))
+        case Export(paths, timeout):
+            return export_devices(Client(paths, timeout))
+        case Import(paths, timeout):
+            return import_devices(Client(paths, timeout))
         case Give(seconds=None):
             return give_order(command)
     return open_window(command, stops)
 
 
-def become_owner(places: Places) -> None:
+def become_gateway_user(paths: Paths) -> None:
     """As root, takes on the rights of the user of the gateway, or raises NoAnswer."""
-    folders = [os.path.dirname(path) for path in (places.desk, places.lines)]
+    folders = [os.path.dirname(path) for path in (paths.desk, paths.lines)]
     try:
         files.become_owner(*folders)
     except OSError as error:
@@ -96,83 +96,83 @@ def become_owner(places: Places) -> None:
 
 def give_order(command: Give) -> int:
     """Gives an order, and prints its answer."""
-    desk = Desk(command.places, command.timeout)
+    client = Client(command.paths, command.timeout)
     if command.order == BASE:
-        from .base import ask_base
-        answer = ask_base(desk)
+        from .base import base_answer
+        answer = base_answer(client)
     else:
-        answer = desk.ask(command.order)
+        answer = client.ask(command.order)
     if command.is_json:
         for line in answer.lines:
             print(line.raw.decode("ascii"))
     checked(answer)
     if not command.is_json:
-        print(text_of(answer, command.places))
+        print(text_of(answer, command.paths))
     return OK
 
 
-def text_of(answer: Answer, places: Places) -> str:
+def text_of(answer: Answer, paths: Paths) -> str:
     """An answer, which is not an error, as text."""
     if answer.lines[-1].kind == "list":
-        return table_of(answer.devices, places)
+        return table_of(answer.devices, paths)
     from .shown import shown
     return shown(answer)
 
 
 def checked(answer: Answer) -> Answer:
-    """The answer, or Refused if it is an error."""
+    """The answer, or OrderFailed if it is an error."""
     if answer.error:
-        raise Refused(answer.error)
+        raise OrderFailed(answer.error)
     return answer
 
 
 def open_window(command: Give, stops: Stops) -> int:
     """Opens the learn window for the time of the command."""
     from .window import LearnWindow
-    desk = Desk(command.places, command.timeout)
+    client = Client(command.paths, command.timeout)
 
     def give(order: str) -> None:
-        checked(desk.ask(order))
+        checked(client.ask(order))
 
     def report(text: str) -> None:
         print(text, flush=True)
 
-    LearnWindow(desk, give, report, stops, command.is_json).open_for(command.order, command.seconds)
+    LearnWindow(client, give, report, stops, command.is_json).open_for(command.order, command.seconds)
     return OK
 
 
 def show_paths() -> int:
     """Prints where the files of the gateways are."""
     import json
-    print(json.dumps(paths(), separators=(",", ":"), sort_keys=True))
+    print(json.dumps(all_paths(), separators=(",", ":"), sort_keys=True))
     return OK
 
 
-def show_recorded(places: Places, is_json: bool) -> int:
+def show_recorded(paths: Paths, is_json: bool) -> int:
     """Prints the devices as the lines record them."""
     from . import recorded
-    found = recorded.devices(places)
-    for line in recorded.as_json(found, places) if is_json else [table_of(found, places)]:
+    found = recorded.devices(paths)
+    for line in recorded.as_json(found, paths) if is_json else [table_of(found, paths)]:
         print(line)
     return OK
 
 
-def table_of(devices: Sequence[Listed], places: Places) -> str:
+def table_of(devices: Sequence[Listed], paths: Paths) -> str:
     """The table of these devices, for people."""
     from datetime import datetime, timezone
 
     from .device_table import device_table
-    return device_table(devices, places, datetime.now(timezone.utc))
+    return device_table(devices, paths, datetime.now(timezone.utc))
 
 
-def export_devices(desk: Desk) -> int:
+def export_devices(client: Client) -> int:
     """Prints the learned devices as CSV."""
     from .sheet import exported
-    print(exported(checked(desk.ask("list")).devices), end="")
+    print(exported(checked(client.ask("list")).devices), end="")
     return OK
 
 
-def import_devices(desk: Desk) -> int:
+def import_devices(client: Client) -> int:
     """Learns and labels the devices of the CSV file on standard input."""
     from . import sheet
     from .words import advice, printable
@@ -180,9 +180,9 @@ def import_devices(desk: Desk) -> int:
         print("enogatectl: enter the devices as CSV, and end with Ctrl-D; to read a file, append <FILE to the command",
               file=sys.stderr)
     text = sys.stdin.buffer.read().decode("utf-8", "replace")
-    known = {device.device: device for device in checked(desk.ask("list")).devices}
+    known = {device.device: device for device in checked(client.ask("list")).devices}
 
-    giver = sheet.Giver(desk)
+    giver = sheet.Giver(client)
 
     def give(orders: list[str]) -> list[str | None]:
         return [advice(answer.error) if answer.error else None for answer in giver.give(orders)]
@@ -190,7 +190,7 @@ def import_devices(desk: Desk) -> int:
     def report(line: str) -> None:
         print(printable(line), flush=True)
 
-    return OK if sheet.Import(known, give, report).run(text) else REFUSED
+    return OK if sheet.Importer(known, give, report).run(text) else REFUSED
 
 
 def ask_module(path: str) -> int:

@@ -3,8 +3,8 @@ from __future__ import annotations
 
 from decimal import Decimal
 
-from enogate_mqtt.entities import Table
-from enogate_mqtt.lines import Reading, Telegram
+from enogate_lines.contents import Reading, Telegram
+from enogate_lines.entities import Table
 
 # The kinds of entities whose name is not that of a reading: those of events, and those of the channels of actuators.
 NAMELESS = ("event", "switch", "light")

@@ -8,8 +8,8 @@ from collections.abc import Iterator
 from datetime import datetime
 from typing import BinaryIO
 
-from enogate_mqtt.follow import Follower, Place, files_of, silent, without_nuls
-from enogate_mqtt.lines import BadLine, Telegram, content_of
+from enogate_lines.contents import BadLine, Telegram, content_of
+from enogate_lines.follow import Follower, Position, files_of, silent, without_nuls
 from enogate_mqtt.state import last_seen
 from enogate_tools.files import is_safe, open_file
 
@@ -61,7 +61,7 @@ def last_lines(path: str, most: int) -> Iterator[bytes]:
 
 
 def lines_before(file: BinaryIO, end: int, start: int) -> Iterator[bytes]:
-    """The lines of a file between two places, the last line first. What follows the last line end is left out."""
+    """The lines of a file between two offsets, the last line first. What follows the last line end is left out."""
     # the end of a line whose beginning is in the block before
     rest, has_end = b"", False
     while end > start:
@@ -86,14 +86,15 @@ def last_times(path: str, lines: str, most: int = MOST_READ) -> dict[str, dateti
     saved = last_seen(path)
     if saved is None:
         return {}
-    place, times = saved
-    later = devices_after(place, lines, most)
+    position, times = saved
+    later = devices_after(position, lines, most)
     return {} if later is None else {device: time for device, time in times.items() if device not in later}
 
 
-def devices_after(place: Place, path: str, most: int) -> set[str] | None:
-    """The devices with telegrams after this place in the lines; None if it is not found, or further back than this."""
-    follower, devices = Follower(path, place, silent), set()
+def devices_after(position: Position, path: str, most: int) -> set[str] | None:
+    """The devices with telegrams after this position in the lines; None if it is not found, or more than so many bytes
+    before their end."""
+    follower, devices = Follower(path, position, silent), set()
     if follower.file is None:
         return None
     with contextlib.closing(follower):

@@ -5,11 +5,11 @@ from __future__ import annotations
 import json
 from collections.abc import Iterable, Iterator
 
-from enogate_mqtt.lines import BadLine, Content, Deleted, EndOfList, Learned, Listed, content_of
+from enogate_lines.contents import BadLine, Content, Deleted, EndOfList, Learned, Listed, content_of
 
-from .desk import Lines
+from .client import Lines
 from .desk_file import Unusable
-from .places import Places, Unreadable
+from .paths import Paths, Unreadable
 from .recent import last_lines, last_reports, last_times
 
 # How much of the lines is searched for a list. A gateway with 100 devices that send each minute writes less in a day.
@@ -17,34 +17,34 @@ MOST_SEARCHED = 1 << 26
 ENDS = (b'"type":"list"}', b'"type":"device"}', b'"type":"teach"}')
 
 
-def devices(places: Places) -> list[Listed]:
+def devices(paths: Paths) -> list[Listed]:
     """The devices, by ascending ID, or Unreadable."""
     try:
-        Lines(places.lines).close()
+        Lines(paths.lines).close()
     except Unusable as error:
         raise Unreadable(str(error)) from error
-    found = devices_in(last_lines(places.lines, MOST_SEARCHED))
+    found = devices_in(last_lines(paths.lines, MOST_SEARCHED))
     if found is None:
-        raise Unreadable(f"no list of the devices is in the lines {places.lines}: give the order `list` once")
+        raise Unreadable(f"no list of the devices is in the lines {paths.lines}: give the order `list` once")
     return found
 
 
-def as_json(found: list[Listed], places: Places) -> Iterator[str]:
+def as_json(found: list[Listed], paths: Paths) -> Iterator[str]:
     """The devices as lines, like those of the order `list`. The member `seen` is the time of the last telegram in
     seconds since 1970, or null if it is not known. The members `dbm` and `readings` are those of the last telegram, if
     it is near the end of the lines and has the profile of the device; otherwise null and an empty list."""
-    times = last_times(places.bridge, places.lines)
-    reports = last_reports(places.lines)
+    times = last_times(paths.bridge, paths.lines)
+    reports = last_reports(paths.lines)
     for device in found:
         seen = int(times[device.device].timestamp()) if device.device in times else None
         telegram, line = reports.get(device.device, (None, b""))
         last = json.loads(line) if telegram and telegram.eep == device.eep else {"dbm": None, "readings": []}
-        yield line_of({"dbm": last["dbm"], "eep": device.eep, "id": device.device, "label": device.label,
+        yield json_line({"dbm": last["dbm"], "eep": device.eep, "id": device.device, "label": device.label,
                        "maker": device.maker, "readings": last["readings"], "seen": seen, "type": "device"})
-    yield line_of({"count": len(found), "type": "list"})
+    yield json_line({"count": len(found), "type": "list"})
 
 
-def line_of(members: dict[str, object]) -> str:
+def json_line(members: dict[str, object]) -> str:
     """A line with these members."""
     return json.dumps(members, separators=(",", ":"))
 

@@ -7,11 +7,11 @@ import re
 from collections.abc import Callable, Iterable, Iterator
 from dataclasses import dataclass
 
-from enogate_mqtt.lines import Listed
+from enogate_lines.contents import Listed
 
 from . import grammar
 from .answers import SHARED, Answer
-from .desk import PAUSE, Desk
+from .client import PAUSE, Client
 
 HEADING = ["id", "eep", "label"]
 # A spreadsheet takes a text that begins like this for a formula. The apostrophe before it says that it is a text.
@@ -33,7 +33,7 @@ class BadRow(ValueError):
 
 
 @dataclass(frozen=True)
-class Row:
+class DeviceRow:
     """A device as a row describes it."""
     device: str
     eep: str
@@ -51,7 +51,7 @@ def exported(devices: Iterable[Listed]) -> str:
     return out.getvalue()
 
 
-def rows_in(text: str) -> Iterator[tuple[int, Row | BadRow]]:
+def rows_in(text: str) -> Iterator[tuple[int, DeviceRow | BadRow]]:
     """The rows of a CSV file, each with the number of its line, without headings and empty rows."""
     text = text.removeprefix("\ufeff")
     first = text.partition("\n")[0]
@@ -66,10 +66,10 @@ def rows_in(text: str) -> Iterator[tuple[int, Row | BadRow]]:
             yield reader.line_num, BadRow(f"not CSV: {error}")
             continue
         if any(cells) and [cell.lower() for cell in cells[:3]] != HEADING:
-            yield reader.line_num, row_of(cells)
+            yield reader.line_num, device_row_of(cells)
 
 
-def row_of(cells: list[str]) -> Row | BadRow:
+def device_row_of(cells: list[str]) -> DeviceRow | BadRow:
     """The device of a row, or why it has none."""
     device, eep, label = (*cells, "", "")[:3]
     if re.fullmatch("[0-9]{1,7}", device):
@@ -80,31 +80,31 @@ def row_of(cells: list[str]) -> Row | BadRow:
     if FLOAT.fullmatch(device) and not re.fullmatch(grammar.ID, device):
         return BadRow(f"a spreadsheet changed the ID to the number {device}: enter it again, in a column with the "
                       "format Text")
-    row = Row(device.upper(), eep.upper(), label)
+    row = DeviceRow(device.upper(), eep.upper(), label)
     try:
         for order in (add(row), relabel(row)):
-            grammar.check(order)
+            grammar.check_order(order)
     except grammar.NoOrder as error:
         return BadRow(str(error))
     return row
 
 
-def add(row: Row) -> str:
+def add(row: DeviceRow) -> str:
     """The order that learns the device."""
     return f"add {row.device} {row.eep}"
 
 
-def relabel(row: Row) -> str:
+def relabel(row: DeviceRow) -> str:
     """The order for its label."""
     return f"label {row.device} {row.label}".rstrip(" ")
 
 
-def groups(rows: Iterable[tuple[int, Row | BadRow]]) -> Iterator[list[tuple[int, Row | BadRow]]]:
+def groups(rows: Iterable[tuple[int, DeviceRow | BadRow]]) -> Iterator[list[tuple[int, DeviceRow | BadRow]]]:
     """The rows in groups, which are not too large, and have no device twice."""
-    group: list[tuple[int, Row | BadRow]] = []
+    group: list[tuple[int, DeviceRow | BadRow]] = []
     devices: set[str] = set()
     for number, row in rows:
-        device = row.device if isinstance(row, Row) else ""
+        device = row.device if isinstance(row, DeviceRow) else ""
         if len(group) == MOST_ROWS or device in devices:
             yield group
             group, devices = [], set()
@@ -115,11 +115,11 @@ def groups(rows: Iterable[tuple[int, Row | BadRow]]) -> Iterator[list[tuple[int,
 
 
 class Giver:
-    """Gives the orders of an import to this desk. It is locked until all orders that were given at once are answered,
+    """Gives the orders of an import. The desk is locked until all orders that were given at once are answered,
     and other commands wait meanwhile, so a slow gateway gets fewer orders at once."""
 
-    def __init__(self, desk: Desk):
-        self.desk, self.most = desk, FIRST_ORDERS
+    def __init__(self, client: Client):
+        self.client, self.most = client, FIRST_ORDERS
 
     def give(self, orders: list[str]) -> list[Answer]:
         """The answers to these orders."""
@@ -135,16 +135,16 @@ class Giver:
 
     def ask(self, orders: list[str]) -> list[Answer]:
         """The answers to these orders, which are given at once."""
-        start = self.desk.clock()
-        answers = self.desk.ask_all(orders)
-        seconds = max(PAUSE, self.desk.clock() - start)
+        start = self.client.clock()
+        answers = self.client.ask_all(orders)
+        seconds = max(PAUSE, self.client.clock() - start)
         self.most = max(1, min(MOST_ROWS, int(len(orders) * LONGEST_LOCKED / seconds)))
         # Other commands look at the lock of the desk once in each pause.
-        self.desk.sleep(2 * PAUSE)
+        self.client.sleep(2 * PAUSE)
         return answers
 
 
-class Import:
+class Importer:
     """Learns devices and gives them labels. `known` has the learned ones by their IDs, `give` gives orders at once and
     returns for each the sentence of an error or None, `report` prints a line."""
 
@@ -160,10 +160,10 @@ class Import:
             self.report("the input has no devices")
         return all(results) and text.strip() != ""
 
-    def take(self, group: list[tuple[int, Row | BadRow]]) -> bool:
+    def take(self, group: list[tuple[int, DeviceRow | BadRow]]) -> bool:
         """Handles a group of rows, and reports the results. Returns whether all succeeded. A device that is not learned
         gets no label."""
-        rows = [row for _, row in group if isinstance(row, Row)]
+        rows = [row for _, row in group if isinstance(row, DeviceRow)]
         done: dict[str, list[str]] = {row.device: [] for row in rows}
         errors: dict[str, str] = {}
         for result, order_of in (("learned", self.learning), ("labelled", self.labelling)):
@@ -177,7 +177,7 @@ class Import:
             self.finish(number, row, "" if isinstance(row, BadRow) else errors.get(row.device, ""), done)
         return not errors and len(rows) == len(group)
 
-    def finish(self, number: int, row: Row | BadRow, error: str, done: dict[str, list[str]]) -> None:
+    def finish(self, number: int, row: DeviceRow | BadRow, error: str, done: dict[str, list[str]]) -> None:
         """Notes and reports the result of a row."""
         if isinstance(row, BadRow):
             self.report(f"line {number}: {row}")
@@ -187,13 +187,13 @@ class Import:
             self.known[row.device] = Listed(row.device, row.eep, label, None)
         self.report(f"line {number}: {row.device}: {error or ' and '.join(done[row.device]) or 'unchanged'}")
 
-    def learning(self, row: Row) -> str | None:
+    def learning(self, row: DeviceRow) -> str | None:
         """The order that learns the device, if it needs one. A device that is learned with this profile is not learned
         again, which would remove its manufacturer ID."""
         known = self.known.get(row.device)
         return None if known and known.eep == row.eep else add(row)
 
-    def labelling(self, row: Row) -> str | None:
+    def labelling(self, row: DeviceRow) -> str | None:
         """The order for its label, if it needs one. A row without a label leaves the label as it is."""
         known = self.known.get(row.device)
         return relabel(row) if row.label and row.label != (known.label if known else "") else None

@@ -1,7 +1,7 @@
 """What is printed about an answer, for people."""
 from __future__ import annotations
 
-from enogate_mqtt.lines import Response, Status
+from enogate_lines.contents import Response, Status
 
 from .answers import Answer
 from .tables import table

@@ -4,11 +4,11 @@ from __future__ import annotations
 import contextlib
 from collections.abc import Callable
 
-from enogate_mqtt.lines import Status
+from enogate_lines.contents import Status
 
 from . import words
 from .answers import line_of
-from .desk import Desk, Lines, NoAnswer
+from .client import Client, Lines, NoAnswer
 from .stops import Stopped, Stops
 
 # The pause between two looks at the lines, in seconds.
@@ -20,16 +20,16 @@ class LearnWindow:
     """The learn window of a gateway. `give` gives an order, and raises an exception if it fails. `report` prints a
     line; it may fail if nobody reads it any more."""
 
-    def __init__(self, desk: Desk, give: Callable[[str], None], report: Callable[[str], None], stops: Stops,
+    def __init__(self, client: Client, give: Callable[[str], None], report: Callable[[str], None], stops: Stops,
                  is_json: bool = False):
-        self.desk, self.give, self.print, self.stops, self.is_json = desk, give, report, stops, is_json
-        self.clock, self.sleep = desk.clock, desk.sleep
+        self.client, self.give, self.print, self.stops, self.is_json = client, give, report, stops, is_json
+        self.clock, self.sleep = client.clock, client.sleep
 
     def open_for(self, order: str, seconds: float) -> None:
         """Opens the window with this order, and closes it after the time, or if a signal stops the command. A window
         for one device (`learn as`) ends earlier: the gateway closes it. The desk is not locked meanwhile. A window that
         the gateway refused to open is not closed: another program may have opened it."""
-        with contextlib.closing(self.desk.follow()) as lines:
+        with contextlib.closing(self.client.follow()) as lines:
             try:
                 self.give(order)
                 self.report("" if self.is_json else f"the learn window is open for {seconds:g} s; Ctrl-C closes it")
@@ -57,7 +57,7 @@ class LearnWindow:
     def is_closed(self) -> bool:
         """Whether the gateway says that the window is closed."""
         try:
-            last = self.desk.ask("status").lines[-1].content
+            last = self.client.ask("status").lines[-1].content
         except NoAnswer:
             return False
         return isinstance(last, Status) and last.mode == "closed"

@@ -1,7 +1,7 @@
 """Names and values of a gateway in words, for people."""
 from __future__ import annotations
 
-from enogate_mqtt.lines import Deleted, Learned
+from enogate_lines.contents import Deleted, Learned
 
 from .answers import Line
 

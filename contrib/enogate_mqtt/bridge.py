@@ -7,21 +7,22 @@ import math
 import re
 from collections.abc import Callable, Iterable, Iterator
 
+from enogate_lines.contents import BadLine, Content, Strange, content_of
+from enogate_lines.follow import Follower, Position
+from enogate_lines.inotify import LONGEST, TURN
+
 from . import discovery
 from .connection import ECHO_WITHIN, Broker, Connection, Lost, Received
 from .desk import Desk
 from .devices import Devices, time_text
-from .follow import Follower, Place
-from .lines import BadLine, Content, Strange, content_of
 from .log import Seldom
-from .orders import DEVICE, Refused, orders_of
+from .orders import DEVICE, InvalidMessage, orders_of
 from .outbox import MAX_UNDER_WAY, Backlog, Outbox
 from .reconcile import Part, Reconciler
-from .requests import Check, ListRequest, Requests, opens_window
+from .requests import ListRequest, Probe, Requests, opens_window
 from .state import LAST_SEEN
 from .store import Store
 from .topics import Message, Topics
-from .wake import LONGEST, TURN
 
 # The shortest time between two writes of the state, in seconds.
 SAVE_EVERY = 2.0
@@ -38,10 +39,10 @@ GATEWAY, UNKNOWN = "gateway", "unknown"
 CLOCK_SET_WITHIN = 600.0
 
 
-def contents(lines: Iterable[tuple[bytes, Place]], devices: Devices, warn: Callable[[str, str], None]
-             ) -> Iterator[tuple[str, Place, Content]]:
-    """The lines that are lines of a gateway, each with its place and its contents. Others are logged."""
-    for line, place in lines:
+def contents(lines: Iterable[tuple[bytes, Position]], devices: Devices, warn: Callable[[str, str], None]
+             ) -> Iterator[tuple[str, Position, Content]]:
+    """The lines that are lines of a gateway, each with its position and its contents. Others are logged."""
+    for line, position in lines:
         try:
             content = content_of(line)
         except BadLine as bad:
@@ -50,7 +51,7 @@ def contents(lines: Iterable[tuple[bytes, Place]], devices: Devices, warn: Calla
             continue
         if isinstance(content, Strange):
             warn("members", content.complaint)
-        yield line.decode("ascii"), place, content
+        yield line.decode("ascii"), position, content
 
 
 class Bridge:
@@ -80,10 +81,10 @@ class Bridge:
         # when the counters were published
         self.counted_at = -math.inf
         # whether its own message `online` has come back on this connection
-        self.echo = Check(math.inf, ECHO_WITHIN)
+        self.echo = Probe(math.inf, ECHO_WITHIN)
         # when what is retained is compared again, and until when the lines are not looked at
         self.compare_at = self.look_at = 0.0
-        self.saved: Place | None = store.place if store.is_same_boot else None
+        self.saved: Position | None = store.position if store.is_same_boot else None
         self.saved_at = 0.0
         # the newest time of a telegram in an earlier run, and until when an earlier time is not published
         self.newest = max((device.reported.get(LAST_SEEN, "") for device in store.devices), default="")
@@ -108,7 +109,7 @@ class Bridge:
     def read_earlier_lines(self) -> None:
         """Reads what the gateway has written before. A list among these lines is not the answer to a request. The lines
         are published if they are known to be new: after a power failure the state may be older than what was published,
-        and after a place that was not found, all lines may be."""
+        and after a position that was not found, all lines may be."""
         self.catch_up(self.store.is_same_boot and self.follower.is_found, is_earlier=True)
         self.has_read |= not self.is_stopped
         self.devices.lists = 0
@@ -213,7 +214,7 @@ class Bridge:
         self.backlog = Backlog()
         self.reported, self.deleting = None, {}
         self.reconciler = Reconciler(self.clock, self.compare)
-        self.is_online, self.echo = False, Check(math.inf, ECHO_WITHIN)
+        self.is_online, self.echo = False, Probe(math.inf, ECHO_WITHIN)
         self.publish([Message(topic, "", True) for topic in sorted(self.devices.removed)])
         self.compare_all(self.reconciler)
         self.is_unknown_asked = False
@@ -304,9 +305,9 @@ class Bridge:
     def take_lines(self, are_kept: bool, is_late: bool = False, is_earlier: bool = False) -> None:
         """Handles the lines that have arrived. When they are late, the time of their arrival is not known."""
         lists, known = self.devices.lists, set(self.devices.known)
-        for line, place, content in contents(self.follower.read(), self.devices, self.seldom.warning):
+        for line, position, content in contents(self.follower.read(), self.devices, self.seldom.warning):
             if are_kept:
-                self.outbox.add(line, place)
+                self.outbox.add(line, position)
             self.publish(self.devices.take(content, None if is_late else self.now()))
             if not is_earlier:
                 self.requests.take(content)
@@ -364,8 +365,8 @@ class Bridge:
                 self.requests.open_window(self.requests.learn_for)
                 self.save()
             left_out = self.desk.give(orders, len(self.devices.known))
-        except Refused as refused:
-            self.seldom.warning("refused", f"message on {message.topic!r} ignored: {refused}")
+        except InvalidMessage as invalid:
+            self.seldom.warning("refused", f"message on {message.topic!r} ignored: {invalid}")
             return
         except OSError as error:
             lost = f"message on {message.topic!r} lost: {self.desk.path}: {error.strerror or error}"
@@ -409,15 +410,15 @@ class Bridge:
 
     def save(self) -> None:
         """Saves the state if it has changed: how far the broker has acknowledged the lines, the devices, and the end of
-        the learn window. A place among the earlier lines is not saved: the next run would take the rest for new."""
+        the learn window. A position among the earlier lines is not saved: the next run would take the rest for new."""
         if not self.has_read:
             return
-        place = self.outbox.place(self.follower.place)
+        position = self.outbox.position(self.follower.position)
         self.saved_at = self.clock()
         changed, removed, may_adopt = self.devices.changed, self.devices.removed, self.devices.may_adopt
         learn_until = self.requests.window.end if self.requests.window else None
-        now = place, removed, may_adopt, learn_until
+        now = position, removed, may_adopt, learn_until
         if not changed and now == (self.saved, self.store.removed, self.store.may_adopt, self.store.learn_until):
             return
-        if self.store.save(place, changed, self.devices.known, removed, may_adopt, learn_until):
-            self.saved, self.devices.changed = place, set()
+        if self.store.save(position, changed, self.devices.known, removed, may_adopt, learn_until):
+            self.saved, self.devices.changed = position, set()

@@ -8,9 +8,8 @@ import stat
 from collections import deque
 from collections.abc import Callable
 
+from enogate_lines.contents import OkOrError, Content, Deleted, EndOfList, Learned, Status
 from enogate_tools.desk import INVALID_END, MAX_SIZE, is_written
-
-from .lines import Answer, Content, Deleted, EndOfList, Learned, Status
 
 # So many bytes may be appended at once, and so many more with each second. The gateway reads more per second, unless
 # its disk is slow: what it has not read stays below MAX_BURST, and another order waits for a few seconds at most.
@@ -105,7 +104,7 @@ class Given:
                 self.end(STATUS)
             case EndOfList():
                 self.end(LIST)
-            case Answer():
+            case OkOrError():
                 self.end_first(lambda order: order not in (LIST, STATUS))
             case Learned():
                 self.end_first(lambda order: order.startswith(b"add "))

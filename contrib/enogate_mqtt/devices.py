@@ -7,9 +7,10 @@ from collections.abc import Callable, Iterable
 from dataclasses import dataclass, field
 from datetime import datetime, timezone
 
+from enogate_lines.contents import Content, Deleted, EndOfList, Learned, Listed, Telegram
+from enogate_lines.entities import Table
+
 from . import discovery
-from .entities import Table
-from .lines import Content, Deleted, EndOfList, Learned, Listed, Telegram
 from .state import LAST_SEEN
 from .topics import Message, Topics
 
@@ -17,7 +18,7 @@ from .topics import Message, Topics
 @dataclass
 class Device:
     """A device. Its label is None until it is known that it has one or none; until then, Home Assistant is not shown
-    the device. `reported` has its last readings, by their places below its topic."""
+    the device. `reported` has its last readings, by their subtopics."""
     name: str
     eep: str
     label: str | None = None
@@ -55,18 +56,18 @@ class Devices:
     def retained(self, device: str) -> dict[str, str]:
         """Everything that the broker should retain about a device, by topic."""
         reported = self.known[device].reported
-        return self.shown[device] | {self.topics.reading(device, place): text for place, text in reported.items()}
+        return self.shown[device] | {self.topics.reading(device, subtopic): text for subtopic, text in reported.items()}
 
     def adopt(self, topic: str, text: str) -> bool:
         """Takes a reading that the broker retains as the last one of its device: the state file was lost, or another
         bridge ran before. Returns whether it was taken."""
-        name, _, place = topic.removeprefix(self.topics.own + "/").partition("/")
+        name, _, subtopic = topic.removeprefix(self.topics.own + "/").partition("/")
         if name not in self.adopting:
             return False
         device = self.known[name]
-        if place in device.reported or not (place == LAST_SEEN or self.table.reports(device.eep, place)):
+        if subtopic in device.reported or not (subtopic == LAST_SEEN or self.table.reports(device.eep, subtopic)):
             return False
-        device.reported[place] = text
+        device.reported[subtopic] = text
         self.changed.add(name)
         return True
 
@@ -157,18 +158,20 @@ class Devices:
         events = self.table.events_of(telegram)
         if self.has_events(telegram.eep):
             # a rocker that is not pressed any more is not retained as pressed
-            old = [place for place in device.reported if place not in reported and place not in ("dbm", LAST_SEEN)]
-            messages += self.remove(self.topics.reading(device.name, place) for place in old)
-            device.reported = {place: text for place, text in device.reported.items() if place not in old}
+            old = [subtopic for subtopic in device.reported
+                   if subtopic not in reported and subtopic not in ("dbm", LAST_SEEN)]
+            messages += self.remove(self.topics.reading(device.name, subtopic) for subtopic in old)
+            device.reported = {subtopic: text for subtopic, text in device.reported.items() if subtopic not in old}
         if now is not None:
             reported[LAST_SEEN] = time_text(now)
         is_new = not reported.keys() <= device.reported.keys()
         device.reported |= reported
         self.changed.add(device.name)
         messages += self.show(device) if is_new else []
-        messages += self.publish({self.topics.reading(device.name, place): text for place, text in reported.items()})
-        return messages + [Message(self.topics.reading(device.name, place), event_payload(kind), False)
-                           for place, kind in events]
+        messages += self.publish({self.topics.reading(device.name, subtopic): text
+                                  for subtopic, text in reported.items()})
+        return messages + [Message(self.topics.reading(device.name, subtopic), event_payload(kind), False)
+                           for subtopic, kind in events]
 
     def has_events(self, eep: str) -> bool:
         """Whether devices of this profile are switches, whose telegrams are events."""
@@ -184,7 +187,7 @@ class Devices:
 
     def remove_readings(self, device: Device) -> list[Message]:
         """Removes all readings of a device."""
-        topics = [self.topics.reading(device.name, place) for place in device.reported]
+        topics = [self.topics.reading(device.name, subtopic) for subtopic in device.reported]
         device.reported = {}
         return self.remove(topics)
 

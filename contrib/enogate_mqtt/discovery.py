@@ -8,8 +8,9 @@ import pathlib
 from collections.abc import Callable, Collection, Iterable
 from typing import Any
 
+from enogate_lines.entities import EntityRow
+
 from . import VERSION
-from .entities import Row
 from .topics import Topics
 
 MANUFACTURERS = pathlib.Path(__file__).with_name("manufacturers")
@@ -56,10 +57,11 @@ OPEN_CLOSED_OR_NONE = "{{ None if not value | is_number else 'closed' if value |
 EVENT_TYPE = "{{ value_json.event_type }}"
 
 
-def configs(topics: Topics, device: str, about: Config, rows: Iterable[Row], reported: Collection[str],
+def configs(topics: Topics, device: str, about: Config, rows: Iterable[EntityRow], reported: Collection[str],
             expire_after: int | None) -> dict[str, str]:
-    """The messages of a device, by topic. `about` describes the device, and `reported` are the places of its readings.
-    A cyclic reading becomes unavailable some time after the last one: `expire_after` is the setting for it."""
+    """The messages of a device, by topic. `about` describes the device, and `reported` has the subtopics of its
+    readings. A cyclic reading becomes unavailable some time after the last one: `expire_after` is the setting for
+    it."""
     entities = of_rows(topics, device, rows, reported, expire_after)
     shared = {"device": about, **available(topics.status, topics.gateway, topics.module)}
     every = messages(topics, entities | of_every_device(topics, device), shared)
@@ -78,7 +80,7 @@ def gateway(topics: Topics) -> dict[str, str]:
     for name, title in COUNTERS.items():
         entities["sensor", name] = {
             "name": title, "state_topic": topics.counters, "value_template": f"{{{{ value_json.{name} }}}}",
-            "state_class": "total_increasing", **shown("hidden"), **with_gateway,
+            "state_class": "total_increasing", **visibility("hidden"), **with_gateway,
         }
     entities["switch", "learn"] = {
         "name": "Learn window", "state_topic": topics.learn, "command_topic": topics.learn_command,
@@ -135,16 +137,16 @@ def available(*states: str) -> Config:
 
 def connectivity(title: str, state: str) -> Config:
     return {"name": title, "state_topic": state, "payload_on": "online", "payload_off": "offline",
-            "device_class": "connectivity", **shown("diagnostic")}
+            "device_class": "connectivity", **visibility("diagnostic")}
 
 
-def of_rows(topics: Topics, device: str, rows: Iterable[Row], reported: Collection[str],
+def of_rows(topics: Topics, device: str, rows: Iterable[EntityRow], reported: Collection[str],
             expire_after: int | None) -> Entities:
     """The entities of a device according to the table. Rows with the same topic are one entity."""
     found: Entities = {}
     for row in rows:
         for number in row.numbers(reported) if row.entity else []:
-            key = row.entity, f"{device}_{row.place(number).replace('/', '_')}"
+            key = row.entity, f"{device}_{row.subtopic(number).replace('/', '_')}"
             config = entity(topics, device, row, number)
             seconds = row.expires_after(expire_after)
             if seconds is not None:
@@ -160,11 +162,11 @@ def of_every_device(topics: Topics, device: str) -> Entities:
     return {
         ("sensor", f"{device}_dbm"): {
             "name": "Signal strength", "state_topic": topics.reading(device, "dbm"), "device_class": "signal_strength",
-            "state_class": "measurement", "unit_of_measurement": "dBm", **shown("hidden"),
+            "state_class": "measurement", "unit_of_measurement": "dBm", **visibility("hidden"),
         },
         ("sensor", f"{device}_last_seen"): {
             "name": "Last seen", "state_topic": topics.last_seen(device), "device_class": "timestamp",
-            **shown("hidden"),
+            **visibility("hidden"),
         },
     }
 
@@ -183,24 +185,24 @@ def triggers(topics: Topics, about: Config, entities: Entities) -> dict[str, str
     return found
 
 
-def entity(topics: Topics, device: str, row: Row, number: int | None) -> Config:
+def entity(topics: Topics, device: str, row: EntityRow, number: int | None) -> Config:
     """The configuration of one entity, without what all entities of the device share."""
-    place = row.place(number)
-    special = KINDS[row.entity](row, topics.reading(device, place), topics.command(device, place))
+    subtopic = row.subtopic(number)
+    special = KINDS[row.entity](row, topics.reading(device, subtopic), topics.command(device, subtopic))
     words: Config = {NAMES[key]: value for key, value in row.more.items() if key in NAMES}
     if row.digits is not None:
         words["suggested_display_precision"] = row.digits
-    return {"name": row.title(number), **words, **special, **shown(*row.more)}
+    return {"name": row.title(number), **words, **special, **visibility(*row.more)}
 
 
-def shown(*words: str) -> Config:
+def visibility(*words: str) -> Config:
     """How an entity is shown, according to the keys of its row."""
     if "hidden" in words:
         return {"entity_category": "diagnostic", "enabled_by_default": False}
     return {"entity_category": "diagnostic"} if "diagnostic" in words else {}
 
 
-def sensor(row: Row, state: str, _command: str) -> Config:
+def sensor(row: EntityRow, state: str, _command: str) -> Config:
     config: Config = {"state_topic": state}
     if row.words("options"):
         config |= {"device_class": "enum", "options": row.words("options")}
@@ -209,19 +211,19 @@ def sensor(row: Row, state: str, _command: str) -> Config:
     return config
 
 
-def binary_sensor(_row: Row, state: str, _command: str) -> Config:
+def binary_sensor(_row: EntityRow, state: str, _command: str) -> Config:
     return {"state_topic": state}
 
 
-def event(row: Row, state: str, _command: str) -> Config:
+def event(row: EntityRow, state: str, _command: str) -> Config:
     return {"state_topic": state, "event_types": row.words("types")}
 
 
-def switch(_row: Row, state: str, command: str) -> Config:
+def switch(_row: EntityRow, state: str, command: str) -> Config:
     return {"state_topic": state, "value_template": ON_OFF_OR_NONE, "command_topic": command}
 
 
-def light(_row: Row, state: str, command: str) -> Config:
+def light(_row: EntityRow, state: str, command: str) -> Config:
     return {
         "state_topic": state, "state_value_template": ON_OFF_OR_NONE, "command_topic": command,
         "brightness_state_topic": state, "brightness_value_template": NUMBER_OR_NOTHING,
@@ -229,7 +231,7 @@ def light(_row: Row, state: str, command: str) -> Config:
     }
 
 
-def cover(_row: Row, state: str, command: str) -> Config:
+def cover(_row: EntityRow, state: str, command: str) -> Config:
     """In the profile, 0 % is open and 100 % is closed."""
     return {
         "state_topic": state, "value_template": OPEN_CLOSED_OR_NONE, "command_topic": command,
@@ -238,7 +240,7 @@ def cover(_row: Row, state: str, command: str) -> Config:
     }
 
 
-KINDS: dict[str, Callable[[Row, str, str], Config]] = {
+KINDS: dict[str, Callable[[EntityRow, str, str], Config]] = {
     "sensor": sensor, "binary_sensor": binary_sensor, "event": event, "switch": switch, "light": light, "cover": cover,
 }
 # The components of Home Assistant that have entities or triggers of this bridge.

@@ -9,13 +9,14 @@ import sys
 import time
 from types import ModuleType
 
+from enogate_lines.entities import Table
+from enogate_lines.follow import NOWHERE, Follower, without_nuls
+
 from . import discovery, log
 from .bridge import Bridge, contents
 from .connection import Broker, Connection
 from .desk import Desk
 from .devices import Devices
-from .entities import Table
-from .follow import NOWHERE, Follower, without_nuls
 from .queries import Queries
 from .requests import Requests
 from .settings import STATUS, Options, Words, WrongSetting, read_login, read_options, read_words
@@ -55,7 +56,7 @@ def run(words: Words, options: Options) -> None:
     desk = Desk(words.desk, clock)
     queries = Queries(devices, desk) if options.queries else None
     requests = Requests(desk, clock, time.time, options.learn_for, store.learn_until, queries)
-    follower = Follower(words.lines, store.place, logging.warning, store.is_same_boot)
+    follower = Follower(words.lines, store.position, logging.warning, store.is_same_boot)
     wake = Wake([words.lines, words.desk])
     bridge = Bridge(topics, broker, devices, follower, desk, requests, store, clock, time.time, wake.wait)
 

@@ -14,14 +14,14 @@ LEARN = {"ON": "learn on", "OFF": "learn off"}
 DEVICE = "[0-9A-F]{8}"
 
 
-class Refused(ValueError):
+class InvalidMessage(ValueError):
     """Why a message is ignored."""
 
 
 def orders_of(topics: Topics, topic: str, payload: bytes) -> bytes:
-    """The lines for the desk of the message on this topic, or Refused."""
+    """The lines for the desk of the message on this topic, or InvalidMessage."""
     if len(payload) > MAX_MESSAGE:
-        raise Refused(f"{len(payload)} bytes, the maximum is {MAX_MESSAGE}")
+        raise InvalidMessage(f"{len(payload)} bytes, the maximum is {MAX_MESSAGE}")
     if topic == topics.orders:
         return b"".join(without_end(line)[:MAX_LINE] + b"\n" for line in payload.split(b"\n") if line)
     command = payload.decode("ascii", "replace")
@@ -30,7 +30,7 @@ def orders_of(topics: Topics, topic: str, payload: bytes) -> bytes:
     else:
         order, expected = command_order(topic.removeprefix(topics.own + "/"), command)
     if order is None:
-        raise Refused(f"{payload[:SHOWN_OF_A_PAYLOAD]!r} is not {expected}")
+        raise InvalidMessage(f"{payload[:SHOWN_OF_A_PAYLOAD]!r} is not {expected}")
     return order.encode() + b"\n"
 
 
@@ -41,14 +41,14 @@ def without_end(line: bytes) -> bytes:
     return line[:-1] if line.endswith(b"\r") and not line.endswith(b"\r\r") else line
 
 
-def command_order(place: str, command: str) -> tuple[str | None, str]:
-    """The order for a command at ID/OV/CHANNEL/set or ID/POS/0/set, if it is one, and what the place expects."""
+def command_order(subtopic: str, command: str) -> tuple[str | None, str]:
+    """The order for a command at ID/OV/CHANNEL/set or ID/POS/0/set, if it is one, and what the subtopic expects."""
     percent = command if re.fullmatch("0|[1-9][0-9]?|100", command) else None
-    if found := re.fullmatch(f"({DEVICE})/OV/([0-9]{{1,2}})/set", place):
+    if found := re.fullmatch(f"({DEVICE})/OV/([0-9]{{1,2}})/set", subtopic):
         return switch_order(f"{found[1]} {int(found[2])}", command, percent), "ON, OFF or 0 to 100"
-    if found := re.fullmatch(f"({DEVICE})/POS/0/set", place):
+    if found := re.fullmatch(f"({DEVICE})/POS/0/set", subtopic):
         return blind_order(found[1], command, percent), "OPEN, CLOSE, STOP or 0 to 100"
-    raise Refused("the topic is not ID/OV/CHANNEL/set or ID/POS/0/set (with ID in upper case)")
+    raise InvalidMessage("the topic is not ID/OV/CHANNEL/set or ID/POS/0/set (with ID in upper case)")
 
 
 def switch_order(channel: str, command: str, percent: str | None) -> str | None:

@@ -6,7 +6,8 @@ from collections import deque
 from collections.abc import Callable, Container
 from dataclasses import dataclass
 
-from .follow import Place
+from enogate_lines.follow import Position
+
 from .topics import Message
 
 # So many lines are kept while the broker is unavailable; after that the oldest are dropped.
@@ -20,9 +21,9 @@ MAX_EVENTS = 1000
 
 @dataclass
 class Entry:
-    """A line, the place before it in the file, and the number of its message once it is published."""
+    """A line, the position before it in the file, and the number of its message once it is published."""
     line: str
-    before: Place
+    before: Position
     number: int | None = None
 
 
@@ -33,7 +34,7 @@ class Outbox:
         self.entries: deque[Entry] = deque()
         self.is_dropping = False
 
-    def add(self, line: str, before: Place) -> None:
+    def add(self, line: str, before: Position) -> None:
         if len(self.entries) == MAX_LINES:
             self.entries.popleft()
             if not self.is_dropping:
@@ -61,8 +62,8 @@ class Outbox:
         while self.entries and self.entries[0].number is not None and self.entries[0].number not in unacknowledged:
             self.entries.popleft()
 
-    def place(self, end: Place) -> Place:
-        """The place up to which all lines are acknowledged; `end` is that up to which they were read."""
+    def position(self, end: Position) -> Position:
+        """The position up to which all lines are acknowledged; `end` is that up to which they were read."""
         return self.entries[0].before if self.entries else end
 
 

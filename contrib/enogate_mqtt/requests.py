@@ -8,8 +8,9 @@ import re
 from collections.abc import Callable
 from dataclasses import dataclass
 
+from enogate_lines.contents import Content, EndOfList, Response, Status, Telegram
+
 from .desk import Desk, News
-from .lines import Content, EndOfList, Response, Status, Telegram
 from .queries import Queries
 
 # The pauses between two unanswered requests for the list, in seconds: the first, and the longest.
@@ -66,7 +67,7 @@ class ListRequest:
 
 
 @dataclass
-class Check:
+class Probe:
     """Whether something answers a request that is repeated, within so many seconds: `is_online` is None until this is
     known."""
     every: float
@@ -105,7 +106,7 @@ class Check:
 
 
 @dataclass(frozen=True)
-class Window:
+class WindowEnd:
     """When a learn window is to be closed: by the clock, and in seconds since 1970, for a bridge that starts later."""
     until: float
     end: float
@@ -121,12 +122,12 @@ class Requests:
         self.desk, self.clock, self.wall, self.learn_for, self.queries = desk, clock, wall, learn_for, queries
         self.list = ListRequest()
         # whether the gateway answers `status`, whether it writes any line after an order, and whether the module works
-        self.gateway, self.output = Check(STATUS_EVERY, ANSWER_WITHIN), Check(math.inf, SILENT_FOR)
-        self.module = Check(PROBE_AFTER, SILENT_FOR)
+        self.gateway, self.output = Probe(STATUS_EVERY, ANSWER_WITHIN), Probe(math.inf, SILENT_FOR)
+        self.module = Probe(PROBE_AFTER, SILENT_FOR)
         # when a start of the gateway was noticed after which it has not answered yet
         self.started = -math.inf
         self.status: Status | None = None
-        self.window: Window | None = None
+        self.window: WindowEnd | None = None
         if learn_until is not None:
             # if the time of day was set back, a window is not open for longer than a new one
             self.open_window(min(max(learn_until - wall(), 0.0), learn_for))
@@ -198,7 +199,7 @@ class Requests:
     def report_silence(self) -> None:
         """Says once that the gateway does not answer, with a change at the desk that may be the reason. Whether the
         module works is then unknown."""
-        self.gateway.is_online, self.module = False, Check(PROBE_AFTER, SILENT_FOR)
+        self.gateway.is_online, self.module = False, Probe(PROBE_AFTER, SILENT_FOR)
         logging.warning("the gateway does not answer: orders are lost until it runs")
         if self.change is News.TRUNCATED:
             logging.warning("%s was truncated: if > was used in place of >>, restart the gateway", self.desk.path)
@@ -235,7 +236,7 @@ class Requests:
 
     def open_window(self, seconds: float) -> None:
         """Closes the learn window after so many seconds."""
-        self.window = Window(self.clock() + seconds, self.wall() + seconds)
+        self.window = WindowEnd(self.clock() + seconds, self.wall() + seconds)
 
     def close_window(self) -> None:
         """Closes the learn window, if it was opened through the bridge."""

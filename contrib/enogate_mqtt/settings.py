@@ -8,8 +8,9 @@ from collections.abc import Mapping, Sequence
 from dataclasses import dataclass
 from typing import NoReturn
 
+from enogate_lines.entities import AUTO
+
 from . import VERSION
-from .entities import AUTO
 
 STATUS = 2
 # How long a learn window stays open that was opened through the bridge, in seconds.

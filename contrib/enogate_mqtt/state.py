@@ -7,7 +7,7 @@ import pathlib
 import sqlite3
 from datetime import datetime
 
-from .follow import Place
+from enogate_lines.follow import Position
 
 # The version of the tables, in PRAGMA user_version. A file of another version is replaced. The tables `learn` and
 # `boot` were added without another version: programs that do not know them can use the file.
@@ -16,7 +16,7 @@ VERSION = 2
 MAX_SIZE = 1 << 62
 # How long `last_seen` waits for a bridge that is writing, in seconds.
 WAIT = 1.0
-# The place of the reading with the time of the last telegram.
+# The subtopic of the reading with the time of the last telegram.
 LAST_SEEN = "last_seen"
 
 
@@ -37,22 +37,23 @@ def check_version(connection: sqlite3.Connection) -> None:
         raise Foreign(f"version {version} of the state, expected {VERSION}")
 
 
-def place_of(inode: object, offset: object, last: object) -> Place:
+def position_of(inode: object, offset: object, last: object) -> Position:
     """How far the lines were read."""
     if not (isinstance(inode, int) and isinstance(offset, int) and isinstance(last, bytes) and 0 <= offset <= MAX_SIZE):
         raise Foreign("place of an unknown form")
-    return Place(inode, offset, last)
+    return Position(inode, offset, last)
 
 
-def last_seen(path: str) -> tuple[Place, dict[str, datetime]] | None:
+def last_seen(path: str) -> tuple[Position, dict[str, datetime]] | None:
     """How far the bridge with this state file has read the lines, and when it received the last telegram of each
     device. None if the bridge has read none, or if the file cannot be read."""
     try:
         with contextlib.closing(sqlite3.connect(uri_of(path, "mode=ro"), uri=True, timeout=WAIT)) as connection:
             check_version(connection)
-            place = connection.execute("SELECT inode, offset, last FROM place").fetchone()
-            rows = connection.execute("SELECT id, told FROM device").fetchall()
-        return (place_of(*place), {device: time for device, text in rows if (time := time_in(text))}) if place else None
+            row = connection.execute("SELECT inode, offset, last FROM place").fetchone()
+            devices = connection.execute("SELECT id, told FROM device").fetchall()
+        times = {device: time for device, text in devices if (time := time_in(text))}
+        return (position_of(*row), times) if row else None
     except (sqlite3.Error, Foreign):
         return None
 

@@ -11,10 +11,11 @@ import re
 import sqlite3
 from collections.abc import Iterable
 
+from enogate_lines.contents import NAME
+from enogate_lines.follow import Position
+
 from .devices import Device
-from .follow import Place
-from .lines import NAME
-from .state import VERSION, Foreign, check_version, place_of, uri_of
+from .state import VERSION, Foreign, check_version, position_of, uri_of
 
 # So long the start waits for a file that another program has locked, in seconds.
 WAIT = 5.0
@@ -30,8 +31,8 @@ CREATE TABLE IF NOT EXISTS boot (id TEXT);
 PRAGMA user_version = {VERSION};
 COMMIT;
 """
-# The place of a reading below the topic of its device.
-REPORTED_PLACE = re.compile(f"{NAME}(?:/[0-9]{{1,20}})?")
+# The subtopic of a reading.
+SUBTOPIC = re.compile(f"{NAME}(?:/[0-9]{{1,20}})?")
 
 
 class Store:
@@ -53,8 +54,8 @@ class Store:
         """The state without a file."""
         self.devices: list[Device] = []
         self.removed: set[str] = set()
-        # whether the computer was not started since the place was saved
-        self.place: Place | None = None
+        # whether the computer was not started since the position was saved
+        self.position: Position | None = None
         self.is_same_boot = False
         # until the broker was asked for everything, it may know more than a new state file
         self.old_discovery, self.may_adopt = self.discovery, True
@@ -117,7 +118,7 @@ class Store:
         self.removed = {topic for topic, in connection.execute("SELECT topic FROM removed")}
         row = connection.execute("SELECT inode, offset, last, discovery, may_adopt FROM place").fetchone()
         if row:
-            self.place, self.old_discovery, self.may_adopt = place_of(*row[:3]), row[3], bool(row[4])
+            self.position, self.old_discovery, self.may_adopt = position_of(*row[:3]), row[3], bool(row[4])
         row = connection.execute("SELECT id FROM boot").fetchone()
         self.is_same_boot = self.boot == (row[0] if row else "")
         row = connection.execute("SELECT until FROM learn").fetchone()
@@ -125,9 +126,9 @@ class Store:
             raise Foreign("learn window of an unknown form")
         self.learn_until = row[0] if row else None
 
-    def save(self, place: Place, changed: Iterable[str], known: dict[str, Device], removed: set[str],
+    def save(self, position: Position, changed: Iterable[str], known: dict[str, Device], removed: set[str],
              may_adopt: bool = False, learn_until: float | None = None) -> bool:
-        """Saves this place, the changed devices, the topics to be deleted, and the end of the learn window. Returns
+        """Saves this position, the changed devices, the topics to be deleted, and the end of the learn window. Returns
         whether it succeeded. If the file was not open, it gets the whole state."""
         if self.connection is None and not self.open(0):
             return False
@@ -138,7 +139,7 @@ class Store:
                     self.connection.execute("DELETE FROM device")
                     changed = list(known)
                 self.connection.execute("DELETE FROM place")
-                values = (place.inode, place.offset, place.last, self.discovery, may_adopt)
+                values = (position.inode, position.offset, position.last, self.discovery, may_adopt)
                 self.connection.execute("INSERT INTO place VALUES (?, ?, ?, ?, ?)", values)
                 self.connection.execute("DELETE FROM boot")
                 self.connection.execute("INSERT INTO boot VALUES (?)", (self.boot,))
@@ -170,13 +171,13 @@ class Store:
 
 
 def reported_of(text: str) -> dict[str, str]:
-    """The readings of a device, by their places."""
+    """The readings of a device, by their subtopics."""
     reported = json.loads(text)
     if not isinstance(reported, dict) or not all(isinstance(value, str) for value in reported.values()):
         raise Foreign("readings of an unknown form")
-    for place, value in reported.items():
+    for subtopic, value in reported.items():
         # an earlier version accepted lines with such readings, which cannot be published
-        if not REPORTED_PLACE.fullmatch(place) or any("\ud800" <= character <= "\udfff" for character in value):
+        if not SUBTOPIC.fullmatch(subtopic) or any("\ud800" <= character <= "\udfff" for character in value):
             raise Foreign("readings that cannot be published")
     return reported
 

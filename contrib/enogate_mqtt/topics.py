@@ -65,8 +65,8 @@ class Topics:
     def watched(self) -> list[str]:
         """Topics of the gateway itself. Whoever removes all retained messages removes these too: the bridge receives
         this if it subscribes to them, and little else, since it rarely publishes there."""
-        places = [("binary_sensor", "status"), ("sensor", "readings"), ("switch", "learn")] if self.discovery else []
-        return [self.status, *self.reports, *(self.config(component, name) for component, name in places)]
+        configs = [("binary_sensor", "status"), ("sensor", "readings"), ("switch", "learn")] if self.discovery else []
+        return [self.status, *self.reports, *(self.config(component, name) for component, name in configs)]
 
     @property
     def learn_command(self) -> str:
@@ -78,9 +78,9 @@ class Topics:
         """Filters for everything that the bridge receives as an order."""
         return [self.orders, self.learn_command, self.command("+", "+/+")]
 
-    def reading(self, device: str, place: str) -> str:
-        """The topic of a reading, at this place below the topic of the device."""
-        return f"{self.own}/{device}/{place}"
+    def reading(self, device: str, subtopic: str) -> str:
+        """The topic of a reading: this subtopic of the topic of the device."""
+        return f"{self.own}/{device}/{subtopic}"
 
     def last_seen(self, device: str) -> str:
         """The time of the last telegram of a device, retained, in ISO 8601 with the time zone."""
@@ -90,9 +90,9 @@ class Topics:
         """Filters for everything that is retained below the topic of a device."""
         return [f"{self.own}/{device}/+", f"{self.own}/{device}/+/+"]
 
-    def command(self, device: str, place: str) -> str:
-        """The topic for commands to this place of a device."""
-        return f"{self.own}/{device}/{place}/set"
+    def command(self, device: str, subtopic: str) -> str:
+        """The topic for commands to this subtopic of a device."""
+        return f"{self.own}/{device}/{subtopic}/set"
 
     def config(self, component: str, entity: str) -> str:
         """The topic of the discovery message of an entity."""

@@ -243,16 +243,16 @@ class Check:
             yield FAULT, (f"the desk {self.desk} was replaced or deleted, for example by an editor: no order reaches "
                           f"the gateway, which reads the old file; {self.restart}, and give the orders again, with >>")
             return
-        place, size = held.place, held.status.st_size
-        if place > size:
-            yield FAULT, (f"the desk {self.desk} was truncated (> in place of >>): the next {place - size} bytes of "
+        offset, size = held.offset, held.status.st_size
+        if offset > size:
+            yield FAULT, (f"the desk {self.desk} was truncated (> in place of >>): the next {offset - size} bytes of "
                           f"orders are lost; {self.restart}, and give the orders again, with >>")
-        elif place < size and self.is_stuck(held.number, place):
-            yield FAULT, (f"the gateway does not read the desk: {size - place} bytes of orders are waiting, perhaps "
+        elif offset < size and self.is_stuck(held.number, offset):
+            yield FAULT, (f"the gateway does not read the desk: {size - offset} bytes of orders are waiting, perhaps "
                           f"because the radio module accepts no data; {self.restart}")
         else:
             self.takes_orders = True
-            yield OK, f"desk: {self.desk}, read up to byte {place} of {size}"
+            yield OK, f"desk: {self.desk}, read up to byte {offset} of {size}"
 
     def held_desk(self, files: list[OpenFile]) -> OpenFile | None:
         """The desk among the files that the gateway has open."""
@@ -262,10 +262,10 @@ class Check:
         return next((file for file in files if file.number > 2 and file.is_read_only and is_same(file.status, desk)),
                     None)
 
-    def is_stuck(self, number: int, place: int) -> bool:
+    def is_stuck(self, number: int, offset: int) -> bool:
         """Whether the gateway has read nothing from the desk for two seconds."""
         self.sleep(2)
-        return any(file.number == number and file.place == place
+        return any(file.number == number and file.offset == offset
                    for file in self.system.open_files(self.gateway) or [])
 
     def of_base(self):

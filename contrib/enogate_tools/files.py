@@ -45,14 +45,14 @@ def open_file(path: str, flags: int = os.O_RDONLY) -> int:
     folder = os.open(os.path.dirname(path) or ".", os.O_PATH | os.O_DIRECTORY | os.O_CLOEXEC)
     try:
         owner, name = owner_of(folder), os.path.basename(path)
-        check(os.stat(name, dir_fd=folder, follow_symlinks=False), owner, path)
+        check_safe(os.stat(name, dir_fd=folder, follow_symlinks=False), owner, path)
         file = os.open(name, flags | FLAGS, dir_fd=folder)
     except OSError as error:
         raise Unsafe(LINK, path) if error.errno == errno.ELOOP else error
     finally:
         os.close(folder)
     try:
-        check(os.fstat(file), owner, path)
+        check_safe(os.fstat(file), owner, path)
     except Unsafe:
         os.close(file)
         raise
@@ -72,7 +72,7 @@ def open_regular(path: str) -> int:
     return file
 
 
-def check(status: os.stat_result, owner: int, path: str) -> None:
+def check_safe(status: os.stat_result, owner: int, path: str) -> None:
     """Raises Unsafe if a file with this status is not opened."""
     if why := fault_of(status, owner):
         raise Unsafe(why, path)

@@ -12,11 +12,12 @@ NEW_MODE = 0o640
 PART = 1 << 16
 # How much waits in memory while the lines cannot be stored, in bytes. The oldest lines are dropped first.
 MAX_WAITING = 1 << 20
+# Each line passes through here before it is stored, so it is searched for this, and not parsed.
 PACKET = b'"type":"packet"'
 WARNING, NOTICE = "<4>", "<5>"
 
 
-class Lines:
+class LineStore:
     """Stores the lines of one gateway in the file at this path, which may be renamed at any time. While this fails, for
     example because the disk is full, they wait in memory. A line is stored as a whole or not at all."""
 

@@ -13,7 +13,7 @@ from .lines import NOTICE, WARNING
 from .unit import Unit
 
 # In a command, this word stands for the base ID.
-PLACE = "{base}"
+PLACEHOLDER = "{base}"
 # How often a unit looks for a stick, in seconds.
 PAUSE = 1.0
 
@@ -61,7 +61,7 @@ class Starter:
         # the port while it is being prepared
         self.asked: int | None = None
         self.words = words.command
-        self.needs_base = bool(self.base) or words.base_id or PLACE in words.command
+        self.needs_base = bool(self.base) or words.base_id or PLACEHOLDER in words.command
         self.announces = not words.base_id
         self.say, self.sleep, self.clock = say, sleep, clock
 
@@ -143,7 +143,7 @@ class Starter:
 
     def command(self) -> list[str]:
         """The command with the base ID."""
-        return [self.base if word == PLACE else word for word in self.words]
+        return [self.base if word == PLACEHOLDER else word for word in self.words]
 
 
 def run(command: list[str], port: int) -> int:

@@ -25,10 +25,10 @@ class Process:
 
 @dataclasses.dataclass(frozen=True)
 class OpenFile:
-    """A file that a process has open, with the place at which it reads or writes next."""
+    """A file that a process has open, with the offset at which it reads or writes next."""
     number: int
     status: os.stat_result
-    place: int
+    offset: int
     is_read_only: bool
 
 
@@ -149,8 +149,8 @@ class System:
     def lockers_of(self, path: str) -> list[Process]:
         """The processes that have locked a file or a device node."""
         status = os.stat(path)
-        place = f"{os.major(status.st_dev):02x}:{os.minor(status.st_dev):02x}:{status.st_ino}"
-        numbers = re.findall(rf"^\d+: \w+ +\w+ +\w+ (\d+) {place} ", self.read("locks"), re.MULTILINE)
+        file = f"{os.major(status.st_dev):02x}:{os.minor(status.st_dev):02x}:{status.st_ino}"
+        numbers = re.findall(rf"^\d+: \w+ +\w+ +\w+ (\d+) {file} ", self.read("locks"), re.MULTILINE)
         return [self.process(number) for number in sorted(set(map(int, numbers)) - {os.getpid()})]
 
     def may(self, path: str, rights: int) -> bool:

@@ -12,7 +12,7 @@ from collections.abc import Callable
 from typing import Protocol
 
 from . import desk, port as ports
-from .lines import NOTICE, WARNING, Lines
+from .lines import NOTICE, WARNING, LineStore
 from .system import Process, System, is_same
 from .watch import Pauses, Sample, Watch
 
@@ -24,7 +24,8 @@ KILLED_AFTER = 10
 # one. After a run of LONG_RUN seconds, the first one applies again.
 FIRST_WAIT, MAX_WAIT, LONG_RUN = 2.0, 60.0, 600.0
 PART = 1 << 16
-# The line of a module's response with its base ID: no other response to an order has four bytes of data.
+# The line of a module's response with its base ID: no other response to an order has four bytes of data. Lines are
+# searched for it, and not parsed: see lines.PACKET.
 REPORT = re.compile(rb'^\{"code":0,"data":"([0-9A-F]{8})","name":"OK","type":"response"\}$', re.MULTILINE)
 
 
@@ -53,7 +54,7 @@ class Unit:
         self.path, self.folder, self.starter = path, folder, starter
         self.say, self.look, self.clock, self.sleep = say, look, clock, sleep
         self.desk = os.path.join(folder, "desk")
-        self.lines = Lines(lines, say)
+        self.lines = LineStore(lines, say)
         self.pauses, self.wait = Pauses(), FIRST_WAIT / 2
         self.gateway: subprocess.Popen[bytes] | None = None
         self.is_stopped = False
@@ -204,9 +205,9 @@ class Run:
         except OSError:
             desk = None
         files = self.system.open_files(process) or []
-        place = next((file.place for file in files if desk and file.is_read_only and is_same(file.status, desk)), 0)
-        return Sample(calls, None if received is None else received - place, self.unit.lines.count,
-                      self.unit.lines.packets, place, desk.st_size - place if desk else 0, ports.unsent(self.port))
+        offset = next((file.offset for file in files if desk and file.is_read_only and is_same(file.status, desk)), 0)
+        return Sample(calls, None if received is None else received - offset, self.unit.lines.count,
+                      self.unit.lines.packets, offset, desk.st_size - offset if desk else 0, ports.unsent(self.port))
 
 
 def is_same_node(one: os.stat_result, other: os.stat_result) -> bool:

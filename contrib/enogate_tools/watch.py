@@ -24,8 +24,8 @@ class Sample:
     # lines so far, and packet lines among them
     lines: int
     packets: int
-    # the place up to which it has read its desk, and how many bytes of orders follow; negative if the desk is shorter
-    place: int
+    # the offset up to which it has read its desk, and how many bytes of orders follow; negative if the desk is shorter
+    offset: int
     unread: int
     # bytes that wait in the kernel for the stick
     unsent: int
@@ -53,7 +53,7 @@ class Watch:
         has_read = now.calls is None or now.calls != last.calls
         self.stuck = 0 if has_read or now.lines != last.lines else self.stuck + 1
         # between two reads it carries out a part of its orders, which takes long if the disk is slow
-        self.unread = self.unread + has_read if now.unread and last.unread and now.place == last.place else 0
+        self.unread = self.unread + has_read if now.unread and last.unread and now.offset == last.offset else 0
         self.unsent = self.unsent + 1 if now.unsent and last.unsent and not comes else 0
         self.listen(comes, now, last)
         if self.unsent >= UNSENT:
@@ -73,7 +73,7 @@ class Watch:
     def listen(self, comes: bool, now: Sample, last: Sample) -> None:
         """Counts the looks since bytes came without a packet. While an order is carried out, the gateway may read the
         database."""
-        is_asked = self.is_asked or now.place != last.place or now.lines != last.lines
+        is_asked = self.is_asked or now.offset != last.offset or now.lines != last.lines
         self.is_asked = is_asked and now.lines == last.lines
         if now.packets > last.packets:
             self.looks = self.bursts = 0

@@ -21,7 +21,7 @@ from services import BASE, CONTRIB, of_type
 # The command, with the files of its gateway and its bridge below a directory.
 COMMAND = """import functools, sys
 from enogate_ctl import command_line, main
-command_line.places_of = functools.partial(command_line.places_of, root=sys.argv.pop(1))
+command_line.paths_of = functools.partial(command_line.paths_of, root=sys.argv.pop(1))
 sys.exit(main.main())"""
 ROUNDS, MESSAGES = 3, 6
 # The pause between two messages, in seconds.

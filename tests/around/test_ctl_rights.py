@@ -293,7 +293,7 @@ class RootTools(RightsTest):
         super().setUp()
         self.start()
         self.tools = self.work / "tools"
-        for name in ("enogate_ctl", "enogate_mqtt", "enogate_tools"):
+        for name in ("enogate_ctl", "enogate_lines", "enogate_mqtt", "enogate_tools"):
             shutil.copytree(CONTRIB / name, self.tools / name, ignore=shutil.ignore_patterns("__pycache__"))
         for path in (CONTRIB / "enogatectl", ROOT / "scripts/backup", HERE / "gateway.py"):
             shutil.copy(path, self.tools)

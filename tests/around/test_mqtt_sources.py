@@ -1,4 +1,4 @@
-"""The sources of the bridge, and its table of entities."""
+"""The sources of the bridge and of the package for lines, with the table of entities."""
 from __future__ import annotations
 
 import pathlib
@@ -7,9 +7,10 @@ import sys
 import unittest
 
 from bridge_testcase import MAY_SKIP, PYTHON, has_module
-from services import CONTRIB, HERE
+from services import CONTRIB, HERE, ROOT
 
-COMMAND, MODULES = CONTRIB / "enogate-mqtt", CONTRIB / "enogate_mqtt"
+COMMAND, MODULES, SHARED = CONTRIB / "enogate-mqtt", CONTRIB / "enogate_mqtt", CONTRIB / "enogate_lines"
+TESTS = ROOT / "tests" / "lines"
 
 
 class Sources(unittest.TestCase):
@@ -21,13 +22,13 @@ class Sources(unittest.TestCase):
         self.assertEqual((run.stdout, run.returncode), ("", 0))
 
     def test_the_table_of_entities_has_each_reading_of_each_profile(self):
-        self.assert_prints_nothing(sys.executable, HERE / "entities.py", MODULES / "entities")
+        self.assert_prints_nothing(sys.executable, HERE / "entities.py", SHARED / "entities")
 
     def test_functions_and_lines_are_short(self):
         self.assert_prints_nothing(sys.executable, HERE / "functions.py", COMMAND, *MODULES.glob("*.py"),
-                                    *HERE.glob("*.py"))
+                                   *SHARED.glob("*.py"), *TESTS.glob("*.py"), *HERE.glob("*.py"))
 
     def test_pyflakes(self):
         if MAY_SKIP and not has_module("pyflakes"):
             self.skipTest("python3-pyflakes is not installed")
-        self.assert_prints_nothing(PYTHON, "-m", "pyflakes", COMMAND, MODULES, *HERE.glob("*.py"))
+        self.assert_prints_nothing(PYTHON, "-m", "pyflakes", COMMAND, MODULES, SHARED, TESTS, *HERE.glob("*.py"))

@@ -19,8 +19,8 @@ from selenium.webdriver.common.action_chains import ActionChains
 from selenium.webdriver.support.ui import Select
 
 from cockpit import Browser, Cockpit, Machine
+from enogate_lines.follow import end_of
 from enogate_mqtt.devices import Device
-from enogate_mqtt.follow import end_of
 from enogate_mqtt.store import Store
 from oracle.esp3 import telegram
 from programs import wait_for

@@ -8,12 +8,12 @@ import pathlib
 import tempfile
 import unittest
 
+from enogate_lines.entities import Table
+from enogate_lines.follow import Follower
 from enogate_mqtt.bridge import Bridge
 from enogate_mqtt.connection import Lost, Received
 from enogate_mqtt.desk import Desk
 from enogate_mqtt.devices import Devices
-from enogate_mqtt.entities import Table
-from enogate_mqtt.follow import Follower
 from enogate_mqtt.queries import Queries
 from enogate_mqtt.requests import Requests
 from enogate_mqtt.store import Store
@@ -169,7 +169,7 @@ class Site:
         desk = Desk(str(self.desk), self.clock)
         queries = Queries(devices, desk) if asks_actuators else None
         requests = Requests(desk, self.clock, self.wall, learn_for, store.learn_until, queries)
-        follower = Follower(str(self.lines), store.place, logging.warning, store.is_same_boot)
+        follower = Follower(str(self.lines), store.position, logging.warning, store.is_same_boot)
         self.bridge = Bridge(self.topics, self.broker, devices, follower, desk, requests, store, self.clock,
                              self.wall, self.wait)
         self.bridge.read_earlier_lines()

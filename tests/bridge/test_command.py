@@ -53,9 +53,9 @@ class Command(unittest.TestCase):
 class Print(Command):
     """`--print` needs no broker."""
 
-    def values(self, eep, place, *readings):
-        """What is published at this place for each of the readings."""
-        start = f"{DEVICE}/{place} retained "
+    def values(self, eep, subtopic, *readings):
+        """What is published on this subtopic for each of the readings."""
+        start = f"{DEVICE}/{subtopic} retained "
         found, _ = self.printed(*(reading(eep, it) for it in readings))
         return [it.removeprefix(start) for it in found if it.startswith(start)]
 

@@ -6,8 +6,8 @@ import signal
 import unittest
 from unittest import mock
 
+from enogate_lines.contents import Deleted, EndOfList, Learned, OkOrError, Status, Telegram
 from enogate_mqtt.desk import ANSWER_WITHIN, BYTES_PER_SECOND, LINE, MAX_BURST, MAX_SIZE, Desk, News
-from enogate_mqtt.lines import Answer, Deleted, EndOfList, Learned, Status, Telegram
 from fakes import Case, Clock, Site
 
 
@@ -26,7 +26,7 @@ def full_after(free):
         yield
 
 
-OK, STATUS, LIST, LEARNED = Answer(), Status("closed", {}), EndOfList(2), Learned("01800ABC", "D5-00-01", None)
+OK, STATUS, LIST, LEARNED = OkOrError(), Status("closed", {}), EndOfList(2), Learned("01800ABC", "D5-00-01", None)
 REMOVED, READING = Deleted("01800ABC"), Telegram("01800ABC", "D5-00-01", -45, ())
 
 

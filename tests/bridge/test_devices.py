@@ -3,9 +3,9 @@ import json
 import unittest
 from unittest import mock
 
+from enogate_lines.contents import content_of
+from enogate_lines.entities import Table
 from enogate_mqtt.devices import Device, Devices
-from enogate_mqtt.entities import Table
-from enogate_mqtt.lines import content_of
 from enogate_mqtt.topics import Topics
 from fakes import learned, listing, reading
 
@@ -191,8 +191,8 @@ class Known(unittest.TestCase):
         self.take(*listing(("01800ABC", "A5-02-05", "")))
         self.assertTrue(self.devices.adopt("enogate/hall/01800ABC/TMP", "20"))
         self.assertTrue(self.devices.adopt("enogate/hall/01800ABC/last_seen", "2026"))
-        for place in ("TMP", "nonsense", "OV/0", "TMP/0/1", "TMP/x"):
-            self.assertFalse(self.devices.adopt(f"enogate/hall/01800ABC/{place}", "30"))
+        for subtopic in ("TMP", "nonsense", "OV/0", "TMP/0/1", "TMP/x"):
+            self.assertFalse(self.devices.adopt(f"enogate/hall/01800ABC/{subtopic}", "30"))
         self.assertEqual(self.devices.known["01800ABC"].reported, {"TMP": "20", "last_seen": "2026"})
         self.assertFalse(self.devices.adopt("enogate/hall/01800ABD/TMP", "20"))
 

@@ -5,8 +5,8 @@ import json
 import re
 import unittest
 
+from enogate_lines.entities import AUTO, Table
 from enogate_mqtt import VERSION, discovery
-from enogate_mqtt.entities import AUTO, Table
 from enogate_mqtt.topics import Topics
 
 TOPICS = Topics("hall", "homeassistant")
@@ -36,7 +36,7 @@ def about(eep: str, label: str = "", maker: int | None = None) -> dict:
 
 
 def configs(eep: str, *reported: str, expire_after: int | None = None) -> dict[str, dict]:
-    """The messages of a device with this profile and readings at these places."""
+    """The messages of a device with this profile and readings on these subtopics."""
     rows = TABLE.of_profile(eep).values()
     return read(discovery.configs(TOPICS, DEVICE, about(eep), rows, reported, expire_after))
 
@@ -372,6 +372,11 @@ class Templates(unittest.TestCase):
     def test_a_cover(self):
         self.check(discovery.OPEN_CLOSED_OR_NONE, {
             "0": "open", "99": "open", "100": "closed", "unknown": "None", "out_of_range": "None"})
+
+
+class Kinds(unittest.TestCase):
+    def test_those_of_the_table(self):
+        self.assertEqual({row.entity for row in TABLE.rows}, {*discovery.KINDS, ""})
 
 
 class Manufacturers(unittest.TestCase):

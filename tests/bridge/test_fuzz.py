@@ -4,7 +4,7 @@ import json
 import random
 import unittest
 
-from enogate_mqtt.lines import BadLine, Strange, content_of
+from enogate_lines.contents import BadLine, Strange, content_of
 from fakes import OK, Case, Site, learned, listing, reading, status
 
 SEED, ROUNDS, LINES = 76, 40, 100

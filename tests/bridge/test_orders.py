@@ -1,15 +1,15 @@
 """The orders that a message holds."""
 import unittest
 
-from enogate_mqtt.orders import MAX_LINE, MAX_MESSAGE, Refused, orders_of
+from enogate_mqtt.orders import MAX_LINE, MAX_MESSAGE, InvalidMessage, orders_of
 from enogate_mqtt.topics import Topics
 
 TOPICS = Topics("hall", "homeassistant")
 
 
 class Orders(unittest.TestCase):
-    def orders(self, place, payload):
-        return orders_of(TOPICS, f"enogate/hall/{place}", payload)
+    def orders(self, subtopic, payload):
+        return orders_of(TOPICS, f"enogate/hall/{subtopic}", payload)
 
     def test_each_line_is_an_order(self):
         self.assertEqual(self.orders("orders", b"list\nstatus"), b"list\nstatus\n")
@@ -48,17 +48,17 @@ class Orders(unittest.TestCase):
     def test_the_longest_message(self):
         self.assertEqual(MAX_MESSAGE, 16384)
         self.assertEqual(len(self.orders("orders", b"x\n" * 8192)), 16384)
-        with self.assertRaisesRegex(Refused, "^16385 bytes, the maximum is 16384$"):
+        with self.assertRaisesRegex(InvalidMessage, "^16385 bytes, the maximum is 16384$"):
             self.orders("orders", b"x\n" * 8192 + b"x")
 
     def test_channels(self):
-        for place, payload, order in (("OV/0", b"ON", b"switch 01800ABD 0 on\n"),
+        for subtopic, payload, order in (("OV/0", b"ON", b"switch 01800ABD 0 on\n"),
                                       ("OV/1", b"OFF", b"switch 01800ABD 1 off\n"),
                                       ("OV/00", b"ON", b"switch 01800ABD 0 on\n"),
                                       ("OV/30", b"0", b"dim 01800ABD 30 0\n"),
                                       ("OV/0", b"100", b"dim 01800ABD 0 100\n"), ("OV/0", b"7", b"dim 01800ABD 0 7\n")):
-            with self.subTest((place, payload)):
-                self.assertEqual(self.orders(f"01800ABD/{place}/set", payload), order)
+            with self.subTest((subtopic, payload)):
+                self.assertEqual(self.orders(f"01800ABD/{subtopic}/set", payload), order)
 
     def test_blinds(self):
         for payload, order in ((b"OPEN", b"blind 01800ABD 0\n"), (b"CLOSE", b"blind 01800ABD 100\n"),
@@ -72,7 +72,7 @@ class Orders(unittest.TestCase):
 
     def test_what_is_no_command(self):
         channel, blind = "ON, OFF or 0 to 100", "OPEN, CLOSE, STOP or 0 to 100"
-        for place, payloads, expected in (
+        for subtopic, payloads, expected in (
             ("01800ABD/OV/0/set",
              (b"on", b"TOGGLE", b"", b"101", b"07", b"+7", b"7.0", b"ON ", b"ON\n", b"\xff", b"OPEN",
                                    "7".encode("utf-16"), "\u0667".encode()), channel),
@@ -80,18 +80,18 @@ class Orders(unittest.TestCase):
             ("learn/set", (b"on", b"", b"1"), "ON or OFF"),
         ):
             for payload in payloads:
-                with self.subTest((place, payload)), self.assertRaisesRegex(Refused, f" is not {expected}$"):
-                    self.orders(place, payload)
+                with self.subTest((subtopic, payload)), self.assertRaisesRegex(InvalidMessage, f" is not {expected}$"):
+                    self.orders(subtopic, payload)
 
     def test_what_is_no_place(self):
-        for place in ("01800abd/OV/0/set", "01800ABD/OV/000/set", "01800ABD/OV/set", "01800ABD/OV/x/set",
+        for subtopic in ("01800abd/OV/0/set", "01800ABD/OV/000/set", "01800ABD/OV/set", "01800ABD/OV/x/set",
                       "1800ABD/OV/0/set",
                       "01800ABD/POS/1/set", "01800ABD/TMP/0/set", "01800ABD/OV/0/get", "01800ABD/OV/0/set/x", "x"):
-            with self.subTest(place), self.assertRaisesRegex(Refused, "^the topic is not "):
-                self.orders(place, b"ON")
+            with self.subTest(subtopic), self.assertRaisesRegex(InvalidMessage, "^the topic is not "):
+                self.orders(subtopic, b"ON")
 
     def test_a_refusal_shows_the_beginning_of_the_message(self):
-        with self.assertRaisesRegex(Refused, "^b'x{60}' is not ON"):
+        with self.assertRaisesRegex(InvalidMessage, "^b'x{60}' is not ON"):
             self.orders("01800ABD/OV/0/set", b"x" * 1000)
 
 

@@ -2,13 +2,13 @@
 import unittest
 from unittest import mock
 
+from enogate_lines.follow import Position
 from enogate_mqtt import outbox
-from enogate_mqtt.follow import Place
 from enogate_mqtt.outbox import Backlog, Outbox
 from enogate_mqtt.topics import Message
 from fakes import Case
 
-END = Place(1, 99, b"")
+END = Position(1, 99, b"")
 
 
 class Outboxes(Case):
@@ -33,7 +33,7 @@ class Outboxes(Case):
 
     def fill(self, *lines):
         for line in lines:
-            self.box.add(line, Place(1, len(line), b""))
+            self.box.add(line, Position(1, len(line), b""))
 
     def test_lines_are_published_once_in_their_sequence(self):
         self.fill("a", "b")
@@ -53,14 +53,14 @@ class Outboxes(Case):
         self.assertEqual([entry.line for entry in self.box.entries], ["ccc"])
 
     def test_the_place(self):
-        self.assertEqual(self.box.place(END), END)
+        self.assertEqual(self.box.position(END), END)
         self.fill("a", "bb")
         self.publish()
-        self.assertEqual(self.box.place(END), Place(1, 1, b""))
+        self.assertEqual(self.box.position(END), Position(1, 1, b""))
         self.box.drop_acknowledged({2})
-        self.assertEqual(self.box.place(END), Place(1, 2, b""))
+        self.assertEqual(self.box.position(END), Position(1, 2, b""))
         self.box.drop_acknowledged(set())
-        self.assertEqual(self.box.place(END), END)
+        self.assertEqual(self.box.position(END), END)
 
     def test_a_new_connection_gets_them_again(self):
         self.fill("a", "b")

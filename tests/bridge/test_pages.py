@@ -3,8 +3,8 @@ import pathlib
 import re
 import unittest
 
+from enogate_lines.entities import AUTO, Table
 from enogate_mqtt import connection, desk, log, orders, outbox, queries, requests, settings
-from enogate_mqtt.entities import AUTO, Table
 from enogate_mqtt.orders import orders_of
 from enogate_mqtt.topics import Topics
 

@@ -7,7 +7,7 @@ import shutil
 import unittest
 from unittest import mock
 
-from enogate_mqtt.follow import Follower, silent
+from enogate_lines.follow import Follower, silent
 from enogate_mqtt.store import Store
 from fakes import OK, Case, Site, listing, reading
 
@@ -47,12 +47,13 @@ class PowerFailures(Case):
         self.site.boot = "another boot"
 
     def place_back(self, offset, boot="a boot"):
-        """The state file gets an older place."""
+        """The state file gets an older position."""
         follower = Follower(str(self.site.lines), None, silent)
-        places = [place for _, place in follower.read()]
+        positions = [position for _, position in follower.read()]
         store = Store(str(self.site.state), self.site.topics.discovery, boot)
         known = {device.name: device for device in store.devices}
-        self.assertTrue(store.save(next(place for place in places if place.offset == offset), [], known, set()))
+        older = next(position for position in positions if position.offset == offset)
+        self.assertTrue(store.save(older, [], known, set()))
         store.close()
 
     def lines(self):
@@ -150,7 +151,7 @@ class PowerFailures(Case):
         def stop(follower):
             self.site.bridge.is_stopped = True
             return real(follower)
-        with mock.patch("enogate_mqtt.follow.MAX_READ", 1000), mock.patch.object(Follower, "read", stop):
+        with mock.patch("enogate_lines.follow.MAX_READ", 1000), mock.patch.object(Follower, "read", stop):
             self.site.start()
         self.site.stop()
         self.assert_nothing_old()
@@ -203,7 +204,7 @@ class Histories(Case):
         self.site.turns(self.chance.randrange(3), self.chance.choice((0.1, 3)))
 
     def rotate(self):
-        """The file of the place that is saved is not rotated twice: it would be compressed."""
+        """The file of the position that is saved is not rotated twice: it would be compressed."""
         saved = self.site.bridge.saved
         if saved and self.site.lines.exists() and saved.inode == self.site.lines.stat().st_ino:
             self.site.lines.rename(f"{self.site.lines}.1")

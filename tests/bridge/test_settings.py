@@ -9,9 +9,10 @@ import time
 import unittest
 from unittest import mock
 
-from enogate_mqtt import VERSION, main, settings, wake
+from enogate_lines import inotify
+from enogate_lines.entities import AUTO
+from enogate_mqtt import VERSION, main, settings
 from enogate_mqtt.devices import Device
-from enogate_mqtt.entities import AUTO
 from enogate_mqtt.settings import Login, Options, Words, WrongSetting, read_login, read_options, read_words
 from fakes import Case, Site, learned, reading
 
@@ -167,7 +168,7 @@ class Program(Case):
             topics, broker, devices, follower, desk, requests, store = bridge.call_args.args[:7]
             self.assertEqual(bridge.call_args.args[7:-1], (time.monotonic, time.time))
             self.assertEqual(bridge.call_args.args[-1].__self__.files.watches[:2], [
-                (os.fsencode(path), wake.OF_FILE) for path in (site.lines, site.desk)])
+                (os.fsencode(path), inotify.OF_FILE) for path in (site.lines, site.desk)])
             with mock.patch("enogate_mqtt.main.Connection") as connection:
                 broker.connect(4, True)
             self.assertEqual(connection.call_args.args[2:], (topics, 4, time.monotonic, True))

@@ -4,12 +4,12 @@ import sqlite3
 import unittest
 from unittest import mock
 
+from enogate_lines.follow import Position
 from enogate_mqtt.devices import Device
-from enogate_mqtt.follow import Place
 from enogate_mqtt.store import Store
 from fakes import Case, Site
 
-PLACE = Place(7, 42, b"x\n")
+POSITION = Position(7, 42, b"x\n")
 
 
 class Stores(Case):
@@ -23,24 +23,24 @@ class Stores(Case):
 
     def test_a_new_file(self):
         store = self.open()
-        self.assertEqual((store.place, store.devices, store.removed, store.old_discovery),
+        self.assertEqual((store.position, store.devices, store.removed, store.old_discovery),
                          (None, [], set(), "homeassistant"))
 
     def test_what_was_saved_is_read(self):
         other = Device("01800ABD", "A5-02-05")
-        self.assertTrue(self.open().save(PLACE, ["01800ABC", "01800ABD"], {"01800ABC": self.device, "01800ABD": other},
-                                         {"a/b"}))
+        known = {"01800ABC": self.device, "01800ABD": other}
+        self.assertTrue(self.open().save(POSITION, list(known), known, {"a/b"}))
         store = self.open("other")
-        self.assertEqual((store.place, store.removed, store.old_discovery), (PLACE, {"a/b"}, "homeassistant"))
+        self.assertEqual((store.position, store.removed, store.old_discovery), (POSITION, {"a/b"}, "homeassistant"))
         self.assertEqual(sorted(store.devices, key=lambda device: device.name), [self.device, other])
 
     def test_changes(self):
         store = self.open()
-        store.save(PLACE, ["01800ABC"], {"01800ABC": self.device}, {"a", "b"})
-        store.save(Place(8, 1, b"y"), [], {}, {"b"})
+        store.save(POSITION, ["01800ABC"], {"01800ABC": self.device}, {"a", "b"})
+        store.save(Position(8, 1, b"y"), [], {}, {"b"})
         again = self.open()
-        self.assertEqual((again.place, again.devices, again.removed), (Place(8, 1, b"y"), [self.device], {"b"}))
-        again.save(PLACE, ["01800ABC"], {}, set())
+        self.assertEqual((again.position, again.devices, again.removed), (Position(8, 1, b"y"), [self.device], {"b"}))
+        again.save(POSITION, ["01800ABC"], {}, set())
         self.assertEqual((self.open().devices, self.open().removed), ([], set()))
 
     def test_it_survives_a_power_failure(self):
@@ -50,52 +50,52 @@ class Stores(Case):
 
     def test_all_is_of_one_moment(self):
         store = self.open()
-        store.save(PLACE, ["01800ABC"], {"01800ABC": self.device}, {"a"})
+        store.save(POSITION, ["01800ABC"], {"01800ABC": self.device}, {"a"})
         with mock.patch.object(store, "save_device", side_effect=sqlite3.OperationalError("disk full")):
-            self.assertFalse(store.save(Place(9, 9, b""), ["01800ABC"], {}, set()))
+            self.assertFalse(store.save(Position(9, 9, b""), ["01800ABC"], {}, set()))
         again = self.open()
-        self.assertEqual((again.place, again.devices, again.removed), (PLACE, [self.device], {"a"}))
+        self.assertEqual((again.position, again.devices, again.removed), (POSITION, [self.device], {"a"}))
 
     def test_a_failure_is_logged_once_and_what_failed_is_saved_later(self):
         store = self.open()
         with mock.patch.object(store, "save_device", side_effect=sqlite3.OperationalError("disk full")):
             for _ in range(3):
-                self.assertFalse(store.save(PLACE, ["01800ABC"], {"01800ABC": self.device}, {"a"}))
+                self.assertFalse(store.save(POSITION, ["01800ABC"], {"01800ABC": self.device}, {"a"}))
         self.assert_logged("ERROR: cannot save the state: disk full")
         self.assertEqual(store.removed, set())
-        self.assertTrue(store.save(PLACE, ["01800ABC"], {"01800ABC": self.device}, {"a"}))
+        self.assertTrue(store.save(POSITION, ["01800ABC"], {"01800ABC": self.device}, {"a"}))
         self.assertEqual((self.open().devices, self.open().removed), ([self.device], {"a"}))
         with mock.patch.object(store, "save_device", side_effect=sqlite3.OperationalError("disk full")):
-            store.save(PLACE, ["01800ABC"], {}, set())
+            store.save(POSITION, ["01800ABC"], {}, set())
         self.assert_logged("cannot save the state", 2)
 
     def test_adoption(self):
         """Until the broker was asked for everything, its readings may be taken."""
         self.assertTrue(self.open().may_adopt)
-        self.open().save(PLACE, [], {}, set(), True)
+        self.open().save(POSITION, [], {}, set(), True)
         self.assertTrue(self.open().may_adopt)
-        self.open().save(PLACE, [], {}, set(), False)
+        self.open().save(POSITION, [], {}, set(), False)
         self.assertFalse(self.open().may_adopt)
 
     def test_a_learn_window(self):
         self.assertIsNone(self.open().learn_until)
-        self.open().save(PLACE, [], {}, set(), False, 1_800_000_000.125)
+        self.open().save(POSITION, [], {}, set(), False, 1_800_000_000.125)
         store = self.open()
-        self.assertEqual((store.learn_until, store.place), (1_800_000_000.125, PLACE))
-        self.assertTrue(store.save(PLACE, [], {}, set()))
+        self.assertEqual((store.learn_until, store.position), (1_800_000_000.125, POSITION))
+        self.assertTrue(store.save(POSITION, [], {}, set()))
         self.assertEqual((store.learn_until, self.open().learn_until), (None, None))
         with mock.patch.object(store, "save_device", side_effect=sqlite3.OperationalError("disk full")):
-            store.save(PLACE, ["01800ABC"], {}, set(), False, 1.0)
+            store.save(POSITION, ["01800ABC"], {}, set(), False, 1.0)
         self.assertEqual((store.learn_until, self.open().learn_until), (None, None))
 
     def test_a_file_without_the_table_for_the_learn_window(self):
         """A file of this version may lack it: it was added without another version."""
-        self.open().save(PLACE, ["01800ABC"], {"01800ABC": self.device}, {"a"})
+        self.open().save(POSITION, ["01800ABC"], {"01800ABC": self.device}, {"a"})
         self.sql("DROP TABLE learn")
         store = self.open()
-        self.assertEqual((store.place, store.devices, store.removed, store.learn_until),
-                         (PLACE, [self.device], {"a"}, None))
-        self.assertTrue(store.save(PLACE, [], {}, set(), False, 1.0))
+        self.assertEqual((store.position, store.devices, store.removed, store.learn_until),
+                         (POSITION, [self.device], {"a"}, None))
+        self.assertTrue(store.save(POSITION, [], {}, set(), False, 1.0))
         self.assertEqual((self.open().learn_until, self.logged), (1.0, []))
 
     def test_a_learn_window_of_another_form(self):
@@ -116,43 +116,43 @@ class Stores(Case):
                 self.is_replaced("place of an unknown form")
 
     def test_the_boot(self):
-        """A place is of the same boot if its ID is the same, also if there is none."""
+        """A position is of the same boot if its ID is the same, also if there is none."""
         for saved, now, is_same in (("a", "a", True), ("a", "b", False), ("a", "", False), ("", "", True),
                                     ("", "a", False)):
             with self.subTest(saved=saved, now=now):
                 self.setUp()
-                self.assertTrue(Store(str(self.path), "", saved).save(PLACE, [], {}, set()))
+                self.assertTrue(Store(str(self.path), "", saved).save(POSITION, [], {}, set()))
                 store = Store(str(self.path), "", now)
-                self.assertEqual((store.is_same_boot, store.place), (is_same, PLACE))
-                store.save(PLACE, [], {}, set())
+                self.assertEqual((store.is_same_boot, store.position), (is_same, POSITION))
+                store.save(POSITION, [], {}, set())
                 self.assertTrue(Store(str(self.path), "", now).is_same_boot)
                 self.sql("DELETE FROM boot")
                 self.assertEqual(Store(str(self.path), "", now).is_same_boot, now == "")
 
     def test_an_inode_that_is_too_large(self):
-        self.assertFalse(self.open().save(Place(2 ** 64, 0, b""), [], {}, set()))
+        self.assertFalse(self.open().save(Position(2 ** 64, 0, b""), [], {}, set()))
         self.assert_logged("cannot save the state")
 
     def test_topics_that_change_later(self):
         store, removed = self.open(), {"a"}
-        store.save(PLACE, [], {}, removed)
+        store.save(POSITION, [], {}, removed)
         removed.add("b")
-        store.save(PLACE, [], {}, removed)
+        store.save(POSITION, [], {}, removed)
         self.assertEqual(self.open().removed, {"a", "b"})
 
     def is_replaced(self, reason):
         store = self.open()
         self.assert_logged(f"WARNING: {self.path}: {reason}")
-        self.assertEqual((store.place, store.devices), (None, []))
-        store.save(PLACE, [], {}, set())
-        self.assertEqual(self.open().place, PLACE)
+        self.assertEqual((store.position, store.devices), (None, []))
+        store.save(POSITION, [], {}, set())
+        self.assertEqual(self.open().position, POSITION)
 
     def test_a_file_that_is_no_database(self):
         self.path.write_text("something else" * 100)
         self.is_replaced("file is not a database; replacing the file; its state is lost")
 
     def test_a_damaged_file(self):
-        self.open().save(PLACE, ["01800ABC"], {"01800ABC": self.device}, set())
+        self.open().save(POSITION, ["01800ABC"], {"01800ABC": self.device}, set())
         connection = sqlite3.connect(self.path)
         connection.execute("PRAGMA wal_checkpoint(TRUNCATE)")
         connection.close()
@@ -164,9 +164,9 @@ class Stores(Case):
     def test_a_damaged_file_with_a_log(self):
         """What a power failure may leave: a log of pages that belong to the damaged file."""
         store = self.open()
-        store.save(PLACE, ["01800ABC"], {"01800ABC": self.device}, set())
+        store.save(POSITION, ["01800ABC"], {"01800ABC": self.device}, set())
         store.connection.execute("PRAGMA wal_checkpoint(TRUNCATE)")
-        store.save(Place(8, 1, b"y"), [], {}, {"a"})
+        store.save(Position(8, 1, b"y"), [], {}, {"a"})
         left = {end: pathlib.Path(f"{self.path}{end}").read_bytes() for end in ("", "-wal")}
         store.connection.close()
         self.path.write_bytes(b"\xff" * 100 + left[""][100:])
@@ -201,7 +201,7 @@ class Stores(Case):
 
     def test_readings_of_each_form_are_kept(self):
         reported = {"CO": "open", "MR_l_s/0": "0.5", "OV/18446744073709551615": "1", "last_seen": "ä \U0001f600"}
-        self.open().save(PLACE, ["01800ABC"], {"01800ABC": Device("01800ABC", "D5-00-01", reported=reported)}, set())
+        self.open().save(POSITION, ["01800ABC"], {"01800ABC": Device("01800ABC", "D5-00-01", reported=reported)}, set())
         self.assertEqual(self.open().devices[0].reported, reported)
         self.assertEqual(self.logged, [])
 
@@ -209,19 +209,19 @@ class Stores(Case):
         """The bridge runs without it, and says so once. When it can be opened, it gets the whole state."""
         self.path.mkdir()
         store = self.open()
-        self.assertEqual((store.place, store.devices, store.removed, store.may_adopt, store.learn_until),
+        self.assertEqual((store.position, store.devices, store.removed, store.may_adopt, store.learn_until),
                          (None, [], set(), True, None))
         for _ in range(3):
-            self.assertFalse(store.save(PLACE, [], {"01800ABC": self.device}, {"a"}))
+            self.assertFalse(store.save(POSITION, [], {"01800ABC": self.device}, {"a"}))
         self.assertEqual(self.logged, [
             f"ERROR: {self.path}: unable to open database file; continuing without saving the state"])
         self.path.rmdir()
-        self.assertTrue(store.save(PLACE, [], {"01800ABC": self.device}, {"a"}, False, 1.0))
+        self.assertTrue(store.save(POSITION, [], {"01800ABC": self.device}, {"a"}, False, 1.0))
         self.assertEqual(self.logged[1:], [f"INFO: {self.path}: the state is saved again"])
         again = self.open()
-        self.assertEqual((again.place, again.devices, again.removed, again.may_adopt, again.learn_until),
-                         (PLACE, [self.device], {"a"}, False, 1.0))
-        store.save(PLACE, ["01800ABC"], {}, set())
+        self.assertEqual((again.position, again.devices, again.removed, again.may_adopt, again.learn_until),
+                         (POSITION, [self.device], {"a"}, False, 1.0))
+        store.save(POSITION, ["01800ABC"], {}, set())
         self.assertEqual(self.open().devices, [])
 
     def full(self):
@@ -235,35 +235,35 @@ class Stores(Case):
     def test_a_file_that_cannot_be_written_is_read(self):
         other = Device("01800ABD", "A5-02-05")
         known = {"01800ABC": self.device, "01800ABD": other}
-        self.open().save(PLACE, known, known, {"a"}, False, 1.0)
+        self.open().save(POSITION, known, known, {"a"}, False, 1.0)
         with self.full():
             store = self.open()
-            self.assertEqual((store.place, store.devices, store.removed, store.may_adopt, store.learn_until),
-                             (PLACE, [self.device, other], {"a"}, False, 1.0))
-            self.assertFalse(store.save(PLACE, [], {}, set()))
+            self.assertEqual((store.position, store.devices, store.removed, store.may_adopt, store.learn_until),
+                             (POSITION, [self.device, other], {"a"}, False, 1.0))
+            self.assertFalse(store.save(POSITION, [], {}, set()))
         self.assertEqual(self.logged, [
             f"ERROR: {self.path}: database or disk is full; continuing without saving the state"])
-        self.assertTrue(store.save(Place(8, 1, b"y"), [], {"01800ABC": self.device}, set()))
-        self.assertEqual((self.open().place, self.open().devices), (Place(8, 1, b"y"), [self.device]))
+        self.assertTrue(store.save(Position(8, 1, b"y"), [], {"01800ABC": self.device}, set()))
+        self.assertEqual((self.open().position, self.open().devices), (Position(8, 1, b"y"), [self.device]))
 
     def test_a_file_of_another_version_that_cannot_be_written(self):
         self.sql("CREATE TABLE device (x); PRAGMA user_version = 3")
         self.sql("CREATE TABLE place (x)")
         with self.full():
             store = self.open()
-        self.assertEqual((store.place, store.devices), (None, []))
+        self.assertEqual((store.position, store.devices), (None, []))
 
     def test_a_file_in_use_is_left(self):
-        self.open().save(PLACE, [], {}, set())
+        self.open().save(POSITION, [], {}, set())
         other = sqlite3.connect(self.path, isolation_level=None)
         other.execute("BEGIN EXCLUSIVE")
         with mock.patch("enogate_mqtt.store.WAIT", 0):
             store = self.open()
-            self.assertFalse(store.save(PLACE, [], {}, {"b"}))
+            self.assertFalse(store.save(POSITION, [], {}, {"b"}))
         self.assert_logged("database is locked; continuing without saving the state")
         other.close()
-        self.assertEqual(self.open().place, PLACE)
-        self.assertTrue(store.save(PLACE, [], {}, {"b"}))
+        self.assertEqual(self.open().position, POSITION)
+        self.assertTrue(store.save(POSITION, [], {}, {"b"}))
         self.assertEqual(self.open().removed, {"b"})
 
 

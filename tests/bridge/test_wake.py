@@ -1,8 +1,6 @@
 """The wait of the bridge, over real files, without a clock: each wait says at once whether it would go on."""
 import ctypes
-import errno
 import json
-import logging
 import math
 import os
 import pathlib
@@ -12,10 +10,11 @@ import tempfile
 import types
 import unittest.mock
 
+from enogate_lines.inotify import LONGEST, TURN
 from enogate_mqtt import wake
 from enogate_mqtt.connection import Connection
 from enogate_mqtt.settings import Login
-from enogate_mqtt.wake import LONGEST, TURN, Files, Wake
+from enogate_mqtt.wake import Wake
 from fakes import Case, Clock, Site, listing, reading, status
 from test_connection import TOPICS, paho
 
@@ -74,96 +73,18 @@ class Waits(Case):
         self.wake.wait(connections, seconds, watches)
         return self.is_over
 
-    def assert_notices(self, change):
-        """A change ends a wait that has begun before, and not more than two after that."""
-        change()
-        self.assertTrue(self.select([self.wake.files.file], [], [], 0)[0])
-        count = 0
-        while self.waits():
-            count += 1
-        self.assertLessEqual(count, 3)
-
     def test_an_idle_wait(self):
         self.start()
         self.assertEqual(self.seconds, LONGEST)
         self.waits(seconds=0.5)
         self.assertEqual(self.seconds, 0.5)
 
-    def test_lines_end_a_wait(self):
+    def test_lines_and_orders_end_a_wait(self):
         self.start()
-        self.assert_notices(lambda: append(self.lines, b"line\n"))
-
-    def test_a_burst_ends_one_wait(self):
-        self.start()
-        self.assert_notices(lambda: [append(self.lines, b"%d\n" % number) for number in range(1000)])
-
-    def test_an_order_ends_a_wait(self):
-        self.start()
-        self.assert_notices(lambda: append(self.desk, b"status\n"))
-
-    def test_a_start_of_the_gateway_ends_a_wait(self):
-        append(self.desk, b"status\n")
-        self.start()
-        self.assert_notices(lambda: os.truncate(self.desk, 0))
-
-    def test_lines_of_another_gateway_end_none(self):
-        other = self.log / "roof.lines"
-        other.touch()
-        self.start()
-        append(other, b"line\n")
-        self.assertFalse(self.waits())
-
-    def test_a_rotation(self):
-        self.start()
-        self.assert_notices(lambda: self.lines.rename(self.log / "hall.lines-20261127"))
-        # the old file may still be written to
-        self.assert_notices(lambda: append(self.log / "hall.lines-20261127", b"line\n"))
-        self.assert_notices(self.lines.touch)
-        self.assert_notices(lambda: append(self.lines, b"line\n"))
-
-    def test_a_line_before_a_new_file_is_watched(self):
-        """Nothing that is written between the look at the lines and the wait is missed."""
-        self.start()
-        self.lines.unlink()
-        while self.waits():
-            pass
-        self.lines.touch()
-        self.wake.files.drop()
-        append(self.lines, b"line\n")
-        self.assertTrue(self.waits())
-
-    def test_a_file_that_is_replaced(self):
-        self.start()
-        new = self.run_folder / "new"
-        self.assert_notices(new.touch)
-        self.assert_notices(lambda: new.replace(self.desk))
-        self.assert_notices(lambda: append(self.desk, b"status\n"))
-
-    def test_lines_that_may_be_read_now(self):
-        self.start()
-        self.assert_notices(lambda: self.lines.chmod(0o600))
-
-    def test_a_directory_that_does_not_exist_yet(self):
-        self.lines.unlink()
-        self.log.rmdir()
-        self.start()
-        self.assertEqual(self.seconds, TURN)
-        self.log.mkdir()
-        self.assertTrue(self.waits())
-        self.assertFalse(self.waits())
-        self.assertEqual(self.seconds, LONGEST)
-        self.assert_notices(self.lines.touch)
-
-    def test_a_directory_that_is_replaced(self):
-        self.start()
-        self.assert_notices(lambda: self.log.rename(self.log.with_name("old")))
-        self.assertEqual(self.seconds, TURN)
-        self.log.mkdir()
-        self.lines.touch()
-        while self.waits():
-            pass
-        self.assertEqual(self.seconds, LONGEST)
-        self.assert_notices(lambda: append(self.lines, b"line\n"))
+        for path in (self.lines, self.desk):
+            append(path, b"line\n")
+            self.assertTrue(self.waits())
+            self.assertFalse(self.waits())
 
     def test_files_that_are_not_looked_at(self):
         self.start()
@@ -198,41 +119,13 @@ class Waits(Case):
         self.assertTrue(self.waits())
         self.assertTrue(self.waits(watches=False))
 
-
-class WithoutInotify(Case):
-    """Where inotify does not work, the files are looked at ten times a second."""
-
-    def longest(self, number, **calls):
-        """The longest wait, the second time, with these functions of the C library, which fail with this number."""
-        library = types.SimpleNamespace(**calls)
-        with unittest.mock.patch.object(ctypes, "CDLL", lambda *_, **__: library), \
-             unittest.mock.patch.object(ctypes, "get_errno", lambda: number):
-            files = Files(["/log/hall.lines", "/run/desk"], logging.warning)
-            files.longest()
-            return files.longest()
-
-    def test_no_function(self):
-        self.assertEqual(self.longest(0), 0.1)
-        self.assert_logged("WARNING: no inotify (")
-
-    def test_too_many_instances(self):
-        self.assertEqual(self.longest(errno.EMFILE, inotify_init1=lambda _: -1), 0.1)
-        self.assert_logged("WARNING: no inotify (Too many open files): the lines are looked at every 0.1 seconds")
-
-    def test_a_wait(self):
+    def test_without_inotify(self):
         with unittest.mock.patch.object(ctypes, "CDLL", side_effect=OSError("none")):
             waits = Wake(["/log/hall.lines"])
         self.addCleanup(os.close, waits.stops)
         with unittest.mock.patch.object(wake.select, "select", return_value=([], [], [])) as looked:
             waits.wait([], 1.0, True)
         looked.assert_called_once_with([waits.stops], [], [], 0.1)
-
-    def test_a_file_that_may_not_be_watched(self):
-        for number, longest in ((errno.EACCES, 0.1), (errno.ENOSPC, 0.1), (errno.ENOENT, 1.0)):
-            with self.subTest(number):
-                self.assertEqual(longest, self.longest(
-                    number, inotify_init1=lambda _: 3, inotify_add_watch=lambda _, path, __: -1 if b"." in path else 1))
-        self.assertEqual(self.logged, [])
 
 
 class Connections(Case):

@@ -9,7 +9,7 @@ import tempfile
 import unittest
 from typing import Any, Callable
 
-from enogate_ctl.places import Places
+from enogate_ctl.paths import Paths
 
 OK = {"type": "ok"}
 # How long a test may take, in seconds; the slowest one takes some ten on a busy machine.
@@ -54,7 +54,7 @@ class Site(Limited):
         self.desk, self.lines, self.state = (self.folder / name for name in ("desk", "hall.lines", "bridge.db"))
         self.desk.touch()
         self.lines.touch()
-        self.places = Places(str(self.desk), str(self.lines), str(self.state))
+        self.paths = Paths(str(self.desk), str(self.lines), str(self.state))
         self.clock = Clock()
 
     def write(self, *lines: dict | str) -> None:

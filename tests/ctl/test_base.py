@@ -5,8 +5,8 @@ import unittest
 from unittest import mock
 
 from enogate_ctl import main as program
-from enogate_ctl.base import ask_base
-from enogate_ctl.desk import PAUSE, Desk, NoAnswer
+from enogate_ctl.base import base_answer
+from enogate_ctl.client import PAUSE, Client, NoAnswer
 from enogate_tools import port as ports
 from fakes import OK, Limited, Site, status, teach
 
@@ -28,8 +28,8 @@ class AskBase(Site):
 
     def ask(self, timeout=10.0):
         self.desk.write_text("")
-        desk = Desk(self.places, timeout, self.clock, self.clock.sleep, lambda: 1)
-        return [line.members for line in ask_base(desk).lines]
+        client = Client(self.paths, timeout, self.clock, self.clock.sleep, lambda: 1)
+        return [line.members for line in base_answer(client).lines]
 
     def test_the_report_follows_the_answer(self):
         self.clock.acts[2] = lambda: self.write(*ANSWER)
@@ -76,7 +76,7 @@ class AskBase(Site):
                 self.ask()
 
     def test_files_are_closed(self):
-        with mock.patch("enogate_ctl.desk.Lines.close") as close:
+        with mock.patch("enogate_ctl.client.Lines.close") as close:
             self.clock.acts[1] = lambda: self.write(*ANSWER, REPORT)
             self.ask()
         self.assertEqual(close.call_count, 2)
@@ -92,7 +92,7 @@ class Command(Site):
         out, err = io.StringIO(), io.StringIO()
         files = ["--desk", str(self.desk), "--lines", str(self.lines), "--timeout", "0.2"]
         with contextlib.redirect_stdout(out), contextlib.redirect_stderr(err), \
-                mock.patch.object(program, "Stops"), mock.patch.object(Desk.__init__, "__defaults__",
+                mock.patch.object(program, "Stops"), mock.patch.object(Client.__init__, "__defaults__",
                                                                        (self.clock, self.tick(sleep), lambda: 1)):
             return program.main([*files, *options, "hall", "base"]), out.getvalue(), err.getvalue()
 

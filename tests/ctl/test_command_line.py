@@ -8,16 +8,16 @@ from unittest import mock
 
 from enogate_ctl import command_line, following, grammar, main as program
 from enogate_ctl.answers import Answer, line_of
+from enogate_ctl.client import NoAnswer
 from enogate_ctl.command_line import AskBase, Export, Give, Import, Serve, ShowLines, ShowPaths, ShowRecorded
 from enogate_ctl.command_line import parsed
-from enogate_ctl.desk import NoAnswer
-from enogate_ctl.places import Places, Unreadable, places_of
+from enogate_ctl.paths import Paths, Unreadable, paths_of
 from enogate_ctl.stops import Stopped
 from enogate_tools import VERSION, port as ports
 from fakes import Limited
 
 ROOT = pathlib.Path(__file__).parents[2]
-HALL, DEVICES = places_of("hall"), places_of("devices")
+HALL, DEVICES = paths_of("hall"), paths_of("devices")
 
 
 def run(*arguments, text="", is_terminal=False):
@@ -43,18 +43,18 @@ class CommandLines(Limited):
             ("hall learn as F6-02-01 --for 120", Give(HALL, 10.0, False, "learn as F6-02-01", 120.0)),
             ("hall learn --for 120 on", Give(HALL, 10.0, False, "learn on", 120.0)),
             ("hall label 01800ABC -- -x --json", Give(HALL, 10.0, False, "label 01800ABC -x --json", None)),
-            ("--desk d --lines l hall status", Give(Places("d", "l", HALL.bridge), 10.0, False, "status", None)),
-            ("base base", Give(places_of("base"), 10.0, False, "base", None)),
-            ("base status", Give(places_of("base"), 10.0, False, "status", None)),
+            ("--desk d --lines l hall status", Give(Paths("d", "l", HALL.bridge), 10.0, False, "status", None)),
+            ("base base", Give(paths_of("base"), 10.0, False, "base", None)),
+            ("base status", Give(paths_of("base"), 10.0, False, "status", None)),
             ("base /dev/enocean", AskBase("/dev/enocean")), ("paths", ShowPaths()),
-            ("paths list", Give(places_of("paths"), 10.0, False, "list", None)),
-            ("paths list --json", Give(places_of("paths"), 10.0, True, "list", None)),
-            ("paths devices --export", Export(places_of("paths"), 10.0)),
+            ("paths list", Give(paths_of("paths"), 10.0, False, "list", None)),
+            ("paths list --json", Give(paths_of("paths"), 10.0, True, "list", None)),
+            ("paths devices --export", Export(paths_of("paths"), 10.0)),
             ("hall devices --export", Export(HALL, 10.0)), ("--timeout 3 hall devices --export", Export(HALL, 3.0)),
             ("hall devices", ShowRecorded(HALL, False)), ("--json devices devices", ShowRecorded(DEVICES, True)),
             ("hall devices --import", Import(HALL, 10.0)), ("hall --timeout 3 devices --import", Import(HALL, 3.0)),
             ("hall lines", ShowLines(HALL)), ("--timeout 3 hall lines", ShowLines(HALL)),
-            ("--desk d --lines l hall lines", ShowLines(Places("d", "l", HALL.bridge))),
+            ("--desk d --lines l hall lines", ShowLines(Paths("d", "l", HALL.bridge))),
             ("--serve", Serve()),
         ):
             with self.subTest(words):
@@ -149,7 +149,7 @@ class Programs(Limited):
                 self.orders[-1].append(order)
                 found.append(answer())
             return found
-        return mock.patch.object(program.Desk, "ask_all", ask_all)
+        return mock.patch.object(program.Client, "ask_all", ask_all)
 
     def test_statuses(self):
         ok, store = ['{"type":"ok"}'], ['{"error":"store","type":"error"}']
@@ -226,11 +226,11 @@ class Programs(Limited):
             self.assertEqual(close.call_count, 3)
 
     def test_paths(self):
-        with mock.patch.object(program, "paths", return_value={"hall": {"lines": "l", "desk": "d"}, "attic": {}}):
+        with mock.patch.object(program, "all_paths", return_value={"hall": {"lines": "l", "desk": "d"}, "attic": {}}):
             self.assertEqual(run("paths"), (0, '{"attic":{},"hall":{"desk":"d","lines":"l"}}\n', ""))
-        with mock.patch.object(program, "paths", return_value={}):
+        with mock.patch.object(program, "all_paths", return_value={}):
             self.assertEqual(run("paths"), (0, "{}\n", ""))
-        with mock.patch.object(program, "paths", side_effect=Unreadable("why\n")):
+        with mock.patch.object(program, "all_paths", side_effect=Unreadable("why\n")):
             self.assertEqual(run("paths"), (1, "", "enogatectl: why?\n"))
 
     def test_lines(self):

@@ -7,7 +7,7 @@ import unittest
 from unittest import mock
 
 from enogate_ctl import following
-from enogate_ctl.places import Unreadable
+from enogate_ctl.paths import Unreadable
 from enogate_ctl.stops import Stopped
 from fakes import Site
 
@@ -22,7 +22,7 @@ class Following(Site):
             if left:
                 left.pop(0)()
             return bool(left)
-        following.print_lines(self.places, out, wait)
+        following.print_lines(self.paths, out, wait)
         return out.getvalue().decode().split("\n")
 
     def test_earlier_and_new_lines(self):
@@ -140,7 +140,7 @@ class Reader(Site):
 
     def test_without_inotify(self):
         library = mock.Mock(inotify_init1=lambda _: -1)
-        with mock.patch("enogate_mqtt.wake.ctypes.CDLL", return_value=library), \
+        with mock.patch("enogate_lines.inotify.ctypes.CDLL", return_value=library), \
                 contextlib.redirect_stderr(io.StringIO()) as err:
             reader = following.Reader(str(self.lines), self.out)
         with self.poll:

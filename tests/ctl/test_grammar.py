@@ -31,12 +31,12 @@ class Grammar(Limited):
     def test_orders(self):
         for order in ORDERS:
             with self.subTest(order):
-                grammar.check(order)
+                grammar.check_order(order)
 
     def test_no_orders(self):
         for order in NO_ORDERS:
             with self.subTest(order):
-                self.assertRaises(grammar.NoOrder, grammar.check, order)
+                self.assertRaises(grammar.NoOrder, grammar.check_order, order)
 
     def test_messages(self):
         for order, text in (
@@ -50,7 +50,7 @@ class Grammar(Limited):
              "(EEP: a profile such as D5-00-01)"),
         ):
             with self.assertRaises(grammar.NoOrder) as found:
-                grammar.check(order)
+                grammar.check_order(order)
             self.assertEqual(str(found.exception), text)
 
     def test_the_parameters(self):

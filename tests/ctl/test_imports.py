@@ -9,13 +9,13 @@ from fakes import OK, Site, device, end_of_list, status
 
 CONTRIB = pathlib.Path(__file__).parents[2] / "contrib"
 # Those of our modules that each command needs.
-ALWAYS = {"enogate_ctl", "enogate_ctl.answers", "enogate_ctl.command_line", "enogate_ctl.desk", "enogate_ctl.desk_file",
-          "enogate_ctl.fence", "enogate_ctl.grammar", "enogate_ctl.main", "enogate_ctl.places", "enogate_ctl.stops",
-          "enogate_mqtt", "enogate_mqtt.follow", "enogate_mqtt.lines", "enogate_tools", "enogate_tools.desk",
-          "enogate_tools.files"}
+ALWAYS = {"enogate_ctl", "enogate_ctl.answers", "enogate_ctl.client", "enogate_ctl.command_line",
+          "enogate_ctl.desk_file", "enogate_ctl.fence", "enogate_ctl.grammar", "enogate_ctl.main", "enogate_ctl.paths",
+          "enogate_ctl.stops", "enogate_lines", "enogate_lines.contents", "enogate_lines.follow", "enogate_tools",
+          "enogate_tools.desk", "enogate_tools.files"}
 SHOWN = {"enogate_ctl.shown", "enogate_ctl.tables"}
 TABLE = {"enogate_ctl.device_table", "enogate_ctl.readings", "enogate_ctl.recent", "enogate_ctl.tables",
-         "enogate_ctl.words", "enogate_mqtt.entities", "enogate_mqtt.state"}
+         "enogate_ctl.words", "enogate_lines.entities", "enogate_mqtt", "enogate_mqtt.state"}
 # Large modules of Python, and those that need a library.
 LARGE = {"ctypes", "csv", "dataclasses", "decimal", "fractions", "inspect", "logging", "pathlib", "shlex", "sqlite3",
          "subprocess", "urllib.parse"}

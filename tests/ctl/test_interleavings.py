@@ -7,10 +7,10 @@ import unittest
 from dataclasses import dataclass
 
 from enogate_ctl.answers import SHARED, AnswerFinder, line_of
-from enogate_ctl.desk import Desk, TooLate
+from enogate_ctl.client import Client, TooLate
 from enogate_ctl.desk_file import Unusable
 from enogate_ctl.fence import is_longest, needed
-from enogate_ctl.places import places_of
+from enogate_ctl.paths import paths_of
 from fakes import Limited
 from model import EEPS, IDS, UNSUPPORTED, Model
 
@@ -166,9 +166,9 @@ class Case:
         if not self.is_recognizable:
             return "unrecognizable"
         self.left, self.read_events, self.now = self.pieces(), [], 0.0
-        desk = Desk(places_of("hall"), 10.0, lambda: self.now, self.sleep)
+        client = Client(paths_of("hall"), 10.0, lambda: self.now, self.sleep)
         try:
-            found = desk.wait(self, self, self.finder, 10.0)
+            found = client.wait(self, self, self.finder, 10.0)
             return [[line.raw for line in answer.lines] for answer in found]
         except TooLate:
             return "late"

@@ -9,9 +9,9 @@ from datetime import datetime, timezone
 from unittest import mock
 
 from enogate_ctl import main as program, recent, recorded
-from enogate_ctl.places import Unreadable
+from enogate_ctl.paths import Unreadable
+from enogate_lines.follow import end_of
 from enogate_mqtt.devices import Device
-from enogate_mqtt.follow import end_of
 from enogate_mqtt.state import last_seen
 from enogate_mqtt.store import Store
 from fakes import OK, Limited, Site, device, end_of_list, packet, reading, status, teach
@@ -22,7 +22,7 @@ SEEN = datetime(2026, 11, 28, 12, 0, 0, tzinfo=timezone.utc)
 class Recorded(Site):
     def found(self):
         """The label and the profile of each device."""
-        return {one.device: (one.label, one.eep) for one in recorded.devices(self.places)}
+        return {one.device: (one.label, one.eep) for one in recorded.devices(self.paths)}
 
     def test_the_last_list(self):
         self.write(device("01800AB1", "Old"), end_of_list(1), reading("01800AB9"), device("01800ABC", "Door"),
@@ -58,7 +58,7 @@ class Recorded(Site):
         for act in (lambda: None, self.lines.unlink):
             act()
             with self.assertRaises(Unreadable) as why:
-                recorded.devices(self.places)
+                recorded.devices(self.paths)
             self.assertEqual(str(why.exception),
                              f"no list of the devices is in the lines {self.lines}: give the order `list` once")
 
@@ -66,7 +66,7 @@ class Recorded(Site):
         with mock.patch("os.open", side_effect=PermissionError(13, "Permission denied")):
             with self.assertRaisesRegex(Unreadable, "cannot be read: Permission denied; become root, or a member of "
                                         "the group enogate"):
-                recorded.devices(self.places)
+                recorded.devices(self.paths)
 
     def test_a_list_that_was_rotated(self):
         self.write(device("01800ABC", "Door"))
@@ -80,13 +80,13 @@ class Recorded(Site):
         self.assertGreater(self.lines.stat().st_size, 2 * recent.BLOCK)
         self.assertEqual(set(self.found()), {"01800ABC"})
         with mock.patch.object(recorded, "MOST_SEARCHED", 1000):
-            self.assertRaises(Unreadable, recorded.devices, self.places)
+            self.assertRaises(Unreadable, recorded.devices, self.paths)
 
     def run_command(self, *options):
         """The exit status and what is printed."""
         out = io.StringIO()
         with mock.patch("sys.stdout", out), mock.patch.object(program, "Stops"), \
-                mock.patch("enogate_ctl.command_line.places_of", return_value=self.places):
+                mock.patch("enogate_ctl.command_line.paths_of", return_value=self.paths):
             return program.main([*options, "hall", "devices"]), out.getvalue()
 
     def bridge(self, *names):

@@ -5,9 +5,9 @@ from unittest import mock
 
 from enogate_ctl import sheet
 from enogate_ctl.answers import Answer, line_of
-from enogate_ctl.desk import PAUSE
-from enogate_ctl.sheet import MOST_ROWS, BadRow, Row
-from enogate_mqtt.lines import Listed
+from enogate_ctl.client import PAUSE
+from enogate_ctl.sheet import MOST_ROWS, BadRow, DeviceRow
+from enogate_lines.contents import Listed
 from fakes import OK, Clock, Limited, error
 
 ADD = "the form is add ID EEP (ID: 8 hexadecimal digits; EEP: a profile such as D5-00-01)"
@@ -38,10 +38,10 @@ class Sheets(Limited):
     def test_round_trip(self):
         devices = listed(*LABELS)
         self.assertEqual([row for _, row in sheet.rows_in(sheet.exported(devices))],
-                         [Row(device.device, device.eep, device.label) for device in devices])
+                         [DeviceRow(device.device, device.eep, device.label) for device in devices])
 
     def test_separators_headings_and_empty_rows(self):
-        wanted = [(2, Row("01800ABC", "D5-00-01", "Door")), (4, Row("01800ABD", "D5-00-01", ""))]
+        wanted = [(2, DeviceRow("01800ABC", "D5-00-01", "Door")), (4, DeviceRow("01800ABD", "D5-00-01", ""))]
         for separator in ",;\t":
             for start in ("", "\ufeff"):
                 text = f"{start}ID,EEP, Label\r\n01800abc , d5-00-01,Door\r\n,,\r\n01800ABD,D5-00-01\r\n"
@@ -52,8 +52,8 @@ class Sheets(Limited):
 
     def test_leading_zeros(self):
         for device, found in (("1800222", "01800222"), ("1", "00000001"), ("12345678", "12345678")):
-            self.assertEqual(self.rows(f"{device},D5-00-01"), [(1, Row(found, "D5-00-01", ""))])
-        self.assertEqual(self.rows("01800E12,D5-00-01"), [(1, Row("01800E12", "D5-00-01", ""))])
+            self.assertEqual(self.rows(f"{device},D5-00-01"), [(1, DeviceRow(found, "D5-00-01", ""))])
+        self.assertEqual(self.rows("01800E12,D5-00-01"), [(1, DeviceRow("01800E12", "D5-00-01", ""))])
 
     def test_numbers_with_an_exponent(self):
         for device in ("1.80E+15", "1,80E+15", "1.8e15", "2E+10"):
@@ -77,7 +77,7 @@ class Sheets(Limited):
         self.addCleanup(sheet.csv.field_size_limit, 131072)
         rows = self.rows("x" * 300 + ",\n01800ABC,D5-00-01\n")
         self.assertEqual(rows, [(1, "not CSV: field larger than field limit (200)"),
-                                (2, Row("01800ABC", "D5-00-01", ""))])
+                                (2, DeviceRow("01800ABC", "D5-00-01", ""))])
 
 
 class Importing(Limited):
@@ -92,7 +92,7 @@ class Importing(Limited):
 
     def run_import(self, text, *known):
         devices = {device.device: device for device in known}
-        return sheet.Import(devices, self.give, self.lines.append).run(text)
+        return sheet.Importer(devices, self.give, self.lines.append).run(text)
 
     def test_new_devices(self):
         self.assertTrue(self.run_import("01800ABC,D5-00-01,Door\n01800ABD,F6-02-01\n"))

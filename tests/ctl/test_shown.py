@@ -15,9 +15,9 @@ from enogate_ctl.device_table import device_table
 from enogate_ctl.readings import readings
 from enogate_ctl.shown import shown
 from enogate_ctl.tables import table
+from enogate_lines.entities import Table
+from enogate_lines.follow import Position, end_of
 from enogate_mqtt.devices import Device
-from enogate_mqtt.entities import Table
-from enogate_mqtt.follow import Place, end_of
 from enogate_mqtt.store import Store
 from fakes import OK, Limited, Site, device, end_of_list, packet, reading, status, teach, within
 
@@ -112,7 +112,7 @@ class Tables(Limited):
 
 class Shown(Site):
     def shown(self, *lines):
-        return device_table(Answer(lines_of(*lines)).devices, self.places, NOW)
+        return device_table(Answer(lines_of(*lines)).devices, self.paths, NOW)
 
     def test_short_answers(self):
         deleted = teach("01800ABC", result="deleted")
@@ -127,7 +127,7 @@ class Shown(Site):
         self.write(reading("01800ABC"), reading("01800ABD", "A5-02-05", TEMPERATURE, None), reading("01800ABE"))
         bridge(self, "01800ABC", NOW - timedelta(minutes=5))
         # no label that a gateway writes has control characters
-        self.enterContext(mock.patch("enogate_mqtt.lines.TEXT_OR_NOTHING", ".*"))
+        self.enterContext(mock.patch("enogate_lines.contents.TEXT_OR_NOTHING", ".*"))
         self.assertEqual(self.shown(device("01800ABC", "Do\x1bor"), device("01800ABD", eep="A5-02-05"),
                                     device("01800ABE", eep="F6-02-01"), end_of_list(3)), """\
 LABEL  ID        PROFILE   NAME                      LAST READINGS         SIGNAL   LAST SEEN
@@ -140,7 +140,7 @@ Do?or  01800ABC  D5-00-01  single contact            Contact closed        -45 d
                          "ID        PROFILE   NAME\n01800ABC  D5-00-01  single contact")
 
 
-def bridge(site, name, time, place=None):
+def bridge(site, name, time, position=None):
     """A running bridge that has received this device at this time, and has read the lines to their end. Returns its
     connection."""
     store = Store(str(site.state), "")
@@ -148,7 +148,7 @@ def bridge(site, name, time, place=None):
     reported = {"CO": "closed", "last_seen": time.isoformat(timespec="seconds")}
     devices = {device: Device(device, "D5-00-01", "", None, readings)
                for device, readings in ((name, reported), ("01800AFF", {}))}
-    store.save(place or end_of(str(site.lines)), list(devices), devices, set())
+    store.save(position or end_of(str(site.lines)), list(devices), devices, set())
     return store
 
 
@@ -221,7 +221,7 @@ class Recent(Site):
 
     def test_a_place_that_is_lost(self):
         self.put(self.lines, "01800ABC")
-        bridge(self, "01800ABC", NOW, Place(1, 5, b"lost"))
+        bridge(self, "01800ABC", NOW, Position(1, 5, b"lost"))
         self.assertEqual(self.times(), {})
 
     def test_what_the_bridge_has_not_read_yet(self):
@@ -237,8 +237,8 @@ class Recent(Site):
 
     def test_only_so_much_is_read_after_the_place(self):
         self.put(self.lines, *["01800ABC"] * 50)
-        start = Place(self.lines.stat().st_ino, 0, b"")
-        with mock.patch("enogate_mqtt.follow.MAX_READ", 500), \
+        start = Position(self.lines.stat().st_ino, 0, b"")
+        with mock.patch("enogate_lines.follow.MAX_READ", 500), \
                 mock.patch.object(recent.Follower, "read", autospec=True, side_effect=recent.Follower.read) as read:
             self.assertIsNone(recent.devices_after(start, str(self.lines), 900))
             self.assertLess(read.call_count, 5)
@@ -255,7 +255,7 @@ class Recent(Site):
     def test_files_are_closed(self):
         self.put(self.lines, "01800ABC")
         before = len(os.listdir("/proc/self/fd"))
-        start = Place(self.lines.stat().st_ino, 0, b"")
+        start = Position(self.lines.stat().st_ino, 0, b"")
         self.assertEqual(recent.devices_after(start, str(self.lines), 999), {"01800ABC"})
         recent.last_telegrams(str(self.lines))
         self.assertEqual(len(os.listdir("/proc/self/fd")), before)

@@ -3,7 +3,7 @@ import json
 import signal
 import unittest
 
-from enogate_ctl.desk import Desk, NoAnswer
+from enogate_ctl.client import Client, NoAnswer
 from enogate_ctl.stops import Stopped, Stops
 from enogate_ctl.window import PAUSE, LearnWindow
 from fakes import OK, Site, error, status, teach
@@ -25,8 +25,8 @@ class Window(Site):
         self.printed.append(text)
 
     def open(self, is_json=False, seconds=0.25, order="learn on", timeout=10):
-        desk = Desk(self.places, timeout, self.clock, self.clock.sleep, lambda: 1)
-        LearnWindow(desk, self.give, self.report, self.stops, is_json).open_for(order, seconds)
+        client = Client(self.paths, timeout, self.clock, self.clock.sleep, lambda: 1)
+        LearnWindow(client, self.give, self.report, self.stops, is_json).open_for(order, seconds)
 
     def test_it_is_closed_after_the_time(self):
         self.open()

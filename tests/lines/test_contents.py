@@ -3,10 +3,10 @@ import json
 import unittest
 from fractions import Fraction
 
-from enogate_mqtt import lines
-from enogate_mqtt.decimals import decimal
-from enogate_mqtt.lines import Answer, BadLine, Deleted, EndOfList, Learned, Listed, Other, Reading, Response, Status
-from enogate_mqtt.lines import Strange, Telegram, content_of
+from enogate_lines.contents import BadLine, Deleted, EndOfList, Learned, Listed, OkOrError, Other, Reading, Response
+from enogate_lines.contents import Status, Strange, Telegram, content_of
+from enogate_lines.decimals import decimal
+from enogate_lines import contents
 
 
 CONTACT = ('{"dbm":-45,"eep":"D5-00-01","id":"01800ABC","readings":[{"name":"CO","word":"closed"}],'
@@ -70,7 +70,7 @@ class Contents(unittest.TestCase):
              Status("as F6-02-01", {"ignored": 1, "readings": 2, "refused": 3, "responses": 4, "teach": 5})),
             (b'{"code":0,"data":"","name":"OK","type":"response"}', Response(0, "")),
             (b'{"code":213,"data":"09FF","name":null,"type":"response"}', Response(213, "09FF")),
-            (b'{"type":"ok"}', Answer()), (b'{"error":"syntax","type":"error"}', Answer()),
+            (b'{"type":"ok"}', OkOrError()), (b'{"error":"syntax","type":"error"}', OkOrError()),
             (b'{"type":"new"}', Other()),
         ):
             with self.subTest(line):
@@ -138,7 +138,7 @@ class Contents(unittest.TestCase):
     def test_a_complaint_shows_the_beginning(self):
         line = b'{"count":"' + b"2" * 100 + b'","type":"list"}'
         self.assertEqual(content_of(line), Strange(
-            f"line with unexpected members, not decoded: {line[:lines.SHOWN_OF_A_LINE]!r}"))
+            f"line with unexpected members, not decoded: {line[:contents.SHOWN_OF_A_LINE]!r}"))
 
 
 if __name__ == "__main__":

@@ -8,7 +8,7 @@ import shlex
 from collections.abc import Iterable
 from dataclasses import dataclass, field
 
-from .lines import Reading, Telegram
+from .contents import Reading, Telegram
 
 TABLE = pathlib.Path(__file__).with_name("entities")
 # The words that configure an entity.
@@ -27,7 +27,7 @@ class WrongTable(ValueError):
 
 
 @dataclass(frozen=True)
-class Row:
+class EntityRow:
     """A line of the table."""
     profiles: str
     reading: str
@@ -42,7 +42,7 @@ class Row:
     name: str
     more: dict[str, str] = field(compare=False)
 
-    def place(self, number: int | None) -> str:
+    def subtopic(self, number: int | None) -> str:
         """The topic of the entity with this number, below the topic of the device."""
         return self.topic if number is None else f"{self.topic}/{number}"
 
@@ -68,16 +68,17 @@ class Row:
         return self.more[key].split("|") if key in self.more else []
 
     def numbers(self, reported: Iterable[str]) -> list[int | None]:
-        """The numbers of its entities, for a device with readings at these places."""
+        """The numbers of its entities, for a device with readings on these subtopics."""
         if not self.by:
             return [None]
         start = set(range(self.count)) if self.from_the_start else set()
-        ends = (place.removeprefix(self.topic + "/") for place in reported if place.startswith(self.topic + "/"))
+        start_of_all = self.topic + "/"
+        ends = (one.removeprefix(start_of_all) for one in reported if one.startswith(start_of_all))
         every = sorted(start | {int(end) for end in ends if NUMBER.fullmatch(end)})
         return [number for number in every if number <= GREATEST_CHANNEL.get(self.entity, number)]
 
 
-def row_of(line: str) -> Row:
+def entity_row_of(line: str) -> EntityRow:
     """The row of a line."""
     try:
         words = ["" if word == "-" else word for word in shlex.split(line)]
@@ -85,7 +86,7 @@ def row_of(line: str) -> Row:
         more = dict(word.partition("=")[::2] for word in words[7:])
         sign = "?" if "?" in by else ":"
         by, _, count = by.partition(sign)
-        row = Row(profiles, reading, unit, topic, by, int(count or 0), sign == ":", entity, name, more)
+        row = EntityRow(profiles, reading, unit, topic, by, int(count or 0), sign == ":", entity, name, more)
     except ValueError as error:
         raise WrongTable(line) from error
     if not (more.keys() <= KEYS and re.fullmatch("[0-9]", more.get("digits", "0"))
@@ -99,10 +100,10 @@ class Table:
 
     def __init__(self, path: pathlib.Path = TABLE):
         lines = (line.strip() for line in path.read_text("utf-8").splitlines())
-        self.rows = [row_of(line) for line in lines if line and not line.startswith("#")]
-        self.found: dict[str, dict[tuple[str, str], Row]] = {}
+        self.rows = [entity_row_of(line) for line in lines if line and not line.startswith("#")]
+        self.found: dict[str, dict[tuple[str, str], EntityRow]] = {}
 
-    def of_profile(self, eep: str) -> dict[tuple[str, str], Row]:
+    def of_profile(self, eep: str) -> dict[tuple[str, str], EntityRow]:
         """The rows of a profile, by reading and unit: the first matching row of each."""
         if eep not in self.found:
             rows = self.found[eep] = {}
@@ -117,7 +118,7 @@ class Table:
         counts = [row.count for row in self.of_profile(eep).values() if row.entity in GREATEST_CHANNEL]
         return None if not counts else 0 if counts[0] == 1 else ALL_CHANNELS
 
-    def of_reading(self, eep: str, reading: Reading) -> Row | None:
+    def of_reading(self, eep: str, reading: Reading) -> EntityRow | None:
         """The row of a reading. A word instead of a value has no unit: it uses the row of the value."""
         rows = self.of_profile(eep)
         if (reading.name, reading.unit) in rows or reading.unit:
@@ -125,30 +126,30 @@ class Table:
         named = [row for row in rows.values() if row.reading == reading.name]
         return named[0] if len(named) == 1 else None
 
-    def reports(self, eep: str, place: str) -> bool:
-        """Whether `reported_by` has this place for some telegram of the profile."""
+    def reports(self, eep: str, subtopic: str) -> bool:
+        """Whether `reported_by` has this subtopic for some telegram of the profile."""
         rows = self.of_profile(eep).values()
         shown = [row for row in rows if row.entity not in ("", "event")]
-        name, slash, number = place.partition("/")
+        name, slash, number = subtopic.partition("/")
         if slash:
             return name in {row.topic for row in shown if row.by} and bool(NUMBER.fullmatch(number))
         return name in {"dbm", *(row.reading for row in rows), *(row.topic for row in shown if not row.by)}
 
     def reported_by(self, telegram: Telegram) -> dict[str, str]:
-        """The readings of a telegram, by their topics below that of its device."""
+        """The readings of a telegram, by their subtopics."""
         reported = {}
         numbers = {reading.name: reading.number for reading in telegram.readings}
         for reading in telegram.readings:
             reported[reading.name] = reading.text
             row = self.of_reading(telegram.eep, reading)
             if row and row.topic and row.entity != "event" and (not row.by or numbers.get(row.by) is not None):
-                reported[row.place(numbers.get(row.by))] = reading.text
+                reported[row.subtopic(numbers.get(row.by))] = reading.text
         if telegram.dbm is not None:
             reported["dbm"] = str(telegram.dbm)
         return reported
 
     def events_of(self, telegram: Telegram) -> list[tuple[str, str]]:
-        """The events of a telegram, each with the topic of its entity and its type. A release is a single event."""
+        """The events of a telegram, each with the subtopic of its entity and its type. A release is a single event."""
         events = []
         for reading in telegram.readings:
             row = self.of_reading(telegram.eep, reading)

@@ -18,29 +18,29 @@ class Unreadable(Exception):
     """A directory cannot be read. The text is a sentence that says why, and what to do."""
 
 
-class Places(NamedTuple):
+class Paths(NamedTuple):
     """The files of a gateway: its desk, its lines, and the state of its MQTT bridge."""
     desk: str
     lines: str
     bridge: str
 
 
-def places_of(name: str, root: str = "") -> Places:
+def paths_of(name: str, root: str = "") -> Paths:
     """The files of the gateway with this name, or NoName. `root` is put before their paths."""
     if not NAME.fullmatch(name):
         raise NoName(f"{name!r} is not the name of a gateway: use letters, digits, - and _, and do not begin it with "
                      "mqtt")
-    return Places(f"{root}/run/enogate/{name}/desk", f"{root}/var/log/enogate/{name}.lines",
+    return Paths(f"{root}/run/enogate/{name}/desk", f"{root}/var/log/enogate/{name}.lines",
                   f"{root}/var/lib/enogate-mqtt/{name}.db")
 
 
-def paths(root: str = "") -> dict[str, dict[str, str]]:
+def all_paths(root: str = "") -> dict[str, dict[str, str]]:
     """The files of each gateway that has settings of its own, or was started since the computer was, by their names.
     Each of these files may be missing."""
     found = {}
     for name in sorted({*configured(root + SETTINGS), *started(root + RUNNING)}):
-        places = places_of(name, root)
-        found[name] = {"desk": places.desk, "lines": places.lines, "settings": f"{root}{SETTINGS}/{PREFIX}{name}"}
+        paths = paths_of(name, root)
+        found[name] = {"desk": paths.desk, "lines": paths.lines, "settings": f"{root}{SETTINGS}/{PREFIX}{name}"}
     return found
 
 

@@ -6,13 +6,13 @@ import sys
 import time
 from collections.abc import Callable, Sequence
 
-from enogate_mqtt.follow import Follower, end_of, silent
+from enogate_lines.follow import Follower, end_of, silent
 from enogate_tools.files import Unsafe, open_file
 
 from .answers import Answer, AnswerFinder, is_of_order
 from .desk_file import DeskFile, Unusable
 from .fence import is_longest, needed
-from .places import Places
+from .paths import Paths
 from .stops import Stopped, held, restore
 
 # The pauses of the command and of the process that keeps the lock, in seconds.
@@ -50,10 +50,10 @@ class Lines:
         except OSError as error:
             raise Unusable(f"the lines {path} cannot be read: {error.strerror}; become root, or a member of the group "
                            "enogate (log in again afterwards)") from error
-        place = end_of(path, earlier)
-        self.follower = Follower(path, place, silent)
+        start = end_of(path, earlier)
+        self.follower = Follower(path, start, silent)
         # The rest of a line that was begun before.
-        self.is_torn = place is not None and place.offset > 0 and not place.last.endswith(b"\n")
+        self.is_torn = start is not None and start.offset > 0 and not start.last.endswith(b"\n")
 
     @property
     def is_at_end(self) -> bool:
@@ -77,17 +77,17 @@ class Lines:
         self.follower.close()
 
 
-class Desk:
-    """The desk of the gateway with these files. An order waits so many seconds for its answer."""
+class Client:
+    """Gives orders to the gateway with these files. An order waits so many seconds for its answer."""
 
-    def __init__(self, places: Places, timeout: float, clock: Callable[[], float] = time.monotonic,
+    def __init__(self, paths: Paths, timeout: float, clock: Callable[[], float] = time.monotonic,
                  sleep: Callable[[float], None] = time.sleep, fork: Callable[[], int] = os.fork):
-        self.places, self.timeout, self.clock, self.sleep, self.fork = places, timeout, clock, sleep, fork
+        self.paths, self.timeout, self.clock, self.sleep, self.fork = paths, timeout, clock, sleep, fork
 
     def follow(self) -> Lines:
         """The lines from now on, or NoAnswer if they cannot be read."""
         try:
-            return Lines(self.places.lines)
+            return Lines(self.paths.lines)
         except Unusable as error:
             raise NoAnswer(str(error)) from error
 
@@ -101,7 +101,7 @@ class Desk:
         come any more: otherwise the next order could get the answer of one of these."""
         limit = self.clock() + self.timeout
         try:
-            file = DeskFile(self.places.desk)
+            file = DeskFile(self.paths.desk)
             try:
                 self.lock(file, limit)
                 return self.ask_locked(file, AnswerFinder(*orders), limit)
@@ -120,7 +120,7 @@ class Desk:
 
     def ask_locked(self, file: DeskFile, finder: AnswerFinder, limit: float) -> list[Answer]:
         """Writes the orders and waits for their answers."""
-        lines = Lines(self.places.lines)
+        lines = Lines(self.paths.lines)
         try:
             self.write(file, finder)
             return self.wait(file, lines, finder, limit)

@@ -9,12 +9,12 @@ import time
 import unittest
 from unittest import mock
 
-from enogate_ctl import desk as desks, main as program
+from enogate_ctl import client as clients, main as program
 from enogate_ctl.answers import AnswerFinder
+from enogate_ctl.client import KEPT_AFTER_ANSWER, LONGEST_KEPT, LONG_PAUSE, PAUSE, Client, Lines, NoAnswer
 from enogate_ctl.command_line import Export, Give, Import, ShowLines, ShowRecorded
-from enogate_ctl.desk import KEPT_AFTER_ANSWER, LONG_PAUSE, LONGEST_KEPT, PAUSE, Desk, Lines, NoAnswer
 from enogate_ctl.desk_file import DeskFile, Unusable
-from enogate_ctl.places import Places
+from enogate_ctl.paths import Paths
 from enogate_ctl.stops import SIGNALS, Stopped, Stops
 from enogate_tools import files
 from fakes import OK, Limited, Site, error, status, teach, within
@@ -40,7 +40,7 @@ class DeskTest(Site):
         return 1
 
     def made(self, timeout=10.0):
-        return Desk(self.places, timeout, self.clock, self.clock.sleep, self.fork)
+        return Client(self.paths, timeout, self.clock, self.clock.sleep, self.fork)
 
     def assert_no_answer(self, text, order="learn on", timeout=10.0):
         """The order gets no answer, for this reason."""
@@ -155,7 +155,7 @@ class Asking(DeskTest):
             begin = self.clock.now
             self.made().wait_for_end(file, lines, finder)
             kept.append(self.clock.now - begin)
-        with mock.patch.object(Desk, "keep_lock", keep):
+        with mock.patch.object(Client, "keep_lock", keep):
             self.assertRaises(Stopped, self.made().ask, "learn on")
         self.assertAlmostEqual(kept[0], LONG_PAUSE)
 
@@ -286,17 +286,17 @@ class OrdersOfOthers(DeskTest):
     def test_each_answer_gives_time_for_the_next_one(self):
         orders = [f"label 01800A{number:02X} x" for number in range(5)]
         for seconds, is_late in ((9.5, False), (10.5, True)):
-            desk = self.made()
+            client = self.made()
             pauses = round(seconds / PAUSE)
             self.clock.slept.clear()
             self.clock.acts = {1: lambda: self.write(status(), status())} | {
                 1 + number * pauses: lambda: self.write(OK, status()) for number in range(1, 6)}
             if is_late:
                 with self.assertRaises(NoAnswer):
-                    desk.ask_all(orders)
-                self.assertAlmostEqual(sum(self.clock.slept), desk.timeout, delta=PAUSE)
+                    client.ask_all(orders)
+                self.assertAlmostEqual(sum(self.clock.slept), client.timeout, delta=PAUSE)
             else:
-                self.assertEqual(len(desk.ask_all(orders)), 5)
+                self.assertEqual(len(client.ask_all(orders)), 5)
         self.assertEqual(self.forks, 1)
 
     def test_only_answers_give_time(self):
@@ -342,7 +342,7 @@ class OrdersOfOthers(DeskTest):
             self.assertIn(signal.SIGTERM, signal.pthread_sigmask(signal.SIG_BLOCK, []))
             return True
         self.clock.acts[1] = lambda: self.write(*ANSWER)
-        with mock.patch.object(desks, "is_longest", side_effect=look) as looked:
+        with mock.patch.object(clients, "is_longest", side_effect=look) as looked:
             self.made().ask("learn on")
         looked.assert_called_once()
         self.assertNotIn(signal.SIGTERM, signal.pthread_sigmask(signal.SIG_BLOCK, []))
@@ -364,18 +364,18 @@ class OrdersOfOthers(DeskTest):
             begin = self.clock.now
             self.made().wait_for_end(file, lines, finder)
             kept.append(self.clock.now - begin)
-        with self.write_at_once(self.others), mock.patch.object(Desk, "keep_lock", keep):
+        with self.write_at_once(self.others), mock.patch.object(Client, "keep_lock", keep):
             self.assertRaises(NoAnswer, self.made().ask, "learn on")
         self.assertAlmostEqual(kept[0], KEPT_AFTER_ANSWER, 0)
 
     def test_the_desk_is_read_after_the_lines_are_opened(self):
-        """An order that comes between the two may be answered after the place at which the lines were opened."""
+        """An order that comes between the two may be answered after the offset at which the lines were opened."""
         def opened(path):
             made = Lines(path)
             with self.desk.open("a") as other:
                 other.write(self.others)
             return made
-        with mock.patch.object(desks, "Lines", opened):
+        with mock.patch.object(clients, "Lines", opened):
             self.assertEqual(self.appended() - 2, 3)
 
 
@@ -384,11 +384,11 @@ class Keeping(DeskTest):
 
     def keep(self, *orders):
         """How long the lock is kept, and why it ends."""
-        file = DeskFile(self.places.desk)
+        file = DeskFile(self.paths.desk)
         self.addCleanup(file.close)
-        finder = desks.AnswerFinder(*orders or ["learn on"])
+        finder = clients.AnswerFinder(*orders or ["learn on"])
         file.append(finder.text)
-        lines = Lines(self.places.lines)
+        lines = Lines(self.paths.lines)
         try:
             self.made().wait_for_end(file, lines, finder)
         except Unusable:
@@ -435,7 +435,7 @@ class Keeping(DeskTest):
             numbers.append(os.fork())
             return numbers[0]
         with self.assertRaises(NoAnswer):
-            Desk(self.places, 0.1, fork=fork).ask("learn on")
+            Client(self.paths, 0.1, fork=fork).ask("learn on")
         return numbers[0]
 
     def test_a_signal_ends_the_process(self):
@@ -460,13 +460,13 @@ class Keeping(DeskTest):
         self.addCleanup(os.close, read)
         self.addCleanup(self.desk.write_text, "")
         outs = [os.dup(number) for number in (0, 1, 2)]
-        desk = Desk(self.places, 0.1)
+        client = Client(self.paths, 0.1)
         try:
             for number in (1, 2):
                 os.dup2(write, number)
             os.close(write)
             with self.assertRaises(NoAnswer):
-                desk.ask("learn on")
+                client.ask("learn on")
         finally:
             for number, out in enumerate(outs):
                 os.dup2(out, number)
@@ -560,7 +560,7 @@ class Files(DeskTest):
     def test_an_incomplete_line_is_ended(self):
         for text in ("lis", "list\n", ""):
             self.desk.write_text(text)
-            file = DeskFile(self.places.desk)
+            file = DeskFile(self.paths.desk)
             file.append(b"status\n")
             file.check()
             file.close()
@@ -589,7 +589,7 @@ class Files(DeskTest):
             written = real(file, text[:left])
             left -= written
             return written
-        real, file = os.write, DeskFile(self.places.desk)
+        real, file = os.write, DeskFile(self.paths.desk)
         with mock.patch("os.write", write), contextlib.suppress(Unusable), contextlib.closing(file):
             file.append(orders)
 
@@ -610,7 +610,7 @@ class Files(DeskTest):
 
     def test_what_others_append_is_no_restart(self):
         self.desk.write_text("list\n")
-        file = DeskFile(self.places.desk)
+        file = DeskFile(self.paths.desk)
         self.addCleanup(file.close)
         file.append(b"status\n")
         with self.desk.open("a") as other:
@@ -624,7 +624,7 @@ class Files(DeskTest):
             blocked = signal.pthread_sigmask(signal.SIG_BLOCK, [])
             self.assertLessEqual({signal.SIGINT, signal.SIGTERM, signal.SIGHUP}, blocked)
             return len(text)
-        file = DeskFile(self.places.desk)
+        file = DeskFile(self.paths.desk)
         self.addCleanup(file.close)
         with mock.patch("os.write", side_effect=write):
             file.append(b"status\n")
@@ -660,9 +660,9 @@ class Rights(Limited):
         self.assertEqual([self.taken(0, 0), self.taken(None, None), self.taken(5, 5, user=9)], [[], [], []])
 
     def test_each_command_at_a_gateway_takes_them_on(self):
-        places = Places("/d/desk", "/l/hall.lines", "/b/hall.db")
-        for command in (Give(places, 1, False, "list", None), Export(places, 1), Import(places, 1),
-                        ShowRecorded(places, False), ShowLines(places)):
+        paths = Paths("/d/desk", "/l/hall.lines", "/b/hall.db")
+        for command in (Give(paths, 1, False, "list", None), Export(paths, 1), Import(paths, 1),
+                        ShowRecorded(paths, False), ShowLines(paths)):
             with mock.patch.object(program.files, "become_owner", side_effect=OSError(1, "Not allowed")) as become, \
                     self.assertRaises(NoAnswer) as found:
                 program.run(command, mock.Mock())

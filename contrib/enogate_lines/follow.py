@@ -10,36 +10,36 @@ from enogate_tools.files import open_regular
 
 # How much is read at once; no line of a gateway is longer.
 MAX_READ = 1 << 20
-# So many bytes before a place identify its file, together with the inode.
+# So many bytes before a position identify its file, together with the inode.
 MAX_LAST = 64
 SHOWN_OF_A_LINE = 60
 
 
-class Place(NamedTuple):
+class Position(NamedTuple):
     """How far a file was read. The inode and the last bytes of that part identify the file."""
     inode: int
     offset: int
     last: bytes
 
-    def after(self, part: bytes) -> Place:
-        """The place after this part, which follows."""
-        return Place(self.inode, self.offset + len(part), (self.last + part)[-MAX_LAST:])
+    def after(self, part: bytes) -> Position:
+        """The position after this part, which follows."""
+        return Position(self.inode, self.offset + len(part), (self.last + part)[-MAX_LAST:])
 
 
-NOWHERE = Place(0, 0, b"")
+NOWHERE = Position(0, 0, b"")
 
 
 class Follower:
-    """Reads the lines of the file at this path from a place on; without a place, or if it is not found, from the
+    """Reads the lines of the file at this path from a position on; without a position, or if it is not found, from the
     beginning. A file that was rotated (renamed) is read to its end first, and then those that were written after it:
     their sequence is that of their names, since a clock may have been set back. If the computer was started since the
-    place was noted, the end of its file may be lost. What is left of it was read before, or is not new. `warn` logs
+    position was noted, the end of its file may be lost. What is left of it was read before, or is not new. `warn` logs
     what goes wrong."""
 
-    def __init__(self, path: str, place: Place | None, warn: Callable[[str], None], is_same_boot: bool = True):
+    def __init__(self, path: str, position: Position | None, warn: Callable[[str], None], is_same_boot: bool = True):
         self.path, self.warn = path, warn
         self.file: int | None = None
-        self.place = place or NOWHERE
+        self.position = position or NOWHERE
         # the beginning of a line whose end has not been written yet
         self.rest = b""
         # the next file, if it existed at the last call
@@ -51,32 +51,32 @@ class Follower:
         self.fault, self.is_failing = "", False
         # whether there is a file, which could not be opened
         self.is_barred = False
-        # whether the file of the place was found
-        self.is_found = bool(self.place.inode) and self.open_at_place(is_same_boot)
-        if self.place.inode and not self.is_found:
+        # whether the file of the position was found
+        self.is_found = bool(self.position.inode) and self.open_at_position(is_same_boot)
+        if self.position.inode and not self.is_found:
             warn(f"{path}: previous file not found, reading from the beginning")
-            self.place = NOWHERE
+            self.position = NOWHERE
 
-    def open_at_place(self, is_same_boot: bool) -> bool:
-        """Opens the file of the place, whatever its name is now."""
+    def open_at_position(self, is_same_boot: bool) -> bool:
+        """Opens the file of the position, whatever its name is now."""
         paths = files_of(self.path)
         for number, path in enumerate(paths):
             try:
                 file = open_regular(path)
             except OSError:
                 continue
-            there = place_at(file, self.place.offset)
-            if there == self.place or (there.inode == self.place.inode and not is_same_boot):
+            there = position_at(file, self.position.offset)
+            if there == self.position or (there.inode == self.position.inode and not is_same_boot):
                 self.file, self.older = file, inodes(paths[:number])
-                if there != self.place:
+                if there != self.position:
                     self.warn(f"{path}: lines were lost, continuing at the end")
-                    self.place = end_of_lines(file)
+                    self.position = end_of_lines(file)
                 return True
             os.close(file)
         return False
 
-    def read(self) -> list[tuple[bytes, Place]]:
-        """The lines that have ended since the last call, each with the place before it."""
+    def read(self) -> list[tuple[bytes, Position]]:
+        """The lines that have ended since the last call, each with the position before it."""
         if self.file is None:
             was_barred = self.is_barred
             if not self.open_at_start(self.path):
@@ -85,16 +85,16 @@ class Follower:
             if was_barred:
                 # its lines may be old
                 self.warn(f"{self.path}: can be read now, continuing at its end")
-                self.place = end_of_lines(self.file)
+                self.position = end_of_lines(self.file)
         assert self.file is not None
         size = os.fstat(self.file).st_size
-        if size < self.place.offset + len(self.rest):
+        if size < self.position.offset + len(self.rest):
             self.rest = b""
-        if size < self.place.offset:
+        if size < self.position.offset:
             # what is left of the file was read before
             self.warn(f"{self.path}: file truncated, continuing at its end")
-            self.place = end_of_lines(self.file)
-        added = os.pread(self.file, MAX_READ, self.place.offset + len(self.rest))
+            self.position = end_of_lines(self.file)
+        added = os.pread(self.file, MAX_READ, self.position.offset + len(self.rest))
         if len(added) < MAX_READ:
             # NUL bytes at the end, which a power failure leaves, are truncated when the gateway starts
             added = added.rstrip(b"\0")
@@ -104,16 +104,16 @@ class Follower:
         self.seen_next, self.is_at_end = None, False
         return self.split(added)
 
-    def split(self, added: bytes) -> list[tuple[bytes, Place]]:
+    def split(self, added: bytes) -> list[tuple[bytes, Position]]:
         """The lines that end with these bytes. Data longer than any line of a gateway is returned as a line."""
         *whole, self.rest = (self.rest + added).split(b"\n")
         lines = []
         for line in whole:
-            lines.append((without_nuls(line), self.place))
-            self.place = self.place.after(line + b"\n")
+            lines.append((without_nuls(line), self.position))
+            self.position = self.position.after(line + b"\n")
         if len(self.rest) > MAX_READ:
-            lines.append((self.rest, self.place))
-            self.place, self.rest = self.place.after(self.rest), b""
+            lines.append((self.rest, self.position))
+            self.position, self.rest = self.position.after(self.rest), b""
         return lines
 
     def go_on(self) -> None:
@@ -139,9 +139,9 @@ class Follower:
             return None
         paths = files_of(self.path)
         there = [(path, inode) for path in paths if (inode := inode_of(path))]
-        places = [number for number, (_, inode) in enumerate(there) if inode == own]
-        if places:
-            later = there[places[0] + 1:]
+        indices = [number for number, (_, inode) in enumerate(there) if inode == own]
+        if indices:
+            later = there[indices[0] + 1:]
         else:
             # this file was compressed or removed: those that existed before it are not read again
             later = [(path, inode) for path, inode in there if inode not in self.older]
@@ -160,7 +160,7 @@ class Follower:
         self.file, self.rest, self.seen_next = file, b"", None
         paths = files_of(self.path)
         self.older = inodes(paths[:paths.index(path)] if path in paths else [])
-        self.place = Place(os.fstat(file).st_ino, 0, b"")
+        self.position = Position(os.fstat(file).st_ino, 0, b"")
         return True
 
     def close(self) -> None:
@@ -195,32 +195,32 @@ def files_of(path: str) -> list[str]:
     return [*(path + end for end in dated), *(f"{path}.{number}" for number in numbers), path]
 
 
-def place_at(file: int, offset: int) -> Place:
-    """The place after so many bytes of an open file."""
+def position_at(file: int, offset: int) -> Position:
+    """The position after so many bytes of an open file."""
     start = max(0, offset - MAX_LAST)
-    return Place(os.fstat(file).st_ino, offset, os.pread(file, offset - start, start))
+    return Position(os.fstat(file).st_ino, offset, os.pread(file, offset - start, start))
 
 
-def end_of(path: str, before: int = 0) -> Place | None:
-    """The place at the end of the file at this path, or so many bytes before it; None if the file cannot be read. It
+def end_of(path: str, before: int = 0) -> Position | None:
+    """The position at the end of the file at this path, or so many bytes before it; None if the file cannot be read. It
     may grow meanwhile."""
     try:
         file = open_regular(path)
     except OSError:
         return None
     try:
-        return place_at(file, max(0, os.lseek(file, 0, os.SEEK_END) - before))
+        return position_at(file, max(0, os.lseek(file, 0, os.SEEK_END) - before))
     finally:
         os.close(file)
 
 
-def end_of_lines(file: int) -> Place:
-    """The place after the last whole line of an open file. If no line ends there, it is the beginning of the file, or
-    the end of a long one."""
+def end_of_lines(file: int) -> Position:
+    """The position after the last whole line of an open file. If no line ends there, it is the beginning of the file,
+    or the end of a long one."""
     size = os.fstat(file).st_size
     start = max(0, size - MAX_READ)
     end = os.pread(file, size - start, start).rfind(b"\n") + 1
-    return place_at(file, start + end if end or not start else size)
+    return position_at(file, start + end if end or not start else size)
 
 
 def inode_of(path: str) -> int:

@@ -1,13 +1,12 @@
-"""Tests of the table of entities: its lines, and the places and events of telegrams."""
+"""Tests of the table of entities: its lines, and the subtopics and events of telegrams."""
 from __future__ import annotations
 
 import pathlib
 import tempfile
 import unittest
 
-from enogate_mqtt.discovery import KINDS
-from enogate_mqtt.entities import AUTO, GREATEST_CHANNEL, Table, WrongTable, row_of
-from enogate_mqtt.lines import Reading, Telegram
+from enogate_lines.contents import Reading, Telegram
+from enogate_lines.entities import AUTO, GREATEST_CHANNEL, Table, WrongTable, entity_row_of
 
 TABLE = Table()
 
@@ -48,19 +47,19 @@ class Lines(unittest.TestCase):
     """The lines of the table."""
 
     def test_a_line(self):
-        found = row_of('D2-01-1? MV kWh MV_kWh IO?2 sensor "All energy" class=energy unit=kWh diagnostic')
+        found = entity_row_of('D2-01-1? MV kWh MV_kWh IO?2 sensor "All energy" class=energy unit=kWh diagnostic')
         self.assertEqual((found.profiles, found.reading, found.unit, found.topic), ("D2-01-1?", "MV", "kWh", "MV_kWh"))
         self.assertEqual((found.by, found.count, found.from_the_start), ("IO", 2, False))
         self.assertEqual((found.entity, found.name), ("sensor", "All energy"))
         self.assertEqual(found.more, {"class": "energy", "unit": "kWh", "diagnostic": ""})
 
     def test_a_line_with_nothing_but_its_reading(self):
-        found = row_of("D2-01-?? UN - - - - -")
+        found = entity_row_of("D2-01-?? UN - - - - -")
         self.assertEqual((found.unit, found.topic, found.by, found.count), ("", "", "", 0))
         self.assertEqual((found.entity, found.name, found.more), ("", "", {}))
 
     def test_channels_from_the_start(self):
-        found = row_of("D2-01-0? OV % OV IO:1 switch -")
+        found = entity_row_of("D2-01-0? OV % OV IO:1 switch -")
         self.assertEqual((found.by, found.count, found.from_the_start), ("IO", 1, True))
 
     def test_a_wrong_line(self):
@@ -71,7 +70,7 @@ class Lines(unittest.TestCase):
                      "A5-02-?? TMP C TMP - sensor T cyclic", "A5-02-?? TMP C TMP - sensor T cyclic=0",
                      "A5-02-?? TMP C TMP - sensor T cyclic=1h", "A5-02-?? TMP C TMP TI:x sensor Temperature"]:
             with self.assertRaises(WrongTable, msg=line):
-                row_of(line)
+                entity_row_of(line)
 
     def test_comments_and_blank_lines(self):
         table = table_of("# a comment\n\n  \nD5-00-01 CO - CO - binary_sensor Contact on=open off=closed\n# another\n")
@@ -87,9 +86,6 @@ class Lines(unittest.TestCase):
 
     def test_the_rows_of_a_profile_are_kept(self):
         self.assertIs(TABLE.of_profile("D2-01-12"), TABLE.of_profile("D2-01-12"))
-
-    def test_each_kind_is_known(self):
-        self.assertEqual({found.entity for found in TABLE.rows}, {*KINDS, ""})
 
     def test_rows_of_one_and_of_two_channels_are_alike(self):
         one, two = TABLE.of_profile("D2-01-00"), TABLE.of_profile("D2-01-12")
@@ -172,12 +168,12 @@ class Lines(unittest.TestCase):
 
 
 class Entities(unittest.TestCase):
-    """The places, names and numbers of entities."""
+    """The subtopics, names and numbers of entities."""
 
-    def test_places(self):
-        self.assertEqual(row("A5-06-01", "ILL2", "lx").place(None), "ILL")
-        self.assertEqual(row("D2-01-12", "OV", "%").place(0), "OV/0")
-        self.assertEqual(row("A5-12-01", "MR", "kWh").place(15), "MR_kWh/15")
+    def test_subtopics(self):
+        self.assertEqual(row("A5-06-01", "ILL2", "lx").subtopic(None), "ILL")
+        self.assertEqual(row("D2-01-12", "OV", "%").subtopic(0), "OV/0")
+        self.assertEqual(row("A5-12-01", "MR", "kWh").subtopic(15), "MR_kWh/15")
 
     def test_titles(self):
         for eep, reading, unit, number, title in [
@@ -210,7 +206,7 @@ class Entities(unittest.TestCase):
         found = row("A5-12-01", "MR", "kWh")
         self.assertEqual(found.numbers(["MR_kWh/9", "MR_kWh/10", "MR_kWh/2", "MR_W/5", "MR_kWh"]), [0, 2, 9, 10])
 
-    def test_a_place_that_is_no_number(self):
+    def test_a_subtopic_that_is_no_number(self):
         found = row("A5-12-01", "MR", "kWh")
         for end in ["", "x", "-1", "01", "100", "1/2", "1 ", "\u0661"]:
             self.assertEqual(found.numbers([f"MR_kWh/{end}", "5"]), [0], end)
@@ -243,7 +239,7 @@ class Readings(unittest.TestCase):
         ]:
             self.assertIsNone(TABLE.of_reading(eep, reading), reading)
 
-    def test_places_of_readings(self):
+    def test_subtopics_of_readings(self):
         for eep, readings, reported in [
             ("D5-00-01", [word("CO", "closed")], {"CO": "closed"}),
             ("A5-06-01", [value("SVC", "5.1", "V"), value("ILL2", "300", "lx")],
@@ -272,17 +268,17 @@ class Readings(unittest.TestCase):
         self.assertEqual(TABLE.reported_by(telegram("D5-00-01", dbm=0)), {"dbm": "0"})
         self.assertEqual(TABLE.reported_by(telegram("D5-00-01")), {})
 
-    def test_tells_each_place_that_is_told(self):
+    def test_reports_each_subtopic_that_is_reported(self):
         for one in [telegram("D2-01-12", *state(1), dbm=-45), telegram("D5-00-01", word("CO", "open"), dbm=-45),
                     telegram("D2-01-12", raw("IO", 31), value("MV", "1", "kWh")),
                     telegram("A5-12-01", value("MR", "7", "W"), raw("TI", 15)),
                     telegram("A5-06-01", value("ILL1", "1", "lx")),
                     telegram("F6-02-01", word("R1", "AI"), word("EB", "pressed"))]:
-            for place in TABLE.reported_by(one):
-                self.assertTrue(TABLE.reports(one.eep, place), (one.eep, place))
+            for subtopic in TABLE.reported_by(one):
+                self.assertTrue(TABLE.reports(one.eep, subtopic), (one.eep, subtopic))
 
-    def test_tells_nothing_else(self):
-        for eep, place in [
+    def test_reports_nothing_else(self):
+        for eep, subtopic in [
             ("A5-02-05", "nonsense"), ("A5-02-05", ""), ("A5-02-05", "TMP/0"), ("A5-02-05", "TMP/"),
             ("A5-02-05", "dbm/0"), ("A5-02-05", "5"), ("D5-00-01", "TMP"), ("D2-01-12", "OV/"),
             ("D2-01-12", "OV/x"), ("D2-01-12", "OV/100"), ("D2-01-12", "OV/01"), ("D2-01-12", "OV/0/0"),
@@ -290,7 +286,7 @@ class Readings(unittest.TestCase):
             ("D2-01-12", "nonsense/0"), ("D2-01-12", "/0"), ("D2-01-12", "IO/0"), ("F6-02-01", "press"),
             ("A5-FF-FF", "TMP"),
         ]:
-            self.assertFalse(TABLE.reports(eep, place), (eep, place))
+            self.assertFalse(TABLE.reports(eep, subtopic), (eep, subtopic))
 
 
 class Events(unittest.TestCase):

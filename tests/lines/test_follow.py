@@ -1,11 +1,20 @@
 """Following the lines across rotation."""
-import logging
+import faulthandler
 import os
+import pathlib
+import tempfile
 import unittest
 from unittest import mock
 
-from enogate_mqtt.follow import MAX_READ, NOWHERE, Follower, Place, end_of, files_of
-from fakes import Case, Site
+from enogate_lines.follow import MAX_READ, NOWHERE, Follower, Position, end_of, files_of
+
+# How long these tests may take, in seconds. One that waits for a pipe ends the run, which fails.
+LONGEST = 120
+
+
+def setUpModule():
+    faulthandler.dump_traceback_later(LONGEST, exit=True)
+    unittest.addModuleCleanup(faulthandler.cancel_dump_traceback_later)
 
 
 class Counted:
@@ -25,17 +34,21 @@ class Counted:
         return call
 
 
-class Following(Case):
+class Following(unittest.TestCase):
     def setUp(self):
-        super().setUp()
-        self.path = Site(self).lines
+        self.path = pathlib.Path(self.enterContext(tempfile.TemporaryDirectory()), "hall.lines")
+        self.path.touch()
+        self.logged = []
+
+    def assert_logged(self, text):
+        self.assertEqual([text in line for line in self.logged].count(True), 1, self.logged)
 
     def write(self, text, path=None):
         with (path or self.path).open("a") as file:
             file.write(text)
 
-    def follower(self, place=None):
-        return Follower(str(self.path), place, logging.warning)
+    def follower(self, position=None):
+        return Follower(str(self.path), position, self.logged.append)
 
     def read(self, follower, turns=8):
         return [line.decode() for _ in range(turns) for line, _ in follower.read()]
@@ -56,22 +69,22 @@ class Following(Case):
         self.write("c\n\nd\n")
         self.assertEqual(self.read(follower), ["bc", "", "d"])
 
-    def test_places(self):
+    def test_positions(self):
         follower = self.follower()
         self.write("one\ntwo\nthr")
         (_, first), (_, second) = follower.read()
         inode = self.path.stat().st_ino
-        self.assertEqual((first, second, follower.place),
-                         (Place(inode, 0, b""), Place(inode, 4, b"one\n"), Place(inode, 8, b"one\ntwo\n")))
+        self.assertEqual((first, second, follower.position),
+                         (Position(inode, 0, b""), Position(inode, 4, b"one\n"), Position(inode, 8, b"one\ntwo\n")))
         again = self.follower(second)
         self.write("ee\n")
         self.assertEqual(self.read(again), ["two", "three"])
 
-    def test_a_place_has_64_bytes(self):
+    def test_a_position_has_64_bytes(self):
         self.write("x" * 100 + "\n")
         follower = self.follower()
         self.read(follower)
-        self.assertEqual(follower.place.last, b"x" * 63 + b"\n")
+        self.assertEqual(follower.position.last, b"x" * 63 + b"\n")
 
     def test_no_file(self):
         self.path.unlink()
@@ -129,10 +142,10 @@ class Following(Case):
     def test_rotation_while_it_is_stopped(self):
         follower = self.follower()
         self.write("a\nb\n")
-        (_, _), (_, place) = follower.read()
+        (_, _), (_, position) = follower.read()
         self.rotate(ahead=3600)
         self.write("c\n")
-        self.assertEqual(self.read(self.follower(place)), ["b", "c"])
+        self.assertEqual(self.read(self.follower(position)), ["b", "c"])
         self.assertEqual(self.logged, [])
 
     def test_an_old_file_that_is_compressed(self):
@@ -153,10 +166,10 @@ class Following(Case):
         self.write("old\n")
         self.rotate(".2")
         self.write("a\nb\n")
-        place = self.follower().read()[1][1]
+        position = self.follower().read()[1][1]
         compressed = self.rotate()
         self.write("c\n")
-        follower = self.follower(place)
+        follower = self.follower(position)
         compressed.unlink()
         self.assertEqual(self.read(follower), ["b", "c"])
 
@@ -172,15 +185,15 @@ class Following(Case):
         self.write("a\n")
         follower = self.follower()
         follower.read()
-        place = follower.place
+        position = follower.position
         self.path.unlink()
         self.write("b\n")
-        self.assertEqual(self.read(self.follower(Place(place.inode + 1, 2, b"a\n"))), ["b"])
+        self.assertEqual(self.read(self.follower(Position(position.inode + 1, 2, b"a\n"))), ["b"])
         self.assert_logged("previous file not found, reading from the beginning")
 
     def test_another_file_with_the_same_inode(self):
         self.write("x\nb\n")
-        self.assertEqual(self.read(self.follower(Place(self.path.stat().st_ino, 2, b"a\n"))), ["x", "b"])
+        self.assertEqual(self.read(self.follower(Position(self.path.stat().st_ino, 2, b"a\n"))), ["x", "b"])
         self.assert_logged("previous file not found")
 
     def test_a_file_that_has_lost_its_end_in_a_power_failure(self):
@@ -192,9 +205,9 @@ class Following(Case):
                 follower = self.follower()
                 self.read(follower)
                 self.path.write_bytes(left)
-                again = Follower(str(self.path), follower.place, logging.warning, is_same_boot=False)
+                again = Follower(str(self.path), follower.position, self.logged.append, is_same_boot=False)
                 self.assertTrue(again.is_found)
-                self.assertEqual(again.place.offset, left.rfind(b"\n") + 1)
+                self.assertEqual(again.position.offset, left.rfind(b"\n") + 1)
                 self.assertEqual(self.read(again), [])
                 os.truncate(self.path, len(left.rstrip(b"\0")))
                 self.write("\nfour\n")
@@ -208,25 +221,25 @@ class Following(Case):
         self.read(follower)
         os.truncate(self.rotate(), 4)
         self.write("three\n")
-        again = Follower(str(self.path), follower.place, logging.warning, is_same_boot=False)
+        again = Follower(str(self.path), follower.position, self.logged.append, is_same_boot=False)
         self.assertEqual(self.read(again), ["three"])
 
-    def test_a_place_that_is_found_after_a_power_failure(self):
+    def test_a_position_that_is_found_after_a_power_failure(self):
         self.write("one\ntwo\n")
-        place = self.follower().read()[1][1]
-        again = Follower(str(self.path), place, logging.warning, is_same_boot=False)
+        position = self.follower().read()[1][1]
+        again = Follower(str(self.path), position, self.logged.append, is_same_boot=False)
         self.assertEqual((again.is_found, self.read(again), self.logged), (True, ["two"], []))
 
-    def test_whether_the_place_is_found(self):
+    def test_whether_the_position_is_found(self):
         self.write("one\ntwo\n")
-        place = self.follower().read()[1][1]
-        self.assertTrue(self.follower(place).is_found)
+        position = self.follower().read()[1][1]
+        self.assertTrue(self.follower(position).is_found)
         self.assertFalse(self.follower().is_found)
         self.path.write_text("one")
-        self.assertFalse(self.follower(place).is_found)
+        self.assertFalse(self.follower(position).is_found)
         self.path.unlink()
-        gone = Follower(str(self.path), place, logging.warning, is_same_boot=False)
-        self.assertEqual((gone.is_found, gone.place), (False, NOWHERE))
+        gone = Follower(str(self.path), position, self.logged.append, is_same_boot=False)
+        self.assertEqual((gone.is_found, gone.position), (False, NOWHERE))
 
     def test_a_file_that_is_truncated(self):
         """What is left of it is not read again."""
@@ -260,7 +273,7 @@ class Following(Case):
         self.read(follower)
         size = 2 + 2 * MAX_READ
         os.truncate(self.path, size)
-        self.assertEqual((self.read(follower), follower.place.offset), ([], size))
+        self.assertEqual((self.read(follower), follower.position.offset), ([], size))
         self.write("x\nb\n")
         self.assertEqual(self.read(follower), ["x", "b"])
 
@@ -294,16 +307,16 @@ class Following(Case):
         self.assertEqual(self.read(follower), [])
         self.write("lf\nnew\n")
         self.assertEqual(self.read(follower), ["half", "new"])
-        self.assertEqual(self.logged, [f"WARNING: {self.path}: can be read now, continuing at its end"])
+        self.assertEqual(self.logged, [f"{self.path}: can be read now, continuing at its end"])
 
     def test_a_link_a_pipe_or_a_folder_in_place_of_a_rotated_file(self):
         other = self.path.with_name("other")
         other.write_text("x\n")
         self.write("a\nb\n")
-        place = self.follower().read()[1][1]
+        position = self.follower().read()[1][1]
         for end, make in ((".4", lambda path: path.symlink_to(other)), (".3", os.mkfifo), (".1", os.mkdir)):
             make(self.path.with_name(self.path.name + end))
-        follower = self.follower(place)
+        follower = self.follower(position)
         self.assertEqual(self.read(follower), ["b"])
         self.rotate(".2")
         self.write("c\n")
@@ -315,7 +328,7 @@ class Following(Case):
         follower = self.follower()
         self.read(follower)
         calls = []
-        with mock.patch("enogate_mqtt.follow.os", Counted(calls)):
+        with mock.patch("enogate_lines.follow.os", Counted(calls)):
             for _ in range(3):
                 follower.read()
         self.assertEqual(len(calls) / 3, 4, calls)
@@ -365,14 +378,14 @@ class Following(Case):
             found += self.read(follower, 1)
         self.assertEqual(found + self.read(follower), ["b", "c", "d"])
 
-    def test_an_old_place_and_a_broken_link(self):
+    def test_an_old_position_and_a_broken_link(self):
         self.write("a\nb\n")
         follower = self.follower()
-        place = follower.read()[1][1]
+        position = follower.read()[1][1]
         self.rotate()
         (self.path.parent / "hall.lines.2").symlink_to("nowhere")
         self.write("c\n")
-        self.assertEqual(self.read(self.follower(place)), ["b", "c"])
+        self.assertEqual(self.read(self.follower(position)), ["b", "c"])
 
     def test_a_folder_with_a_pattern_in_its_name(self):
         folder = self.path.parent / "a[b]"
@@ -381,11 +394,11 @@ class Following(Case):
         follower = self.follower()
         self.write("a\n")
         self.read(follower)
-        place = follower.place
+        position = follower.position
         self.write("b\n", self.rotate())
         self.write("c\n")
         self.assertEqual(self.read(follower), ["b", "c"])
-        self.assertEqual(self.read(self.follower(place)), ["b", "c"])
+        self.assertEqual(self.read(self.follower(position)), ["b", "c"])
         self.assertEqual(self.logged, [])
 
     def test_files_are_closed(self):
@@ -404,10 +417,10 @@ class Following(Case):
     def test_the_end_of_a_file(self):
         for text in ("", "a\n", "x" * 100 + "\nhalf"):
             self.path.write_text(text)
-            place = end_of(str(self.path))
-            self.assertEqual(place, Place(self.path.stat().st_ino, len(text), text[-64:].encode()))
+            position = end_of(str(self.path))
+            self.assertEqual(position, Position(self.path.stat().st_ino, len(text), text[-64:].encode()))
             self.write("b\n")
-            self.assertEqual(self.read(self.follower(place)), ["b"])
+            self.assertEqual(self.read(self.follower(position)), ["b"])
         self.path.unlink()
         self.assertIsNone(end_of(str(self.path)))
 
@@ -420,10 +433,10 @@ class Following(Case):
             return real(*arguments)
         for old in ("", "a\n", "x" * 100 + "\n"):
             self.path.write_text(old)
-            with mock.patch("enogate_mqtt.follow.os.pread", grows):
-                place = end_of(str(self.path))
-            self.assertEqual((place.offset, place.last), (len(old), old[-64:].encode()))
-            self.assertEqual(self.read(self.follower(place)), ["new"])
+            with mock.patch("enogate_lines.follow.os.pread", grows):
+                position = end_of(str(self.path))
+            self.assertEqual((position.offset, position.last), (len(old), old[-64:].encode()))
+            self.assertEqual(self.read(self.follower(position)), ["new"])
         self.assertEqual(self.logged, [])
 
     def test_the_names_of_rotated_files(self):

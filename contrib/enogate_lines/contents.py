@@ -1,4 +1,4 @@
-"""The contents of the gateway's lines, as far as the bridge and enogatectl use them."""
+"""The contents of the gateway's lines, as far as programs use them: parses a line, and checks each field's bounds."""
 from __future__ import annotations
 
 import json
@@ -80,12 +80,12 @@ class Response(NamedTuple):
     data: str
 
 
-class Answer(NamedTuple):
-    """An order was carried out or refused; a packet that failed gives the same error."""
+class OkOrError(NamedTuple):
+    """An order was carried out, or refused; a packet that failed gives the same error."""
 
 
 class Other(NamedTuple):
-    """A line that the bridge only passes on."""
+    """A line with other contents."""
 
 
 class Strange(NamedTuple):
@@ -93,7 +93,7 @@ class Strange(NamedTuple):
     complaint: str
 
 
-Content = Telegram | Learned | Deleted | Listed | EndOfList | Status | Response | Answer | Other | Strange
+Content = Telegram | Learned | Deleted | Listed | EndOfList | Status | Response | OkOrError | Other | Strange
 COUNTERS = ("ignored", "readings", "refused", "responses", "teach")
 
 
@@ -139,7 +139,7 @@ def content_by_type(kind: str, members: dict[str, object]) -> Content:
         case "response", _:
             return Response(number(members["code"], 0, MAX_BYTE), text(members["data"], "(?:[0-9A-F]{2})*"))
         case "ok" | "error", _:
-            return Answer()
+            return OkOrError()
     return Other()
 
 

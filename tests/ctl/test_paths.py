@@ -6,7 +6,7 @@ import tempfile
 import unittest
 from unittest import mock
 
-from enogate_ctl.places import NAME, NoName, Places, Unreadable, paths, places_of
+from enogate_ctl.paths import NAME, NoName, Paths, Unreadable, all_paths, paths_of
 from enogate_tools import check
 from fakes import Limited
 
@@ -15,30 +15,30 @@ CONTRIB = pathlib.Path(__file__).parents[2] / "contrib"
 
 class Names(Limited):
     def test_files(self):
-        self.assertEqual(places_of("an-attic_2"), Places("/run/enogate/an-attic_2/desk",
+        self.assertEqual(paths_of("an-attic_2"), Paths("/run/enogate/an-attic_2/desk",
                          "/var/log/enogate/an-attic_2.lines", "/var/lib/enogate-mqtt/an-attic_2.db"))
-        self.assertEqual(places_of("hall", "/x").desk, "/x/run/enogate/hall/desk")
+        self.assertEqual(paths_of("hall", "/x").desk, "/x/run/enogate/hall/desk")
 
     def test_they_are_those_of_the_units(self):
         words = {"%t": "/run", "%L": "/var/log", "%S": "/var/lib", "%i": "hall"}
         text = "".join((CONTRIB / f"{unit}@.service").read_text() for unit in ("enogate", "enogate-mqtt"))
         text = re.sub("%[tLSi]", lambda found: words[found[0]], text)
-        for path in places_of("hall"):
+        for path in paths_of("hall"):
             self.assertIn(f" {path}", text)
 
     def test_names(self):
         for name in ("", "a/b", "../x", "mqtt", "mqtt-hall", "hall\n", "h ll", "ö", "hall.", "-", "enogate"):
             with self.subTest(name):
                 if name in ("-", "enogate"):
-                    places_of(name)
+                    paths_of(name)
                 else:
-                    self.assertRaisesRegex(NoName, "is not the name of a gateway: use letters", places_of, name)
+                    self.assertRaisesRegex(NoName, "is not the name of a gateway: use letters", paths_of, name)
 
     def test_the_names_are_those_of_enogate_check(self):
         self.assertEqual(NAME.pattern, check.NAME.pattern)
 
 
-class Paths(Limited):
+class AllPaths(Limited):
     """The files of all gateways, below a directory."""
 
     maxDiff = None
@@ -48,20 +48,20 @@ class Paths(Limited):
         self.settings, self.running = self.root / "etc/default", self.root / "run/enogate"
 
     def names(self):
-        return list(paths(str(self.root)))
+        return list(all_paths(str(self.root)))
 
     def test_nothing(self):
-        self.assertEqual(paths(str(self.root)), {})
+        self.assertEqual(all_paths(str(self.root)), {})
         self.settings.mkdir(parents=True)
         self.running.mkdir(parents=True)
-        self.assertEqual(paths(str(self.root)), {})
+        self.assertEqual(all_paths(str(self.root)), {})
 
     def test_files(self):
         """One gateway is configured and was never started, one runs without settings of its own."""
         self.settings.mkdir(parents=True)
         (self.settings / "enogate-attic").touch()
         (self.running / "hall").mkdir(parents=True)
-        self.assertEqual(paths(str(self.root)), {
+        self.assertEqual(all_paths(str(self.root)), {
             name: {"desk": f"{self.root}/run/enogate/{name}/desk", "lines": f"{self.root}/var/log/enogate/{name}.lines",
                    "settings": f"{self.root}/etc/default/enogate-{name}"} for name in ("attic", "hall")})
 
@@ -92,13 +92,13 @@ class Paths(Limited):
         self.assertIn("\nRuntimeDirectory=enogate/%i\n", unit)
         self.assertIn("\nEnvironmentFile=-/etc/default/enogate-%i\n", unit)
         with mock.patch.object(os, "listdir", return_value=[]) as listed:
-            paths()
+            all_paths()
         self.assertEqual([call.args for call in listed.call_args_list], [("/etc/default",), ("/run/enogate",)])
 
     def test_a_directory_that_cannot_be_read(self):
         with mock.patch.object(os, "listdir", side_effect=PermissionError(13, "Permission denied")):
             with self.assertRaisesRegex(Unreadable, "^/x/etc/default cannot be read: Permission denied; become root"):
-                paths("/x")
+                all_paths("/x")
 
 
 if __name__ == "__main__":

@@ -1,0 +1,39 @@
+"""Which packages of contrib/ import which others. All of their `import` lines count, also those in functions."""
+import ast
+import pathlib
+import unittest
+
+CONTRIB = pathlib.Path(__file__).parents[2] / "contrib"
+# Of the bridge, the command imports a single module.
+EDGES = {
+    ("enogate_lines", "enogate_tools"),
+    ("enogate_mqtt", "enogate_lines"), ("enogate_mqtt", "enogate_tools"),
+    ("enogate_ctl", "enogate_lines"), ("enogate_ctl", "enogate_tools"), ("enogate_ctl", "enogate_mqtt.state"),
+}
+
+
+def imported(path):
+    """The modules that a file imports by their full names."""
+    for node in ast.walk(ast.parse(path.read_text("utf-8"))):
+        if isinstance(node, ast.Import):
+            yield from (name.name for name in node.names)
+        elif isinstance(node, ast.ImportFrom) and not node.level:
+            # each name may be that of a module
+            yield from (f"{node.module}.{name.name}" for name in node.names)
+
+
+def edge(package, module):
+    """A package and the package that it imports; of the bridge, the module."""
+    parts = module.split(".")
+    return package, ".".join(parts[:2] if parts[0] == "enogate_mqtt" else parts[:1])
+
+
+class Packages(unittest.TestCase):
+    def test_edges(self):
+        found = {edge(path.parent.name, module) for path in CONTRIB.glob("enogate_*/*.py") for module in imported(path)
+                 if module.startswith("enogate_") and not module.startswith(f"{path.parent.name}.")}
+        self.assertEqual(found, EDGES)
+
+
+if __name__ == "__main__":
+    unittest.main()
