@@ -32,6 +32,7 @@ from typing import NamedTuple
 
 from enogate_lines.contents import BadLine, Content, Deleted, EndOfList, Learned, Listed, Status, Strange
 from enogate_lines.contents import content_of_members, members_of
+from enogate_tools import share
 
 # A fence, and the last fence of a text, which shows where the text ends. The gateway removes one CR before LF.
 FENCE, LAST_FENCE = b"status\n", b"status\r\n"
@@ -39,15 +40,8 @@ FENCE, LAST_FENCE = b"status\n", b"status\r\n"
 LEAST = 2
 # The errors that packets have, too.
 SHARED = frozenset({"memory", "store"})
-# The errors that each order can have (docs/guide/orders.md).
-OF_DEVICE = frozenset({"range", "unknown_device"}) | SHARED
-OF_ACTUATOR = OF_DEVICE | {"wrong_profile"}
-REFUSALS = {
-    "learn": frozenset({"unsupported_profile"}), "add": frozenset({"range", "unsupported_profile", "full"}) | SHARED,
-    "remove": OF_DEVICE, "label": OF_DEVICE, "list": SHARED, "status": frozenset({"memory"}), "base": frozenset(),
-    "switch": OF_ACTUATOR, "dim": OF_ACTUATOR, "query": OF_ACTUATOR, "meter": OF_ACTUATOR, "blind": OF_ACTUATOR,
-    "stop": OF_ACTUATOR, "central": frozenset({"range"}), "level": frozenset({"range"}), "teach": frozenset({"range"}),
-}
+# The errors that each order can have, by its first word.
+ERRORS = {verb: frozenset().union(*(errors for _, errors in forms)) for verb, forms in share.orders().items()}
 
 
 class Line(NamedTuple):
@@ -230,7 +224,7 @@ class Order:
     def fits(self, line: Line) -> bool:
         """Whether this line can answer the order, which is not `list`; or whether it is an error that it can have."""
         if line.kind == "error":
-            return line.error in REFUSALS[self.verb]
+            return line.error in ERRORS[self.verb]
         match self.verb, line.content:
             case "add", Learned(device, eep, maker):
                 return (device, eep, maker) == (self.words[1].upper(), self.words[2].upper(), None)

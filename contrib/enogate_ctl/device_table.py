@@ -6,6 +6,7 @@ from datetime import datetime
 
 from enogate_lines.contents import Listed
 from enogate_lines.entities import Table
+from enogate_tools import share
 
 from . import recent, words
 from .paths import Paths
@@ -26,6 +27,6 @@ def device_table(listed: Iterable[Listed], paths: Paths, now: datetime) -> str:
         shown = readings(telegram, names) if telegram and is_current else ""
         signal = f"{telegram.dbm} dBm" if telegram and telegram.dbm is not None else ""
         age = words.age((now - time).total_seconds()) if time else ""
-        row = (device.label, device.device, device.eep, words.profile(device.eep), shown, signal, age)
+        row = (device.label, device.device, device.eep, share.kind(device.eep), shown, signal, age)
         rows.append(tuple(words.printable(cell) for cell in row))
     return table(rows) if len(rows) > 1 else "no device is learned"

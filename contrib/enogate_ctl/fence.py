@@ -20,13 +20,13 @@ import re
 
 from enogate_tools.desk import INVALID_END
 
-from .answers import LEAST, REFUSALS, SHARED
+from .answers import ERRORS, LEAST, SHARED
 
 # The maximum number of fences before an order. With them, one order and its last fence fit in one read of the desk.
 MAX_FENCES = 24
 TEXT_END = re.compile(rb"^status\n(?!status\n)[^\r\n]+\nstatus\r\n", re.MULTILINE)
 # The orders that cannot fail with `memory` or `store`.
-SURE = frozenset(verb.encode() for verb, errors in REFUSALS.items() if not errors & SHARED)
+SURE = frozenset(verb.encode() for verb, errors in ERRORS.items() if not errors & SHARED)
 
 
 def needed(desk: bytes, with_errors: bool = False) -> int:

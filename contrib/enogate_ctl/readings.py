@@ -6,20 +6,17 @@ from decimal import Decimal
 from enogate_lines.contents import Reading, Telegram
 from enogate_lines.entities import Table
 
-# The kinds of entities whose name is not that of a reading: those of events, and those of the channels of actuators.
-NAMELESS = ("event", "switch", "light")
-
 
 def readings(telegram: Telegram, table: Table) -> str:
-    """The readings of a telegram without those that are only for diagnosis."""
-    shown = [item for item in telegram.readings if is_shown(item, telegram.eep, table)] or telegram.readings
+    """The readings of a telegram without details; all of them, if none is more than a detail."""
+    shown = [item for item in telegram.readings if not is_detail(item, telegram.eep, table)] or telegram.readings
     return ", ".join(channel(item, telegram, table) + reading(item, telegram.eep, table) for item in shown)
 
 
-def is_shown(item: Reading, eep: str, table: Table) -> bool:
-    """Whether the table has an entity for a reading, and not only one for diagnosis."""
+def is_detail(item: Reading, eep: str, table: Table) -> bool:
+    """Whether people need not see this reading, if the device has others."""
     row = table.of_reading(eep, item)
-    return row is not None and row.entity != "" and not {"diagnostic", "hidden"} & row.more.keys()
+    return row is not None and row.is_detail(item.text)
 
 
 def channel(item: Reading, telegram: Telegram, table: Table) -> str:
@@ -33,7 +30,7 @@ def reading(item: Reading, eep: str, table: Table) -> str:
     """A reading with its name, at most two decimals, and its unit."""
     row = table.of_reading(eep, item)
     unit = row.more.get("unit", item.unit) if row and item.unit else item.unit
-    name = row.name if row and row.name and row.entity not in NAMELESS else item.name
+    name = row.said if row else item.name
     return " ".join(filter(None, (name, rounded(item.text) if item.unit else item.text, unit)))
 
 

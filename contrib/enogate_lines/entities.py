@@ -1,18 +1,19 @@
-"""The table `entities` next to this file: which entity of Home Assistant shows a reading."""
+"""The table `entities` (enogate_tools.share): which entity of Home Assistant shows a reading."""
 from __future__ import annotations
 
 import fnmatch
-import pathlib
 import re
 import shlex
 from collections.abc import Iterable
 from dataclasses import dataclass, field
 
+from enogate_tools import share
+
 from .contents import Reading, Telegram
 
-TABLE = pathlib.Path(__file__).with_name("entities")
 # The words that configure an entity.
-KEYS = {"class", "state", "unit", "digits", "on", "off", "options", "types", "diagnostic", "hidden", "cyclic"}
+KEYS = {"class", "state", "unit", "digits", "on", "off", "options", "types", "diagnostic", "hidden", "cyclic", "say",
+        "normal", "detail"}
 # the highest channel that accepts orders, by the kind of entity, and the number that means all channels in a query
 GREATEST_CHANNEL, ALL_CHANNELS = {"switch": 29, "light": 29, "cover": 0}, 30
 # A setting in place of a number of seconds: a cyclic reading expires after so many of its own intervals, because two
@@ -60,6 +61,15 @@ class EntityRow:
         return INTERVALS * int(self.more["cyclic"]) if seconds == AUTO else seconds
 
     @property
+    def said(self) -> str:
+        """The name of the reading for people."""
+        return self.more.get("say") or self.name or self.reading
+
+    def is_detail(self, text: str) -> bool:
+        """Whether people need not see the reading with this value, if the device has others."""
+        return not self.entity or bool({"hidden", "detail"} & self.more.keys()) or text in self.words("normal")
+
+    @property
     def digits(self) -> int | None:
         """How many digits after the point are shown; None if the entity shows no number."""
         return int(self.more["digits"]) if "digits" in self.more else None
@@ -98,9 +108,8 @@ def entity_row_of(line: str) -> EntityRow:
 class Table:
     """The rows of the table."""
 
-    def __init__(self, path: pathlib.Path = TABLE):
-        lines = (line.strip() for line in path.read_text("utf-8").splitlines())
-        self.rows = [entity_row_of(line) for line in lines if line and not line.startswith("#")]
+    def __init__(self, path: str = "entities"):
+        self.rows = [entity_row_of(line) for line in share.rows(path)]
         self.found: dict[str, dict[tuple[str, str], EntityRow]] = {}
 
     def of_profile(self, eep: str) -> dict[tuple[str, str], EntityRow]:

@@ -1,19 +1,16 @@
 """Home Assistant's MQTT discovery: one message for each entity, and one for each device trigger."""
 from __future__ import annotations
 
-import fnmatch
 import functools
 import json
-import pathlib
 from collections.abc import Callable, Collection, Iterable
 from typing import Any
 
 from enogate_lines.entities import EntityRow
+from enogate_tools import share
 
 from . import VERSION
 from .topics import Topics
-
-MANUFACTURERS = pathlib.Path(__file__).with_name("manufacturers")
 
 Config = dict[str, Any]
 # Entities by their component of Home Assistant and their name, which is unique for the gateway.
@@ -22,28 +19,6 @@ Entities = dict[tuple[str, str], Config]
 # The names of the table's keys in a message.
 NAMES = {"class": "device_class", "state": "state_class", "unit": "unit_of_measurement", "on": "payload_on",
          "off": "payload_off"}
-
-# The kinds of devices by profile: the first pattern that matches applies.
-MODELS = {
-    "F6-01-??": "Push button",
-    "F6-02-??": "Rocker switch, 2 rockers",
-    "F6-03-??": "Rocker switch, 4 rockers",
-    "D5-00-??": "Contact",
-    "A5-02-??": "Temperature sensor",
-    "A5-04-??": "Temperature and humidity sensor",
-    "A5-06-??": "Light sensor",
-    "A5-07-??": "Motion sensor",
-    "A5-08-??": "Light, temperature and motion sensor",
-    "A5-09-04": "Carbon dioxide, humidity and temperature sensor",
-    "A5-10-??": "Room operating panel",
-    "A5-12-01": "Electricity meter",
-    "A5-12-02": "Gas meter",
-    "A5-12-03": "Water meter",
-    "D2-01-0[23459]": "Dimmer, 1 channel",
-    "D2-01-0?": "Electronic switch, 1 channel",
-    "D2-01-1?": "Electronic switch, 2 channels",
-    "D2-05-00": "Blind control",
-}
 
 # The counters of the gateway, with the names of their entities.
 COUNTERS = {"readings": "Readings", "responses": "Module responses", "teach": "Teach-in telegrams",
@@ -100,8 +75,7 @@ def about_device(topics: Topics, device: str, eep: str, label: str, maker: int |
 
 def model(eep: str) -> str:
     """The kind of a device with this profile, and the profile."""
-    kinds = (kind for profiles, kind in MODELS.items() if fnmatch.fnmatchcase(eep, profiles))
-    kind = next(kinds, "")
+    kind = share.kind(eep)
     return f"{kind} ({eep})" if kind else eep
 
 
@@ -111,10 +85,8 @@ def manufacturer(maker: int) -> str:
 
 @functools.cache
 def manufacturers() -> dict[int, str]:
-    """The names in the table `manufacturers` next to this file."""
-    lines = MANUFACTURERS.read_text("utf-8").splitlines()
-    rows = (line.split("\t") for line in lines if line and not line.startswith("#"))
-    return {int(number, 16): name for number, name in rows}
+    """The names of manufacturers by their numbers."""
+    return {int(number, 16): name for number, name in (row.split("\t") for row in share.rows("manufacturers"))}
 
 
 def messages(topics: Topics, entities: Entities, shared: Config) -> dict[str, str]:

@@ -79,6 +79,8 @@ class Cockpit(Program):
         XDG_DATA_HOME names the folder of the page. Two variables keep the bridge from starting programs that stay."""
         pages = self.work / "share/cockpit/enogate"
         shutil.copytree(PAGE, pages, dirs_exist_ok=True)
+        with (pages / "tables.js").open("wb") as file:
+            subprocess.run([PAGE.with_name("tables")], stdout=file, check=True)
         with socket.socket() as free:
             free.bind(("127.0.0.1", 0))
             self.port = free.getsockname()[1]

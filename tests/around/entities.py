@@ -2,7 +2,7 @@
 reading of each profile has a line, each line is for a reading, with the words that the profile has for it, and Home
 Assistant knows what a line declares. It reads the table with code of its own.
 
-    tests/around/entities.py contrib/enogate_lines/entities
+    tests/around/entities.py contrib/share/entities
 """
 import fnmatch
 import shlex
@@ -23,7 +23,8 @@ CLASSES = {
     "sensor": {*SENSORS, None}, "binary_sensor": {"opening", "motion", "problem", None}, "event": {"button"},
     "switch": {None}, "light": {None}, "cover": {"blind"}, "-": {None},
 }
-KEYS = {"class", "state", "unit", "digits", "on", "off", "options", "types", "diagnostic", "hidden", "cyclic"}
+KEYS = {"class", "state", "unit", "digits", "on", "off", "options", "types", "diagnostic", "hidden", "cyclic", "say",
+        "normal", "detail"}
 
 # The units of values that only grow: meters and actuators count them. All other values go up and down.
 GROWING = {"Ws", "Wh", "kWh", "m3"}

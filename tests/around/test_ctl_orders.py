@@ -94,10 +94,10 @@ class Tables(CtlTest):
         self.stick.bring("01800A0F", "D2 046064")
         self.read_all(3)
         table = """\
-LABEL  ID        PROFILE   NAME                         LAST READINGS         SIGNAL
-Door   01800A01  D5-00-01  single contact               Contact closed        -45 dBm
-       01800A02  A5-02-05  temperature                  Temperature 20.08 °C  -45 dBm
-       01800A0F  D2-01-0F  electronic switch or dimmer  OV 100 %              -45 dBm
+LABEL  ID        PROFILE   NAME                          LAST READINGS         SIGNAL
+Door   01800A01  D5-00-01  Contact                       Contact closed        -45 dBm
+       01800A02  A5-02-05  Temperature sensor            Temperature 20.08 °C  -45 dBm
+       01800A0F  D2-01-0F  Electronic switch, 1 channel  Output 100 %          -45 dBm
 """
         # The lines have no label until they have a list.
         without_labels = "".join(row[len("LABEL  "):] for row in table.splitlines(True))

@@ -61,7 +61,7 @@ class Window(CtlTest):
     def test_what_is_taught_is_printed(self):
         process = self.open("on", "--for", "60")
         self.stick.bring("01800300", "D5 00")
-        self.assertEqual(process.stdout.readline(), "01800300 learned, D5-00-01 (single contact)\n")
+        self.assertEqual(process.stdout.readline(), "01800300 learned, D5-00-01 (Contact)\n")
         self.assertEqual(self.ctl("remove", "01800300").status, OK)
         self.assertEqual(process.stdout.readline(), "01800300 deleted\n")
         process.send_signal(signal.SIGINT)
@@ -71,10 +71,10 @@ class Window(CtlTest):
         """It ends when the gateway has closed it. The order `add` does not close it."""
         process = self.open("as", "F6-02-01", "--for", "60")
         self.assertEqual(self.ctl("add", "01800302", "F6-02-01").status, OK)
-        self.assertEqual(process.stdout.readline(), "01800302 learned, F6-02-01 (rocker switch, 2 rockers)\n")
+        self.assertEqual(process.stdout.readline(), "01800302 learned, F6-02-01 (Rocker switch, 2 rockers)\n")
         self.assertEqual(self.mode(), "as F6-02-01")
         self.stick.bring("01800303", "F6 50 30")
-        self.assert_run(self.end(process), OK, "01800303 learned, F6-02-01 (rocker switch, 2 rockers)\n" + CLOSED)
+        self.assert_run(self.end(process), OK, "01800303 learned, F6-02-01 (Rocker switch, 2 rockers)\n" + CLOSED)
 
     def test_json(self):
         process = self.begin("--json", "learn", "on", "--for", "60")

@@ -22,7 +22,7 @@ class Sources(unittest.TestCase):
         self.assertEqual((run.stdout, run.returncode), ("", 0))
 
     def test_the_table_of_entities_has_each_reading_of_each_profile(self):
-        self.assert_prints_nothing(sys.executable, HERE / "entities.py", SHARED / "entities")
+        self.assert_prints_nothing(sys.executable, HERE / "entities.py", SHARED.parent / "share/entities")
 
     def test_functions_and_lines_are_short(self):
         self.assert_prints_nothing(sys.executable, HERE / "functions.py", COMMAND, *MODULES.glob("*.py"),

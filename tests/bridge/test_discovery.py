@@ -8,6 +8,7 @@ import unittest
 from enogate_lines.entities import AUTO, Table
 from enogate_mqtt import VERSION, discovery
 from enogate_mqtt.topics import Topics
+from enogate_tools import share
 
 TOPICS = Topics("hall", "homeassistant")
 TABLE = Table()
@@ -344,8 +345,7 @@ class Descriptions(unittest.TestCase):
             self.assertEqual(about("D5-00-01", maker=maker)["manufacturer"], name)
 
     def test_the_table_of_manufacturers(self):
-        lines = discovery.MANUFACTURERS.read_text("utf-8").splitlines()
-        rows = [line for line in lines if line and not line.startswith("#")]
+        rows = list(share.rows("manufacturers"))
         for line in rows:
             self.assertRegex(line, r"^[0-7][0-9A-F]{2}\t\S[^\t]*\S$")
         numbers = [line[:3] for line in rows]

@@ -4,7 +4,7 @@ import re
 import unittest
 
 from enogate_ctl import grammar
-from enogate_ctl.answers import REFUSALS, SHARED
+from enogate_ctl.answers import ERRORS, SHARED
 from fakes import Limited
 
 GUIDE = pathlib.Path(__file__).parents[2] / "docs" / "guide" / "orders.md"
@@ -53,38 +53,11 @@ class Grammar(Limited):
                 grammar.check_order(order)
             self.assertEqual(str(found.exception), text)
 
-    def test_the_parameters(self):
-        """Each word in capital letters is explained, with the numbers of the guide."""
-        self.assertEqual({word for _, shown in grammar.FORMS.values() for word in re.findall("[A-Z]+", shown)},
-                         set(grammar.PARAMETERS))
-        rows = dict(re.findall(r"^\| `([A-Z]+)` \| .* \| (.*) \|$", GUIDE.read_text(), re.MULTILINE))
-        for name, meaning in grammar.PARAMETERS.items():
-            for numbers in re.findall(r"\d+ to \d+", meaning):
-                self.assertTrue(rows[name].startswith(numbers), (name, rows[name]))
-
     def test_orders_that_open_the_window(self):
         opening = ["learn on", "learn on answer", "learn as A5-02-05", "learn as a5-02-0b"]
         self.assertEqual([order for order in ORDERS if grammar.opens_window(order)], sorted(
             opening, key=ORDERS.index))
         self.assertFalse(grammar.opens_window("learn on x"))
-
-    def test_the_guide(self):
-        """Each order of the guide's table is here, in its forms and with its errors."""
-        rows = re.findall(r"^\| (`[a-z]+.*?`) \| .* \|.*\| ?(.*) \|$", GUIDE.read_text().split("## Parameters")[0],
-                          re.MULTILINE)
-        forms, errors = {}, {}
-        for names, refusals in rows:
-            words = re.findall(r"`([^`]+)`", names)
-            forms.setdefault(words[0].split(" ")[0], []).extend(words)
-            errors.setdefault(words[0].split(" ")[0], set()).update(re.findall(r"`([a-z_]+)`", refusals))
-        mine = {verb: shown.split(" | ") for verb, (_, shown) in grammar.FORMS.items()}
-        self.assertEqual({verb: sorted(shown) for verb, shown in mine.items()},
-                         {verb: sorted(shown) for verb, shown in forms.items()})
-        names_a_device = {verb for verb, shown in mine.items() if any(" ID" in form for form in shown)} | {"list"}
-        for verb, found in errors.items():
-            shared = SHARED if verb in names_a_device else {"memory"} if verb == "status" else set()
-            self.assertEqual(REFUSALS[verb], found | shared, verb)
-        self.assertEqual(REFUSALS.keys(), errors.keys())
 
 
 if __name__ == "__main__":

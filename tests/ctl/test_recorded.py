@@ -151,7 +151,7 @@ class Recorded(Site):
     def test_for_people(self):
         self.write(device("01800ABC", "Door"), end_of_list(1))
         self.assertEqual(self.run_command(), (0, "LABEL  ID        PROFILE   NAME\n"
-                                              "Door   01800ABC  D5-00-01  single contact\n"))
+                                              "Door   01800ABC  D5-00-01  Contact\n"))
 
     def test_nothing_is_written(self):
         self.write(device("01800ABC", "Door"), end_of_list(1))

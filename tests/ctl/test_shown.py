@@ -10,7 +10,7 @@ from datetime import datetime, timedelta, timezone
 from unittest import mock
 
 from enogate_ctl import recent, words
-from enogate_ctl.answers import REFUSALS, Answer, line_of
+from enogate_ctl.answers import Answer, line_of
 from enogate_ctl.device_table import device_table
 from enogate_ctl.readings import readings
 from enogate_ctl.shown import shown
@@ -31,31 +31,9 @@ def lines_of(*members):
 
 
 class Words(Limited):
-    def test_each_error_has_advice(self):
-        named = re.findall(r"^\| `(\w+)` \|", (GUIDE / "output.md").read_text().split("| Error | When |")[1]
-                           .split("\n\n")[0], re.MULTILINE)
-        self.assertEqual(sorted(words.ADVICE), sorted(named))
-        self.assertLessEqual(frozenset().union(*REFUSALS.values()), words.ADVICE.keys())
+    def test_advice(self):
         self.assertTrue(words.advice("full").startswith("full: 1,000 devices are learned"))
         self.assertEqual(words.advice("new"), "new")
-
-    def test_each_result_has_words(self):
-        named = re.findall(r"^\| `(\w+)` \|", (GUIDE / "output.md").read_text().split("| Result | Meaning |")[1]
-                           .split("\n\n")[0], re.MULTILINE)
-        self.assertEqual(sorted(words.RESULTS), sorted(named))
-
-    def test_profiles_have_the_names_of_the_guide(self):
-        text = (GUIDE / "output.md").read_text().split("| Profile | Device | Readings |")[1].split("\n\n")[0]
-        for names, kind in re.findall(r"^\| (`[^|]*) \| ([^|]*) \|", text, re.MULTILINE):
-            first, *others = re.findall(r"`([^`]*)`", names)
-            kinds = {words.profile(name if len(name) == 8 else first[:5] + name) for name in (first, *others)}
-            with self.subTest(names):
-                if "meter" in kind:
-                    self.assertEqual(kinds, {"electricity meter", "gas meter", "water meter"})
-                else:
-                    self.assertEqual({name.split(" or ")[0] for name in kinds}, {
-                        kind.replace("switches and dimmers", "switch").split(" or ")[0]})
-        self.assertEqual((words.profile("A5-99-01"), words.profile("F6-01-02")), ("", ""))
 
     def test_readings(self):
         for eep, members, text in (
@@ -65,16 +43,27 @@ class Words(Limited):
             ("A5-02-05", [{"den": 1, "name": "TMP", "num": 100, "unit": "C"}], "Temperature 100 °C"),
             ("A5-12-01", [{"den": 10, "name": "MR", "num": 123456785, "unit": "kWh"}, {"name": "TI", "raw": 3}],
              "Energy 12345678.5 kWh"),
-            ("F6-02-01", [{"name": "R1", "word": "BI"}, {"name": "EB", "word": "pressed"}], "R1 BI, EB pressed"),
+            ("F6-02-01", [{"name": "R1", "word": "BI"}, {"name": "EB", "word": "pressed"}], "Rocker BI, Button pressed"),
+            ("F6-02-02", [{"name": "R1", "word": "BI"}, {"name": "EB", "word": "pressed"}, {"name": "R2", "word": "A0"}],
+             "Rocker BI, Button pressed, Second rocker A0"),
+            ("F6-02-01", [{"name": "buttons", "word": "none"}, {"name": "EB", "word": "released"}], "Button released"),
+            ("A5-07-01", [{"den": 1, "name": "SVC", "num": 3, "unit": "V"}, {"name": "PIRS", "word": "on"}],
+             "Supply voltage 3 V, Motion on"),
             ("D2-01-0F", [{"name": "PF", "raw": 0}, {"name": "EL", "word": "ok"}, {"name": "IO", "raw": 0},
-                          {"den": 1, "name": "OV", "num": 100, "unit": "%"}], "OV 100 %"),
+                          {"den": 1, "name": "OV", "num": 100, "unit": "%"}], "Output 100 %"),
             ("D2-01-12", [{"name": "PF", "raw": 0}, {"name": "IO", "raw": 1},
-                          {"den": 1, "name": "OV", "num": 30, "unit": "%"}], "channel 1: OV 30 %"),
-            ("D2-01-12", [{"den": 1, "name": "OV", "num": 30, "unit": "%"}], "OV 30 %"),
-            ("D2-01-02", [{"name": "IO", "raw": 0}, {"den": 1, "name": "OV", "num": 30, "unit": "%"}], "OV 30 %"),
+                          {"den": 1, "name": "OV", "num": 30, "unit": "%"}], "channel 1: Output 30 %"),
+            ("D2-01-12", [{"den": 1, "name": "OV", "num": 30, "unit": "%"}], "Output 30 %"),
+            ("D2-01-02", [{"name": "IO", "raw": 0}, {"den": 1, "name": "OV", "num": 30, "unit": "%"}], "Output 30 %"),
             ("A5-04-01", [{"name": "HUM", "out_of_range": 251}], "Humidity out_of_range"),
-            ("A5-12-01", [{"name": "TI", "raw": 3}], "TI 3"),
+            ("A5-12-01", [{"name": "TI", "raw": 3}], "Tariff 3"),
             ("D2-01-0F", [{"name": "LC", "raw": 1}], "Local control 1"),
+            ("D2-01-0F", [{"name": "PFD", "raw": 1}, {"name": "OC", "raw": 0}, {"name": "EL", "word": "failure"},
+                          {"name": "OV", "word": "not_applicable"}],
+             "Power failure 1, Error level failure, Output not_applicable"),
+            ("D2-05-00", [{"den": 1, "name": "POS", "num": 50, "unit": "%"}, {"name": "LOCK", "raw": 0}],
+             "Position 50 %"),
+            ("A5-10-03", [{"name": "NEW", "raw": 1}], "NEW 1"),
         ):
             with self.subTest(text):
                 telegram, = lines_of(reading("01800ABC", eep, members))
@@ -88,7 +77,7 @@ class Words(Limited):
 
     def test_results_of_teaching(self):
         for line, text in (
-            (teach("01800ABC"), "01800ABC learned, D5-00-01 (single contact)"),
+            (teach("01800ABC"), "01800ABC learned, D5-00-01 (Contact)"),
             (teach("01800ABC", result="deleted"), "01800ABC deleted"),
             (teach("01800ABC", "A5-99-01"), "01800ABC learned, A5-99-01"),
             (teach("01800ABC", None, None, "no_profile"),
@@ -131,13 +120,13 @@ class Shown(Site):
         self.assertEqual(self.shown(device("01800ABC", "Do\x1bor"), device("01800ABD", eep="A5-02-05"),
                                     device("01800ABE", eep="F6-02-01"), end_of_list(3)), """\
 LABEL  ID        PROFILE   NAME                      LAST READINGS         SIGNAL   LAST SEEN
-Do?or  01800ABC  D5-00-01  single contact            Contact closed        -45 dBm  5 min ago
-       01800ABD  A5-02-05  temperature               Temperature 20.08 °C
-       01800ABE  F6-02-01  rocker switch, 2 rockers                        -45 dBm""")
+Do?or  01800ABC  D5-00-01  Contact                   Contact closed        -45 dBm  5 min ago
+       01800ABD  A5-02-05  Temperature sensor        Temperature 20.08 °C
+       01800ABE  F6-02-01  Rocker switch, 2 rockers                        -45 dBm""")
 
     def test_columns_without_a_source_are_left_out(self):
         self.assertEqual(self.shown(device("01800ABC"), end_of_list(1)),
-                         "ID        PROFILE   NAME\n01800ABC  D5-00-01  single contact")
+                         "ID        PROFILE   NAME\n01800ABC  D5-00-01  Contact")
 
 
 def bridge(site, name, time, position=None):

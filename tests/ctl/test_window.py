@@ -54,7 +54,7 @@ class Window(Site):
         self.write(teach("01800AAA"))
         self.clock.acts[1] = lambda: self.write("{", OK, teach("01800ABC"), teach("01800ABD", result="full"))
         self.open()
-        self.assertEqual(self.printed[1:-1], ["01800ABC learned, D5-00-01 (single contact)",
+        self.assertEqual(self.printed[1:-1], ["01800ABC learned, D5-00-01 (Contact)",
                                               "01800ABD not learned: 1,000 devices are learned"])
 
     def test_a_window_for_one_device_ends_when_the_gateway_has_closed_it(self):
@@ -63,7 +63,7 @@ class Window(Site):
         self.open(order="learn as F6-02-01", seconds=60)
         self.assertEqual(self.orders, ["learn as F6-02-01", "learn off"])
         self.assertEqual((self.printed[2:], self.desk.read_text()), (
-            ["01800ABC learned, F6-02-01 (rocker switch, 2 rockers)", CLOSED], "status\n"))
+            ["01800ABC learned, F6-02-01 (Rocker switch, 2 rockers)", CLOSED], "status\n"))
         self.assertLess(self.clock.now, 1)
 
     def test_a_window_for_one_device_stays_open_after_an_order(self):

@@ -2,7 +2,7 @@ import assert from "node:assert/strict";
 import { test } from "node:test";
 
 import * as limits from "../../contrib/cockpit/enogate/model.js";
-import { REASONS } from "../../contrib/cockpit/enogate/words.js";
+import { TABLES } from "../../contrib/cockpit/enogate/tables.js";
 import { DEVICE, ERROR, LIST, OK, OTHER_PACKET, PACKET, READING, RESPONSE, STATUS, TAUGHT } from "./samples.mjs";
 
 const { lastHeard, Model, MOST_DEVICES, MOST_PACKETS, MOST_TAUGHT, MOST_UNKNOWN, MOST_VALUES } = limits;
@@ -204,7 +204,7 @@ test("a learned sender is not unknown, and is none after it was learned", () => 
 
 test("of the reasons of packets, six are those of unknown senders", () => {
     const learnable = ["unknown_sender", "window_closed", "other_mode", "no_profile", "unsupported", "full"];
-    const found = [...REASONS.keys()].filter(why => modelOf({ ...PACKET, why }).unknown.size === 1);
+    const found = TABLES.reason.map(([why]) => why).filter(why => modelOf({ ...PACKET, why }).unknown.size === 1);
     assert.deepEqual(found.sort(), learnable.sort());
     const model = modelOf(OTHER_PACKET);
     assert.deepEqual([model.unknown.size, model.packets.length, model.hasPackets], [0, 1, true]);

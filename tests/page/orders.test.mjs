@@ -4,7 +4,6 @@ import { readFileSync } from "node:fs";
 import { test } from "node:test";
 
 import * as orders from "../../contrib/cockpit/enogate/orders.js";
-import { PROFILES } from "../../contrib/cockpit/enogate/words.js";
 import { HOSTILE } from "./samples.mjs";
 
 const ID = "01800ABC";
@@ -82,20 +81,6 @@ test("the fields for a label take no longer one", () => {
     assert.deepEqual(fields.map(([, id, longest]) => [id, Number(longest)]),
                      [["learn-label", orders.LONGEST_LABEL], ["edit-label", orders.LONGEST_LABEL]]);
     assert.deepEqual([0, 1].map(more => orders.isLabel("x".repeat(orders.LONGEST_LABEL + more))), [true, false]);
-});
-
-test("what actuators can do", () => {
-    assert.equal(orders.abilities("D5-00-01"), null);
-    assert.equal(orders.abilities("D2-06-01"), null);
-    assert.deepEqual(orders.abilities("D2-01-00"), { kind: "switch", channels: [0] });
-    assert.deepEqual(orders.abilities("D2-01-02"), { kind: "dimmer", channels: [0] });
-    assert.deepEqual(orders.abilities("D2-01-12"), { kind: "switch", channels: [0, 1, 30] });
-    assert.deepEqual(orders.abilities("D2-05-00"), { kind: "blind", channels: [0] });
-});
-
-test("three profiles of actuators have two channels", () => {
-    const several = [...PROFILES.keys()].filter(eep => orders.abilities(eep)?.channels.length > 1);
-    assert.deepEqual(several, ["D2-01-10", "D2-01-11", "D2-01-12"]);
 });
 
 test("percentages", () => {

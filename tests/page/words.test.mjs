@@ -1,82 +1,69 @@
 import assert from "node:assert/strict";
-import { readFileSync } from "node:fs";
 import { test } from "node:test";
 
+import { ALL_CHANNELS } from "../../contrib/cockpit/enogate/orders.js";
 import * as words from "../../contrib/cockpit/enogate/words.js";
 
-const page = name => readFileSync(new URL(`../../docs/guide/${name}.md`, import.meta.url), "utf8");
-const section = (text, title) => text.split(`\n## ${title}\n`)[1].split("\n## ")[0];
-const rowsOf = text => text.split("\n").filter(line => line.startsWith("| `") && !line.startsWith("| `why`"));
-const nameOf = row => row.match(/^\| `([a-z_]+)`/)[1];
 const reading = members => ({ reading: members, channel: null });
+const device = (eep, items) => ({ eep, readings: new Map(items.entries()) });
 
-/** The profiles of a cell such as "`A5-02-01` to `-0B`, `-20`". */
-function profilesIn(cell) {
-    const found = [];
-    for (const [, from, to] of cell.matchAll(/`([0-9A-F-]+)`(?: to `-([0-9A-F]{2})`)?/g)) {
-        const first = from.length === 8 ? from : found.at(-1).slice(0, 5) + from;
-        const last = parseInt(to ?? first.slice(6), 16);
-        for (let type = parseInt(first.slice(6), 16); type <= last; type++)
-            found.push(`${first.slice(0, 5)}-${type.toString(16).toUpperCase().padStart(2, "0")}`);
-    }
-    return found;
-}
-
-test("the profiles and their names are those of the guide", () => {
-    const rows = rowsOf(section(page("output"), "Profiles")).map(line => line.split("|"));
-    const wanted = rows.flatMap(([, profiles]) => profilesIn(profiles));
-    assert.equal(wanted.length, 65);
-    assert.deepEqual([...words.PROFILES.keys()].sort(), wanted.sort());
-});
-
-test("each reason and each result of the guide has words", () => {
-    const reasons = rowsOf(section(page("devices"), "Reasons in packet lines")).map(nameOf);
-    assert.equal(reasons.length, 21);
-    assert.deepEqual([...words.REASONS.keys()], reasons);
-    for (const line of rowsOf(section(page("output"), "Results in teach lines")))
-        assert.ok(words.REASONS.has(nameOf(line)), line);
+test("reasons and results", () => {
+    assert.equal(words.reason("for_others"), "addressed to another gateway");
     assert.equal(words.reason("new_one"), "new_one");
     assert.deepEqual(["accepted", "deleted"].map(words.result), ["learned", "deleted"]);
 });
 
-test("each reading of the guide has a name", () => {
-    const rows = rowsOf(section(page("output"), "Names of the readings"));
-    const names = rows.flatMap(row => [...row.split("|")[1].matchAll(/`(\w+)`/g)].map(([, name]) => name));
-    // These two are values, and this name is a word already.
-    for (const name of names.filter(known => !["AI", "A0", "BI", "buttons"].includes(known)))
-        assert.notEqual(words.reading(reading({ name, raw: 1 })), `${name} 1`);
+test("each reading of each profile has a name", () => {
+    assert.equal(words.PROFILES.size, 65);
+    for (const [eep, { readings }] of words.PROFILES) {
+        assert.ok(readings.length, eep);
+        for (const { name, unit } of readings)
+            assert.notEqual(words.reading(eep, reading({ name, unit, num: 1, den: 1 })).split(" ")[0], name, eep);
+    }
+});
+
+test("what actuators can do", () => {
+    const abilities = eep => words.PROFILES.get(eep).abilities;
+    assert.equal(abilities("D5-00-01"), null);
+    assert.deepEqual(abilities("D2-01-00"), { kind: "switch", channels: [0] });
+    assert.deepEqual(abilities("D2-01-02"), { kind: "dimmer", channels: [0] });
+    assert.deepEqual(abilities("D2-01-12"), { kind: "switch", channels: [0, 1, ALL_CHANNELS] });
+    assert.deepEqual(abilities("D2-05-00"), { kind: "blind", channels: [0] });
 });
 
 test("numbers are decimals with units", () => {
-    const shown = (num, den, unit) => words.reading(reading({ name: "TMP", num, den, unit }));
-    assert.equal(shown(1024, 51, "C"), "temperature 20.08 °C");
-    assert.equal(shown(-5, 2, "C"), "temperature -2.5 °C");
-    assert.equal(shown(20, 1, "C"), "temperature 20 °C");
-    assert.equal(shown(1234567, 1, "Wh"), "temperature 1234567 Wh");
-    assert.equal(words.reading(reading({ name: "MR", num: 1, den: 3, unit: "m3" })), "meter 0.33 m³");
+    const shown = (num, den, unit = "C") => words.reading("A5-02-05", reading({ name: "TMP", num, den, unit }));
+    assert.equal(shown(1024, 51), "Temperature 20.08 °C");
+    assert.equal(shown(-5, 2), "Temperature -2.5 °C");
+    assert.equal(shown(20, 1), "Temperature 20 °C");
+    assert.equal(shown(1234567, 1), "Temperature 1234567 °C");
+    assert.equal(shown(1, 1, "K"), "TMP 1 K");
+    assert.equal(words.reading("A5-12-02", reading({ name: "MR", num: 1, den: 3, unit: "m3" })), "Gas 0.33 m³");
 });
 
 test("named states, numbers without a unit, and numbers without a meaning", () => {
-    assert.equal(words.reading(reading({ name: "CO", word: "closed" })), "contact closed");
-    assert.equal(words.reading(reading({ name: "SP", raw: 0 })), "set point 0");
-    assert.equal(words.reading(reading({ name: "HUM", out_of_range: 251 })), "humidity out of range");
-    assert.equal(words.reading(reading({ name: "__proto__", raw: 1 })), "__proto__ 1");
+    assert.equal(words.reading("D5-00-01", reading({ name: "CO", word: "closed" })), "Contact closed");
+    assert.equal(words.reading("A5-10-03", reading({ name: "SP", raw: 0 })), "Set point 0");
+    assert.equal(words.reading("A5-04-01", reading({ name: "HUM", out_of_range: 251 })), "Humidity out of range");
+    assert.equal(words.reading("D5-00-01", reading({ name: "__proto__", raw: 1 })), "__proto__ 1");
+    assert.equal(words.reading("__proto__", reading({ name: "CO", raw: 1 })), "CO 1");
 });
 
 test("details are left out if there is more", () => {
     const state = (channel, ...items) => items.map(item => ({ reading: item, channel }));
+    const text = items => words.readingsText(device("D2-01-12", items));
     const output = percent => ({ name: "OV", num: percent, den: 1, unit: "%" });
     const numbers = ["PFD", "IO"].map(name => ({ name, raw: 0 }));
     const details = [...numbers, { name: "EL", word: "ok" }, { name: "LC", raw: 1 }];
     const normal = state(0, ...details, output(100));
-    assert.equal(words.readingsText(normal), "output 100 %");
+    assert.equal(text(normal), "Output 100 %");
     const faults = [{ name: "PFD", raw: 1 }, { name: "EL", word: "failure" }];
     const bad = state(1, ...faults, { name: "OV", word: "not_applicable" });
-    assert.equal(words.readingsText(bad), "power failure 1, error level failure, output not_applicable");
-    assert.equal(words.readingsText([...normal, ...state(1, output(0))]),
-                 "channel 0: output 100 %, channel 1: output 0 %");
-    assert.equal(words.readingsText(state(0, { name: "IO", raw: 0 })), "channel 0");
-    assert.equal(words.readingsText([]), "");
+    assert.equal(text(bad), "Power failure 1, Error level failure, Output not_applicable");
+    assert.equal(text([...normal, ...state(1, output(0))]), "channel 0: Output 100 %, channel 1: Output 0 %");
+    assert.equal(text(state(0, { name: "IO", raw: 0 })), "Channel 0");
+    assert.equal(text([]), "");
+    assert.equal(words.readingsText(device("A5-99-99", state(null, { name: "NEW", raw: 0 }))), "NEW 0");
 });
 
 test("ages and times", () => {
@@ -99,6 +86,6 @@ test("the state of a service, the learn window, signals, kinds", () => {
     assert.equal(words.learnWindow(null), "learn window: not known yet");
     assert.deepEqual([words.signal(-45), words.signal(0), words.signal(null)], ["-45 dBm", "0 dBm", ""]);
     assert.deepEqual([words.kind("F6"), words.kind("30")], ["switch (RPS)", "telegram 30"]);
-    assert.equal(words.profileWithName("D5-00-01"), "D5-00-01 single contact");
-    assert.equal(words.profileWithName("A5-99-99"), "A5-99-99");
+    assert.equal(words.profileWithKind("D5-00-01"), "D5-00-01 Contact");
+    assert.equal(words.profileWithKind("A5-99-99"), "A5-99-99");
 });

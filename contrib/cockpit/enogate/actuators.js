@@ -16,7 +16,7 @@ export class ActuatorsSection {
 
     paint() {
         const { model, mayAct } = this.page;
-        const actuators = [...model.devices].filter(([, { eep }]) => orders.abilities(eep))
+        const actuators = [...model.devices].filter(([, { eep }]) => words.PROFILES.get(eep)?.abilities)
                 .sort(([a], [b]) => a < b ? -1 : 1)
                 .map(([id, device]) => [`${id} ${device.eep}`, { id, mayAct, ...device }]);
         this.rows.fill(actuators, () => undefined);
@@ -31,7 +31,7 @@ class ActuatorRow {
         row.dataset.id = id;
         idCell.className = "mono";
         setText(idCell, id);
-        this.abilities = orders.abilities(eep);
+        this.abilities = words.PROFILES.get(eep).abilities;
         const made = this.abilities.kind === "blind" ? this.blindControls() : this.switchControls();
         controls.append(...made.flatMap(control => [control, " "]));
     }
@@ -84,7 +84,7 @@ class ActuatorRow {
 
     fill(device) {
         setText(this.label, device.label || "–");
-        setText(this.state, words.readingsText([...device.readings.values()]) || "not known yet");
+        setText(this.state, words.readingsText(device) || "not known yet");
         for (const control of this.element.querySelectorAll("button, input, select"))
             control.disabled = !device.mayAct;
     }

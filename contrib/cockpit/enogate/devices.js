@@ -25,7 +25,7 @@ const ORDERS = new Map([
 export function selected(devices, filter, column, isReverse) {
     const wanted = filter.toLowerCase();
     const matches = ([id, { label, eep }]) =>
-        `${id} ${label} ${words.profileWithName(eep)}`.toLowerCase().includes(wanted);
+        `${id} ${label} ${words.profileWithKind(eep)}`.toLowerCase().includes(wanted);
     const order = ORDERS.get(column);
     const sign = isReverse ? -1 : 1;
     return [...devices].filter(matches).sort((a, b) => sign * order(a, b) || compareTexts(a[0], b[0]));
@@ -113,7 +113,7 @@ class DeviceRow {
     fill(device) {
         this.device = device;
         setText(this.label, device.label || "–");
-        setText(this.profile, words.profileWithName(device.eep));
+        setText(this.profile, words.profileWithKind(device.eep));
         this.fillReadings(device);
         this.bar.hidden = device.dbm === null;
         if (device.dbm !== null && this.bar.value !== device.dbm)
@@ -128,9 +128,9 @@ class DeviceRow {
         return time !== null || device.readings.size ? words.age(time, Date.now()) : "not known";
     }
 
-    fillReadings({ readings }) {
+    fillReadings({ eep, readings }) {
         const all = [...readings];
-        const shown = new Set(words.shownReadings(all.map(([, value]) => value)));
+        const shown = new Set(words.shownReadings(eep, all.map(([, value]) => value)));
         const hasChannels = new Set(all.map(([, { channel }]) => channel)).size > 1;
         for (const [key, { element: made }] of this.values) {
             if (!shown.has(readings.get(key))) {
@@ -140,7 +140,7 @@ class DeviceRow {
         }
         for (const [key, value] of all) {
             if (shown.has(value))
-                this.shownValue(key).fill(value, hasChannels);
+                this.shownValue(key).fill(eep, value, hasChannels);
         }
     }
 
@@ -163,8 +163,8 @@ class ShownValue {
         this.plot = null;
     }
 
-    fill(value, hasChannels) {
-        setText(this.text, words.reading(value, hasChannels));
+    fill(eep, value, hasChannels) {
+        setText(this.text, words.reading(eep, value, hasChannels));
         if (value.values.length > 1) {
             if (!this.plot) {
                 this.plot = new Plot();

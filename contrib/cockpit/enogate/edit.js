@@ -20,7 +20,7 @@ export class EditDialog {
     open(id, { label, eep }) {
         this.id = id;
         setText(byId("edit-id"), id);
-        setText(byId("edit-profile"), words.profileWithName(eep));
+        setText(byId("edit-profile"), words.profileWithKind(eep));
         setText(byId("edit-result"), "");
         this.field.reset(label);
         this.warn(false);

@@ -25,7 +25,7 @@ export class LearnDialog {
         this.id = id;
         this.isLearned = false;
         setText(byId("learn-id"), id);
-        const profiles = profilesFor(sender).map(eep => [eep, words.profileWithName(eep)]);
+        const profiles = profilesFor(sender).map(eep => [eep, words.profileWithKind(eep)]);
         setOptions(byId("learn-profile"), profiles, sender.eep ?? words.USUAL_SWITCH);
         this.field.reset("");
         setText(byId("learn-result"), "");
@@ -56,6 +56,6 @@ export class LearnDialog {
     paint() {
         const device = this.isLearned && this.dialog.open ? this.page.model.devices.get(this.id) : null;
         if (device && device.readings.size)
-            setText(byId("learn-result"), `Learned. Its reading: ${words.readingsText([...device.readings.values()])}`);
+            setText(byId("learn-result"), `Learned. Its reading: ${words.readingsText(device)}`);
     }
 }

@@ -4,9 +4,6 @@ export const LONGEST_LABEL = 32;
 // The channel number that means all channels of an actuator.
 export const ALL_CHANNELS = 30;
 
-const DIMMERS = new Set(["02", "03", "04", "05", "09"]);
-const TWO_CHANNELS = new Set(["10", "11", "12"]);
-
 /** The command that gives an order. @param {string[]} order */
 export const command = (gateway, order) => ["enogatectl", "--json", gateway, "--", ...order];
 
@@ -26,22 +23,6 @@ export const label = (id, text) => text === "" ? ["label", id] : ["label", id, t
 
 /** Whether the gateway accepts a text as a label. The empty text removes it. */
 export const isLabel = text => /^(?:[!-~](?:[ -~]{0,30}[!-~])?)?$/.test(text);
-
-/**
- * The abilities of an actuator with this profile.
- * @returns {?{kind: "switch"|"dimmer"|"blind", channels: number[]}} null if it is no actuator
- */
-export function abilities(eep) {
-    const [rorg, func, type] = eep.split("-");
-    if (rorg !== "D2")
-        return null;
-    if (func === "05")
-        return { kind: "blind", channels: [0] };
-    if (func !== "01")
-        return null;
-    const kind = DIMMERS.has(type) ? "dimmer" : "switch";
-    return { kind, channels: TWO_CHANNELS.has(type) ? [0, 1, ALL_CHANNELS] : [0] };
-}
 
 /** Orders for a channel of a switch or dimmer. */
 export const switchOrder = (id, channel, isOn) => ["switch", id, String(channel), isOn ? "on" : "off"];

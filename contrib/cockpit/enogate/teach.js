@@ -13,7 +13,7 @@ export class TeachSection {
         this.page = page;
         this.rows = new Rows(byId("teach-rows"), (_, item) => new TaughtRow(item));
         this.forget();
-        const profiles = [...words.PROFILES.keys()].map(eep => [eep, words.profileWithName(eep)]);
+        const profiles = [...words.PROFILES.keys()].map(eep => [eep, words.profileWithKind(eep)]);
         setOptions(byId("teach-profile"), profiles, words.USUAL_SWITCH);
         byId("teach-open").addEventListener("click", () => this.open(["learn", "on"]));
         byId("teach-answer").addEventListener("click", () => this.open(["learn", "on", "answer"]));
@@ -91,7 +91,7 @@ class TaughtRow {
         id.className = "mono";
         setText(clock, words.clock(time));
         setText(id, line.id);
-        setText(profile, line.eep === null ? "not sent" : words.profileWithName(line.eep));
+        setText(profile, line.eep === null ? "not sent" : words.profileWithKind(line.eep));
         setText(result, words.result(line.result));
     }
 

@@ -1,0 +1,58 @@
+"""The tables in the folder `share`: facts that the programs around the gateway have in common."""
+from __future__ import annotations
+
+import functools
+import os
+import re
+from collections.abc import Iterator
+
+SHARE = os.path.join(os.path.dirname(os.path.dirname(os.path.abspath(__file__))), "share")
+
+
+def rows(name: str) -> Iterator[str]:
+    """The lines of a table without its comments. It is a file of that folder, or one with an absolute path."""
+    with open(os.path.join(SHARE, name), encoding="utf-8") as file:
+        for line in file:
+            if line.strip() and not line.startswith("#"):
+                yield line.rstrip("\n")
+
+
+@functools.cache
+def profiles() -> dict[str, str]:
+    """The supported profiles, each with the kind of its devices."""
+    found = {}
+    for row in rows("profiles"):
+        eeps, kind = row.split(None, 1)
+        first, _, last = eeps.partition("..")
+        for number in range(int(first[6:], 16), int(last or first[6:], 16) + 1):
+            found[f"{first[:6]}{number:02X}"] = kind
+    return found
+
+
+def kind(eep: str) -> str:
+    """The kind of the devices of a profile; empty if the profile is not supported."""
+    return profiles().get(eep, "")
+
+
+@functools.cache
+def words(kind: str) -> dict[str, str]:
+    """Words of the gateway of this kind (`error`, `result`, `reason` or `rorg`), each with a text for people."""
+    found = (row.split(None, 2) for row in rows("words"))
+    return {word: text for one, word, text in found if one == kind}
+
+
+@functools.cache
+def orders() -> dict[str, list[tuple[str, frozenset[str]]]]:
+    """The orders by their first words: the forms of each, with the errors that this form can have."""
+    found: dict[str, list[tuple[str, frozenset[str]]]] = {}
+    for row in rows("orders"):
+        form, *errors = re.split(" {2,}", row, maxsplit=1)
+        if form[0].islower():
+            found.setdefault(form.split(" ")[0], []).append((form, frozenset(" ".join(errors).split())))
+    return found
+
+
+@functools.cache
+def parameters() -> dict[str, str]:
+    """The meanings of the words in capital letters in these forms."""
+    return dict(row.split(None, 1) for row in rows("orders") if row[0].isupper())

@@ -1,0 +1,74 @@
+"""The tables that the programs have in common, beside those of the oracle and of the guide."""
+import pathlib
+import re
+import sys
+import unittest
+
+ROOT = pathlib.Path(__file__).parents[2]
+sys.path.append(str(ROOT / "tests"))
+
+from enogate_ctl.answers import SHARED  # noqa: E402
+from enogate_tools import share  # noqa: E402
+from oracle import reasons  # noqa: E402
+from oracle.orders import GREATEST, ORDERS  # noqa: E402
+from oracle.profiles import IN_TABLES, eep_of  # noqa: E402
+
+
+def table(page, head):
+    """The rows of the table of the guide with this head, each with its cells."""
+    text = (ROOT / "docs" / "guide" / page).read_text().split(f"| {head} |")[1].split("\n\n")[0]
+    return [[cell.strip() for cell in row.strip("|").split(" | ")] for row in text.split("\n")[2:]]
+
+
+def names(rows):
+    """The names in the first cells of these rows."""
+    return [row[0].strip("`") for row in rows]
+
+
+class Tables(unittest.TestCase):
+    def test_profiles(self):
+        self.assertEqual(sorted(share.profiles()), sorted(map(eep_of, IN_TABLES)))
+        self.assertEqual(share.kind("A5-38-08"), "")
+
+    def test_the_kinds_of_the_guide(self):
+        kinds = {}
+        for cell, kind, _ in table("output.md", "Profile | Device | Readings"):
+            for first, last in re.findall(r"`([0-9A-F-]+)`(?: to `-([0-9A-F]{2})`)?", cell):
+                start = first if len(first) == 8 else start[:5] + first
+                for number in range(int(start[6:], 16), int(last or start[6:], 16) + 1):
+                    kinds.setdefault(kind, set()).add(share.kind(f"{start[:6]}{number:02X}"))
+        self.assertEqual({kind: "; ".join(sorted(found, key=kind.find)) for kind, found in kinds.items()},
+                         {kind: kind for kind in kinds})
+
+    def test_forms_of_orders(self):
+        forms = [form for order in share.orders().values() for form, _ in order]
+        self.assertEqual(forms, [form for form, *_ in ORDERS if not re.search("[0-9]", form)])
+        self.assertEqual({word for form in forms for word in form.split(" ") if word.isupper()}, set(share.parameters()))
+        for name, greatest in GREATEST.items():
+            self.assertTrue(share.parameters()[name].endswith(f"0 to {greatest}"), name)
+
+    def test_errors_of_orders(self):
+        for row in table("orders.md", "Order | What it does | Answer | Possible errors"):
+            forms = re.findall(r"`([^`]+)`", row[0])
+            wanted = set(re.findall(r"`([a-z_]+)`", row[-1]))
+            verb = forms[0].split(" ")[0]
+            if verb == "list" or " ID" in forms[0]:
+                wanted |= SHARED
+            if verb == "status":
+                wanted |= {"memory"}
+            with self.subTest(forms[0]):
+                mine = dict(share.orders()[verb])
+                self.assertEqual(set().union(*(mine[form] for form in forms)), wanted)
+
+    def test_words(self):
+        self.assertEqual(list(share.words("error")), names(table("output.md", "Error | When")))
+        self.assertEqual(sorted(share.words("result")), sorted(names(table("output.md", "Result | Meaning"))))
+        self.assertEqual(sorted(share.words("reason")), sorted(["refused", *reasons.COUNTS]))
+        self.assertEqual(list(share.words("rorg")), ["F6", "D5", "A5", "D2", "D4"])
+        for errors in share.orders().values():
+            for _, found in errors:
+                self.assertLessEqual(found, share.words("error").keys())
+
+
+if __name__ == "__main__":
+    unittest.main()
