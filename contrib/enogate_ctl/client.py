@@ -8,11 +8,11 @@ from collections.abc import Callable, Sequence
 
 from enogate_lines.follow import Follower, end_of, silent
 from enogate_tools.files import Unsafe, open_file
+from enogate_tools.gateways import Paths
 
 from .answers import Answer, AnswerFinder, is_of_order
 from .desk_file import DeskFile, Unusable
 from .fence import is_longest, needed
-from .paths import Paths
 from .stops import Stopped, held, restore
 
 # The pauses of the command and of the process that keeps the lock, in seconds.
@@ -26,6 +26,10 @@ NEVER = sys.maxsize
 
 class NoAnswer(Exception):
     """The gateway did not answer in time. The text is a sentence that says why, and what to do."""
+
+
+class Unreadable(Exception):
+    """The lines cannot be read. The text is a sentence that says why, and what to do."""
 
 
 class TooLate(Exception):

@@ -7,9 +7,9 @@ from collections.abc import Sequence
 from typing import NamedTuple, NoReturn
 
 from enogate_tools import VERSION
+from enogate_tools.gateways import NoName, Paths, paths_of
 
 from . import grammar
-from .paths import NoName, Paths, paths_of
 
 TIMEOUT = 10.0
 USAGE = """enogatectl [--timeout SECONDS] [--json] [--desk PATH] [--lines PATH] GATEWAY ORDER..

@@ -7,9 +7,9 @@ from datetime import datetime
 from enogate_lines.contents import Listed
 from enogate_lines.entities import Table
 from enogate_tools import share
+from enogate_tools.gateways import Paths
 
 from . import recent, words
-from .paths import Paths
 from .readings import readings
 from .tables import table
 

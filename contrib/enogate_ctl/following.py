@@ -9,10 +9,10 @@ from typing import BinaryIO
 
 from enogate_lines.follow import silent
 from enogate_lines.inotify import TURN, WatchedFiles
+from enogate_tools.gateways import Paths
 
-from .client import Lines
+from .client import Lines, Unreadable
 from .desk_file import Unusable
-from .paths import Paths, Unreadable
 
 # How many bytes of earlier lines are printed.
 EARLIER = 1 << 20

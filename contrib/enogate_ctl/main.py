@@ -8,12 +8,12 @@ from collections.abc import Sequence
 
 from enogate_lines.contents import Listed
 from enogate_tools import files
+from enogate_tools.gateways import Paths, all_paths
 
 from .answers import Answer
 from .command_line import AskBase, Command, Export, Give, Import, Serve, ShowLines, ShowPaths, ShowRecorded, parsed
-from .client import Client, NoAnswer
+from .client import Client, NoAnswer, Unreadable
 from .grammar import BASE
-from .paths import Paths, Unreadable, all_paths
 from .stops import Stopped, Stops
 
 OK, REFUSED, SILENT = 0, 1, 3

@@ -6,10 +6,10 @@ import json
 from collections.abc import Iterable, Iterator
 
 from enogate_lines.contents import BadLine, Content, Deleted, EndOfList, Learned, Listed, content_of
+from enogate_tools.gateways import Paths
 
-from .client import Lines
+from .client import Lines, Unreadable
 from .desk_file import Unusable
-from .paths import Paths, Unreadable
 from .recent import last_lines, last_reports, last_times
 
 # How much of the lines is searched for a list. A gateway with 100 devices that send each minute writes less in a day.

@@ -35,9 +35,8 @@ from .stops import SIGNALS, Stopped, Stops, held, restore
 OK, FAILED, INVALID = 0, 1, 2
 # The modules that commands import only if they need them. They are imported before the first fork, so that no command
 # has to do it.
-MODULES = ("enogate_ctl.base", "enogate_ctl.device_table", "enogate_ctl.paths", "enogate_ctl.recorded",
-           "enogate_ctl.sheet", "enogate_ctl.shown", "enogate_ctl.window", "enogate_lines.decimals",
-           "enogate_tools.port")
+MODULES = ("enogate_ctl.base", "enogate_ctl.device_table", "enogate_ctl.recorded", "enogate_ctl.sheet",
+           "enogate_ctl.shown", "enogate_ctl.window", "enogate_lines.decimals", "enogate_tools.port")
 # A command line that is only parsed.
 FIRST = ["--json", "hall", "--", "status"]
 # How much is read at once, the length of the longest request, and how much of a bad one is shown, in bytes.

@@ -9,6 +9,7 @@ from dataclasses import dataclass
 from typing import NoReturn
 
 from enogate_lines.entities import AUTO
+from enogate_tools.gateways import NoName, is_name
 
 from . import VERSION
 
@@ -78,8 +79,8 @@ def read_words(arguments: Sequence[str]) -> Words:
                         help="print what would be published for the lines on standard input; no broker is needed")
     parser.add_argument("--version", action="version", version=f"enogate-mqtt {VERSION}")
     words = parser.parse_args(arguments)
-    if not re.fullmatch("[A-Za-z0-9_-]+", words.name):
-        raise WrongSetting(f"invalid gateway name: {words.name} (allowed: letters, digits, - and _)")
+    if not is_name(words.name):
+        raise WrongSetting(str(NoName(words.name)))
     if not words.prints and not (words.lines and words.desk and words.state):
         raise WrongSetting("--lines, --desk and --state are required, except with --print")
     return Words(**vars(words))

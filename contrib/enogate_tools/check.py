@@ -10,7 +10,7 @@ import stat
 import tempfile
 import time
 
-from . import VERSION, files, port as ports
+from . import VERSION, files, gateways, port as ports
 from .system import OpenFile, System, is_same
 
 OK, FAULT, UNCHECKED = "ok", "fault", "not checked"
@@ -30,7 +30,6 @@ SKIPPED = re.compile(r"(?:[ \t\n\r]|[#;][^\n\r]*)*")
 KEY = re.compile(r"([^=\n\r]*?)[ \t]*(=|[\n\r]|\Z)")
 QUOTED = re.compile(r"""[ \t]*(?:'([^']*)'|"((?:[^"\\]|\\.)*)")""", re.DOTALL)
 PLAIN = re.compile(r"[ \t]*((?:[^\n\r\\]|\\.?)*?)[ \t]*(?=[\n\r]|\Z)", re.DOTALL)
-NAME = re.compile(r"(?!mqtt)[A-Za-z0-9_-]+")
 
 
 def exists(path: str) -> bool:
@@ -423,17 +422,6 @@ class Check:
             yield OK, f"{bridge} is {state}"
 
 
-def names_of(system: System) -> list[str]:
-    """The gateways that have settings or a database."""
-    found = set()
-    for folder, shape in (("/etc/default", r"enogate-(?!mqtt)([\w-]+)"), ("/var/lib/enogate", r"([\w-]+)\.db")):
-        try:
-            found |= {match[1] for name in os.listdir(system.path(folder)) if (match := re.fullmatch(shape, name))}
-        except OSError:
-            pass
-    return sorted(found)
-
-
 def main(arguments: list[str] | None = None, system: System | None = None) -> int:
     """Runs the program, and returns its exit status."""
     parser = argparse.ArgumentParser(
@@ -447,13 +435,12 @@ def main(arguments: list[str] | None = None, system: System | None = None) -> in
     parser.add_argument("--version", action="version", version=f"enogate-check {VERSION}")
     words = parser.parse_args(arguments)
     signal.signal(signal.SIGPIPE, signal.SIG_DFL)
-    if words.name is not None and not NAME.fullmatch(words.name):
-        parser.error(f"{words.name!r} is not the name of a gateway: use letters, digits, - and _, and do not begin it "
-                     "with mqtt")
+    if words.name is not None and not gateways.is_name(words.name):
+        parser.error(str(gateways.NoName(words.name)))
     system = system or System()
-    names = [words.name] if words.name else names_of(system)
+    names = gateways.names(system.root) if words.name is None else [words.name]
     if not names:
-        parser.error("no gateway has settings or a database: give a NAME")
+        parser.error("no gateway is found on this machine: give a NAME")
     shown = {FAULT} | ({UNCHECKED} if not words.quiet else set()) | ({OK} if words.verbose else set())
     is_faulty = False
     for name in names:

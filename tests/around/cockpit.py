@@ -21,6 +21,7 @@ from services import CONTRIB
 
 PAGE = CONTRIB / "cockpit/enogate"
 SERVER = "/usr/lib/cockpit/cockpit-ws"
+UNIT = "/etc/systemd/system/multi-user.target.wants/enogate@{name}.service"
 # A stand-in for systemctl: the state of each service is in a file.
 SYSTEMCTL = """#!/bin/sh
 for unit; do :; done
@@ -50,7 +51,10 @@ class Machine:
         mount("-t", "overlay", "test", "/var/lib", "-o", "lowerdir=/var/lib,upperdir=/run/upper,workdir=/run/work")
         os.makedirs("/var/lib/enogate-mqtt", exist_ok=True)
         mount("--bind", work / "lib/enogate-mqtt", "/var/lib/enogate-mqtt")
-        mount("-t", "tmpfs", "test", "/etc/default")
+        os.makedirs("/var/lib/enogate", exist_ok=True)
+        for folder in ("/var/lib/enogate", "/etc/default", "/etc/systemd/system"):
+            mount("-t", "tmpfs", "test", folder)
+        os.mkdir("/etc/systemd/system/multi-user.target.wants")
         shutil.copy(CONTRIB / "enogate.default", "/etc/default/enogate")
         (work / "bin/enogatectl").symlink_to(CONTRIB / "enogatectl")
         systemctl = work / "bin/systemctl"
@@ -60,6 +64,13 @@ class Machine:
     def add(self, name: str, serial: pathlib.Path) -> None:
         """Adds the settings of a gateway."""
         pathlib.Path(f"/etc/default/enogate-{name}").write_text(f"BASE=FF800000\nSERIAL={serial}\n")
+
+    def enable(self, name: str) -> None:
+        """From now on, its service is started at boot."""
+        os.symlink("/usr/lib/systemd/system/enogate@.service", UNIT.format(name=name))
+
+    def disable(self, name: str) -> None:
+        os.unlink(UNIT.format(name=name))
 
     def set_state(self, name: str, active: str, sub: str) -> None:
         """Sets the state of its service."""

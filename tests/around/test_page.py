@@ -253,6 +253,19 @@ class Reads(PageTest):
         self.wait_for_text("#feed", "live")
         self.wait(lambda: browser.find("#trouble").is_displayed(), lambda shown: not shown)
 
+    def test_a_gateway_without_settings_has_a_tab_too(self):
+        """One is started at boot and was not started yet, one has only a database."""
+        database = pathlib.Path("/var/lib/enogate/shed.db")
+        database.touch()
+        self.addCleanup(database.unlink)
+        self.machine.enable("roof")
+        self.addCleanup(self.machine.disable, "roof")
+        self.open()
+        names = "return [...document.querySelectorAll('[data-gateway]')].map(tab => tab.textContent)"
+        self.assertEqual(browser.run(names), ["hall", "roof", "shed", "yard"])
+        browser.click("[data-gateway=roof]")
+        self.wait_for_text("#trouble", "/var/log/enogate/roof.lines is missing", "The gateway roof is stopped")
+
     def test_a_link_or_a_pipe_in_place_of_the_lines_is_not_opened(self):
         other, lines = work / "other", gateway.lines_path.with_name("yard.lines")
         other.write_text('{"eep":"D5-00-01","id":"01800AE1","label":"","maker":null,"type":"device"}\n'

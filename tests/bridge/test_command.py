@@ -192,7 +192,8 @@ class Refused(Command):
     def test_words(self):
         for wanted, *words in (
             ("--lines, --desk and --state are required, except with --print", "hall"),
-            ("invalid gateway name: hall/+ (allowed: letters, digits, - and _)", "--print", "hall/+"),
+            ("'hall/+' is not the name of a gateway: use letters, digits, - and _, and do not begin it with - or mqtt",
+             "--print", "hall/+"),
             ("the following arguments are required: NAME", "--print"),
             ("unrecognized arguments: --host", "--print", "--host", "hall"),
         ):

@@ -28,9 +28,9 @@ class CommandLine(unittest.TestCase):
     def test_wrong_words(self):
         for words, why in (([], "required"),
                            (["hall"], "--lines, --desk and --state are required, except with --print"),
-                           (PATHS[:4] + ["hall"], "required"), (["--print", "a/b"], "invalid gateway name: a/b"),
-                           (["--print", ""], "invalid gateway name"), (["--print", "hall", "x"], "unrecognized"),
-                           (["--print", "häll"], "invalid gateway name")):
+                           (PATHS[:4] + ["hall"], "required"), (["--print", "a/b"], "^'a/b' is not the name"),
+                           (["--print", ""], "not the name"), (["--print", "hall", "x"], "unrecognized"),
+                           (["--print", "häll"], "not the name"), (["--print", "mqtt-x"], "not the name")):
             with self.subTest(words), self.assertRaisesRegex(WrongSetting, why):
                 read_words(words)
 
@@ -138,7 +138,8 @@ class Program(Case):
         self.assertEqual(self.run_it("a/b")[0], 2)
         self.assertEqual(self.run_it("hall", environment={"MQTT_PORT": "x"})[0], 2)
         self.assertEqual(settings.STATUS, 2)
-        self.assert_logged("ERROR: invalid", 2)
+        self.assert_logged("ERROR: 'a/b' is not the name of a gateway")
+        self.assert_logged("ERROR: invalid MQTT_PORT")
 
     def test_without_paho(self):
         with mock.patch.dict("sys.modules", {"paho": None}):

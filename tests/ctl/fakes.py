@@ -9,7 +9,7 @@ import tempfile
 import unittest
 from typing import Any, Callable
 
-from enogate_ctl.paths import Paths
+from enogate_tools.gateways import Paths
 
 OK = {"type": "ok"}
 # How long a test may take, in seconds; the slowest one takes some ten on a busy machine.

@@ -14,7 +14,7 @@ from enogate_ctl.answers import AnswerFinder
 from enogate_ctl.client import KEPT_AFTER_ANSWER, LONGEST_KEPT, LONG_PAUSE, PAUSE, Client, Lines, NoAnswer
 from enogate_ctl.command_line import Export, Give, Import, ShowLines, ShowRecorded
 from enogate_ctl.desk_file import DeskFile, Unusable
-from enogate_ctl.paths import Paths
+from enogate_tools.gateways import Paths
 from enogate_ctl.stops import SIGNALS, Stopped, Stops
 from enogate_tools import files
 from fakes import OK, Limited, Site, error, status, teach, within

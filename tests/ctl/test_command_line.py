@@ -8,10 +8,10 @@ from unittest import mock
 
 from enogate_ctl import command_line, following, grammar, main as program
 from enogate_ctl.answers import Answer, line_of
-from enogate_ctl.client import NoAnswer
+from enogate_ctl.client import NoAnswer, Unreadable
 from enogate_ctl.command_line import AskBase, Export, Give, Import, Serve, ShowLines, ShowPaths, ShowRecorded
 from enogate_ctl.command_line import parsed
-from enogate_ctl.paths import Paths, Unreadable, paths_of
+from enogate_tools.gateways import Paths, paths_of
 from enogate_ctl.stops import Stopped
 from enogate_tools import VERSION, port as ports
 from fakes import Limited
@@ -230,8 +230,6 @@ class Programs(Limited):
             self.assertEqual(run("paths"), (0, '{"attic":{},"hall":{"desk":"d","lines":"l"}}\n', ""))
         with mock.patch.object(program, "all_paths", return_value={}):
             self.assertEqual(run("paths"), (0, "{}\n", ""))
-        with mock.patch.object(program, "all_paths", side_effect=Unreadable("why\n")):
-            self.assertEqual(run("paths"), (1, "", "enogatectl: why?\n"))
 
     def test_lines(self):
         for why, status in ((None, 0), (Unreadable("why"), 1)):

@@ -7,7 +7,7 @@ import unittest
 from unittest import mock
 
 from enogate_ctl import following
-from enogate_ctl.paths import Unreadable
+from enogate_ctl.client import Unreadable
 from enogate_ctl.stops import Stopped
 from fakes import Site
 

@@ -10,9 +10,9 @@ from fakes import OK, Site, device, end_of_list, status
 CONTRIB = pathlib.Path(__file__).parents[2] / "contrib"
 # Those of our modules that each command needs.
 ALWAYS = {"enogate_ctl", "enogate_ctl.answers", "enogate_ctl.client", "enogate_ctl.command_line",
-          "enogate_ctl.desk_file", "enogate_ctl.fence", "enogate_ctl.grammar", "enogate_ctl.main", "enogate_ctl.paths",
-          "enogate_ctl.stops", "enogate_lines", "enogate_lines.contents", "enogate_lines.follow", "enogate_tools",
-          "enogate_tools.desk", "enogate_tools.files", "enogate_tools.share"}
+          "enogate_ctl.desk_file", "enogate_ctl.fence", "enogate_ctl.grammar", "enogate_ctl.main", "enogate_ctl.stops",
+          "enogate_lines", "enogate_lines.contents", "enogate_lines.follow", "enogate_tools", "enogate_tools.desk",
+          "enogate_tools.files", "enogate_tools.gateways", "enogate_tools.share"}
 SHOWN = {"enogate_ctl.shown", "enogate_ctl.tables"}
 TABLE = {"enogate_ctl.device_table", "enogate_ctl.readings", "enogate_ctl.recent", "enogate_ctl.tables",
          "enogate_ctl.words", "enogate_lines.entities", "enogate_mqtt", "enogate_mqtt.state"}

@@ -10,7 +10,7 @@ from enogate_ctl.answers import SHARED, AnswerFinder, line_of
 from enogate_ctl.client import Client, TooLate
 from enogate_ctl.desk_file import Unusable
 from enogate_ctl.fence import is_longest, needed
-from enogate_ctl.paths import paths_of
+from enogate_tools.gateways import paths_of
 from fakes import Limited
 from model import EEPS, IDS, UNSUPPORTED, Model
 

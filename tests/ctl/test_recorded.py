@@ -9,7 +9,7 @@ from datetime import datetime, timezone
 from unittest import mock
 
 from enogate_ctl import main as program, recent, recorded
-from enogate_ctl.paths import Unreadable
+from enogate_ctl.client import Unreadable
 from enogate_lines.follow import end_of
 from enogate_mqtt.devices import Device
 from enogate_mqtt.state import last_seen

@@ -8,11 +8,11 @@ const requests = [];
 let outputs = new Map();
 let failure = null;
 
-/** A process that has written the output of its first word, and then ends or fails. The one for orders runs on. */
+/** A process that has written the output of its words, and then ends or fails. The one for orders runs on. */
 class Process {
     constructor(words, options) {
         started.push({ words, options });
-        this.output = outputs.get(words[0]) ?? "";
+        this.output = outputs.get(words.join(" ")) ?? outputs.get(words[0]) ?? "";
         const end = failure ? Promise.reject(failure) : Promise.resolve(this.output);
         this.promise = words.includes("--serve") ? new Promise(() => {}) : end;
     }
@@ -78,7 +78,7 @@ test("the words of each command are an array of texts", async () => {
 });
 
 test("outputs are read, also those of a command that fails in part", async () => {
-    outputs.set("find", "/etc/default/enogate-hall\n/run/enogate/yard\n");
+    outputs.set("enogatectl paths", '{"hall":{},"yard":{}}\n');
     outputs.set("systemctl", "ActiveState=active\nSubState=running\n");
     outputs.set("enogatectl", `${JSON.stringify({ ...DEVICE, dbm: null, readings: [], seen: 5 })}\n`);
     outputs.set("/etc/default/enogate", "BASE=\nSERIAL=/dev/enocean\n");

@@ -11,8 +11,8 @@ let run = 1;
 machine.outputOf = ([name, ...words]) => {
     if (words.at(-1) === "lines")
         return null;
-    if (name === "find")
-        return "/run/enogate/hall\n/run/enogate/yard\n";
+    if (words[0] === "paths")
+        return '{"hall":{},"yard":{}}\n';
     return name === "systemctl" ? `ActiveState=active\nSubState=running\nInvocationID=${run}\n` : "";
 };
 

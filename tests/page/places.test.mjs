@@ -3,21 +3,16 @@ import { test } from "node:test";
 
 import * as places from "../../contrib/cockpit/enogate/places.js";
 
-test("gateways have settings, are started at boot, or have run", () => {
-    const settings = ["enogate", "enogate-hall", "enogate-mqtt", "enogate-mqtt-hall", "locale"];
-    const units = ["enogate@attic.service", "enogate-mqtt@attic.service"];
-    const output = [
-        ...settings.map(name => `/etc/default/${name}`),
-        ...units.map(name => `/etc/systemd/system/multi-user.target.wants/${name}`),
-        "/run/enogate/hall", "/run/enogate/cellar_2", "",
-    ];
-    assert.deepEqual(places.namesIn(output.join("\n")), ["attic", "cellar_2", "hall"]);
-    assert.deepEqual(places.namesIn(""), []);
+test("the names of the gateways are sorted", () => {
+    const paths = { desk: "/run/enogate/x/desk", lines: "/var/log/enogate/x.lines", settings: "/etc/default/enogate-x" };
+    const output = `${JSON.stringify({ hall: paths, attic: paths, cellar_2: paths, 10: paths, 9: paths })}\n`;
+    assert.deepEqual(places.namesIn(output), ["10", "9", "attic", "cellar_2", "hall"]);
+    assert.deepEqual(places.namesIn("{}\n"), []);
 });
 
-test("other names are left out", () => {
-    const names = ["<b>", "a b", "-x", "--desk", "a/b", "ä", "mqttx", "a\\x2db", ""];
-    assert.deepEqual(places.namesIn(names.map(name => `/etc/default/enogate-${name}`).join("\n")), []);
+test("a command that failed names no gateway", () => {
+    for (const output of ["", "null\n", "{\"hall\":"])
+        assert.deepEqual(places.namesIn(output), [], output);
 });
 
 test("settings: the last line counts, and quotation marks are removed", () => {

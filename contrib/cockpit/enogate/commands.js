@@ -16,7 +16,7 @@ function outputOf(words) {
 }
 
 /** The names of the gateways of this machine. */
-export const gateways = async () => places.namesIn(await outputOf(places.FIND));
+export const gateways = async () => places.namesIn(await outputOf(places.PATHS));
 
 const contents = path => cockpit.file(path, { superuser: "try" }).read().then(text => text, () => null);
 

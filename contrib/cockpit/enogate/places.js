@@ -1,28 +1,15 @@
 // The names of the gateways of this machine, their files, and their settings.
 
-const NAME = /^(?!mqtt)[A-Za-z0-9_][A-Za-z0-9_-]*$/;
-// Where a gateway leaves its name: its settings, its unit if it is started at boot, and its desk once it has run.
-const TRACES = [
-    /^\/etc\/default\/enogate-(.*)$/,
-    /^\/etc\/systemd\/system\/[^/]+\.wants\/enogate@(.*)\.service$/,
-    /^\/run\/enogate\/([^/]*)$/,
-];
+/** The command that prints the paths of the gateways. */
+export const PATHS = ["enogatectl", "paths"];
 
-/** The command that lists the traces. It fails if a directory is missing, but lists the others. */
-export const FIND = ["find", "/etc/default", "/etc/systemd/system/multi-user.target.wants", "/run/enogate",
-    "-mindepth", "1", "-maxdepth", "1"];
-
-/** The names in the output of this command. */
+/** The names of the gateways in its output; none if it failed. */
 export function namesIn(output) {
-    const names = new Set();
-    for (const path of output.split("\n")) {
-        for (const trace of TRACES) {
-            const name = path.match(trace)?.[1];
-            if (name && NAME.test(name))
-                names.add(name);
-        }
+    try {
+        return Object.keys(JSON.parse(output)).sort();
+    } catch {
+        return [];
     }
-    return [...names].sort();
 }
 
 export const linesOf = name => `/var/log/enogate/${name}.lines`;

@@ -1,0 +1,75 @@
+"""The gateways of this machine: their names, and where their units have their files."""
+from __future__ import annotations
+
+import os
+import re
+from collections.abc import Callable
+from typing import NamedTuple
+
+# The name of a gateway. One that begins with - is an option to programs, and the settings of bridges begin with mqtt.
+NAME = "(?!-|mqtt)[A-Za-z0-9_-]+"
+SETTINGS, UNITS, RUNNING, DATABASES = "/etc/default", "/etc/systemd/system", "/run/enogate", "/var/lib/enogate"
+
+
+class NoName(ValueError):
+    """A text is not the name of a gateway."""
+
+    def __init__(self, text: str):
+        super().__init__(f"{text!r} is not the name of a gateway: use letters, digits, - and _, and do not begin it "
+                         "with - or mqtt")
+
+
+class Paths(NamedTuple):
+    """The files of a gateway: its desk, its lines, and the state of its MQTT bridge."""
+    desk: str
+    lines: str
+    bridge: str
+
+
+def is_name(text: str) -> bool:
+    """Whether a gateway may have this name."""
+    return re.fullmatch(NAME, text) is not None
+
+
+def paths_of(name: str, root: str = "") -> Paths:
+    """The files of the gateway with this name, or NoName. `root` is put before their paths."""
+    if not is_name(name):
+        raise NoName(name)
+    return Paths(f"{root}{RUNNING}/{name}/desk", f"{root}/var/log/enogate/{name}.lines",
+                 f"{root}/var/lib/enogate-mqtt/{name}.db")
+
+
+def all_paths(root: str = "") -> dict[str, dict[str, str]]:
+    """The files of each gateway of this machine, by their names. Each of these files may be missing."""
+    found = {}
+    for name in names(root):
+        paths = paths_of(name, root)
+        found[name] = {"desk": paths.desk, "lines": paths.lines, "settings": f"{root}{SETTINGS}/enogate-{name}"}
+    return found
+
+
+def names(root: str = "") -> list[str]:
+    """The names of the gateways that have settings of their own, a unit that is started at boot, a directory for their
+    desk, which is made when they are started, or a database. A directory that this user may not read counts as empty.
+    `root` is put before the directories."""
+    found = names_in(root + SETTINGS, "enogate-({})", os.path.isfile) | names_in(root + RUNNING, "({})", os.path.isdir)
+    found |= names_in(root + DATABASES, r"({})\.db")
+    for folder in listed(root + UNITS):
+        if folder.endswith(".wants"):
+            found |= names_in(f"{root}{UNITS}/{folder}", r"enogate@({})\.service")
+    return sorted(found)
+
+
+def names_in(folder: str, shape: str, is_of_gateway: Callable[[str], bool] = os.path.lexists) -> set[str]:
+    """The names of gateways in the names of the files in this directory, which have this shape."""
+    pattern = shape.format(NAME)
+    return {found[1] for file in listed(folder)
+            if (found := re.fullmatch(pattern, file)) and is_of_gateway(f"{folder}/{file}")}
+
+
+def listed(folder: str) -> list[str]:
+    """The names of the files in this directory; none if it is missing, or if this user may not read it."""
+    try:
+        return os.listdir(folder)
+    except OSError:
+        return []
