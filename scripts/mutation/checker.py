@@ -5,6 +5,7 @@ import subprocess
 import sys
 import tempfile
 
+from mutation import libraries, record
 from mutation.verdicts import Check
 
 RT = shutil.which("rt") or sys.exit("mutants: there is no rt on the PATH")
@@ -28,18 +29,9 @@ def crates(root):
     return rtlib.crates_below(root)
 
 
-def newest(crate):
-    return max(os.path.getmtime(it) for it in rtlib.files_of(crate.folder))
-
-
-def has_libraries(crate):
-    """Whether the libraries below are built from the sources. `rt check` stamps them, `rt ci` does not."""
-    below = crate.below()
-    if any(os.path.exists(f"{it.folder}/out/rlib/stamp") for it in below):
-        return all(it.is_built() for it in below)
-    return all(
-        os.path.isdir(it.rlib) and os.path.getmtime(it.rlib) > max(map(newest, [it, *it.below()])) for it in below
-    )
+def kit():
+    """The kit's name, which differs in each version."""
+    return record.content(f"{KIT}/KIT-ID").decode()
 
 
 def linked(one, other):
@@ -53,23 +45,22 @@ def linked(one, other):
 
 
 def listing(folder):
-    """The names, sizes and times of the files of the folder. They show whether one was changed, lost or added."""
-    files = sorted(f"{at}/{name}" for at, _, names in os.walk(folder) for name in names)
-    return [(it, os.stat(it).st_size, os.stat(it).st_mtime_ns) for it in files]
+    """The names and the sums of the files of the folder. They show whether one was changed, lost or added."""
+    return [(it, record.sum_of(record.content(it))) for it in record.files_below(folder)]
 
 
 class Checker:
     """The checks of one crate. Each begins with the seed, which holds what a check of the unchanged crate proved."""
 
-    def __init__(self, crate):
-        self.crate, self.folder = crate, crate.folder
+    def __init__(self, crate, root):
+        self.crate, self.folder, self.root = crate, crate.folder, root
         self.room = tempfile.TemporaryDirectory(prefix="mutation-")
         self.seed, self.files = f"{self.room.name}/seed", None
         self.seconds = self.checks = 0
 
     def begin(self):
         """Checks the unchanged crate, and returns this check. It uses the results of an earlier `rt check`, if any."""
-        if not has_libraries(self.crate):
+        if not libraries.are_built(self.root, self.crate.below(), kit()):
             raise NotBuilt(f"the libraries below {self.crate.name} are not built: run `make build`")
         kept = f"{self.folder}/out/incremental"
         if os.path.isdir(kept):

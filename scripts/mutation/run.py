@@ -52,7 +52,7 @@ class Run:
         self.tried, self.faults = {}, []
 
     def digests_of(self, crate):
-        reads = record.Reads(crate, self.root, read(f"{checker.KIT}/KIT-ID"))
+        reads = record.Reads(crate, self.root, checker.kit())
         return {it.name: reads.digests(it) for it in self.mutants[crate.name]}
 
     def lanes(self, function, items):
@@ -79,7 +79,7 @@ class Run:
                 print(summary(tries), flush=True)
 
     def try_crate(self, crate, mutants):
-        checks = self.make_checker(crate)
+        checks = self.make_checker(crate, self.root)
         paths = sorted(glob.glob(f"{crate.folder}/src/**/*.rt", recursive=True))
         sources = {os.path.relpath(it, crate.folder): read(it) for it in paths}
         tries, fault = Tries(crate.name, sources, checks, self.lanes), ""

@@ -1,5 +1,6 @@
 """Unit tests of scripts/mutation/checker.py, with a shell script instead of the prover."""
 import os
+import pathlib
 import types
 import unittest
 from unittest import mock
@@ -32,7 +33,7 @@ class Checks(InFolder):
         patch = mock.patch.object(checker.rtlib, "RATTLE", prover)
         patch.start()
         self.addCleanup(patch.stop)
-        self.checker = checker.Checker(crate)
+        self.checker = checker.Checker(crate, os.path.dirname(self.folder))
         self.addCleanup(self.checker.close)
 
     def kept(self, check):
@@ -70,7 +71,7 @@ class Checks(InFolder):
         self.checker.begin()
         path = f"{self.checker.seed}/before"
         for change in (
-            lambda: os.utime(path, (1, 1)),
+            lambda: pathlib.Path(path).write_text("two", encoding="utf-8"),
             lambda: os.truncate(path, 1),
             lambda: os.rename(path, f"{path}s"),
             lambda: os.remove(f"{path}s"),
@@ -79,6 +80,18 @@ class Checks(InFolder):
             self.assertTrue(self.checker.is_sound())
             change()
             self.assertFalse(self.checker.is_sound())
+
+    def test_another_time_is_no_change_of_the_seed(self):
+        self.write("out/incremental/before", "one")
+        self.checker.begin()
+        os.utime(f"{self.checker.seed}/before", (1, 1))
+        self.assertTrue(self.checker.is_sound())
+
+    def test_libraries_that_are_not_built(self):
+        with mock.patch.object(checker.libraries, "are_built", return_value=False) as asked:
+            with self.assertRaisesRegex(checker.NotBuilt, "the libraries below tiny are not built"):
+                self.checker.begin()
+        asked.assert_called_once_with(os.path.dirname(self.folder), [], checker.kit())
 
     def test_the_status_is_the_provers(self):
         self.checker.begin()

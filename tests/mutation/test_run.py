@@ -19,7 +19,8 @@ class Fake(FakeChecker):
 
     checks, seconds, sound, opened = 2, 3.4, True, 0
 
-    def __init__(self, crate):
+    def __init__(self, crate, root):
+        assert root and crate.folder.startswith(root)
         super().__init__(crate.folder, SOURCES)
         Fake.opened += 1
 
@@ -260,71 +261,6 @@ class Runs(InFolder):
         names = (".three.edit", "more/four.edit", "two.edti")
         want = [f"tiny/mutants/{it} has another name than mutants have" for it in names]
         self.assertEqual(miscounted(self.root, [self.crate]), want)
-
-
-class Libraries(InFolder):
-    """Whether the libraries below a crate are those of the sources."""
-
-    def setUp(self):
-        super().setUp()
-        root = os.path.dirname(self.folder)
-        self.write("../low/src/lib.rt", "")
-        self.write("../low/out/rlib/low.rlib/format", "")
-        of = {"name": "low", "folder": f"{root}/low", "rlib": f"{root}/low/out/rlib/low.rlib", "built": True}
-        self.low = types.SimpleNamespace(**of, below=lambda: [], is_built=lambda: self.low.built)
-        self.high = types.SimpleNamespace(name="tiny", folder=self.folder, below=lambda: [self.low])
-        self.age("src/lib.rt", 10)
-        self.age("out/rlib/low.rlib", 20)
-
-    def age(self, path, seconds):
-        os.utime(f"{self.low.folder}/{path}", (seconds, seconds))
-
-    def test_none_below(self):
-        self.assertTrue(checker.has_libraries(types.SimpleNamespace(below=lambda: [])))
-
-    def test_a_stamp_decides(self):
-        self.write("../low/out/rlib/stamp", "")
-        self.age("src/lib.rt", 30)
-        self.assertTrue(checker.has_libraries(self.high))
-        self.low.built = False
-        self.assertFalse(checker.has_libraries(self.high))
-
-    def test_without_a_stamp_the_library_is_newer_than_its_sources(self):
-        self.low.built = False
-        self.assertTrue(checker.has_libraries(self.high))
-        self.age("src/lib.rt", 30)
-        self.assertFalse(checker.has_libraries(self.high))
-
-    def lowest(self, has_stamp, is_built):
-        """Adds a library below `low`."""
-        folder = os.path.dirname(self.folder) + "/lowest"
-        self.write("../lowest/src/lib.rt", "")
-        self.write("../lowest/out/rlib/lowest.rlib/format", "")
-        if has_stamp:
-            self.write("../lowest/out/rlib/stamp", "")
-        rlib = f"{folder}/out/rlib/lowest.rlib"
-        of = {"name": "lowest", "folder": folder, "rlib": rlib, "below": lambda: [], "is_built": lambda: is_built}
-        lowest = types.SimpleNamespace(**of)
-        self.low.below = lambda: [lowest]
-        self.high.below = lambda: [lowest, self.low]
-        return lowest
-
-    def test_one_stamp_decides_for_all(self):
-        self.lowest(has_stamp=True, is_built=True)
-        self.assertTrue(checker.has_libraries(self.high))
-        self.low.built = False
-        self.assertFalse(checker.has_libraries(self.high))
-
-    def test_without_a_stamp_a_library_is_newer_than_the_sources_below_it(self):
-        lowest = self.lowest(has_stamp=False, is_built=False)
-        for source, is_current in ((15, True), (30, False)):
-            os.utime(f"{lowest.folder}/src/lib.rt", (source, source))
-            os.utime(lowest.rlib, (40, 40))
-            self.assertEqual(checker.has_libraries(self.high), is_current)
-
-    def test_no_library(self):
-        self.low.rlib += ".none"
-        self.assertFalse(checker.has_libraries(self.high))
 
 
 if __name__ == "__main__":

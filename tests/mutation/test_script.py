@@ -40,9 +40,9 @@ class FakeRun:
 
 
 class Script(unittest.TestCase):
-    def main(self, *words, found=((True, "low/a: refused"),), faults=(), miscounted=()):
+    def main(self, *words, found=((True, "low/a: refused"),), faults=(), miscounted=(), script=None):
         """The status of a run with these words, what it printed, and what it did."""
-        script, done, printed = loaded(), [], io.StringIO()
+        script, done, printed = script or loaded(), [], io.StringIO()
         crates = [types.SimpleNamespace(name=it) for it in ("low", "high")]
 
         def made(_root, chosen, lanes):
@@ -74,6 +74,18 @@ class Script(unittest.TestCase):
 
     def test_a_record_is_written_on_request(self):
         self.assertEqual(self.main("--record")[2], ["low high in 3", "tried all", "recorded"])
+
+    def test_ci_only_runs_rt_and_notes_the_libraries(self):
+        script = loaded()
+        noted = []
+
+        def run_and_note(_root, crates, kit, words):
+            noted.append(([it.name for it in crates], kit, words[1:]))
+            return 3
+
+        with mock.patch.object(script.libraries, "run_and_note", run_and_note):
+            self.assertEqual(self.main("--ci", script=script), (3, "", []))
+        self.assertEqual(noted, [(["low", "high"], script.checker.kit(), ["ci"])])
 
     def test_crates_by_name(self):
         self.assertEqual(self.main("high")[2], ["high in 3", "tried all"])

@@ -1,0 +1,45 @@
+"""Whether the libraries that a check reads are built from the present sources. Sums of contents decide, never times."""
+import contextlib
+import os
+import subprocess
+
+from mutation.record import content, files_below, files_of, sum_of, sum_of_files
+
+# The libraries that `scripts/mutants --ci` built last, one in each line: the name of the crate, the sum of its sources,
+# and that of the library. `rt check` leaves a stamp in each library, and needs no such line; `rt ci` leaves none.
+NOTE = "target/libraries"
+
+
+def sources_of(crate, kit):
+    """The name of a crate, and the sum of all that its library is built from, except for the libraries below it."""
+    uses = repr((sorted(it.name for it in crate.deps), sorted(crate.of_kit)))
+    return f"{crate.name} {sum_of(kit.encode(), uses.encode(), sum_of_files(files_of(crate)))}"
+
+
+def library_of(crate):
+    """The sum of the files of a crate's library."""
+    return sum_of_files([(os.path.relpath(it, crate.rlib), content(it)) for it in files_below(crate.rlib)]).decode()
+
+
+def are_built(root, crates, kit):
+    """Whether the libraries of these crates, which are all that one crate uses, are built from their sources."""
+    path = f"{root}/{NOTE}"
+    noted = content(path).decode().splitlines() if os.path.exists(path) else []
+    if all(f"{sources_of(it, kit)} {library_of(it)}" in noted for it in crates):
+        return True
+    return all(it.is_built() for it in crates)
+
+
+def run_and_note(root, crates, kit, words):
+    """Runs a command that builds the libraries of all crates, and notes them if it passes and no source has changed
+    meanwhile. Returns its status."""
+    path = f"{root}/{NOTE}"
+    with contextlib.suppress(FileNotFoundError):
+        os.remove(path)
+    before = [sources_of(it, kit) for it in crates]
+    status = subprocess.run(words, check=False).returncode
+    if status == 0 and before == [sources_of(it, kit) for it in crates]:
+        os.makedirs(os.path.dirname(path), exist_ok=True)
+        with open(path, "w", encoding="utf-8") as it:
+            it.writelines(f"{of} {library_of(made)}\n" for of, made in zip(before, crates) if os.path.isdir(made.rlib))
+    return status if status >= 0 else 128 - status

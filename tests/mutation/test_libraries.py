@@ -1,0 +1,120 @@
+"""Unit tests of scripts/mutation/libraries.py: crates `low` and `middle`, the libraries below `tiny`."""
+import os
+import sys
+import types
+import unittest
+
+from fakes import InFolder
+from mutation import libraries
+
+# A shell script that builds no library, and ends with its status.
+COMMAND = ["sh", "-c", "exit $0"]
+
+
+class Libraries(InFolder):
+    def setUp(self):
+        super().setUp()
+        self.root = os.path.dirname(self.folder)
+        self.low = self.crate("low")
+        self.middle = self.crate("middle", self.low)
+        self.crates = [self.low, self.middle]
+
+    def crate(self, name, *deps):
+        folder = f"{self.root}/{name}"
+        self.write(f"../{name}/src/lib.rt", name)
+        self.write(f"../{name}/out/rlib/{name}.rlib/format", name)
+        of = {"name": name, "folder": folder, "rlib": f"{folder}/out/rlib/{name}.rlib", "of_kit": ["std"]}
+        return types.SimpleNamespace(**of, deps=[*deps], is_built=lambda: False)
+
+    def note(self, *words, kit="kit 1"):
+        return libraries.run_and_note(self.root, self.crates, kit, [*words] or [*COMMAND, "0"])
+
+    def are_built(self, kit="kit 1"):
+        return libraries.are_built(self.root, self.crates, kit)
+
+    def test_none_below(self):
+        self.assertTrue(libraries.are_built(self.root, [], "kit 1"))
+
+    def test_without_a_note_and_stamps(self):
+        self.assertFalse(self.are_built())
+
+    def test_noted_libraries(self):
+        self.assertEqual(self.note(), 0)
+        self.assertTrue(self.are_built())
+
+    def test_stamps(self):
+        for one, other in ((True, True), (True, False), (False, True)):
+            self.low.is_built, self.middle.is_built = lambda one=one: one, lambda other=other: other
+            self.assertEqual(self.are_built(), one and other)
+
+    def test_a_stamp_and_a_note_are_not_taken_together(self):
+        self.note()
+        self.low.is_built = lambda: True
+        self.write("../low/out/rlib/low.rlib/format", "built again")
+        self.assertFalse(self.are_built())
+
+    def test_a_change_after_the_note(self):
+        for path in (
+            "low/src/lib.rt",
+            "low/specs/Lib.antt",
+            "low/proofs/Lib.antt",
+            "low/c/a.c",
+            "middle/src/new.rt",
+            "low/out/rlib/low.rlib/format",
+            "middle/out/rlib/middle.rlib/new",
+        ):
+            self.note()
+            self.assertTrue(self.are_built())
+            self.write(f"../{path}", "another")
+            self.assertFalse(self.are_built(), path)
+
+    def test_a_file_with_another_name(self):
+        for folder in (f"{self.low.folder}/src", self.low.rlib):
+            self.note()
+            os.rename(f"{folder}/{os.listdir(folder)[0]}", f"{folder}/renamed")
+            self.assertFalse(self.are_built(), folder)
+
+    def test_another_kit_or_other_dependencies(self):
+        self.note()
+        self.assertFalse(self.are_built(kit="kit 2"))
+        self.low.of_kit = ["std", "hex"]
+        self.assertFalse(self.are_built())
+        self.low.of_kit, self.middle.deps = ["std"], []
+        self.assertFalse(self.are_built())
+
+    def test_a_library_that_is_not_there(self):
+        os.rename(self.low.rlib, f"{self.low.rlib}.none")
+        self.note()
+        self.assertFalse(self.are_built())
+
+    def test_times_do_not_count(self):
+        self.note()
+        for at, (source, library) in enumerate(((30, 20), (20, 30))):
+            os.utime(f"{self.low.folder}/src/lib.rt", (source, source))
+            os.utime(self.low.rlib, (library, library))
+            os.utime(f"{self.low.rlib}/format", (library, library))
+            self.assertTrue(self.are_built(), at)
+        self.write("../low/src/lib.rt", "another")
+        os.utime(f"{self.low.folder}/src/lib.rt", (1, 1))
+        self.assertFalse(self.are_built())
+
+    def test_a_command_that_fails_leaves_no_note(self):
+        self.note()
+        self.assertEqual(self.note(*COMMAND, "3"), 3)
+        self.assertFalse(self.are_built())
+        self.assertEqual(self.note("sh", "-c", "kill -9 $$"), 128 + 9)
+
+    def test_a_note_is_gone_while_the_command_runs(self):
+        self.note()
+        is_gone = f"import os, sys; sys.exit(os.path.exists({self.root!r} + '/{libraries.NOTE}'))"
+        self.assertEqual(self.note(sys.executable, "-c", is_gone), 0)
+
+    def test_a_source_that_changes_while_the_command_runs(self):
+        self.assertEqual(self.note("sh", "-c", f"echo >{self.low.folder}/src/lib.rt"), 0)
+        self.assertFalse(self.are_built())
+        self.write("../low/src/lib.rt", "low")
+        self.assertFalse(self.are_built())
+
+
+if __name__ == "__main__":
+    unittest.main()
