@@ -1,6 +1,7 @@
 /* Preloaded, it makes the program lose syncs of its files. LOSE_SYNC says which:
 
      all      every sync
+     file     every sync of the database itself, so that its log is used again too early
      commit   the sync of the log after the last byte of a commit
      late     the same, but the log is synced when the program next reads its input: after the answer */
 #define _GNU_SOURCE
@@ -20,17 +21,22 @@ static int is(const char *fault)
     return chosen && strcmp(chosen, fault) == 0;
 }
 
-static int is_log(int file)
+static int ends_with(const char *end, int file)
 {
     char link[32], path[4096];
     snprintf(link, sizeof link, "/proc/self/fd/%d", file);
-    ssize_t length = readlink(link, path, sizeof path);
-    return length > 4 && memcmp(path + length - 4, "-wal", 4) == 0;
+    ssize_t length = readlink(link, path, sizeof path), size = strlen(end);
+    return length > size && memcmp(path + length - size, end, size) == 0;
+}
+
+static int is_log(int file)
+{
+    return ends_with("-wal", file);
 }
 
 static int is_lost(int file)
 {
-    if (is("all"))
+    if (is("all") || (is("file") && ends_with(".db", file)))
         return 1;
     if (!is_log(file))
         return 0;
