@@ -18,6 +18,7 @@ from typing import Any, Callable, Iterator
 
 from bridge_testcase import MAY_SKIP, PYTHON
 from enogate_tools.check import Check
+from enogate_tools.gateways import names
 from enogate_tools.system import System
 from programs import wait_for
 from services import BASE, Stick
@@ -139,6 +140,13 @@ class Group(RightsTest):
         self.assertEqual([self.mode(self.state.with_name(name)) for name in ("hall.db", "another")], ["0640"] * 2)
         self.start()
         self.assertEqual(self.modes(), wanted)
+
+    def test_a_gateway_that_has_only_a_database_is_hidden_from_others(self):
+        self.database.with_name("cellar.db").touch()
+        (self.work / "var").mkdir()
+        (self.work / "var/lib").symlink_to(self.work / "lib")
+        for user, wanted in ((MEMBER, ["cellar", "hall"]), (OTHER, ["hall"]), (SUPERUSER, ["cellar", "hall"])):
+            self.assertEqual(as_user(user, lambda: names(str(self.work))), str(wanted))
 
     def test_forged_and_emptied_lines(self):
         self.start()
