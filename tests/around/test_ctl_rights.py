@@ -244,7 +244,7 @@ class Cells(RightsTest):
         made.parent.mkdir()
         os.chown(made.parent, SERVICE, SERVICE)
         self.make_registry(made)
-        words = [ROOT / "scripts/backup", made, backups / "hall.db"]
+        words = [CONTRIB / "enogate-backup", made, backups / "hall.db"]
         run = subprocess.run(words, capture_output=True, text=True, cwd="/")
         self.assertEqual((run.returncode, run.stderr), (0, ""))
         for mode, source, target in re.findall(r"^system +(\d+) (\S+) +(/etc/default/\S+)$",
@@ -301,9 +301,9 @@ class RootTools(RightsTest):
         super().setUp()
         self.start()
         self.tools = self.work / "tools"
-        for name in ("enogate_ctl", "enogate_lines", "enogate_mqtt", "enogate_tools"):
+        for name in ("enogate_ctl", "enogate_lines", "enogate_mqtt", "enogate_tools", "share"):
             shutil.copytree(CONTRIB / name, self.tools / name, ignore=shutil.ignore_patterns("__pycache__"))
-        for path in (CONTRIB / "enogatectl", ROOT / "scripts/backup", HERE / "gateway.py"):
+        for path in (CONTRIB / "enogatectl", CONTRIB / "enogate-backup", HERE / "gateway.py"):
             shutil.copy(path, self.tools)
         # the layout that enogate-check expects
         (self.work / "var").symlink_to(self.work)

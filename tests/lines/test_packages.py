@@ -1,6 +1,7 @@
 """Which packages of contrib/ import which others. All of their `import` lines count, also those in functions."""
 import ast
 import pathlib
+import re
 import unittest
 
 CONTRIB = pathlib.Path(__file__).parents[2] / "contrib"
@@ -28,11 +29,31 @@ def edge(package, module):
     return package, ".".join(parts[:2] if parts[0] == "enogate_mqtt" else parts[:1])
 
 
+def named(text):
+    """The names in backquotes of a text."""
+    return set(re.findall("`([^`]+)`", text))
+
+
+def named_in(table):
+    """The names in the first cells of a table."""
+    return named(" ".join(line.split("|")[1] for line in table.split("\n") if line.startswith("| `")))
+
+
 class Packages(unittest.TestCase):
     def test_edges(self):
         found = {edge(path.parent.name, module) for path in CONTRIB.glob("enogate_*/*.py") for module in imported(path)
                  if module.startswith("enogate_") and not module.startswith(f"{path.parent.name}.")}
         self.assertEqual(found, EDGES)
+
+    def test_the_map_names_each_module(self):
+        page = (CONTRIB / "README.md").read_text("utf-8")
+        python, page_modules = page.split("## The page")
+        for package in CONTRIB.glob("enogate_*"):
+            table = python.split(f"| `{package.name}` |")[1].split("\n\n")[0]
+            self.assertEqual(named_in(table), {path.stem for path in package.glob("*.py")} - {"__init__"})
+        scripts = {path.stem for path in (CONTRIB / "cockpit/enogate").glob("*.js")} - {"tables"}
+        self.assertEqual(named_in(page_modules.split("|---|---|")[1]), scripts)
+        self.assertLessEqual({path.name for path in (CONTRIB / "share").iterdir()}, named(page))
 
 
 if __name__ == "__main__":

@@ -23,8 +23,8 @@ def sqlite3(database, *texts):
 
 
 def backup(database, copy):
-    """Runs scripts/backup, and returns its status and what it prints to standard error."""
-    run = subprocess.run([ROOT / "scripts/backup", database, copy], capture_output=True)
+    """Runs contrib/enogate-backup, and returns its status and what it prints to standard error."""
+    run = subprocess.run([ROOT / "contrib/enogate-backup", database, copy], capture_output=True)
     return run.returncode, run.stderr.decode()
 
 
