@@ -42,9 +42,9 @@ class CtlTest(unittest.TestCase):
 
     @classmethod
     def start_gateway(cls) -> None:
-        """Starts the gateway, and waits until it answers."""
+        """Starts the gateway, and waits until it answers. An order on the desk of an earlier start gets no answer."""
         cls.gateway.start(cls.stick, cls.explain)
-        run = cls.ctl("--timeout", "20", "status")
+        run = wait_for(lambda: cls.ctl("--timeout", "20", "status"), lambda run: run.status == OK)
         assert run.status == OK, (run, cls.gateway.journal())
 
     def shortDescription(self) -> None:

@@ -1,13 +1,9 @@
 """The grammar of orders."""
-import pathlib
-import re
 import unittest
 
 from enogate_ctl import grammar
-from enogate_ctl.answers import ERRORS, SHARED
 from fakes import Limited
 
-GUIDE = pathlib.Path(__file__).parents[2] / "docs" / "guide" / "orders.md"
 ORDERS = (
     "learn on", "learn on answer", "learn off", "learn as A5-02-05", "learn as a5-02-0b", "add 01800ABC D5-00-01",
     "add 01800abc d5-00-01", "remove 00000000", "remove FFFFFFFF", "label 01800ABC x", "label 01800ABC",

@@ -3,7 +3,6 @@ import contextlib
 import json
 import os
 import pathlib
-import re
 import sqlite3
 import unittest
 from datetime import datetime, timedelta, timezone
@@ -44,7 +43,8 @@ class Words(Limited):
             ("A5-12-01", [{"den": 10, "name": "MR", "num": 123456785, "unit": "kWh"}, {"name": "TI", "raw": 3}],
              "Energy 12345678.5 kWh"),
             ("F6-02-01", [{"name": "R1", "word": "BI"}, {"name": "EB", "word": "pressed"}], "Rocker BI, Button pressed"),
-            ("F6-02-02", [{"name": "R1", "word": "BI"}, {"name": "EB", "word": "pressed"}, {"name": "R2", "word": "A0"}],
+            ("F6-02-02", [{"name": "R1", "word": "BI"}, {"name": "EB", "word": "pressed"},
+                          {"name": "R2", "word": "A0"}],
              "Rocker BI, Button pressed, Second rocker A0"),
             ("F6-02-01", [{"name": "buttons", "word": "none"}, {"name": "EB", "word": "released"}], "Button released"),
             ("A5-07-01", [{"den": 1, "name": "SVC", "num": 3, "unit": "V"}, {"name": "PIRS", "word": "on"}],

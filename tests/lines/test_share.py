@@ -31,7 +31,7 @@ class Tables(unittest.TestCase):
         self.assertEqual(share.kind("A5-38-08"), "")
 
     def test_the_kinds_of_the_guide(self):
-        kinds = {}
+        kinds, start = {}, ""
         for cell, kind, _ in table("output.md", "Profile | Device | Readings"):
             for first, last in re.findall(r"`([0-9A-F-]+)`(?: to `-([0-9A-F]{2})`)?", cell):
                 start = first if len(first) == 8 else start[:5] + first
