@@ -202,7 +202,7 @@ class LastSeen(WithBridge):
         heading, seen, unseen = self.ctl("list").out.splitlines()
         self.assertRegex(heading, "SIGNAL +LAST SEEN$")
         self.assertRegex(seen, rf"^Attic +{SENSOR} .*Temperature 20.08 °C +-45 dBm +[0-9]+ s ago$")
-        self.assertRegex(unseen, f"{NEVER_HEARD} +A5-02-05 +temperature$")
+        self.assertRegex(unseen, f"{NEVER_HEARD} +A5-02-05 +Temperature sensor$")
         self.assertEqual(self.ctl("devices").out.splitlines()[2], unseen)
         first, second, _ = map(json.loads, self.ctl("devices", "--json").out.splitlines())
         self.assertLess(abs(time.time() - first["seen"]), 3 * WITHIN)

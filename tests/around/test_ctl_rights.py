@@ -426,7 +426,7 @@ class RootTools(RightsTest):
     def test_the_database(self):
         self.make_registry(self.database)
         new = self.database.with_name("copy.db")
-        words = (self.tools / "backup", self.database, new)
+        words = (self.tools / "enogate-backup", self.database, new)
         for name in ("hall.db", "hall.db-wal"):
             for what in self.obstacles(self.database.with_name(name)):
                 with self.subTest(name, what=what):
