@@ -7,6 +7,7 @@ from collections.abc import Sequence
 from typing import NamedTuple, NoReturn
 
 from enogate_tools import VERSION
+from enogate_tools.desk import opens_window
 from enogate_tools.gateways import NoName, Paths, paths_of
 
 from . import grammar
@@ -154,7 +155,7 @@ class CommandLine:
             grammar.check_order(order)
         except grammar.NoOrder as error:
             self.fail(str(error) if order else "an order is required")
-        if words.seconds is not None and not grammar.opens_window(order):
+        if words.seconds is not None and not opens_window(order.encode()):
             self.fail("--for needs an order that opens the learn window: learn on, learn on answer, or learn as EEP")
         return Give(self.paths(), words.timeout, words.json, order, words.seconds)
 

@@ -12,8 +12,6 @@ SHAPES = {"ID": ID, "EEP": EEP, "TEXT": "[!-~](?:[ -~]{0,30}[!-~])?",
           **dict.fromkeys(("CH", "OFF", "VAL", "RAMP"), "(?:0|[1-9][0-9]{0,4})")}
 BASE = "base"
 FORMS = share.orders()
-# Orders that open the learn window.
-OPENING = re.compile(f"learn (?:on|on answer|as {EEP})")
 
 
 class NoOrder(ValueError):
@@ -35,8 +33,3 @@ def check_order(order: str) -> None:
 def pattern(form: str) -> str:
     """The regular expression of the orders of this form."""
     return " ".join(SHAPES.get(word, word) for word in form.split(" "))
-
-
-def opens_window(order: str) -> bool:
-    """Whether the order opens the learn window."""
-    return OPENING.fullmatch(order) is not None

@@ -10,6 +10,7 @@ from collections.abc import Callable, Iterable, Iterator
 from enogate_lines.contents import BadLine, Content, Strange, content_of
 from enogate_lines.follow import Follower, Position
 from enogate_lines.inotify import LONGEST, TURN
+from enogate_tools.desk import opens_window
 
 from . import discovery
 from .connection import ECHO_WITHIN, Broker, Connection, Lost, Received
@@ -19,7 +20,7 @@ from .log import Seldom
 from .orders import DEVICE, InvalidMessage, orders_of
 from .outbox import MAX_UNDER_WAY, Backlog, Outbox
 from .reconcile import Part, Reconciler
-from .requests import ListRequest, Probe, Requests, opens_window
+from .requests import ListRequest, Probe, Requests
 from .state import LAST_SEEN
 from .store import Store
 from .topics import Message, Topics

@@ -4,11 +4,11 @@ from __future__ import annotations
 
 import logging
 import math
-import re
 from collections.abc import Callable
 from dataclasses import dataclass
 
 from enogate_lines.contents import Content, EndOfList, Response, Status, Telegram
+from enogate_tools.desk import opens_window
 
 from .desk import Desk, News
 from .queries import Queries
@@ -25,14 +25,8 @@ PROBE_AFTER, SILENT_FOR = 7.0, 7.0
 START_WITHIN = 10.0
 # So many lost orders are named in a message, and so much of each.
 MAX_NAMED, SHOWN_OF_AN_ORDER = 5, 60
-# The orders that open the learn window (docs/guide/orders.md), and the one that closes it.
-OPENING = re.compile(rb"learn (?:on|on answer|as [0-9A-Fa-f]{2}-[0-9A-Fa-f]{2}-[0-9A-Fa-f]{2})")
+# The order that closes the learn window.
 CLOSING = b"learn off"
-
-
-def opens_window(orders: bytes) -> bool:
-    """Whether one of these orders opens the learn window."""
-    return any(OPENING.fullmatch(line) for line in orders.split(b"\n"))
 
 
 class ListRequest:
@@ -226,7 +220,7 @@ class Requests:
     def command(self, orders: bytes) -> None:
         """Remembers commands for the learn window that were passed on, and asks for the status after them."""
         for line in orders.split(b"\n"):
-            if OPENING.fullmatch(line):
+            if opens_window(line):
                 self.open_window(self.learn_for)
             elif line == CLOSING:
                 self.window = None

@@ -3,6 +3,7 @@ from __future__ import annotations
 
 import contextlib
 import os
+import re
 import stat
 
 # The group may write to it.
@@ -12,6 +13,13 @@ MAX_SIZE = 16 * 1024 * 1024
 # Ends an incomplete line. If a full file system has cut off the end of an order, the rest could be another order: with
 # the control character NAK it is none.
 INVALID_END = b"\x15\n"
+# The orders that open the learn window (docs/guide/orders.md).
+OPENS_WINDOW = re.compile(rb"learn (?:on|on answer|as [0-9A-Fa-f]{2}-[0-9A-Fa-f]{2}-[0-9A-Fa-f]{2})")
+
+
+def opens_window(orders: bytes) -> bool:
+    """Whether one of these orders opens the learn window."""
+    return any(OPENS_WINDOW.fullmatch(line) for line in orders.split(b"\n"))
 
 
 def empty(path: str) -> int:

@@ -4,7 +4,8 @@ import unittest
 from enogate_lines.contents import EndOfList, Other, Response, Status, Telegram
 from enogate_mqtt.desk import Desk
 from enogate_mqtt.requests import ANSWER_WITHIN, MAX_PAUSE, PROBE_AFTER, SILENT_FOR, START_WITHIN, STATUS_EVERY
-from enogate_mqtt.requests import Requests, opens_window
+from enogate_mqtt.requests import Requests
+from enogate_tools.desk import opens_window
 from fakes import Case, Site
 
 STATUS = Status("closed", {})

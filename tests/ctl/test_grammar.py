@@ -2,6 +2,7 @@
 import unittest
 
 from enogate_ctl import grammar
+from enogate_tools.desk import opens_window
 from fakes import Limited
 
 ORDERS = (
@@ -51,9 +52,9 @@ class Grammar(Limited):
 
     def test_orders_that_open_the_window(self):
         opening = ["learn on", "learn on answer", "learn as A5-02-05", "learn as a5-02-0b"]
-        self.assertEqual([order for order in ORDERS if grammar.opens_window(order)], sorted(
+        self.assertEqual([order for order in ORDERS if opens_window(order.encode())], sorted(
             opening, key=ORDERS.index))
-        self.assertFalse(grammar.opens_window("learn on x"))
+        self.assertFalse(opens_window(b"learn on x"))
 
 
 if __name__ == "__main__":
