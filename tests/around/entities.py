@@ -23,8 +23,9 @@ CLASSES = {
     "sensor": {*SENSORS, None}, "binary_sensor": {"opening", "motion", "problem", None}, "event": {"button"},
     "switch": {None}, "light": {None}, "cover": {"blind"}, "-": {None},
 }
-KEYS = {"class", "state", "unit", "digits", "on", "off", "options", "types", "diagnostic", "hidden", "cyclic", "say",
-        "normal", "detail"}
+# The words for the page and enogatectl, and those for Home Assistant.
+FOR_PEOPLE = {"say", "normal", "detail"}
+KEYS = {"class", "state", "unit", "digits", "on", "off", "options", "types", "diagnostic", "hidden", "cyclic", *FOR_PEOPLE}
 
 # The units of values that only grow: meters and actuators count them. All other values go up and down.
 GROWING = {"Ws", "Wh", "kWh", "m3"}
@@ -158,8 +159,12 @@ def faults_of(line, reading, words):
     more = dict(word.partition("=")[::2] for word in more)
     if more.get("class") not in CLASSES[entity]:
         yield "an unknown class"
-    if (entity == "-") != (topic == "-") or entity == "-" and (by != "-" or more):
+    if (entity == "-") != (topic == "-") or entity == "-" and (by != "-" or more.keys() - FOR_PEOPLE):
         yield "a topic without an entity, or the other way round"
+    if title == "-" and "say" not in more:
+        yield "no name for people"
+    if not set(more.get("normal", "0").split("|")) <= {*words, "0"}:
+        yield "a normal value that it has not"
     yield from faults_of_words(entity, more, reading, words)
     yield from faults_of_digits(entity, more, reading)
     if entity == "sensor":

@@ -43,7 +43,8 @@ class Tables(unittest.TestCase):
     def test_forms_of_orders(self):
         forms = [form for order in share.orders().values() for form, _ in order]
         self.assertEqual(forms, [form for form, *_ in ORDERS if not re.search("[0-9]", form)])
-        self.assertEqual({word for form in forms for word in form.split(" ") if word.isupper()}, set(share.parameters()))
+        self.assertEqual({word for form in forms for word in form.split(" ") if word.isupper()},
+                         share.parameters().keys())
         for name, greatest in GREATEST.items():
             self.assertTrue(share.parameters()[name].endswith(f"0 to {greatest}"), name)
 
