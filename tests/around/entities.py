@@ -25,7 +25,8 @@ CLASSES = {
 }
 # The words for the page and enogatectl, and those for Home Assistant.
 FOR_PEOPLE = {"say", "normal", "detail"}
-KEYS = {"class", "state", "unit", "digits", "on", "off", "options", "types", "diagnostic", "hidden", "cyclic", *FOR_PEOPLE}
+KEYS = {"class", "state", "unit", "digits", "on", "off", "options", "types", "diagnostic", "hidden", "cyclic",
+        *FOR_PEOPLE}
 
 # The units of values that only grow: meters and actuators count them. All other values go up and down.
 GROWING = {"Ws", "Wh", "kWh", "m3"}
