@@ -187,15 +187,15 @@ class Reads(PageTest):
     def test_the_reading_of_a_contact_appears(self):
         self.learn("01800A01", "D5-00-01", "Front door")
         stick.bring("01800A01", CLOSED)
-        self.wait_for_text(self.row("01800A01"), "Front door", "contact closed", "-45 dBm", "s ago")
+        self.wait_for_text(self.row("01800A01"), "Front door", "Contact closed", "-45 dBm", "s ago")
         stick.bring("01800A01", OPEN)
-        self.wait_for_text(self.row("01800A01"), "contact open")
+        self.wait_for_text(self.row("01800A01"), "Contact open")
 
     def test_a_sensor_has_decimals_units_and_a_plot(self):
         self.learn("01800A02", "A5-02-05", "Office")
         for payload in ("00007F08", "00006008", "00008008", "00006808"):
             stick.bring("01800A02", f"A5 {payload}")
-        self.wait_for_text(self.row("01800A02"), "temperature 23.69 °C")
+        self.wait_for_text(self.row("01800A02"), "Temperature 23.69 °C")
         points = "return document.querySelector(arguments[0]).getAttribute('points').split(' ').length"
         self.wait(lambda: browser.run(points, self.row("01800A02") + " polyline"), lambda count: count == 4)
         self.shoot("devices")
@@ -303,11 +303,11 @@ class Reads(PageTest):
     def test_lines_from_before_have_no_time_and_readings_outlast_a_rotation(self):
         self.learn("01800A06", "D5-00-01")
         stick.bring("01800A06", CLOSED)
-        self.wait_for_text(self.row("01800A06"), "contact closed")
+        self.wait_for_text(self.row("01800A06"), "Contact closed")
         gateway.rotate()
         gateway.append(EARLIER_PACKET * 5000)
         self.open()
-        self.wait_for_text(self.row("01800A06"), "contact closed", "earlier")
+        self.wait_for_text(self.row("01800A06"), "Contact closed", "earlier")
         self.tab("packets")
         browser.type("#packets-filter", "01800A07")
         self.wait_for_text("#packets-rows", "01800A07")
@@ -341,13 +341,13 @@ class Acts(PageTest):
         browser.click("#learn-go")
         self.wait_for_text("#learn-result", "Learned.")
         stick.bring("01800B01", PRESS)
-        self.wait_for_text("#learn-result", "rocker BI, button pressed")
+        self.wait_for_text("#learn-result", "Rocker BI, Button pressed")
         self.shoot("learn")
         browser.click("#learn-close")
         self.leave()
         self.wait(lambda: self.ids("unknown"), lambda ids: "01800B01" not in ids)
         self.tab("devices")
-        self.wait_for_text(self.row("01800B01"), 'Rocker "<b>"', "F6-02-01", "rocker BI")
+        self.wait_for_text(self.row("01800B01"), 'Rocker "<b>"', "F6-02-01", "Rocker BI")
         self.assertIn({"eep": "F6-02-01", "id": "01800B01", "label": 'Rocker "<b>"', "maker": None, "type": "device"},
                       [json.loads(line) for line in ctl("list").splitlines()])
 
@@ -431,7 +431,7 @@ class Acts(PageTest):
         for name, payload in (("Up", "D2007F0001"), ("Down", "D2647F0001"), ("Stop", "D202")):
             self.act("01800B13", name, payload)
         stick.bring("01800B13", "D2 327F0004")
-        self.wait_for_text(self.row("01800B13", "actuators"), "position 50 %")
+        self.wait_for_text(self.row("01800B13", "actuators"), "Position 50 %")
         self.shoot("actuators")
 
     def act(self, device: str, name: str, payload: str) -> None:
@@ -479,7 +479,7 @@ class Holds(PageTest):
         self.wait_for_text(self.row("01800C01"), '<img src=x onerror="alert(1)">')
         gateway.append("".join(f"{line}\n" for line in HOSTILE))
         stick.bring("01800C01", CLOSED)
-        self.wait_for_text(self.row("01800C01"), "contact closed")
+        self.wait_for_text(self.row("01800C01"), "Contact closed")
         for name in SECTIONS:
             with self.subTest(section=name):
                 self.tab(name)
@@ -494,7 +494,7 @@ class Holds(PageTest):
         browser.run("window.isSame = true")
         gateway.rotate()
         stick.bring("01800C11", OPEN)
-        self.wait_for_text(self.row("01800C11"), "contact open")
+        self.wait_for_text(self.row("01800C11"), "Contact open")
         gateway.end()
         self.machine.set_state("hall", "inactive", "dead")
         self.wait_for_text("#trouble", "The gateway hall is stopped", "systemctl start enogate@hall")
@@ -503,7 +503,7 @@ class Holds(PageTest):
         self.wait(lambda: browser.find("#trouble").is_displayed(), lambda shown: not shown, "the trouble")
         ctl("--timeout", "20", "status")
         stick.bring("01800C11", CLOSED)
-        self.wait_for_text(self.row("01800C11"), "contact closed")
+        self.wait_for_text(self.row("01800C11"), "Contact closed")
         self.assertTrue(browser.run("return window.isSame"))
 
     def test_an_unplugged_stick_is_shown_and_plugged_in_again(self):
@@ -518,7 +518,7 @@ class Holds(PageTest):
         self.wait(lambda: browser.find("#trouble").is_displayed(), lambda shown: not shown, "the trouble")
         ctl("--timeout", "20", "status")
         stick.bring("01800C12", CLOSED)
-        self.wait_for_text(self.row("01800C12"), "contact closed")
+        self.wait_for_text(self.row("01800C12"), "Contact closed")
 
     def test_a_server_that_has_ended_fails_no_other_test(self):
         browser.open("about:blank")
