@@ -6,8 +6,8 @@ A request is a line of JSON on standard input. It has an `id`, which is a number
     {"id": 7, "arguments": ["--json", "hall", "--", "list"]}    runs the command `enogatectl --json hall -- list`
     {"id": 7, "stop": true}                                     ends this command, as the signal SIGTERM does
 
-Each command runs in a forked process of its own, with the locks and rights that it always has. When it has ended, its
-answer is a line on standard output:
+The commands `lines`, `devices --import` and `--serve` cannot be requested. Each command runs in a forked process of its
+own, with the locks and rights that it always has. When it has ended, its answer is a line on standard output:
 
     {"error":"","id":7,"output":"{\\"count\\":0,\\"type\\":\\"list\\"}\\n","status":0}
 

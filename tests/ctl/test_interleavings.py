@@ -111,7 +111,7 @@ class Case:
 
     @property
     def is_ambiguous(self) -> bool:
-        """Whether the rule cannot decide this case, by the manual page. In both cases another program has given
+        """Whether the rule cannot decide this case, by the guide. In both cases another program has given
         `status` orders. Either one of these fails before the fences are answered, or a packet does without packet
         lines; or a fence has failed."""
         if any(event.who == "own" and event.order == "status" and not event.is_status for event in self.seen):
@@ -132,7 +132,7 @@ class Case:
 
     @property
     def may_be_late(self) -> bool:
-        """Whether the rule may find no answer, by the manual page. Without packet lines a packet fails between the
+        """Whether the rule may find no answer, by the guide. Without packet lines a packet fails between the
         fences of the command, and more fences would be needed because of the orders of another program."""
         own = 0
         for event in self.seen:
@@ -229,7 +229,7 @@ class Interleavings(Limited):
         return "wrong"
 
     def test_no_answer_is_wrong_or_late(self):
-        """Except for the cases that the manual page names."""
+        """Except for the cases that the guide names."""
         found = self.results(COUNT, 1)
         self.assertEqual(self.wrong[:1], [])
         self.assertEqual(found["late"], 0)

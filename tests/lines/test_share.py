@@ -45,8 +45,11 @@ class Tables(unittest.TestCase):
         self.assertEqual(forms, [form for form, *_ in ORDERS if not re.search("[0-9]", form)])
         self.assertEqual({word for form in forms for word in form.split(" ") if word.isupper()},
                          share.parameters().keys())
+        ranges = {row[0].strip("`"): row[-1] for row in table("orders.md", "Word | Meaning | Range")}
+        self.assertEqual(ranges.keys(), share.parameters().keys())
         for name, greatest in GREATEST.items():
             self.assertTrue(share.parameters()[name].endswith(f"0 to {greatest}"), name)
+            self.assertEqual(re.match(r"0 to (\d+)", ranges[name])[1], str(greatest), name)
 
     def test_errors_of_orders(self):
         for row in table("orders.md", "Order | What it does | Answer | Possible errors"):
@@ -65,6 +68,7 @@ class Tables(unittest.TestCase):
         self.assertEqual(list(share.words("error")), names(table("output.md", "Error | When")))
         self.assertEqual(sorted(share.words("result")), sorted(names(table("output.md", "Result | Meaning"))))
         self.assertEqual(sorted(share.words("reason")), sorted(["refused", *reasons.COUNTS]))
+        self.assertEqual(list(share.words("reason")), names(table("devices.md", "`why` | Meaning | What to do")))
         self.assertEqual(list(share.words("rorg")), ["F6", "D5", "A5", "D2", "D4"])
         for errors in share.orders().values():
             for _, found in errors:
