@@ -122,11 +122,14 @@ class CommandLines(Limited):
             self.assertIn(word, out)
 
     def test_the_manual_page(self):
-        """It has each order, and the numbers of the program."""
+        """It has each form of an order, the numbers of the program, and examples that are valid."""
         page = (ROOT / "contrib/enogatectl.1").read_text().replace("\\-", "-")
         self.assertIn(f"The default is {command_line.TIMEOUT:g}.", page)
-        for name in re.findall(r"\"(--[a-z]+)\"", (ROOT / "contrib/enogate_ctl/command_line.py").read_text()):
-            self.assertRegex(page, rf"(?m)^\.BI? {name}\b")
+        forms, examples = re.findall(r"(?ms)^\.EX\n(.*?)^\.EE$", page)
+        self.assertEqual(forms.splitlines(), [form for order in grammar.FORMS.values() for form, _ in order])
+        for line in examples.splitlines():
+            name, *words = line.partition(" >")[0].split(" ")
+            self.assertEqual((name, parsed(words).paths), ("enogatectl", HALL))
 
 
 class Programs(Limited):
