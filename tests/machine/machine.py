@@ -1,0 +1,170 @@
+"""A machine in QEMU, whose disk records each write and each flush."""
+import contextlib
+import os
+import pathlib
+import re
+import shlex
+import socket
+import struct
+import subprocess
+import sys
+import time
+
+HERE = pathlib.Path(__file__).resolve().parent
+sys.path[:0] = [str(HERE.parents[0]), str(HERE.parents[0] / "power")]
+
+import records  # noqa: E402
+from stick import Stick  # noqa: E402
+
+# How long the host waits for the machine, in seconds: without KVM a boot takes more than a minute.
+WITHIN, PAUSE = 600.0, 0.5
+STICKS = 2
+KERNEL = ("root=/dev/vda console=ttyS0 quiet mitigations=off audit=0 selinux=0 apparmor=0 tsc=reliable no_timer_check "
+          "random.trust_cpu=on systemd.default_timeout_start_sec=900 systemd.default_device_timeout_sec=900")
+# Without KVM, the clock of the machine counts its instructions: it is right however busy this computer is.
+EMULATED = ["-accel", "tcg", "-icount", "shift=2,sleep=on", "-cpu", "Nehalem"]
+# The log of QEMU's driver blklogwrites: sectors, of which the first has the head of the log. An entry has a sector for
+# its numbers (the first sector, how many, flags) and then what was written.
+SECTOR, ENTRY, FLUSH, DISCARD = 512, struct.Struct("<QQQ"), 1, 4
+END = re.compile(r"\n?\x04(\d+)\n")
+
+
+def accelerated():
+    """The arguments for the processor. A /dev/kvm without these flags emulates, too, and may hang."""
+    with open("/proc/cpuinfo", encoding="ascii") as file:
+        has_flags = re.search(r"\b(vmx|svm)\b", file.read())
+    return ["-accel", "kvm", "-cpu", "host"] if has_flags and os.access("/dev/kvm", os.W_OK) else EMULATED
+
+
+class Machine:
+    """A machine that boots from a copy of this disk, in this folder, with the clock at `clock`."""
+
+    def __init__(self, work, disk, kernel, initrd, clock=""):
+        self.work, self.before = work, disk
+        self.disk, self.log = work / "disk", work / "log"
+        for path in (self.log, *work.glob("*.socket")):
+            path.unlink(missing_ok=True)
+        self.log.touch()
+        copy(disk, self.disk)
+        words = ["qemu-system-x86_64", *accelerated(), "-m", "384", "-nodefaults", "-display", "none", "-no-reboot",
+                 "-kernel", kernel, "-initrd", initrd, "-append", KERNEL, "-serial", f"file:{work}/console",
+                 *self.devices(), *(["-rtc", f"base={clock}"] if clock else [])]
+        with open(work / "qemu", "w") as file:
+            self.process = subprocess.Popen(words, stdin=subprocess.DEVNULL, stdout=file, stderr=file)
+        self.sticks = [Stick(work / f"stick{number}.socket") for number in range(STICKS)]
+        # what has come from the agent, and the time before which the journal is not read
+        self.text, self.since = "", "@0"
+        self.agent = socket.socket(socket.AF_UNIX)
+        self.agent.settimeout(WITHIN)
+        while self.agent.connect_ex(str(work / "agent.socket")):
+            assert self.process.poll() is None, (work / "qemu").read_text()
+            time.sleep(PAUSE)
+
+    def devices(self):
+        """The arguments for disk, agent and sticks."""
+        sockets = {name: f"socket,id={name},path={self.work}/{name}.socket,server=on,wait=off"
+                   for name in ("agent", *(f"stick{number}" for number in range(STICKS)))}
+        disks = (f"driver=file,node-name=data,filename={self.disk},cache.no-flush=on",
+                 f"driver=file,node-name=log,filename={self.log},cache.no-flush=on",
+                 "driver=blklogwrites,node-name=disk,file=data,log=log")
+        words = [word for disk in disks for word in ("-blockdev", disk)]
+        words += [word for text in sockets.values() for word in ("-chardev", text)]
+        for device in ("virtio-blk-pci,drive=disk", "virtio-serial-pci", "virtserialport,chardev=agent,name=agent",
+                       "qemu-xhci", *(f"usb-serial,chardev=stick{number},serial=FT00000{number}"
+                                      for number in range(STICKS))):
+            words += ["-device", device]
+        return words
+
+    def send(self, command):
+        """Gives the machine a command, and does not wait for its end."""
+        self.agent.sendall(command.encode() + b"\n")
+
+    def receive(self):
+        """Waits for more of what the commands print."""
+        got = self.agent.recv(65536)
+        assert got, f"the machine has ended: {(self.work / 'console').read_text(errors='replace')[-500:]}"
+        self.text += got.decode(errors="replace")
+
+    def run(self, command, within=60):
+        """Runs a command in the machine, and returns what it printed."""
+        self.send(f"timeout -k 5 {within} bash -c {shlex.quote(command)}")
+        while not (end := END.search(self.text)):
+            self.receive()
+        found, self.text = self.text[:end.start()], self.text[end.end():]
+        return found
+
+    def until(self, command, wanted):
+        """Runs a command until it prints this, and returns what it printed."""
+        end = time.monotonic() + WITHIN
+        while not re.search(wanted, found := self.run(command)):
+            assert time.monotonic() < end, f"`{command}` does not print {wanted!r}, but {found[-1000:]!r}"
+            time.sleep(PAUSE)
+        return found
+
+    def start(self):
+        """Plugs the first stick in, if it is not, and waits until the gateway answers."""
+        if not self.sticks[0].socket:
+            self.sticks[0].plug()
+        self.answers()
+
+    def answers(self):
+        """Waits until the gateway answers."""
+        self.until("enogatectl --timeout 20 hall status", "learn window *closed")
+
+    def journal(self, wanted):
+        """Waits until the journal of the gateway has this."""
+        return self.until(f"journalctl -o cat -t enogate-hall --since {self.since}", wanted)
+
+    def kill(self):
+        """Ends QEMU, with everything that it holds."""
+        self.process.kill()
+        self.process.wait()
+        with contextlib.suppress(OSError, AssertionError):
+            while True:
+                self.receive()
+        self.agent.close()
+
+    def cut(self, mode, rng, disk):
+        """The power fails. `disk` becomes what the disk has then, with a part of what was written since the last flush.
+        Returns how many writes that were."""
+        self.kill()
+        copy(self.before, disk)
+        found = list(entries(self.log.read_bytes()))
+        with open(disk, "r+b") as file:
+            records.Cutter(File(file), found).after(len(found), mode, rng)
+        return next(number for number, record in enumerate(reversed(found)) if record.is_flush)
+
+
+class File:
+    """A disk, as records.Cutter writes to it."""
+
+    def __init__(self, file):
+        self.file = file
+
+    def copy(self):
+        return self
+
+    def write(self, offset, data):
+        self.file.seek(offset)
+        self.file.write(data)
+
+
+def entries(log):
+    """The writes and flushes in a log. The last one may be incomplete."""
+    place = SECTOR
+    while place + SECTOR <= len(log):
+        sector, count, flags = ENTRY.unpack_from(log, place)
+        size = 0 if flags & DISCARD else count * SECTOR
+        start, place = place + SECTOR, place + SECTOR + size
+        if place > len(log) or not count + flags:
+            return
+        if size:
+            yield records.Record(sector * SECTOR, log[start:place], place)
+        if flags & FLUSH:
+            yield records.Record(-1, b"", place)
+
+
+def copy(old, new):
+    """Copies a disk, without its empty parts."""
+    subprocess.run(["cp", "--sparse=always", old, new], check=True)
+
