@@ -80,16 +80,16 @@ class Machine:
         self.agent.sendall(command.encode() + b"\n")
 
     def receive(self):
-        """Waits for more of what the commands print."""
+        """Waits for more of what the commands print. Returns whether there is more."""
         got = self.agent.recv(65536)
-        assert got, f"the machine has ended: {(self.work / 'console').read_text(errors='replace')[-500:]}"
         self.text += got.decode(errors="replace")
+        return bool(got)
 
     def run(self, command, within=60):
         """Runs a command in the machine, and returns what it printed."""
         self.send(f"timeout -k 5 {within} bash -c {shlex.quote(command)}")
         while not (end := END.search(self.text)):
-            self.receive()
+            assert self.receive(), f"QEMU has ended: {(self.work / 'console').read_text(errors='replace')[-500:]}"
         found, self.text = self.text[:end.start()], self.text[end.end():]
         return found
 
@@ -119,9 +119,9 @@ class Machine:
         """Ends QEMU, with everything that it holds."""
         self.process.kill()
         self.process.wait()
-        with contextlib.suppress(OSError, AssertionError):
-            while True:
-                self.receive()
+        with contextlib.suppress(OSError):
+            while self.receive():
+                pass
         self.agent.close()
 
     def cut(self, mode, rng, disk):

@@ -11,23 +11,13 @@ RADIO, RESPONSE, COMMAND = 1, 2, 5
 READ_BASE, SWITCH = 8, b"\xd2\x01"
 
 
-def apply(generator, function):
-    """Calls the function with the words of each element, and returns what the generator returns."""
-    while True:
-        try:
-            words = next(generator)
-        except StopIteration as end:
-            return end.value
-        function(*words)
-
-
 class Stick:
     """A stick that is plugged in while it is connected to this socket of QEMU. `sent` has the telegrams that it was
     given to send."""
 
     def __init__(self, path, base=BASE):
         self.path, self.base, self.sent = path, base, []
-        self.socket = None
+        self.socket, self.rest = None, b""
 
     def plug(self):
         self.socket = socket.socket(socket.AF_UNIX)
@@ -41,10 +31,15 @@ class Stick:
 
     def serve(self, line):
         """Answers each packet until the stick is unplugged."""
-        rest = b""
+        self.rest = b""
         with contextlib.suppress(OSError):
             while got := line.recv(4096):
-                rest = apply(packets(rest + got), self.answer)
+                for one in self.packets_in(self.rest + got):
+                    self.answer(*one)
+
+    def packets_in(self, stream):
+        """The packets in these bytes. What may begin another one is kept."""
+        self.rest = yield from packets(stream)
 
     def answer(self, kind, data, optional):
         """Answers a packet as the module does; an actuator that is switched reports its state."""
