@@ -395,6 +395,10 @@ class Check:
     def of_space(self):
         """The disk space for the database and the lines."""
         for path, least in LEAST_SPACE.items():
+            # the sandbox of the unit makes the folders above read-only
+            folder = self.system.path(f"{path}/enogate")
+            if exists(folder) and os.statvfs(folder).f_flag & os.ST_RDONLY:
+                yield FAULT, f"{path}/enogate is on a read-only file system: look for errors of the disk with dmesg"
             found = os.statvfs(self.system.path(path))
             free = found.f_bavail * found.f_frsize
             if free < least or (found.f_files and not found.f_favail):
