@@ -124,15 +124,21 @@ class Machine:
                 pass
         self.agent.close()
 
-    def cut(self, mode, rng, disk):
-        """The power fails. `disk` becomes what the disk has then, with a part of what was written since the last flush.
-        Returns how many writes that were."""
+    def written(self):
+        """How many bytes the log of the disk has."""
+        return self.log.stat().st_size
+
+    def cut(self, start, mode, rng, disk):
+        """The power failed just after a write since the log had the size `start`. `disk` becomes what the disk had then,
+        with a part of what was written since the last flush. Returns the size of the log at this moment."""
         self.kill()
         copy(self.before, disk)
         found = list(entries(self.log.read_bytes()))
+        number = rng.choice([number for number, record in enumerate(found, 1)
+                             if record.end > start and not record.is_flush])
         with open(disk, "r+b") as file:
-            records.Cutter(File(file), found).after(len(found), mode, rng)
-        return next(number for number, record in enumerate(reversed(found)) if record.is_flush)
+            records.Cutter(File(file), found).after(number, mode, rng)
+        return found[number - 1].end
 
 
 class File:
