@@ -129,8 +129,8 @@ class Machine:
         return self.log.stat().st_size
 
     def cut(self, start, mode, rng, disk):
-        """The power failed just after a write since the log had the size `start`. `disk` becomes what the disk had then,
-        with a part of what was written since the last flush. Returns the size of the log at this moment."""
+        """The power failed just after a write since the log had the size `start`. `disk` becomes what the disk had
+        then, with a part of what was written since the last flush. Returns the size of the log at this moment."""
         self.kill()
         copy(self.before, disk)
         found = list(entries(self.log.read_bytes()))
