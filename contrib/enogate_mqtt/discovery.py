@@ -7,9 +7,8 @@ from collections.abc import Callable, Collection, Iterable
 from typing import Any
 
 from enogate_lines.entities import EntityRow
-from enogate_tools import share
+from enogate_tools import VERSION, share
 
-from . import VERSION
 from .topics import Topics
 
 Config = dict[str, Any]

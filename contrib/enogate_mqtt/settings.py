@@ -9,9 +9,8 @@ from dataclasses import dataclass
 from typing import NoReturn
 
 from enogate_lines.entities import AUTO
+from enogate_tools import VERSION
 from enogate_tools.gateways import NoName, is_name
-
-from . import VERSION
 
 STATUS = 2
 # How long a learn window stays open that was opened through the bridge, in seconds.

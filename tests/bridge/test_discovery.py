@@ -6,9 +6,9 @@ import re
 import unittest
 
 from enogate_lines.entities import AUTO, Table
-from enogate_mqtt import VERSION, discovery
+from enogate_mqtt import discovery
 from enogate_mqtt.topics import Topics
-from enogate_tools import share
+from enogate_tools import VERSION, share
 
 TOPICS = Topics("hall", "homeassistant")
 TABLE = Table()

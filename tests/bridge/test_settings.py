@@ -11,9 +11,10 @@ from unittest import mock
 
 from enogate_lines import inotify
 from enogate_lines.entities import AUTO
-from enogate_mqtt import VERSION, main, settings
+from enogate_mqtt import main, settings
 from enogate_mqtt.devices import Device
 from enogate_mqtt.settings import Login, Options, Words, WrongSetting, read_login, read_options, read_words
+from enogate_tools import VERSION
 from fakes import Case, Site, learned, reading
 
 PATHS = ["--lines", "l", "--desk", "d", "--state", "s"]
