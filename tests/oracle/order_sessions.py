@@ -77,7 +77,7 @@ class Row(Session):
 def numbers_near(greatest):
     """The ends of a range, and numbers past it: also some that are in it if only their last byte, their last two
     bytes or all bits except the highest one are taken."""
-    near = {0, 1, greatest - 1, greatest, greatest + 1, 128, 255, 256, 257, 256 + greatest}
+    near = {0, 1, greatest - 1, greatest, greatest + 1, 127, 128, 255, 256, 257, 256 + greatest}
     return [str(number) for number in sorted(near | {1000, 32768, 65535, 65536, 65536 + greatest, 99999})]
 
 
@@ -87,7 +87,7 @@ def numbers(row):
 
 
 # Texts that are no number, no ID and no profile: of another length, with signs, in another base or another script.
-NO_NUMBERS = ["", "00", "007", "+1", "-1", "1.0", "100000"]
+NO_NUMBERS = ["", "00", "007", "+1", "-1", "1.0", "100000", "/", ":", "1/", "1:"]
 NO_NUMBERS += ["1e1", "000000", "01", "00001", "000001", "+0", "-0", "+", "-", ".1", "1.", "1,0", "1E1", "0x1", "0b1"]
 NO_NUMBERS += ["1_0", "1'0", "1h", "A", "a", "1+1", "000100", "999999", "4294967296", "4294967297"]
 NO_NUMBERS += ["18446744073709551616", "18446744073709551617"]
@@ -376,7 +376,7 @@ LABELS += ["label", "01800ABC", "FFFFFFFF", "D5-00-01", "on", "null", "0", "-", 
 NO_LABELS = ["", " ", "  ", " x", "x ", " x ", "  x", "x  ", " Hall", 'Door "A" ', "\t", "\tx", "x\t", "a\tb", "a\rb"]
 NO_LABELS += ["\rx", "\x00", "a\x01b", "\x1f", "a\x1fb", "\x7f", "a\x7fb", "T\u00fcr", "\u00fc", "a\u00a0b", "\u00a0"]
 NO_LABELS += ["\u3000x", "a\u200bb", "\u201cA\u201d", "\ufeffx", "\u0661", 31 * "x" + " ", 32 * "x" + " "]
-NO_LABELS += [" " + 32 * "x", 32 * "x" + "\x7f", 33 * "\u00fc", 33 * " ", 100 * "x" + " "]
+NO_LABELS += [" " + 32 * "x", 32 * "x" + "\x7f", 33 * "\u00fc", 33 * " ", 100 * "x" + " ", "x" + 31 * " " + "y"]
 
 
 def all_labels(row):
@@ -397,7 +397,8 @@ def all_labels(row):
 def label_refusals(row):
     """Of two causes the first one is reported: a line that is too long, syntax, range, an unknown device."""
     for ident in ("FFFFFFFF", "ffffffff", f"{STRANGER:08X}", f"{CONTACT:08X}", "0180"):
-        for text in ("", " ", " y", "  y", " y ", " " + 33 * "y", " " + 33 * "y" + " ", "  " + 33 * "y", 200 * "y"):
+        long = [" " + 33 * "y", " " + 33 * "y" + " ", "  " + 33 * "y", 200 * "y"]
+        for text in ["", " ", " y", "  y", " y ", " y\ty", *long]:
             row.say(f"label {ident}{text}")
         row.say("list", "status")
 

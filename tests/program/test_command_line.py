@@ -23,6 +23,46 @@ READINGS = (
     '{"ignored":0,"mode":"closed","readings":2,"refused":0,"responses":1,"teach":0,"type":"status"}\n'
 )
 RANGE = '{"error":"range","type":"error"}\n'
+HELP = """\
+A gateway for EnOcean radio devices
+
+Usage: enogate <COMMAND>
+
+Commands:
+  replay  Run a recorded script from standard input to standard output
+  live    Run a gateway on a serial port
+  help    Print this message or the help of the given subcommand(s)
+
+Options:
+  -h, --help     Print help
+  -V, --version  Print version
+"""
+REPLAY_HELP = """\
+Run a recorded script from standard input to standard output
+
+Usage: enogate replay [OPTIONS] --base <ID>
+
+Options:
+      --base <ID>  Base ID of the radio module, 8 hexadecimal digits
+      --db <PATH>  SQLite file of learned devices; without this option they are kept in memory only
+      --explain    Report what was done with each packet, and why
+  -h, --help       Print help
+"""
+LIVE_HELP = """\
+Run a gateway on a serial port
+
+Usage: enogate live [OPTIONS] --base <ID> --serial <PATH> --desk <PATH> --out <PATH> --turns <N>
+
+Options:
+      --base <ID>      Base ID of the radio module, 8 hexadecimal digits
+      --serial <PATH>  Serial port of the radio module
+      --desk <PATH>    File with orders, one per line
+      --out <PATH>     Output file, created or truncated
+      --turns <N>      Number of read cycles before exiting, 1 to 4294967295
+      --db <PATH>      SQLite file of learned devices; without this option they are kept in memory only
+      --explain        Report what was done with each packet, and why
+  -h, --help           Print help
+"""
 
 
 class Replay(ProgramTest):
@@ -98,18 +138,9 @@ class Pages(ProgramTest):
     """Help, the version, and messages on usage."""
 
     def test_help(self):
-        run = self.run_program("--help")
-        for text in (
-            "Usage: enogate <COMMAND>",
-            "  replay  Run a recorded script from standard input to standard output",
-            "  live    Run a gateway on a serial port",
-        ):
-            with self.subTest(text=text):
-                self.assert_help(run, text)
-
-    def test_help_on_replay(self):
-        run = self.run_program("replay", "--help")
-        self.assert_help(run, "Usage: enogate replay [OPTIONS] --base <ID>")
+        for command, page in (([], HELP), (["replay"], REPLAY_HELP), (["live"], LIVE_HELP)):
+            with self.subTest(command=command):
+                self.assert_ended(self.run_program(*command, "--help"), page)
 
     def test_the_version(self):
         for option in ("--version", "-V"):

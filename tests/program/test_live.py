@@ -193,11 +193,7 @@ class WrongPaths(LiveTest):
 
 
 class CommandLine(LiveTest):
-    """Help on `live`, and messages on usage."""
-
-    def test_help(self):
-        text = "Usage: enogate live [OPTIONS] --base <ID> --serial <PATH> --desk <PATH> --out <PATH> --turns <N>"
-        self.assert_help(self.run_program("live", "--help"), text)
+    """Messages on usage."""
 
     def test_turns_that_are_refused(self):
         for turns, text in (

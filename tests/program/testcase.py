@@ -89,11 +89,6 @@ class ProgramTest(unittest.TestCase):
         self.assertIn(text, text_of(run.stderr))
         self.assertEqual((text_of(run.stdout), run.returncode), ("", 2))
 
-    def assert_help(self, run, text):
-        """The run ended with status 0, and printed a help page with this text, to standard output only."""
-        self.assertIn(text, text_of(run.stdout))
-        self.assertEqual((text_of(run.stderr), run.returncode), ("", 0))
-
     def assert_content(self, path, text):
         """The file has exactly this text."""
         self.assert_text(text_of(path.read_bytes()), text)
