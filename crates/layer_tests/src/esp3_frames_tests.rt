@@ -1,7 +1,7 @@
 //! Headers and packets of the standard, and at this gateway's limits.
 use arrayvec::ArrayVec;
 use esp3_frames::{
-    Header, HeaderFault, MAX_PACKET, PacketFault, PacketRef, check8, check8_between, check8_next,
+    HeaderFault, MAX_PACKET, PacketFault, PacketRef, check8, check8_between, check8_next,
     packet_at_start, read_header, read_packet, write_packet,
 };
 use std::alloc::{AllocError, Global};
@@ -12,235 +12,104 @@ const CONTACT: [u8; 21] = [
     0xFF, 0xFF, 0x2D, 0x00, 0x1F,
 ];
 
-/// The message of a CRC.
-enum Of {
-    Bytes(&'static [u8]),
-    /// A message with this CRC, and one more byte.
-    Next { before: u8, byte: u8 },
-    /// The last `len` bytes of a message, given the CRCs of the part before them and of the whole message.
-    Between { before: u8, all: u8, len: usize },
-}
+/// The packet, and three more bytes.
+const CONTACT_AND_MORE: [u8; 24] = [
+    0x55, 0x00, 0x07, 0x07, 0x01, 0x7A, 0xD5, 0x09, 0x01, 0x80, 0x0A, 0xBC, 0x00, 0x01, 0xFF, 0xFF,
+    0xFF, 0xFF, 0x2D, 0x00, 0x1F, 0x55, 0x55, 0x55,
+];
 
-struct Check {
-    of: Of,
-    wanted: u8,
-}
+/// The packet with one wrong CRC, though the other is correct.
+const WRONG_HEADER: [u8; 21] = [
+    0x55, 0x00, 0x07, 0x07, 0x01, 0x7B, 0xD5, 0x09, 0x01, 0x80, 0x0A, 0xBC, 0x00, 0x01, 0xFF, 0xFF,
+    0xFF, 0xFF, 0x2D, 0x00, 0x1F,
+];
 
-/// CRCs of the packet above and of short texts.
-const CHECKS: [Check; 18] = [
-    Check {
-        of: Of::Bytes(&[0x00, 0x07, 0x07, 0x01]),
-        wanted: 0x7A,
-    },
-    Check {
-        of: Of::Bytes(&[0x08]),
-        wanted: 0x38,
-    },
-    Check {
-        of: Of::Bytes(&[]),
-        wanted: 0x00,
-    },
-    Check {
-        of: Of::Next {
-            before: 0x7A,
-            byte: 0x7A,
-        },
-        wanted: 0x00,
-    },
-    Check {
-        of: Of::Next {
-            before: 0x00,
-            byte: 0x08,
-        },
-        wanted: 0x38,
-    },
-    // The check value that catalogues of CRCs give for this one, CRC-8/SMBUS.
-    Check {
-        of: Of::Bytes(b"123456789"),
-        wanted: 0xF4,
-    },
-    // The CRCs of the header and of the data of the packet above; and then of rows of the bytes 3, 10, 17, .. (each 7
-    // more than the last, modulo 256) after "123456789". Another program computed them.
-    Check {
-        of: Of::Between {
-            before: 0xAC,
-            all: 0x6D,
-            len: 4,
-        },
-        wanted: 0x7A,
-    },
-    Check {
-        of: Of::Between {
-            before: 0x65,
-            all: 0x7C,
-            len: 14,
-        },
-        wanted: 0x1F,
-    },
-    Check {
-        of: Of::Between {
-            before: 0xF4,
-            all: 0xF4,
-            len: 0,
-        },
-        wanted: 0x00,
-    },
-    Check {
-        of: Of::Between {
-            before: 0xF4,
-            all: 0xCB,
-            len: 1,
-        },
-        wanted: 0x09,
-    },
-    Check {
-        of: Of::Between {
-            before: 0xF4,
-            all: 0xCC,
-            len: 8,
-        },
-        wanted: 0xBA,
-    },
-    Check {
-        of: Of::Between {
-            before: 0xF4,
-            all: 0x67,
-            len: 126,
-        },
-        wanted: 0x99,
-    },
-    Check {
-        of: Of::Between {
-            before: 0xF4,
-            all: 0x7E,
-            len: 127,
-        },
-        wanted: 0x8A,
-    },
-    Check {
-        of: Of::Between {
-            before: 0xF4,
-            all: 0x0E,
-            len: 128,
-        },
-        wanted: 0xCC,
-    },
-    Check {
-        of: Of::Between {
-            before: 0xF4,
-            all: 0xE6,
-            len: 254,
-        },
-        wanted: 0x12,
-    },
-    Check {
-        of: Of::Between {
-            before: 0xF4,
-            all: 0x92,
-            len: 256,
-        },
-        wanted: 0xD2,
-    },
-    Check {
-        of: Of::Between {
-            before: 0xF4,
-            all: 0x3B,
-            len: 1_279,
-        },
-        wanted: 0x7E,
-    },
-    Check {
-        of: Of::Between {
-            before: 0xF4,
-            all: 0x0B,
-            len: 65_790,
-        },
-        wanted: 0x50,
-    },
+const WRONG_DATA: [u8; 21] = [
+    0x55, 0x00, 0x07, 0x07, 0x01, 0x7A, 0xD5, 0x09, 0x01, 0x80, 0x0A, 0xBC, 0x00, 0x01, 0xFF, 0xFF,
+    0xFF, 0xFF, 0x2D, 0x00, 0x1E,
+];
+
+/// Bytes and their CRC. F4 is the check value that catalogues of CRCs give for this one, CRC-8/SMBUS.
+const CHECKS: [(&[u8], u8); 4] = [
+    (&[0x00, 0x07, 0x07, 0x01], 0x7A),
+    (&[0x08], 0x38),
+    (&[], 0x00),
+    (b"123456789", 0xF4),
 ];
 
 #[test]
 fn check_bytes(rt: HostRuntime) {
-    for (row, case) in CHECKS.iter().enumerate() {
-        let found = match case.of {
-            Of::Bytes(bytes) => check8(bytes),
-            Of::Next { before, byte } => check8_next(before, byte),
-            Of::Between { before, all, len } => check8_between(before, all, len),
-        };
-        assert_eq!(rt; found, case.wanted, "row {row}");
+    for (bytes, wanted) in CHECKS {
+        assert_eq!(rt; check8(bytes), wanted, "{bytes:?}");
+    }
+    assert_eq!(rt; check8_next(0x00, 0x08), 0x38);
+}
+
+/// The CRCs before the last bytes of a message and of the whole message, the number of these bytes, and their CRC:
+/// first of the header and of the data of the packet above; and then of rows of the bytes 3, 10, 17, .. (each 7 more
+/// than the last, modulo 256) after "123456789". Another program computed them.
+const CHECKS_BETWEEN: [(u8, u8, usize, u8); 10] = [
+    (0xAC, 0x6D, 4, 0x7A),
+    (0x65, 0x7C, 14, 0x1F),
+    (0xF4, 0xF4, 0, 0x00),
+    (0xF4, 0xCB, 1, 0x09),
+    (0xF4, 0xCC, 8, 0xBA),
+    (0xF4, 0x67, 126, 0x99),
+    (0xF4, 0x7E, 127, 0x8A),
+    (0xF4, 0x0E, 128, 0xCC),
+    (0xF4, 0x92, 256, 0xD2),
+    (0xF4, 0x0B, 65_790, 0x50),
+];
+
+#[test]
+fn check_bytes_between(rt: HostRuntime) {
+    for (before, all, len, wanted) in CHECKS_BETWEEN {
+        assert_eq!(rt; check8_between(before, all, len), wanted, "{len}");
     }
 }
 
-/// The first six bytes of a packet, and the result of reading them.
-struct HeaderCase {
-    bytes: [u8; 6],
-    wanted: Result<Header, HeaderFault>,
-}
+/// The lengths of data and optional data and the type in a header, or why it is none.
+type Fields = Result<(u16, u8, u8), HeaderFault>;
 
 /// The last three have two faults each, and the first of the two is reported.
-const HEADERS: [HeaderCase; 10] = [
-    HeaderCase {
-        bytes: [0x55, 0x00, 0x07, 0x07, 0x01, 0x7A],
-        wanted: Ok(Header {
-            data_len: 7,
-            opt_len: 7,
-            kind: 1,
-        }),
-    },
-    HeaderCase {
-        bytes: [0x55, 0x04, 0x01, 0x00, 0x09, 0x0C],
-        wanted: Ok(Header {
-            data_len: 1025,
-            opt_len: 0,
-            kind: 9,
-        }),
-    },
-    HeaderCase {
-        bytes: [0x54, 0x00, 0x07, 0x07, 0x01, 0x7A],
-        wanted: Err(HeaderFault::NotSync),
-    },
-    HeaderCase {
-        bytes: [0x55, 0x00, 0x07, 0x07, 0x01, 0x7B],
-        wanted: Err(HeaderFault::HeaderCheck),
-    },
-    HeaderCase {
-        bytes: [0x55, 0x00, 0x00, 0x00, 0x00, 0x00],
-        wanted: Err(HeaderFault::EmptyPacket),
-    },
-    HeaderCase {
-        bytes: [0x55, 0xFF, 0xFF, 0xFF, 0x09, 0x12],
-        wanted: Ok(Header {
-            data_len: 65_535,
-            opt_len: 255,
-            kind: 9,
-        }),
-    },
-    HeaderCase {
-        bytes: [0x55, 0x00, 0x00, 0x01, 0x09, 0x2A],
-        wanted: Ok(Header {
-            data_len: 0,
-            opt_len: 1,
-            kind: 9,
-        }),
-    },
-    HeaderCase {
-        bytes: [0x54, 0x00, 0x00, 0x00, 0x00, 0x00],
-        wanted: Err(HeaderFault::NotSync),
-    },
-    HeaderCase {
-        bytes: [0x54, 0x00, 0x07, 0x07, 0x01, 0x7B],
-        wanted: Err(HeaderFault::NotSync),
-    },
-    HeaderCase {
-        bytes: [0x55, 0x00, 0x00, 0x00, 0x00, 0x01],
-        wanted: Err(HeaderFault::HeaderCheck),
-    },
+const HEADERS: [([u8; 6], Fields); 9] = [
+    ([0x55, 0x00, 0x07, 0x07, 0x01, 0x7A], Ok((7, 7, 1))),
+    ([0x55, 0xFF, 0xFF, 0xFF, 0x09, 0x12], Ok((65_535, 255, 9))),
+    ([0x55, 0x00, 0x00, 0x01, 0x09, 0x2A], Ok((0, 1, 9))),
+    (
+        [0x54, 0x00, 0x07, 0x07, 0x01, 0x7A],
+        Err(HeaderFault::NotSync),
+    ),
+    (
+        [0x55, 0x00, 0x07, 0x07, 0x01, 0x7B],
+        Err(HeaderFault::HeaderCheck),
+    ),
+    (
+        [0x55, 0x00, 0x00, 0x00, 0x00, 0x00],
+        Err(HeaderFault::EmptyPacket),
+    ),
+    (
+        [0x54, 0x00, 0x00, 0x00, 0x00, 0x00],
+        Err(HeaderFault::NotSync),
+    ),
+    (
+        [0x54, 0x00, 0x07, 0x07, 0x01, 0x7B],
+        Err(HeaderFault::NotSync),
+    ),
+    (
+        [0x55, 0x00, 0x00, 0x00, 0x00, 0x01],
+        Err(HeaderFault::HeaderCheck),
+    ),
 ];
 
 #[test]
 fn headers(rt: HostRuntime) {
-    for (row, case) in HEADERS.iter().enumerate() {
-        assert_eq!(rt; read_header(&case.bytes), case.wanted, "row {row}");
+    for (row, (bytes, wanted)) in HEADERS.iter().enumerate() {
+        let fields = match read_header(bytes) {
+            Ok(header) => Ok((header.data_len, header.opt_len, header.kind)),
+            Err(why) => Err(why),
+        };
+        assert_eq!(rt; fields, *wanted, "row {row}");
     }
 }
 
@@ -252,81 +121,35 @@ fn a_packet_written(rt: HostRuntime) {
     assert_eq!(rt; out.as_slice(), CONTACT.as_slice());
     let again = write_packet(1, body, opt, &mut out);
     let empty = write_packet(1, &[], &[], &mut out);
-    assert_eq!(rt;
-        (again, empty),
-        (Err(PacketFault::NoRoom), Err(PacketFault::EmptyPacket))
-    );
+    let wanted = (Err(PacketFault::NoRoom), Err(PacketFault::EmptyPacket));
+    assert_eq!(rt; (again, empty), wanted);
 }
 
-/// Bytes, whether they are the packet above, and whether they begin with it.
+/// Bytes, whether they are the packet, and whether they begin with it.
 struct Part {
     bytes: &'static [u8],
     is_packet: bool,
     is_first: bool,
 }
 
-const PARTS: [Part; 8] = [
+const PARTS: [Part; 4] = [
     Part {
         bytes: &CONTACT,
         is_packet: true,
         is_first: true,
     },
-    // More bytes after it.
     Part {
-        bytes: &[
-            0x55, 0x00, 0x07, 0x07, 0x01, 0x7A, 0xD5, 0x09, 0x01, 0x80, 0x0A, 0xBC, 0x00, 0x01,
-            0xFF, 0xFF, 0xFF, 0xFF, 0x2D, 0x00, 0x1F, 0x55, 0x55, 0x55,
-        ],
+        bytes: &CONTACT_AND_MORE,
         is_packet: false,
         is_first: true,
     },
     Part {
-        bytes: &[
-            0x55, 0x00, 0x07, 0x07, 0x01, 0x7A, 0xD5, 0x09, 0x01, 0x80, 0x0A, 0xBC, 0x00, 0x01,
-            0xFF, 0xFF, 0xFF, 0xFF, 0x2D, 0x00, 0x1F, 0x00,
-        ],
-        is_packet: false,
-        is_first: true,
-    },
-    // One wrong CRC, though the other is correct.
-    Part {
-        bytes: &[
-            0x55, 0x00, 0x07, 0x07, 0x01, 0x7B, 0xD5, 0x09, 0x01, 0x80, 0x0A, 0xBC, 0x00, 0x01,
-            0xFF, 0xFF, 0xFF, 0xFF, 0x2D, 0x00, 0x1F,
-        ],
+        bytes: &WRONG_HEADER,
         is_packet: false,
         is_first: false,
     },
     Part {
-        bytes: &[
-            0x55, 0x00, 0x07, 0x07, 0x01, 0x7A, 0xD5, 0x09, 0x01, 0x80, 0x0A, 0xBC, 0x00, 0x01,
-            0xFF, 0xFF, 0xFF, 0xFF, 0x2D, 0x00, 0x1E,
-        ],
-        is_packet: false,
-        is_first: false,
-    },
-    Part {
-        bytes: &[
-            0x55, 0x00, 0x07, 0x07, 0x01, 0x7A, 0xD5, 0x09, 0x01, 0x80, 0x0A, 0xBC, 0x00, 0x01,
-            0xFF, 0xFF, 0xFF, 0xFF, 0x2D, 0x00, 0x1E, 0x55, 0x55, 0x55,
-        ],
-        is_packet: false,
-        is_first: false,
-    },
-    // A byte too few, at the end or at the front.
-    Part {
-        bytes: &[
-            0x55, 0x00, 0x07, 0x07, 0x01, 0x7A, 0xD5, 0x09, 0x01, 0x80, 0x0A, 0xBC, 0x00, 0x01,
-            0xFF, 0xFF, 0xFF, 0xFF, 0x2D, 0x00,
-        ],
-        is_packet: false,
-        is_first: false,
-    },
-    Part {
-        bytes: &[
-            0x00, 0x07, 0x07, 0x01, 0x7A, 0xD5, 0x09, 0x01, 0x80, 0x0A, 0xBC, 0x00, 0x01, 0xFF,
-            0xFF, 0xFF, 0xFF, 0x2D, 0x00, 0x1F, 0x55, 0x55, 0x55,
-        ],
+        bytes: &WRONG_DATA,
         is_packet: false,
         is_first: false,
     },
@@ -347,91 +170,46 @@ fn parts_of_a_packet(rt: HostRuntime) {
         );
         assert_eq!(rt; found, wanted, "row {row}");
     }
+    assert!(rt; packet_at_start(&CONTACT[..20]).is_none());
 }
 
-/// A header followed by `count` bytes 00: data, optional data and their CRC, which is 00 for such data. `wanted` has
-/// the type and the two lengths of the packet, if it is one.
-struct Zeros {
-    header: [u8; 6],
-    count: usize,
-    wanted: Option<(u8, usize, usize)>,
-}
-
-const ZEROS: [Zeros; 3] = [
-    Zeros {
-        header: [0x55, 0xFF, 0xFF, 0xFF, 0x09, 0x12],
-        count: 65_791,
-        wanted: Some((9, 65_535, 255)),
-    },
-    Zeros {
-        header: [0x55, 0xFF, 0xFF, 0xFF, 0x09, 0x12],
-        count: 65_790,
-        wanted: None,
-    },
-    Zeros {
-        header: [0x55, 0x00, 0x00, 0xFF, 0x09, 0xE8],
-        count: 256,
-        wanted: Some((9, 0, 255)),
-    },
-];
-
-// The header, followed by the zeros.
-fn text_of(alloc: Global, case: &Zeros) -> Result<Vec<u8>, AllocError> {
+// The header, followed by this many bytes 00.
+fn text_of(alloc: Global, header: [u8; 6], zeros: usize) -> Result<Vec<u8>, AllocError> {
     let mut text = Vec::new(alloc);
-    text.extend_from_slice(&case.header)?;
-    text.extend_from_slice(&vec![in alloc; 0; case.count]?)?;
+    text.extend_from_slice(&header)?;
+    text.extend_from_slice(&vec![in alloc; 0; zeros]?)?;
     Ok(text)
 }
 
+/// A header, the number of bytes 00 after it (data, optional data and their CRC, which is 00 for such data), and the
+/// lengths of data and optional data of the packet, if it is one.
+const ZEROS: [([u8; 6], usize, Option<(usize, usize)>); 3] = [
+    (
+        [0x55, 0xFF, 0xFF, 0xFF, 0x09, 0x12],
+        65_791,
+        Some((65_535, 255)),
+    ),
+    ([0x55, 0xFF, 0xFF, 0xFF, 0x09, 0x12], 65_790, None),
+    ([0x55, 0x00, 0x00, 0xFF, 0x09, 0xE8], 256, Some((0, 255))),
+];
+
 #[test]
 fn long_packets_of_zeros(rt: HostRuntime) -> Result<(), Fail> {
-    for (row, case) in ZEROS.iter().enumerate() {
-        let text = text_of(rt.alloc(), case)?;
-        let packet = read_packet(&text);
-        let lengths = packet.map(|it| (it.kind, it.body.len(), it.opt.len()));
-        assert_eq!(rt; lengths, case.wanted, "row {row}");
-        if let Some(packet) = packet {
-            let mut content = packet.body.iter().chain(packet.opt.iter());
-            assert!(rt; content.all(|byte| *byte == 0), "row {row}");
-        }
+    for (header, zeros, wanted) in ZEROS {
+        let text = text_of(rt.alloc(), header, zeros)?;
+        let lengths = read_packet(&text).map(|packet| (packet.body.len(), packet.opt.len()));
+        assert_eq!(rt; lengths, wanted, "{zeros}");
     }
     Ok(())
 }
 
-/// A packet of bytes 00, the result of writing it into a buffer of 262 bytes, and the length of the buffer after that.
-struct Written {
-    data_len: usize,
-    opt_len: usize,
-    wanted: Result<(), PacketFault>,
-    len: usize,
-}
-
+/// The lengths of data and optional data, the result of writing them into a buffer of 262 bytes, and its length then.
 /// The length is checked before the capacity: what is not too long does not fit here.
-const WRITTEN: [Written; 4] = [
-    Written {
-        data_len: 65_536,
-        opt_len: 0,
-        wanted: Err(PacketFault::TooLong),
-        len: 0,
-    },
-    Written {
-        data_len: 0,
-        opt_len: 256,
-        wanted: Err(PacketFault::TooLong),
-        len: 0,
-    },
-    Written {
-        data_len: 65_535,
-        opt_len: 255,
-        wanted: Err(PacketFault::NoRoom),
-        len: 0,
-    },
-    Written {
-        data_len: 0,
-        opt_len: 255,
-        wanted: Ok(()),
-        len: 262,
-    },
+const WRITTEN: [(usize, usize, Result<(), PacketFault>, usize); 4] = [
+    (65_536, 0, Err(PacketFault::TooLong), 0),
+    (0, 256, Err(PacketFault::TooLong), 0),
+    (65_535, 255, Err(PacketFault::NoRoom), 0),
+    (0, 255, Ok(()), 262),
 ];
 
 #[test]
@@ -439,11 +217,15 @@ fn longest_packets(rt: HostRuntime) -> Result<(), Fail> {
     assert_eq!(rt; MAX_PACKET, 65_797);
     let zeros = vec![in rt.alloc(); 0; 65_536]?;
     let mut out = ArrayVec::<u8, 262>::new();
-    for (row, case) in WRITTEN.iter().enumerate() {
-        let data = zeros.get(..case.data_len).ok_or("too much data")?;
-        let opt = zeros.get(..case.opt_len).ok_or("too much data")?;
+    for (data_len, opt_len, wanted, written) in WRITTEN {
+        let data = zeros.get(..data_len).ok_or("too much data")?;
+        let opt = zeros.get(..opt_len).ok_or("too much data")?;
         let done = write_packet(9, data, opt, &mut out);
-        assert_eq!(rt; (done, out.len()), (case.wanted, case.len), "row {row}");
+        assert_eq!(rt;
+            (done, out.len()),
+            (wanted, written),
+            "{data_len} {opt_len}"
+        );
     }
     Ok(())
 }

@@ -6,167 +6,49 @@ fn parts(fraction: Fraction) -> (i64, i64) {
     (fraction.num(), fraction.den())
 }
 
-/// A number, which is `low` tenths at `first` and `high` tenths at `last`, and its value as a numerator and a
-/// denominator.
-struct Scaled {
-    raw: u32,
-    first: u32,
-    last: u32,
-    low: i32,
-    high: i32,
-    wanted: Option<(i64, i64)>,
-}
+/// A number, the numbers `first` and `last`, the tenths that these two stand for, and the number's value as a numerator
+/// and a denominator.
+type ScaleCase = (u32, u32, u32, i32, i32, Option<(i64, i64)>);
 
-const SCALED: [Scaled; 17] = [
-    // Between the bounds.
-    Scaled {
-        raw: 127,
-        first: 255,
-        last: 0,
-        low: 0,
-        high: 400,
-        wanted: Some((1024, 51)),
-    },
-    Scaled {
-        raw: 255,
-        first: 255,
-        last: 0,
-        low: -400,
-        high: 0,
-        wanted: Some((-40, 1)),
-    },
-    Scaled {
-        raw: 0,
-        first: 1023,
-        last: 0,
-        low: -100,
-        high: 412,
-        wanted: Some((206, 5)),
-    },
-    Scaled {
-        raw: 25,
-        first: 0,
-        last: 250,
-        low: 0,
-        high: 1000,
-        wanted: Some((10, 1)),
-    },
-    // The bounds are within, and what is past them is not.
-    Scaled {
-        raw: 10,
-        first: 10,
-        last: 20,
-        low: -5,
-        high: 5,
-        wanted: Some((-1, 2)),
-    },
-    Scaled {
-        raw: 20,
-        first: 10,
-        last: 20,
-        low: -5,
-        high: 5,
-        wanted: Some((1, 2)),
-    },
-    Scaled {
-        raw: 20,
-        first: 20,
-        last: 10,
-        low: -5,
-        high: 5,
-        wanted: Some((-1, 2)),
-    },
-    Scaled {
-        raw: 10,
-        first: 20,
-        last: 10,
-        low: -5,
-        high: 5,
-        wanted: Some((1, 2)),
-    },
-    Scaled {
-        raw: 9,
-        first: 10,
-        last: 20,
-        low: -5,
-        high: 5,
-        wanted: None,
-    },
-    Scaled {
-        raw: 21,
-        first: 10,
-        last: 20,
-        low: -5,
-        high: 5,
-        wanted: None,
-    },
-    Scaled {
-        raw: 9,
-        first: 20,
-        last: 10,
-        low: -5,
-        high: 5,
-        wanted: None,
-    },
-    Scaled {
-        raw: 21,
-        first: 20,
-        last: 10,
-        low: -5,
-        high: 5,
-        wanted: None,
-    },
-    Scaled {
-        raw: 256,
-        first: 0,
-        last: 255,
-        low: 0,
-        high: 51,
-        wanted: None,
-    },
-    // The widest bounds.
-    Scaled {
-        raw: 65_535,
-        first: 65_535,
-        last: 0,
-        low: -1_000_000,
-        high: 1_000_000,
-        wanted: Some((-100_000, 1)),
-    },
-    Scaled {
-        raw: 0,
-        first: 65_535,
-        last: 0,
-        low: -1_000_000,
-        high: 1_000_000,
-        wanted: Some((100_000, 1)),
-    },
-    Scaled {
-        raw: 1,
-        first: 65_535,
-        last: 0,
-        low: -1_000_000,
-        high: 1_000_000,
-        wanted: Some((1_310_660_000, 13_107)),
-    },
-    Scaled {
-        raw: 65_536,
-        first: 0,
-        last: 65_535,
-        low: 0,
-        high: 1,
-        wanted: None,
-    },
+/// Numbers between the bounds, at the bounds and past them, and the widest bounds.
+const SCALED: [ScaleCase; 13] = [
+    (127, 255, 0, 0, 400, Some((1024, 51))),
+    (0, 1023, 0, -100, 412, Some((206, 5))),
+    (10, 10, 20, -5, 5, Some((-1, 2))),
+    (20, 10, 20, -5, 5, Some((1, 2))),
+    (20, 20, 10, -5, 5, Some((-1, 2))),
+    (10, 20, 10, -5, 5, Some((1, 2))),
+    (9, 10, 20, -5, 5, None),
+    (21, 10, 20, -5, 5, None),
+    (9, 20, 10, -5, 5, None),
+    (21, 20, 10, -5, 5, None),
+    (
+        65_535,
+        65_535,
+        0,
+        -1_000_000,
+        1_000_000,
+        Some((-100_000, 1)),
+    ),
+    (
+        1,
+        65_535,
+        0,
+        -1_000_000,
+        1_000_000,
+        Some((1_310_660_000, 13_107)),
+    ),
+    (65_536, 0, 65_535, 0, 1, None),
 ];
 
 #[test]
 fn scaled_numbers(rt: HostRuntime) {
-    for (row, case) in SCALED.iter().enumerate() {
-        let tenths = -1_000_000..=1_000_000;
-        assert!(rt; case.first <= 65_535 && case.last <= 65_535 && case.first != case.last);
-        assert!(rt; tenths.contains(&case.low) && tenths.contains(&case.high));
-        let found = scale(case.raw, case.first, case.last, case.low, case.high).map(parts);
-        assert_eq!(rt; found, case.wanted, "row {row}");
+    for (raw, first, last, low, high, wanted) in SCALED {
+        assert!(rt; first <= 65_535 && last <= 65_535 && first != last);
+        assert!(rt; -1_000_000 <= low && low <= 1_000_000);
+        assert!(rt; -1_000_000 <= high && high <= 1_000_000);
+        let found = scale(raw, first, last, low, high).map(parts);
+        assert_eq!(rt; found, wanted, "{raw} from {first} to {last}");
     }
 }
 

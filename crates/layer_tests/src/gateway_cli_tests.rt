@@ -1,4 +1,4 @@
-//! Command lines that are accepted and that are rejected, and the texts of help and version.
+//! Command lines that are accepted and that are rejected. `tests/program/test_command_line.py` has the pages of help.
 use clap::error::ErrorKind;
 use gateway_cli::{Access, CommandLineFault, FileToOpen, Options, Service, read};
 use std::test::Fail;
@@ -20,21 +20,7 @@ fn refused(rt: &HostRuntime, line: &str, wanted: ErrorKind) -> Result<(), Fail> 
     }
 }
 
-/// The text that is printed if the line is rejected: what `clap` prints for it, if `clap` rejects it.
-fn stated(rt: &HostRuntime, line: &str) -> Result<String, Fail> {
-    let words = words_of(rt, line)?;
-    match read(rt.alloc(), words.as_slice()) {
-        Err(refused) => Ok(refused.to_string(rt.alloc())?),
-        Ok(_) => Err(Fail::from(line)),
-    }
-}
-
-/// A command line, and what it asks for.
-struct Taken {
-    line: &'static str,
-    wanted: Options<'static>,
-}
-
+// The service of `replay`.
 const REPLAY: Service<'static> = Service::Replay {
     reads: 4_000_000_000,
 };
@@ -55,332 +41,154 @@ const OUT: FileToOpen<'static> = FileToOpen {
     access: Access::WriteAnew,
 };
 
-const TAKEN: [Taken; 16] = [
-    Taken {
-        line: "enogate replay --base FF800000",
-        wanted: Options {
-            base: 0xFF80_0000,
-            db: None,
-            explain_packets: false,
-            service: REPLAY,
+/// The base ID, the database, whether packets are explained, and the turns if the service is `live`.
+type Values = (u32, Option<&'static str>, bool, Option<u64>);
+
+fn options_of((base, db, explain_packets, turns): Values) -> Options<'static> {
+    let service = match turns {
+        None => REPLAY,
+        Some(turns) => Service::Live {
+            serial: SERIAL,
+            desk: DESK,
+            out: OUT,
+            turns,
         },
-    },
-    Taken {
-        line: "enogate replay --base=ffffff80",
-        wanted: Options {
-            base: 0xFFFF_FF80,
-            db: None,
-            explain_packets: false,
-            service: REPLAY,
-        },
-    },
-    Taken {
-        line: "enogate replay --db x.db --base FF800000",
-        wanted: Options {
-            base: 0xFF80_0000,
-            db: Some("x.db"),
-            explain_packets: false,
-            service: REPLAY,
-        },
-    },
-    Taken {
-        line: "enogate replay --base FF800000 --db=a/b",
-        wanted: Options {
-            base: 0xFF80_0000,
-            db: Some("a/b"),
-            explain_packets: false,
-            service: REPLAY,
-        },
-    },
-    Taken {
-        line: "enogate replay --base FF800000 --explain",
-        wanted: Options {
-            base: 0xFF80_0000,
-            db: None,
-            explain_packets: true,
-            service: REPLAY,
-        },
-    },
-    Taken {
-        line: "enogate replay --explain --db x.db --base FF800000",
-        wanted: Options {
-            base: 0xFF80_0000,
-            db: Some("x.db"),
-            explain_packets: true,
-            service: REPLAY,
-        },
-    },
-    Taken {
-        line: "enogate replay --base FF800000 --db=--explain",
-        wanted: Options {
-            base: 0xFF80_0000,
-            db: Some("--explain"),
-            explain_packets: false,
-            service: REPLAY,
-        },
-    },
-    Taken {
-        line: "enogate replay --base FFA1B280 --db x.db --explain",
-        wanted: Options {
-            base: 0xFFA1_B280,
-            db: Some("x.db"),
-            explain_packets: true,
-            service: REPLAY,
-        },
-    },
-    Taken {
-        line: "enogate live --base FF800000 --serial /dev/s --desk in/d --out o --turns 20",
-        wanted: Options {
-            base: 0xFF80_0000,
-            db: None,
-            explain_packets: false,
-            service: Service::Live {
-                serial: SERIAL,
-                desk: DESK,
-                out: OUT,
-                turns: 20,
-            },
-        },
-    },
-    Taken {
-        line: "enogate live --turns=20 --out=o --desk=in/d --serial=/dev/s --base=FF800000",
-        wanted: Options {
-            base: 0xFF80_0000,
-            db: None,
-            explain_packets: false,
-            service: Service::Live {
-                serial: SERIAL,
-                desk: DESK,
-                out: OUT,
-                turns: 20,
-            },
-        },
-    },
-    Taken {
-        line: "enogate live --db x.db --turns 1 --base ff800000 --out o --serial /dev/s --desk in/d",
-        wanted: Options {
-            base: 0xFF80_0000,
-            db: Some("x.db"),
-            explain_packets: false,
-            service: Service::Live {
-                serial: SERIAL,
-                desk: DESK,
-                out: OUT,
-                turns: 1,
-            },
-        },
-    },
-    Taken {
-        line: "enogate live --turns 4294967295 --base FF800000 --serial /dev/s --desk in/d --out o --db a/b",
-        wanted: Options {
-            base: 0xFF80_0000,
-            db: Some("a/b"),
-            explain_packets: false,
-            service: Service::Live {
-                serial: SERIAL,
-                desk: DESK,
-                out: OUT,
-                turns: 4_294_967_295,
-            },
-        },
-    },
-    Taken {
-        line: "enogate live --base FF800000 --serial /dev/s --desk in/d --out o --turns 4294967295",
-        wanted: Options {
-            base: 0xFF80_0000,
-            db: None,
-            explain_packets: false,
-            service: Service::Live {
-                serial: SERIAL,
-                desk: DESK,
-                out: OUT,
-                turns: 4_294_967_295,
-            },
-        },
-    },
-    Taken {
-        line: "enogate live --turns +0020 --base FF800000 --serial /dev/s --desk in/d --out o",
-        wanted: Options {
-            base: 0xFF80_0000,
-            db: None,
-            explain_packets: false,
-            service: Service::Live {
-                serial: SERIAL,
-                desk: DESK,
-                out: OUT,
-                turns: 20,
-            },
-        },
-    },
-    Taken {
-        line: "enogate live --base FF800000 --serial /dev/s --desk in/d --out o --turns 20 --explain",
-        wanted: Options {
-            base: 0xFF80_0000,
-            db: None,
-            explain_packets: true,
-            service: Service::Live {
-                serial: SERIAL,
-                desk: DESK,
-                out: OUT,
-                turns: 20,
-            },
-        },
-    },
-    Taken {
-        line: "enogate live --explain --turns 1 --db x.db --base FF800000 --out o --serial /dev/s --desk in/d",
-        wanted: Options {
-            base: 0xFF80_0000,
-            db: Some("x.db"),
-            explain_packets: true,
-            service: Service::Live {
-                serial: SERIAL,
-                desk: DESK,
-                out: OUT,
-                turns: 1,
-            },
-        },
-    },
+    };
+    Options {
+        base,
+        db,
+        explain_packets,
+        service,
+    }
+}
+
+/// The start of lines of `live`, without its turns.
+const LIVE: &str = "enogate live --base FF800000 --serial /dev/s --desk in/d --out o ";
+
+const ACCEPTED: [(&str, Values); 5] = [
+    (
+        "enogate replay --base FF800000",
+        (0xFF80_0000, None, false, None),
+    ),
+    (
+        "enogate replay --base=ffffff80",
+        (0xFFFF_FF80, None, false, None),
+    ),
+    (
+        "enogate replay --db x.db --base FFA1B280",
+        (0xFFA1_B280, Some("x.db"), false, None),
+    ),
+    (
+        "enogate replay --explain --base FF800000 --db=a/b",
+        (0xFF80_0000, Some("a/b"), true, None),
+    ),
+    (
+        "enogate replay --base FF800000 --db=--explain",
+        (0xFF80_0000, Some("--explain"), false, None),
+    ),
 ];
 
-#[test]
-fn lines_that_are_taken(rt: HostRuntime) -> Result<(), Fail> {
-    for case in &TAKEN {
-        let words = words_of(&rt, case.line)?;
-        match read(rt.alloc(), words.as_slice()) {
-            Ok(options) if options == case.wanted => {}
-            _ => return Err(Fail::from(case.line)),
-        }
+const LIVE_ACCEPTED: [(&str, Values); 5] = [
+    ("--turns 20", (0xFF80_0000, None, false, Some(20))),
+    ("--turns +0020", (0xFF80_0000, None, false, Some(20))),
+    ("--turns 1 --explain", (0xFF80_0000, None, true, Some(1))),
+    (
+        "--turns 4294967295 --db a/b",
+        (0xFF80_0000, Some("a/b"), false, Some(4_294_967_295)),
+    ),
+    (
+        "--db=x.db --explain --turns=4294967295",
+        (0xFF80_0000, Some("x.db"), true, Some(4_294_967_295)),
+    ),
+];
+
+fn is_accepted(rt: &HostRuntime, line: &str, wanted: Values) -> Result<(), Fail> {
+    let words = words_of(rt, line)?;
+    match read(rt.alloc(), words.as_slice()) {
+        Ok(options) if options == options_of(wanted) => Ok(()),
+        _ => Err(Fail::from(line)),
     }
-    Ok(())
+}
+
+#[test]
+fn accepted_lines(rt: HostRuntime) -> Result<(), Fail> {
+    for (line, wanted) in ACCEPTED {
+        is_accepted(&rt, line, wanted)?;
+    }
+    for (end, wanted) in LIVE_ACCEPTED {
+        let line = format!(in rt.alloc(); "{LIVE}{end}")?;
+        is_accepted(&rt, line.as_str(), wanted)?;
+    }
+    let other_order = "enogate live --turns=20 --out=o --desk=in/d --serial=/dev/s --base=FF800000";
+    is_accepted(&rt, other_order, (0xFF80_0000, None, false, Some(20)))
 }
 
 #[test]
 fn bad_bases(rt: HostRuntime) -> Result<(), Fail> {
-    for command in [
-        "replay",
-        "live --serial /dev/s --desk d --out o --turns 1 --db x.db",
-    ] {
-        for base in ["FF80zz00", "FF80000", "FF800001", ""] {
-            let line = format!(in rt.alloc(); "enogate {command} --base={base}")?;
-            let words = words_of(&rt, line.as_str())?;
-            match read(rt.alloc(), words.as_slice()) {
-                Err(CommandLineFault::BadBase) => {}
-                _ => return Err(Fail::from(base)),
-            }
+    for base in ["FF80zz00", "FF80000", "FF800001", ""] {
+        let line = format!(in rt.alloc(); "enogate replay --base={base}")?;
+        let words = words_of(&rt, line.as_str())?;
+        match read(rt.alloc(), words.as_slice()) {
+            Err(CommandLineFault::BadBase) => {}
+            _ => return Err(Fail::from(base)),
         }
     }
     Ok(())
 }
 
 /// Command lines with the same start, their different ends, separated by `|`, and the kind of clap's error.
-struct Refusal {
-    line: &'static str,
-    ends: &'static str,
-    kind: ErrorKind,
-}
-
-const REFUSALS: [Refusal; 18] = [
-    Refusal {
-        line: "enogate replay --help",
-        ends: "",
-        kind: ErrorKind::DisplayHelp,
-    },
-    Refusal {
-        line: "enogate live --help",
-        ends: "",
-        kind: ErrorKind::DisplayHelp,
-    },
-    Refusal {
-        line: "enogate --help",
-        ends: "",
-        kind: ErrorKind::DisplayHelp,
-    },
-    Refusal {
-        line: "enogate --version",
-        ends: "",
-        kind: ErrorKind::DisplayVersion,
-    },
-    Refusal {
-        line: "enogate replay",
-        ends: "",
-        kind: ErrorKind::MissingRequiredArgument,
-    },
-    Refusal {
-        line: "enogate live",
-        ends: "",
-        kind: ErrorKind::MissingRequiredArgument,
-    },
-    Refusal {
-        line: "enogate play",
-        ends: "",
-        kind: ErrorKind::InvalidSubcommand,
-    },
-    Refusal {
-        line: "enogate",
-        ends: "",
-        kind: ErrorKind::MissingSubcommand,
-    },
-    Refusal {
-        line: "enogate replay --store x --base FF800000",
-        ends: "",
-        kind: ErrorKind::UnknownArgument,
-    },
+const REFUSALS: [(&str, &str, ErrorKind); 13] = [
+    ("enogate replay", " --help", ErrorKind::DisplayHelp),
+    ("enogate", " --version", ErrorKind::DisplayVersion),
+    (
+        "enogate",
+        " replay| live",
+        ErrorKind::MissingRequiredArgument,
+    ),
+    ("enogate", " play", ErrorKind::InvalidSubcommand),
+    ("enogate", "", ErrorKind::MissingSubcommand),
+    ("enogate", " --explain", ErrorKind::UnknownArgument),
     // Options of `live`.
-    Refusal {
-        line: "enogate replay --base FF800000 --",
-        ends: "serial 1|desk 1|out 1|turns 1",
-        kind: ErrorKind::UnknownArgument,
-    },
+    (
+        "enogate replay --base FF800000 --",
+        "serial 1|desk 1|out 1|turns 1",
+        ErrorKind::UnknownArgument,
+    ),
     // A flag has no value, and is given once.
-    Refusal {
-        line: "enogate replay --base FF800000 ",
-        ends: "--explain --explain",
-        kind: ErrorKind::ArgumentConflict,
-    },
-    Refusal {
-        line: "enogate replay --base FF800000 ",
-        ends: "--explain=yes|--explain=",
-        kind: ErrorKind::TooManyValues,
-    },
-    Refusal {
-        line: "enogate replay --base FF800000 ",
-        ends: "--explain yes|--explains|-e",
-        kind: ErrorKind::UnknownArgument,
-    },
-    Refusal {
-        line: "enogate live --base FF800000 --serial s --desk d --out o --turns 1 ",
-        ends: "--explain --explain",
-        kind: ErrorKind::ArgumentConflict,
-    },
-    Refusal {
-        line: "enogate live --base FF800000 --serial s --desk d --out o --turns 1 ",
-        ends: "--explain=yes|--explain=",
-        kind: ErrorKind::TooManyValues,
-    },
-    Refusal {
-        line: "enogate live --base FF800000 --serial s --desk d --out o --turns 1 ",
-        ends: "--explain yes|--explains|-e",
-        kind: ErrorKind::UnknownArgument,
-    },
-    Refusal {
-        line: "enogate --explain",
-        ends: "",
-        kind: ErrorKind::UnknownArgument,
-    },
-    // Turns.
-    Refusal {
-        line: "enogate live --base FF800000 --serial s --desk d --out o --turns=",
-        ends: "0|4294967296|18446744073709551617|-1|1x|0x10|1.0|",
-        kind: ErrorKind::ValueValidation,
-    },
+    (
+        "enogate replay --base FF800000 ",
+        "--explain --explain",
+        ErrorKind::ArgumentConflict,
+    ),
+    (
+        "enogate replay --base FF800000 ",
+        "--explain=yes|--explain=",
+        ErrorKind::TooManyValues,
+    ),
+    (
+        "enogate replay --base FF800000 ",
+        "--explain yes|--explains|-e",
+        ErrorKind::UnknownArgument,
+    ),
+    (
+        LIVE,
+        "--turns 1 --explain --explain",
+        ErrorKind::ArgumentConflict,
+    ),
+    (LIVE, "--turns 1 --explain=yes", ErrorKind::TooManyValues),
+    (
+        LIVE,
+        "--turns=0|--turns=4294967296|--turns=18446744073709551617|--turns=-1|--turns=1x|--turns=",
+        ErrorKind::ValueValidation,
+    ),
 ];
 
 #[test]
 fn refused_lines(rt: HostRuntime) -> Result<(), Fail> {
-    for case in &REFUSALS {
-        for end in case.ends.split('|') {
-            let line = format!(in rt.alloc(); "{}{end}", case.line)?;
-            refused(&rt, line.as_str(), case.kind)?;
+    for (start, ends, kind) in REFUSALS {
+        for end in ends.split('|') {
+            let line = format!(in rt.alloc(); "{start}{end}")?;
+            refused(&rt, line.as_str(), kind)?;
         }
     }
     Ok(())
@@ -407,68 +215,6 @@ fn options_of_live(rt: HostRuntime) -> Result<(), Fail> {
         line.push_str(left_out)?;
         line.push_str(left_out)?;
         refused(&rt, line.as_str(), ErrorKind::ArgumentConflict)?;
-    }
-    Ok(())
-}
-
-/// A command line that is rejected, and the text that is printed.
-struct Text {
-    line: &'static str,
-    text: &'static str,
-}
-
-const TEXTS: [Text; 4] = [
-    Text {
-        line: "enogate replay --help",
-        text: "Run a recorded script from standard input to standard output\n\n\
-            Usage: enogate replay [OPTIONS] --base <ID>\n\n\
-            Options:\n      \
-            --base <ID>  Base ID of the radio module, 8 hexadecimal digits\n      \
-            --db <PATH>  SQLite file of learned devices; without this option they are kept in memory only\n      \
-            --explain    Report what was done with each packet, and why\n  \
-            -h, --help       Print help\n",
-    },
-    Text {
-        line: "enogate live --help",
-        text: "Run a gateway on a serial port\n\n\
-            Usage: enogate live [OPTIONS] --base <ID> --serial <PATH> --desk <PATH> --out <PATH> --turns <N>\n\n\
-            Options:\n      \
-            --base <ID>      Base ID of the radio module, 8 hexadecimal digits\n      \
-            --serial <PATH>  Serial port of the radio module\n      \
-            --desk <PATH>    File with orders, one per line\n      \
-            --out <PATH>     Output file, created or truncated\n      \
-            --turns <N>      Number of read cycles before exiting, 1 to 4294967295\n      \
-            --db <PATH>      SQLite file of learned devices; without this option they are kept in memory only\n      \
-            --explain        Report what was done with each packet, and why\n  \
-            -h, --help           Print help\n",
-    },
-    Text {
-        line: "enogate --help",
-        text: "A gateway for EnOcean radio devices\n\n\
-            Usage: enogate <COMMAND>\n\n\
-            Commands:\n  \
-            replay  Run a recorded script from standard input to standard output\n  \
-            live    Run a gateway on a serial port\n  \
-            help    Print this message or the help of the given subcommand(s)\n\n\
-            Options:\n  \
-            -h, --help     Print help\n  \
-            -V, --version  Print version\n",
-    },
-    Text {
-        line: "enogate --version",
-        text: "enogate 0.2.0\n",
-    },
-];
-
-#[test]
-fn texts_reported(rt: HostRuntime) -> Result<(), Fail> {
-    for case in &TEXTS {
-        assert_eq!(rt;
-            stated(&rt, case.line)?.as_str(),
-            case.text,
-            "{}",
-            case.line
-        );
     }
     Ok(())
 }

@@ -1,5 +1,227 @@
-//! Tests of `json_lines`: the lines of the desk.
-mod lines;
-mod long_lines;
-mod packet_lines;
-mod teach_lines;
+//! Lines with known bytes, and the counters. The golden sessions have lines of all kinds, and each word in them.
+use actuator_commands::OrderFault;
+use erp1_telegrams::{BROADCAST, Eep, Telegram};
+use exact_values::over;
+use json_lines::{
+    Counter, Counts, ErrorName, MAX_PACKET_LINE, PacketLine, ShownPacket, ShownTelegram,
+    device_lines, done_line, packet_line, reading_line, response_line, status_line, teach_line,
+};
+use learned_devices::{Device, Label, StoreFault};
+use profile_rows::{Reading, Readings, What};
+use std::alloc::AllocError;
+use std::process::Abort;
+use std::test::Fail;
+use teach_in::{HandlingReason, Mode, Outcome, Verdict};
+
+/// A window contact.
+const CONTACT: Eep = Eep {
+    rorg: 0xD5,
+    func: 0x00,
+    typ: 0x01,
+};
+
+/// An actuator with a meter.
+const ACTUATOR: Eep = Eep {
+    rorg: 0xD2,
+    func: 0x01,
+    typ: 0x12,
+};
+
+fn is_line(rt: &impl Abort, line: &[u8], wanted: &str) {
+    assert!(rt; line == wanted.as_bytes(), "{wanted}");
+}
+
+const NOTHING_READ: &str =
+    "{\"dbm\":null,\"eep\":\"D5-00-01\",\"id\":\"00000001\",\"readings\":[],\"type\":\"reading\"}\n";
+
+// RFC 8259, "Strings": a quotation mark, a backslash and control characters are escaped; a space and `!` are not.
+const EACH_KIND_READ: &str = "{\"dbm\":-255,\"eep\":\"D2-01-12\",\"id\":\"FFFFFFFE\",\"readings\":[\
+    {\"den\":200,\"name\":\"MR\",\"num\":3355443,\"unit\":\"kWh\"},\
+    {\"name\":\"a \\\"b\\\"!\",\"word\":\"c\\\\d\\n\"},{\"name\":\"TI\",\"raw\":4294967295},\
+    {\"name\":\"HUM\",\"out_of_range\":251}],\"type\":\"reading\"}\n";
+
+// Each profile has a reading, so no session has such a line.
+#[test]
+fn nothing_read(rt: HostRuntime) -> Result<(), Fail> {
+    let telegram = Telegram::new(0xD5, &[0x09], 0x0000_0001, 0, BROADCAST, None)?;
+    let line = reading_line(rt.alloc(), &telegram, CONTACT, &Readings::new())?;
+    is_line(&rt, line.as_bytes(), NOTHING_READ);
+    Ok(())
+}
+
+/// Readings without a value. No profile has such a word.
+const WITHOUT_VALUE: [Reading; 3] = [
+    Reading {
+        name: "a \"b\"!",
+        what: What::Word("c\\d\n"),
+    },
+    Reading {
+        name: "TI",
+        what: What::Raw(4_294_967_295),
+    },
+    Reading {
+        name: "HUM",
+        what: What::OutOfRange(251),
+    },
+];
+
+#[test]
+fn each_kind_read(rt: HostRuntime) -> Result<(), Fail> {
+    let mut readings = Readings::new();
+    let what = What::Value(over(16_777_215, 1000), "kWh");
+    readings.try_push(Reading { name: "MR", what })?;
+    readings.try_extend_from_slice(&WITHOUT_VALUE)?;
+    let telegram = Telegram::new(0xD5, &[0x09], 0xFFFF_FFFE, 0, BROADCAST, Some(255))?;
+    let line = reading_line(rt.alloc(), &telegram, ACTUATOR, &readings)?;
+    is_line(&rt, line.as_bytes(), EACH_KIND_READ);
+    Ok(())
+}
+
+const LISTED: &str =
+    "{\"eep\":\"D5-00-01\",\"id\":\"00000001\",\"label\":\"Door \\\"A\\\" \\\\ ~\",\"maker\":null,\
+    \"type\":\"device\"}\n\
+    {\"eep\":\"D2-01-12\",\"id\":\"FFFFFFFE\",\"label\":\"\",\"maker\":2047,\"type\":\"device\"}\n\
+    {\"count\":2,\"type\":\"list\"}\n";
+
+#[test]
+fn listings(rt: HostRuntime) -> Result<(), Fail> {
+    let contact = Device {
+        id: 0x0000_0001,
+        eep: CONTACT,
+        maker: None,
+        label: Label::new("Door \"A\" \\ ~").ok_or("no label")?,
+    };
+    let actuator = Device {
+        id: 0xFFFF_FFFE,
+        eep: ACTUATOR,
+        maker: Some(2047),
+        label: Label::empty(),
+    };
+    let lines = device_lines(rt.alloc(), &[contact, actuator])?;
+    is_line(&rt, lines.as_bytes(), LISTED);
+    Ok(())
+}
+
+const GREATEST: Counts = Counts {
+    ignored: 18_446_744_073_709_551_615,
+    readings: 18_446_744_073_709_551_615,
+    refused: 18_446_744_073_709_551_615,
+    responses: 18_446_744_073_709_551_615,
+    teach: 18_446_744_073_709_551_615,
+};
+
+const EACH_INCREMENTED: Counts = Counts {
+    ignored: 1,
+    readings: 1,
+    refused: 1,
+    responses: 1,
+    teach: 1,
+};
+
+// A counter at its maximum does not change.
+#[test]
+fn counts(rt: HostRuntime) {
+    let mut counts = Counts::none();
+    let mut greatest = GREATEST;
+    for counter in [
+        Counter::Ignored,
+        Counter::Reading,
+        Counter::Refused,
+        Counter::Response,
+        Counter::TeachLine,
+    ] {
+        counts.increment(counter);
+        greatest.increment(counter);
+    }
+    assert_eq!(rt; (counts, greatest), (EACH_INCREMENTED, GREATEST));
+}
+
+const GREATEST_STATUS: &str =
+    "{\"ignored\":18446744073709551615,\"mode\":\"as D2-01-12\",\"readings\":18446744073709551615,\
+    \"refused\":18446744073709551615,\"responses\":18446744073709551615,\"teach\":18446744073709551615,\
+    \"type\":\"status\"}\n";
+
+#[test]
+fn a_status(rt: HostRuntime) -> Result<(), Fail> {
+    let line = status_line(rt.alloc(), &GREATEST, Mode::LearnAs(ACTUATOR))?;
+    is_line(&rt, line.as_bytes(), GREATEST_STATUS);
+    Ok(())
+}
+
+const RESPONSE: &str = "{\"code\":0,\"data\":\"FF80000A\",\"name\":\"OK\",\"type\":\"response\"}\n";
+
+#[test]
+fn a_response(rt: HostRuntime) -> Result<(), Fail> {
+    let line = response_line(rt.alloc(), 0, &[0xFF, 0x80, 0x00, 0x0A])?;
+    is_line(&rt, line.as_bytes(), RESPONSE);
+    Ok(())
+}
+
+#[test]
+fn fixed_lines(rt: HostRuntime) {
+    is_line(&rt, done_line(), "{\"type\":\"ok\"}\n");
+    let syntax = ErrorName::Order(OrderFault::Syntax);
+    is_line(
+        &rt,
+        syntax.line(),
+        "{\"error\":\"syntax\",\"type\":\"error\"}\n",
+    );
+    let memory = ErrorName::Failed(StoreFault::from(AllocError));
+    is_line(
+        &rt,
+        memory.line(),
+        "{\"error\":\"memory\",\"type\":\"error\"}\n",
+    );
+}
+
+const UNSUPPORTED: &str =
+    "{\"eep\":\"D2-01-12\",\"id\":\"01800ABC\",\"maker\":70,\"result\":\"unsupported\",\
+    \"type\":\"teach\"}\n";
+
+// The outcomes of accepted and deleted senders need a receipt: the sessions have them.
+#[test]
+fn a_teach_in(rt: HostRuntime) -> Result<(), Fail> {
+    let (id, outcome) = (0x0180_0ABC, Outcome::Unsupported);
+    let draft = teach_line(rt.alloc(), id, Some(ACTUATOR), Some(70), outcome)?;
+    let line = draft.tell(&Verdict::refused(id, outcome));
+    is_line(&rt, line.as_bytes(), UNSUPPORTED);
+    Ok(())
+}
+
+/// Each number, the payload and the word have as many characters as they can have.
+const LONGEST: &str =
+    "{\"dbm\":-255,\"dest\":\"FFABCDEF\",\"eep\":\"D2-3F-7F\",\"id\":\"12345678\",\"maker\":65535,\
+    \"payload\":\"000102030405060708090A0B0CFF\",\"rorg\":\"D2\",\"status\":\"8F\",\"type\":\"packet\",\
+    \"why\":\"teach_in_reply\"}\n";
+
+#[test]
+fn the_longest_packet_line(rt: HostRuntime) -> Result<(), Fail> {
+    let payload = [0, 1, 2, 3, 4, 5, 6, 7, 8, 9, 10, 11, 12, 255];
+    let telegram = Telegram::new(0xD2, &payload, 0x1234_5678, 0x8F, 0xFFAB_CDEF, Some(255))?;
+    let line = packet_line(&PacketLine {
+        packet: ShownPacket::Telegram(ShownTelegram {
+            telegram,
+            eep: Some(Eep::new(0xD2, 0x3F, 0x7F)),
+            maker: Some(65535),
+        }),
+        why: HandlingReason::TeachInReply,
+    });
+    is_line(&rt, line.as_slice(), LONGEST);
+    assert_eq!(rt; (LONGEST.len(), MAX_PACKET_LINE), (184, 184));
+    Ok(())
+}
+
+const WITHOUT_TELEGRAM: &str =
+    "{\"kind\":255,\"size\":65535,\"type\":\"packet\",\"why\":\"empty_response\"}\n";
+
+#[test]
+fn a_packet_without_telegram(rt: HostRuntime) {
+    let line = packet_line(&PacketLine {
+        packet: ShownPacket::WithoutTelegram {
+            kind: 255,
+            size: 65535,
+        },
+        why: HandlingReason::EmptyResponse,
+    });
+    is_line(&rt, line.as_slice(), WITHOUT_TELEGRAM);
+}

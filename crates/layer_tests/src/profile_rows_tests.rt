@@ -1,5 +1,5 @@
 //! A number for each kind of row, with its meaning; the rows whose conditions hold; and which profiles an arm reads.
-use crate::readings::Wanted::{OutOfRange, Raw, Value, Word};
+use crate::readings::Content::{OutOfRange, Raw, Value, Word};
 use crate::readings::is_said;
 use profile_rows::rows::{
     number, over, over_power, percent_or_word_127, range, reserved, threshold, words,

@@ -1,5 +1,5 @@
 //! The readings of telegrams, errors, and the supported profiles of the three crates of profiles. The tables of each
-//! crate are in a file of its own.
+//! crate are in a file of its own. The golden sessions have telegrams of every profile.
 use crate::{profiles_4bs_tests, profiles_rps_tests, profiles_vld_tests};
 use erp1_telegrams::{BROADCAST, Eep, Telegram};
 use profile_rows::{Reading, Readings, Unreadable, What};
@@ -8,36 +8,29 @@ use std::test::Fail;
 
 /// The expected content of a reading: a value has a numerator, a denominator and a unit.
 #[derive(Clone, Copy)]
-pub enum Wanted {
+pub enum Content {
     Value(i64, i64, &'static str),
     Word(&'static str),
     Raw(u32),
     OutOfRange(u32),
 }
 
+/// The RORG, the FUNC and the type of a profile.
+pub type Profile = (u8, u8, u8);
+
 /// A telegram of the profile's kind, and its readings, in their order.
-pub struct Read {
-    pub eep: Eep,
+pub struct ReadingCase {
+    pub profile: Profile,
     pub payload: &'static [u8],
     pub status: u8,
-    pub readings: &'static [(&'static str, Wanted)],
+    pub readings: &'static [(&'static str, Content)],
 }
 
-/// A telegram that is not read, and the reason.
-pub struct Refusal {
-    pub eep: Eep,
-    pub rorg: u8,
-    pub payload: &'static [u8],
-    pub status: u8,
-    pub why: Unreadable,
-}
+/// A profile, the RORG and the payload of a telegram that is not read for it, and the reason.
+pub type Refusal = (Profile, u8, &'static [u8], Unreadable);
 
-/// The types of a FUNC that are supported.
-pub struct Types {
-    pub rorg: u8,
-    pub func: u8,
-    pub types: &'static [u8],
-}
+/// The RORG, a FUNC, and its types that are supported.
+pub type Types = (u8, u8, &'static [u8]);
 
 #[derive(Clone, Copy)]
 enum Crate {
@@ -66,20 +59,20 @@ fn telegram(rorg: u8, payload: &[u8], status: u8) -> Result<Telegram, Fail> {
 }
 
 /// Whether a reading has the expected content.
-pub(crate) fn is_said(what: What, wanted: Wanted) -> bool {
+pub(crate) fn is_said(what: What, wanted: Content) -> bool {
     match (what, wanted) {
-        (What::Value(value, unit), Wanted::Value(num, den, wanted)) => {
+        (What::Value(value, unit), Content::Value(num, den, wanted)) => {
             value.num() == num && value.den() == den && unit == wanted
         }
-        (What::Word(word), Wanted::Word(wanted)) => word == wanted,
-        (What::Raw(raw), Wanted::Raw(wanted)) => raw == wanted,
-        (What::OutOfRange(raw), Wanted::OutOfRange(wanted)) => raw == wanted,
+        (What::Word(word), Content::Word(wanted)) => word == wanted,
+        (What::Raw(raw), Content::Raw(wanted)) => raw == wanted,
+        (What::OutOfRange(raw), Content::OutOfRange(wanted)) => raw == wanted,
         _ => false,
     }
 }
 
 // Whether these are the readings, in this order.
-fn are_said(readings: &[Reading], wanted: &[(&'static str, Wanted)]) -> bool {
+fn are_said(readings: &[Reading], wanted: &[(&'static str, Content)]) -> bool {
     for (reading, (name, wanted)) in readings.iter().zip(wanted) {
         if reading.name != *name || !is_said(reading.what, *wanted) {
             return false;
@@ -88,19 +81,14 @@ fn are_said(readings: &[Reading], wanted: &[(&'static str, Wanted)]) -> bool {
     readings.len() == wanted.len()
 }
 
-fn are_read(rt: &impl Abort, by: Crate, rows: &[Read]) -> Result<(), Fail> {
-    for (row, case) in rows.iter().enumerate() {
+fn are_read(rt: &impl Abort, by: Crate, cases: &[ReadingCase]) -> Result<(), Fail> {
+    for (row, case) in cases.iter().enumerate() {
         let mut readings = Readings::new();
-        let telegram = telegram(case.eep.rorg, case.payload, case.status)?;
-        assert_eq!(rt;
-            by.read(case.eep, &telegram, &mut readings),
-            Ok(()),
-            "row {row}, {:?}",
-            case.eep
-        );
-        let found = readings.as_slice();
-        let is_well = are_said(found, case.readings);
-        assert!(rt; is_well, "row {row}, {:?}: {found:?}", case.eep);
+        let (rorg, func, typ) = case.profile;
+        let telegram = telegram(rorg, case.payload, case.status)?;
+        let result = by.read(Eep::new(rorg, func, typ), &telegram, &mut readings);
+        let is_well = result == Ok(()) && are_said(&readings, case.readings);
+        assert!(rt; is_well, "row {row}: {result:?}, {readings:?}");
     }
     Ok(())
 }
@@ -113,17 +101,17 @@ fn worked_readings(rt: HostRuntime) -> Result<(), Fail> {
 }
 
 // An error leaves the readings that were there before.
-fn are_refused(rt: &impl Abort, by: Crate, before: Reading, rows: &[Refusal]) -> Result<(), Fail> {
+fn are_refused(rt: &impl Abort, by: Crate, before: Reading, cases: &[Refusal]) -> Result<(), Fail> {
     let mut readings = Readings::new();
     readings.push(before);
-    for (row, case) in rows.iter().enumerate() {
-        let telegram = telegram(case.rorg, case.payload, case.status)?;
-        let why = by.read(case.eep, &telegram, &mut readings);
+    for (row, (profile, rorg, payload, wanted)) in cases.iter().enumerate() {
+        let (own, func, typ) = *profile;
+        let telegram = telegram(*rorg, payload, 0x00)?;
+        let why = by.read(Eep::new(own, func, typ), &telegram, &mut readings);
         assert_eq!(rt;
             (why, readings.as_slice()),
-            (Err(case.why), [before].as_slice()),
-            "row {row}, {:?}",
-            case.eep
+            (Err(*wanted), [before].as_slice()),
+            "row {row}"
         );
     }
     Ok(())
@@ -139,9 +127,9 @@ fn refusals(rt: HostRuntime) -> Result<(), Fail> {
 }
 
 fn is_listed(eep: Eep, table: &[Types]) -> bool {
-    for row in table {
-        if row.rorg == eep.rorg && row.func == eep.func {
-            return row.types.contains(&eep.typ);
+    for (rorg, func, types) in table {
+        if *rorg == eep.rorg && *func == eep.func {
+            return types.contains(&eep.typ);
         }
     }
     false
@@ -176,7 +164,7 @@ fn data_of_a_contact(rt: HostRuntime) -> Result<(), Fail> {
     let telegram = Telegram::new(0xD5, &[0x09], 0x0180_0ABC, 0, BROADCAST, None)?;
     let mut readings = Readings::new();
     let result = profiles_rps::read_1bs_data(0x00, 0x01, &telegram, &mut readings);
-    let is_well = are_said(&readings, &[("CO", Wanted::Word("closed"))]);
+    let is_well = are_said(&readings, &[("CO", Content::Word("closed"))]);
     assert!(rt; result == Ok(()) && is_well, "{readings:?}");
     Ok(())
 }
@@ -194,7 +182,7 @@ fn data_of_a_temperature_sensor(rt: HostRuntime) -> Result<(), Fail> {
     )?;
     let mut readings = Readings::new();
     let result = profiles_4bs::read_4bs_data(0x02, 0x05, &telegram, &mut readings);
-    let is_well = are_said(&readings, &[("TMP", Wanted::Value(1024, 51, "C"))]);
+    let is_well = are_said(&readings, &[("TMP", Content::Value(1024, 51, "C"))]);
     assert!(rt; result == Ok(()) && is_well, "{readings:?}");
     Ok(())
 }
