@@ -86,7 +86,7 @@ class LineStore:
             self.say(WARNING, f"{self.path}: {lost} lines are lost")
 
 
-def prepare(path: str, say: Callable[[str, str], None]) -> None:
+def repair(path: str, say: Callable[[str, str], None]) -> None:
     """Corrects what an earlier run left: lines of older versions could be written by the group. After a power failure
     the file may end with NUL bytes and with a part of a line. The part stays, as a line of its own, since it may have
     been read already; if the disk is full, it is removed."""

@@ -194,7 +194,7 @@ def run_unit(words: argparse.Namespace, starter: Starter, say) -> int:
         say(WARNING, f"{error.filename}: {error.strerror}")
         return 1
     try:
-        lines.prepare(words.lines, say)
+        lines.repair(words.lines, say)
     except OSError as error:
         # the gateway runs while its lines cannot be stored, so it starts, too
         say(WARNING, f"{words.lines}: {error.strerror}")

@@ -18,7 +18,7 @@ DEVICE = "enogate/hall/01800ABC"
 ACCEPTED = '{"eep":"D5-00-01","id":"01800ABC","maker":null,"result":"accepted","type":"teach"}'
 READING = '{"dbm":-45,"eep":"D5-00-01","id":"01800ABC","readings":[{"name":"CO","word":"closed"}],"type":"reading"}'
 PACKET = '{"dbm":-45,"dest":null,"eep":"D5-00-01","id":"01800ABC","payload":"09","rorg":"D5","type":"packet"}'
-CONTACT = "homeassistant/binary_sensor/enogate_hall/01800ABC_CO/config"
+CONTACT_CONFIG = "homeassistant/binary_sensor/enogate_hall/01800ABC_CO/config"
 # What is printed to delete a retained message.
 DELETED = "{} retained "
 
@@ -69,7 +69,7 @@ class Print(Command):
             f"{DEVICE}/dbm retained -45",
             f"enogate/hall/lines - {PACKET}",
         ])
-        self.assertEqual(sum(it.startswith(f"{CONTACT} retained {{") for it in found), 1)
+        self.assertEqual(sum(it.startswith(f"{CONTACT_CONFIG} retained {{") for it in found), 1)
         self.assertEqual(journal, ["enogate-mqtt: invalid line ignored: b'{\"dbm\":-45,\"eep\":\"D5'"])
 
     def test_decimal_numbers(self):
@@ -122,7 +122,7 @@ class Print(Command):
         for lines, count in (([other, end], 1), ([end], 0), ([other, READING, end], 0), ([other, "torn", end], 0)):
             with self.subTest(lines):
                 found, _ = self.printed(ACCEPTED, READING, *lines)
-                self.assertEqual(found.count(DELETED.format(CONTACT)), count)
+                self.assertEqual(found.count(DELETED.format(CONTACT_CONFIG)), count)
 
     def test_another_profile(self):
         """The device is announced again, and what was retained for its first profile is deleted."""
@@ -132,7 +132,7 @@ class Print(Command):
         self.assertEqual(found[: len(before)], before)
         shown = "homeassistant/sensor/enogate_hall/01800ABC_{}/config retained"
         self.assertEqual([it.split(" {")[0] for it in found[len(before) :]], [
-            "enogate/hall/lines -", *map(DELETED.format, (f"{DEVICE}/CO", f"{DEVICE}/dbm", CONTACT)),
+            "enogate/hall/lines -", *map(DELETED.format, (f"{DEVICE}/CO", f"{DEVICE}/dbm", CONTACT_CONFIG)),
             *map(shown.format, ("TMP", "dbm", "last_seen")),
         ])
 

@@ -8,7 +8,7 @@ from runs import ACCEPTED, ADD, PROGRAM, READING, ROOT
 from tables import FIRST, META, SECOND
 from testcase import HANGS, NOTHING, ProgramTest
 
-CONTACT = ROOT / "examples/contact.txt"
+CONTACT_SCRIPT = ROOT / "examples/contact.txt"
 PACKET = "S 55000707017AD50901800ABC0001FFFFFFFF2D001F\n"
 LISTED = '{"eep":"D5-00-01","id":"01800ABC","label":"","maker":null,"type":"device"}\n{"count":1,"type":"list"}\n'
 # SQL after which rows can be inserted that break the checks of a table, and such rows.
@@ -42,24 +42,24 @@ class Starts(RegistryTest):
     """The next start knows the devices that one start learned."""
 
     def test_a_second_start_knows_the_devices_of_the_first(self):
-        self.assert_ended(self.replay_on(self.database, CONTACT), ACCEPTED + READING)
+        self.assert_ended(self.replay_on(self.database, CONTACT_SCRIPT), ACCEPTED + READING)
         self.assert_ended(self.replay_on(self.database, "list\n" + PACKET), LISTED + READING)
 
     def test_a_closed_registry_has_at_most_two_files(self):
-        self.assert_ended(self.replay_on(self.database, CONTACT), ACCEPTED + READING)
+        self.assert_ended(self.replay_on(self.database, CONTACT_SCRIPT), ACCEPTED + READING)
         self.assertLessEqual(len(list(self.work.glob("registry.db*"))), 2)
 
     def test_a_registry_in_memory_opens_no_file(self):
         opens = self.work / "opens"
         env = self.preloading("record_opens.c", RECORD_OPENS=opens)
-        self.assert_ended(self.replay(script=CONTACT, env=env), ACCEPTED + READING)
+        self.assert_ended(self.replay(script=CONTACT_SCRIPT, env=env), ACCEPTED + READING)
         self.assertFalse(opens.exists())
 
     def test_a_registry_in_a_file_opens_that_file(self):
         opens = self.work / "opens"
-        self.assert_ended(self.replay_on(self.database, CONTACT), ACCEPTED + READING)
+        self.assert_ended(self.replay_on(self.database, CONTACT_SCRIPT), ACCEPTED + READING)
         env = self.preloading("record_opens.c", RECORD_OPENS=opens)
-        self.assert_ended(self.replay_on(self.database, CONTACT, env=env), ACCEPTED + READING)
+        self.assert_ended(self.replay_on(self.database, CONTACT_SCRIPT, env=env), ACCEPTED + READING)
         self.assertIn(f"{self.database} read-write", opens.read_text())
 
 
