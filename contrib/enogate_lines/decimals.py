@@ -16,7 +16,7 @@ def decimal(numerator: int, denominator: int) -> str:
         while rest % factor == 0:
             rest //= factor
     digits = len(str(abs(numerator) // denominator))
-    # a finite decimal number with a denominator of so many bits has at most so many digits after the point
+    # a finite decimal number has at most as many digits after the point as its denominator has bits
     precision = digits + bits if rest == 1 else max(SIX_DIGITS, digits)
     context = Context(prec=precision, rounding=ROUND_HALF_EVEN)
     shown = f"{context.divide(Decimal(numerator), Decimal(denominator)):f}"

@@ -6,7 +6,8 @@ import re
 from collections.abc import Callable
 from typing import NamedTuple
 
-# The name of a gateway. One that begins with - is an option to programs, and the settings of bridges begin with mqtt.
+# The name of a gateway. Programs would take one that begins with - for an option, and /etc/default/enogate-mqtt-NAME
+# has the settings of a bridge.
 NAME = "(?!-|mqtt)[A-Za-z0-9_-]+"
 SETTINGS, UNITS, RUNNING, DATABASES = "/etc/default", "/etc/systemd/system", "/run/enogate", "/var/lib/enogate"
 
@@ -61,7 +62,7 @@ def names(root: str = "") -> list[str]:
 
 
 def names_in(folder: str, shape: str, is_of_gateway: Callable[[str], bool] = os.path.lexists) -> set[str]:
-    """The names of gateways in the names of the files in this directory, which have this shape."""
+    """The gateways whose names are part of the names of files in this directory. `shape` is the form of these names."""
     pattern = shape.format(NAME)
     return {found[1] for file in listed(folder)
             if (found := re.fullmatch(pattern, file)) and is_of_gateway(f"{folder}/{file}")}

@@ -10,7 +10,7 @@ SHARE = os.path.join(os.path.dirname(os.path.dirname(os.path.abspath(__file__)))
 
 
 def rows(name: str) -> Iterator[str]:
-    """The lines of a table without its comments. It is a file of that folder, or one with an absolute path."""
+    """The lines of a table, without its comments. `name` is that of a file in `share`, or an absolute path."""
     with open(os.path.join(SHARE, name), encoding="utf-8") as file:
         for line in file:
             if line.strip() and not line.startswith("#"):
@@ -43,7 +43,7 @@ def words(kind: str) -> dict[str, str]:
 
 @functools.cache
 def orders() -> dict[str, list[tuple[str, frozenset[str]]]]:
-    """The orders by their first words: the forms of each, with the errors that this form can have."""
+    """The orders by their first words: the forms of each, with the errors that each form can have."""
     found: dict[str, list[tuple[str, frozenset[str]]]] = {}
     for row in rows("orders"):
         form, *errors = re.split(" {2,}", row, maxsplit=1)

@@ -1,7 +1,7 @@
 """Random scripts: orders, valid and invalid labels, packets split anywhere, noise, false headers, wrong CRCs,
-responses, lines with odd digits, and lines that are too long. In two scripts of three the learn window is opened and
+responses, lines with odd digits, and lines that are too long. In two of three scripts the learn window is opened and
 closed, and there are teach-in telegrams from few senders: half of them are UTE telegrams, which also forget devices.
-Half of the scripts have orders to actuators, valid and invalid ones. A script of one number is the same in each
+Half of the scripts have orders to actuators, valid and invalid ones. The script of a number is the same in each
 run."""
 import random
 
@@ -22,8 +22,8 @@ learn on D5-00-01|learn off answer|learn as D50001|learn as D5-00-1|learn as 018
 learn as D5-00-01 |learn as  F6-02-01|learn as F6-02-01 answer|learn on Answer|Learn on| learn on|learn\ton|LEARN OFF
 learn close|learn closed""".encode().replace(b"\n", b"|").split(b"|")
 
-# The orders that have a packet, and where the ranges of their numbers end: those to a device, with the begin of its
-# profile, and the others.
+# The orders that have a packet, and where the ranges of their numbers end: those to a device, with the
+# beginning of its profile, and the others.
 TO_DEVICES = [
     ("D2-01", "switch ID {} on", 30),
     ("D2-01", "switch ID {} off", 30),
@@ -57,7 +57,7 @@ def cased(rng, digits):
 
 
 def changed(rng, line):
-    """The line with a byte replaced, inserted or removed, or with some after it, so that it may be too long."""
+    """The line with a byte replaced, inserted or removed, or with more bytes at its end, so that it may be too long."""
     at = rng.randrange(len(line))
     byte = bytes([rng.choice(STRANGE)])
     count = rng.choice([1, 2, 300, max(1, rng.randrange(195, 205) - len(line))])
@@ -67,12 +67,12 @@ def changed(rng, line):
 
 
 def as_number(eep):
-    """A profile, or its begin, as a number."""
+    """A profile, or its beginning, as a number."""
     return int(eep.replace("-", ""), 16)
 
 
 def profile(rng):
-    """A profile that is read: each RORG is as frequent as another, and so each of its FUNCs."""
+    """A profile that is read. All RORGs are equally frequent, and so are all FUNCs of a RORG."""
     return rng.choice(rng.choice(list(rng.choice(list(READ.values())).values())))
 
 
@@ -132,7 +132,8 @@ def askew(rng, line):
 
 
 def actuator_orders(rng, devices):
-    """An order that has a packet. If it is to a device, this is often one of the right profile, or is added before."""
+    """An order that has a packet. An order to a device is often to one of the right profile, or the device is added
+    before."""
     lines = []
     if rng.random() < 0.3:
         shape, *ends = rng.choice(TO_ALL)
@@ -226,7 +227,7 @@ def header(rng):
 
 
 def wrong(rng, whole):
-    """A packet one of whose bits is wrong, or that lacks its end."""
+    """A packet with a wrong bit, or without its end."""
     at = rng.randrange(len(whole))
     return mostly(rng, whole[:at] + bytes([whole[at] ^ 1 << rng.randrange(8)]) + whole[at + 1 :], whole[:at])
 
@@ -274,7 +275,7 @@ def script(rng, base):
             line = b"S " + cased(rng, whole[:size].hex())
             lines.append(changed(rng, line) if rng.random() < wrongs else line)
             whole = whole[size:]
-    ends = [b"S " + b"00" * 99] * 665  # what a header announces has come by then
+    ends = [b"S " + b"00" * 99] * 665  # as many bytes as any header announces
     text = b"".join(line + mostly(rng, b"\n", b"\r\n") for line in [*lines, *ends, b"status", b"list"])
     return mostly(rng, text, text[: -rng.randrange(1, 20)])
 

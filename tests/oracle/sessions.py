@@ -1,4 +1,4 @@
-"""Sessions that the oracle makes: a script, and below each line what the gateway has to write for it."""
+"""Sessions that the oracle makes: a script, and after each line what the gateway has to write for it."""
 from oracle.esp3 import pieces, radio, telegram
 from oracle.gateway import Gateway, without_explanations
 from oracle.session import NO_LF, read, steps
@@ -8,7 +8,7 @@ MODE_ORDERS = {"closed": "learn off", "on": "learn on", "answer": "learn on answ
 
 
 def sample(items, number, of):
-    """One of so many of these items. The case with the next number has other ones, and so many cases have them all."""
+    """The items whose place plus `number` is a multiple of `of`. Cases with `of` successive numbers have all items."""
     return [item for place, item in enumerate(items) if (place + number) % of == 0]
 
 
@@ -33,13 +33,13 @@ class Session:
         self.say(*pieces(telegram(rorg[0], payload, sender, status[0], optional)).splitlines())
 
     def add(self, devices):
-        """These senders are learned with these profiles, by an order if it is needed."""
+        """Learns these senders with these profiles, by an order for each that is needed."""
         for sender, eep in devices.items():
             if self.gateway.devices.get(sender) != (eep, None):
                 self.say(f"add {sender:08X} {eep}")
 
     def bring(self, mode, stranger=None):
-        """The mode is this one, and this sender is not learned. Orders are said if they are needed."""
+        """Sets this mode, and forgets this sender, by the orders that are needed."""
         if self.gateway.mode != mode:
             self.say(MODE_ORDERS.get(mode, "learn " + mode))
         self.forget(stranger)
@@ -49,7 +49,7 @@ class Session:
             self.say(f"remove {sender:08X}")
 
     def clear(self):
-        """The mode is closed, and no sender is learned."""
+        """Closes the learn window, and forgets all senders."""
         self.bring("closed")
         for sender in sorted(self.gateway.devices):
             self.forget(sender)
@@ -57,7 +57,7 @@ class Session:
 
 
 def say_again(session, kept):
-    """Says the lines of a session that is kept."""
+    """Adds the lines of a stored session, with the answers of the oracle."""
     for line, _ in steps(kept):
         text = line.decode(errors="surrogateescape")
         if text.endswith("\n"):
@@ -68,5 +68,5 @@ def say_again(session, kept):
 
 
 def by_hand(name):
-    """The lines of a row that is kept by hand, and what the oracle says below them."""
+    """A session with the lines of one that is kept by hand, and the answers of the oracle."""
     return say_again(Session(), read(name))

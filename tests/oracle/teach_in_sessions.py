@@ -204,7 +204,8 @@ def query(func, variant, maker, last=0x80):
 
 
 def one_of_many(place):
-    """The sender of this number among others: it has bits at the ends, or is one of the gateway's own."""
+    """A sender for each number: the ends and the middle of the range, and two of the gateway's own IDs; from 6 on,
+    these with other bits."""
     return [0x00000000, 0xFFFFFFFE, 0x7FFFFFFF, 0x80000000, BASE, BASE + 127][place % 6] ^ place // 6 << 8
 
 
@@ -268,7 +269,7 @@ def universal_queries(row):
 
 
 def each_profile(row):
-    """`learn as` each profile, and a telegram that is taken by it, of a sender of its own."""
+    """`learn as` each profile, and a telegram with which another sender each time is learned."""
     for place, number in enumerate(sorted(IN_TABLES)):
         eep = eep_of(number)
         row.bring("as " + eep)
@@ -312,7 +313,8 @@ def addresses(row):
 
 
 def optional_data(row):
-    """Optional data of fewer than seven bytes is ignored: the telegram is to all. Of more the first seven are read."""
+    """Optional data of fewer than seven bytes is ignored, so the telegram is a broadcast. Of longer ones the first
+    seven bytes are read."""
     for optional in (b"", radio(1, 0x01020304)[:6], radio(1, ALL, 0) + b"\x00", radio(1, BASE, 255) + b"\xff\xff"):
         row.bring("answer", STRANGER)
         row.send("A5 08284680", STRANGER, optional)
@@ -326,7 +328,7 @@ def optional_data(row):
 
 
 def no_telegrams(row):
-    """Packets that are no telegram, though their bytes would teach: of another length, RORG or type."""
+    """Packets that are no telegrams, although their bytes would teach in a device: of another length, RORG or type."""
     for mode, rorg, byte in (
         ("on", "D5", "00"),
         ("as D5-00-01", "D5", "00"),
@@ -427,7 +429,7 @@ def one_after_another(row):
 
 
 def orders(row):
-    """The orders themselves: an order that is refused leaves the mode, and so does one without a mode."""
+    """The orders themselves: an order that is refused does not change the mode, nor does one that sets no mode."""
     for mode in MODES[:4]:
         row.bring(mode)
         row.say("learn as A5-38-08", "status", "learn", "status", "add 01800ABC A5-38-08", "remove 01800ABC", "status")
