@@ -157,12 +157,15 @@ class Check:
 
     def of_port(self):
         """The serial port: the node, rights, other users, and the lock or the settings of the line."""
-        path = self.settings["SERIAL"]
+        path, where = self.settings["SERIAL"], f"SERIAL in /etc/default/enogate-{self.name}"
+        if not path:
+            yield FAULT, f"no port is set: set {where}"
+            return
         if not exists(path):
-            yield FAULT, f"no stick at {path}: plug it in, or correct SERIAL in /etc/default/enogate-{self.name}"
+            yield FAULT, f"no stick at {path}: plug it in, or correct {where}"
             return
         if not stat.S_ISCHR(os.stat(path).st_mode):
-            yield FAULT, f"{path} is not a serial port: correct SERIAL in /etc/default/enogate-{self.name}"
+            yield FAULT, f"{path} is not a serial port: correct {where}"
             return
         if not self.system.may(path, 6):
             yield FAULT, (f"the user enogate may not read and write {path}: give it to the group dialout, for example "
@@ -171,7 +174,8 @@ class Check:
         own = {self.gateway, self.start}
         others = sorted({*users, *self.system.lockers_of(path)} - own, key=lambda user: user.number)
         for user in others:
-            yield FAULT, f"{user} uses {path} too: end it, because each program receives only part of the data"
+            yield FAULT, (f"{user} uses {path} too, and each program receives only part of the data: end it, or correct "
+                          f"{where}")
         if not sees_all:
             yield self.unchecked(f"programs of other users that use {path} without a lock")
         if self.gateway:
