@@ -46,9 +46,18 @@ def carry_out(command: Command) -> int:
     except Stopped as stopped:
         return stopped.status
     except BrokenPipeError:
-        # Nobody reads the rest. The interpreter must not try to write it at its end.
-        os.dup2(os.open(os.devnull, os.O_WRONLY), sys.stdout.fileno())
+        # Nobody reads the rest.
+        drop_output()
         return OK
+    except OSError as error:
+        # The modules handle the errors of all other files.
+        drop_output()
+        return complain(f"standard input or output failed: {error.strerror}", REFUSED)
+
+
+def drop_output() -> None:
+    """What standard output has buffered is not written, not even at the end of the interpreter."""
+    os.dup2(os.open(os.devnull, os.O_WRONLY), sys.stdout.fileno())
 
 
 def complain(why: str, status: int) -> int:

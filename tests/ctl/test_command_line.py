@@ -3,6 +3,8 @@ import contextlib
 import io
 import pathlib
 import re
+import subprocess
+import sys
 import unittest
 from unittest import mock
 
@@ -253,6 +255,13 @@ class Programs(Limited):
                 mock.patch("os.dup2") as dup2, mock.patch("sys.stdout", mock.Mock(fileno=lambda: 1)):
             self.assertEqual(program.main(["hall", "list", "--json"]), 0)
         self.assertEqual(dup2.call_args.args[1], 1)
+
+    def test_a_full_disk(self):
+        with open("/dev/full", "w", encoding="ascii") as full:
+            ended = subprocess.run([sys.executable, "-B", ROOT / "contrib/enogatectl", "paths"], stdout=full,
+                                   stderr=subprocess.PIPE, text=True, check=False)
+        self.assertEqual((ended.returncode, ended.stderr), (
+            1, "enogatectl: standard input or output failed: No space left on device\n"))
 
 
 if __name__ == "__main__":
