@@ -156,17 +156,20 @@ class Check:
         yield OK, f"settings: BASE={base} SERIAL={self.settings['SERIAL']} TURNS={turns}"
 
     def of_port(self):
-        """The serial port: the node, rights, other users, and the lock or the settings of the line."""
+        """The serial port."""
         path, where = self.settings["SERIAL"], f"SERIAL in /etc/default/enogate-{self.name}"
         if not path:
             yield FAULT, f"no port is set: set {where}"
-            return
-        if not exists(path):
+        elif not exists(path):
             yield FAULT, f"no stick at {path}: plug it in, or correct {where}"
-            return
-        if not stat.S_ISCHR(os.stat(path).st_mode):
+        elif not stat.S_ISCHR(os.stat(path).st_mode):
             yield FAULT, f"{path} is not a serial port: correct {where}"
-            return
+        else:
+            yield from self.of_node(path, where)
+
+    def of_node(self, path: str, where: str):
+        """The node of the port: rights, other users, and the lock or the settings of the line. `where` is its
+        setting."""
         if not self.system.may(path, 6):
             yield FAULT, (f"the user enogate may not read and write {path}: give it to the group dialout, for example "
                           f"with a udev rule, or run: sudo chgrp dialout {path} && sudo chmod 660 {path}")
