@@ -6,7 +6,7 @@
 #   make mutants     try all mutants of crates/NAME/mutants, and record which are refused
 #   make build       verify and build the program
 #   make package     create the Debian package of the built program and that of the page in Cockpit, in
-#                    $(PACKAGES)
+#                    $(PACKAGES), which is this directory if it is not set
 #   make package-arm64   create the package for 64-bit ARM there, from what `make build` verified; this
 #                    downloads Debian's cross-compilation packages, and takes a few minutes
 #   make install     install the built program and its files under $(DESTDIR)$(PREFIX); packaging/files
