@@ -402,16 +402,18 @@ class Check:
     def of_space(self):
         """The disk space for the database and the lines."""
         for path, least in LEAST_SPACE.items():
-            # the sandbox of the unit makes the folders above read-only
+            # It may be a file system of its own. The sandbox of the unit makes the folders above it read-only.
             folder = self.system.path(f"{path}/enogate")
-            if exists(folder) and os.statvfs(folder).f_flag & os.ST_RDONLY:
+            is_made = exists(folder)
+            found = os.statvfs(folder if is_made else self.system.path(path))
+            if is_made and found.f_flag & os.ST_RDONLY:
                 yield FAULT, f"{path}/enogate is on a read-only file system: look for errors of the disk with dmesg"
-            found = os.statvfs(self.system.path(path))
             free = found.f_bavail * found.f_frsize
             if free < least or (found.f_files and not found.f_favail):
-                yield FAULT, f"{path} has {free // 1024} KB and {found.f_favail} inodes left: delete files there"
+                yield FAULT, (f"the file system of {path}/enogate has {free // 1024} KB and {found.f_favail} inodes left: "
+                              "delete files there")
             else:
-                yield OK, f"disk space: {free // MEGABYTE} MB in {path}"
+                yield OK, f"disk space: {free // MEGABYTE} MB for {path}/enogate"
 
     def of_units(self):
         """Whether the gateway and, if it is enabled, its bridge run."""
