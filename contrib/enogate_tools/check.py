@@ -106,9 +106,10 @@ class Check:
 
     def findings(self):
         """The findings of all checks, whatever the files are."""
-        checks = {"settings": self.of_settings, "port": self.of_port, "desk": self.of_desk, "base ID": self.of_base,
-                  "earlier base ID": self.of_earlier_base, "lines": self.of_lines, "database": self.of_database,
-                  "disk space": self.of_space, "units": self.of_units}
+        # On a full disk the answer with the base ID is missing, too: the cause comes first.
+        checks = {"settings": self.of_settings, "port": self.of_port, "desk": self.of_desk,
+                  "disk space": self.of_space, "base ID": self.of_base, "earlier base ID": self.of_earlier_base,
+                  "lines": self.of_lines, "database": self.of_database, "units": self.of_units}
         for what, check in checks.items():
             try:
                 yield from check()
@@ -177,8 +178,8 @@ class Check:
         own = {self.gateway, self.start}
         others = sorted({*users, *self.system.lockers_of(path)} - own, key=lambda user: user.number)
         for user in others:
-            yield FAULT, (f"{user} uses {path} too, and each program receives only part of the data: end it, or correct "
-                          f"{where}")
+            yield FAULT, (f"{user} uses {path} too, and each program receives only part of the data: end it, or "
+                          f"correct {where}")
         if not sees_all:
             yield self.unchecked(f"programs of other users that use {path} without a lock")
         if self.gateway:
@@ -410,8 +411,8 @@ class Check:
                 yield FAULT, f"{path}/enogate is on a read-only file system: look for errors of the disk with dmesg"
             free = found.f_bavail * found.f_frsize
             if free < least or (found.f_files and not found.f_favail):
-                yield FAULT, (f"the file system of {path}/enogate has {free // 1024} KB and {found.f_favail} inodes left: "
-                              "delete files there")
+                yield FAULT, (f"the file system of {path}/enogate has {free // 1024} KB and {found.f_favail} inodes "
+                              "left: delete files there")
             else:
                 yield OK, f"disk space: {free // MEGABYTE} MB for {path}/enogate"
 
