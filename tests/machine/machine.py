@@ -23,8 +23,8 @@ KERNEL = ("root=/dev/vda console=ttyS0 quiet mitigations=off audit=0 selinux=0 a
           "random.trust_cpu=on systemd.default_timeout_start_sec=900 systemd.default_device_timeout_sec=900")
 # Without KVM, the clock of the machine counts its instructions: it is right however busy this computer is.
 EMULATED = ["-accel", "tcg", "-icount", "shift=2,sleep=on", "-cpu", "Nehalem"]
-# The log of QEMU's driver blklogwrites: sectors, of which the first has the head of the log. An entry has a sector for
-# its numbers (the first sector, how many, flags) and then what was written.
+# The log of QEMU's driver blklogwrites consists of sectors. The first one has the head of the log. An entry has a
+# sector for its numbers (the first sector, how many, flags), and then what was written.
 SECTOR, ENTRY, FLUSH, DISCARD = 512, struct.Struct("<QQQ"), 1, 4
 END = re.compile(r"\n?\x04(\d+)\n")
 

@@ -10,7 +10,8 @@ pub fn one_telegram()
     ensures only { (p : Packet) (t u : Telegram) → CarriesTelegram p t → CarriesTelegram p u → t ≡ u }
 {}
 
-/// The packet in which a telegram is sent is read as that telegram, except for its dBm, which is sent as 255.
+/// The packet in which a telegram is sent is read as that telegram, except for its dBm, which is sent as 255. The
+/// length of the payload fits the RORG, and sender and destination have 32 bits.
 pub fn sent_is_read()
     ensures { (t : Telegram) → IsTrue (payload_length_fits t.rorg (length t.payload)) → t.sender < 2 ^ 32
         → t.dest < 2 ^ 32

@@ -12,7 +12,7 @@ pub fn teach_text_determines_outcome()
         → (line : TeachLine) × (lines ≡ Teach line ∷ []) × (line.outcome ≡ reported.outcome) }
 {}
 
-/// Teach lines with the same text have the same profile, ID, maker and outcome.
+/// Teach lines with the same text and with numbers in range have the same profile, ID, maker and outcome.
 pub fn teach_texts_are_injective()
     ensures { (line reported : TeachLine) → HasNumbersInRange line → HasNumbersInRange reported
         → text (Teach line) ≡ text (Teach reported) → line ≡ reported }
@@ -23,7 +23,8 @@ pub fn reason_words_are_injective()
     ensures { (why other : HandlingReason) → reason_word why ≡ reason_word other → why ≡ other }
 {}
 
-/// Packet lines with the same text are equal: they show the same packet, field by field, and the same reason.
+/// Packet lines with the same text and with numbers in range are equal: they show the same packet, field by field, and
+/// the same reason.
 pub fn packet_texts_are_injective()
     ensures { (line other : PacketLine) → HasPacketNumbersInRange line.packet → HasPacketNumbersInRange other.packet
         → packet_text line ≡ packet_text other → line ≡ other }

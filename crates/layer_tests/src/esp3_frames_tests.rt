@@ -29,7 +29,7 @@ const WRONG_DATA: [u8; 21] = [
     0xFF, 0xFF, 0x2D, 0x00, 0x1E,
 ];
 
-/// Bytes and their CRC. F4 is the check value that catalogues of CRCs give for this one, CRC-8/SMBUS.
+/// Bytes and their CRC. For the digits, 0xF4 is the check value that catalogues of CRCs give for CRC-8/SMBUS.
 const CHECKS: [(&[u8], u8); 4] = [
     (&[0x00, 0x07, 0x07, 0x01], 0x7A),
     (&[0x08], 0x38),

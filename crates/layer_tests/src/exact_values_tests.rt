@@ -6,7 +6,7 @@ fn parts(fraction: Fraction) -> (i64, i64) {
     (fraction.num(), fraction.den())
 }
 
-/// A number, the numbers `first` and `last`, the tenths that these two stand for, and the number's value as a numerator
+/// A number, the numbers `first` and `last`, the tenths that they mean, and the number's value as a numerator
 /// and a denominator.
 type ScaleCase = (u32, u32, u32, i32, i32, Option<(i64, i64)>);
 
