@@ -8,7 +8,7 @@ import tempfile
 SOURCE = pathlib.Path(__file__).resolve().with_name("baseline.c")
 
 
-def compiler():
+def find_compiler():
     """The C compiler: gcc if it is installed, since the counts of `bench/instructions` are for gcc, otherwise cc."""
     found = shutil.which("gcc") or shutil.which("cc")
     if not found:
@@ -16,14 +16,14 @@ def compiler():
     return found
 
 
-def built(folder):
+def build(folder):
     """Builds the program into this folder, and returns its path."""
     program = pathlib.Path(folder) / "baseline"
-    subprocess.run([compiler(), "-std=c11", "-O2", "-Wall", "-Wextra", "-o", program, SOURCE], check=True)
+    subprocess.run([find_compiler(), "-std=c11", "-O2", "-Wall", "-Wextra", "-o", program, SOURCE], check=True)
     return program
 
 
-def same_output(outputs, text, name):
+def require_same_output(outputs, text, name):
     """Returns the output of both programs, this one and the other, for this text. If the two outputs differ, keeps them
     and exits with an error."""
     if outputs[0] != outputs[1]:

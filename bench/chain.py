@@ -13,23 +13,23 @@ from workloads import ROOT, SENDERS
 
 sys.path.insert(0, str(ROOT / "tests/around"))
 
-from broker import PROBE, Broker
+from broker import PROBE_TOPIC, Broker
 from programs import Program, lines_of, wait_for
 from pty_stick import Stick
 from services import BASE, Bridge, Gateway
 
 # How long an event is waited for, and the pause between two looks at a file, in seconds.
-WITHIN = 300.0
-LOOK = 0.00005
+TIMEOUT = 300.0
+LOOK_PAUSE = 0.00005
 # How many lines of a file are shown after a fault.
-LAST = 5
+SHOWN_LINES = 5
 # A day of an idle gateway.
-TURNS = "864000"
+TURNS_OF_A_DAY = "864000"
 # The devices that each gateway has learned.
 CONTACT, ACTUATOR = (f"{SENDERS[0] + number:08X}" for number in range(2))
-LEARNED = (f"add {CONTACT} D5-00-01", f"add {ACTUATOR} D2-01-12")
+LEARN_ORDERS = (f"add {CONTACT} D5-00-01", f"add {ACTUATOR} D2-01-12")
 # The end of the answer to the order `status`.
-STATUS = b'"type":"status"'
+STATUS_MARK = b'"type":"status"'
 
 
 def program_of(word):
@@ -38,7 +38,7 @@ def program_of(word):
     return pathlib.Path(program).resolve() if program else sys.exit(f"{word}: not found or not executable")
 
 
-def go_first():
+def raise_priority():
     """Gives this process, and those that it will start, priority over all others if this is allowed. Returns a sentence
     about the priority."""
     try:
@@ -68,20 +68,20 @@ class Tail:
         self.file.seek(0, os.SEEK_END)
         self.rest = b""
 
-    def has(self, text):
+    def has_appended(self, text):
         """Whether this was appended after the place at which a text was found last."""
         before, found, after = (self.rest + self.file.read()).partition(text)
         # a part of the text may have come
         self.rest = after if found else before[-len(text):]
         return bool(found)
 
-    def wait(self, text):
+    def wait_for(self, text):
         """Waits until this is appended, and returns the time."""
-        end = time.monotonic() + WITHIN
-        while not self.has(text):
+        end = time.monotonic() + TIMEOUT
+        while not self.has_appended(text):
             if time.monotonic() > end:
-                sys.exit(f"{self.file.name}: no {text!r} within {WITHIN:.0f} s")
-            time.sleep(LOOK)
+                sys.exit(f"{self.file.name}: no {text!r} within {TIMEOUT:.0f} s")
+            time.sleep(LOOK_PAUSE)
         return time.monotonic()
 
 
@@ -100,7 +100,7 @@ class Chain(contextlib.ExitStack):
         """Ends the programs. After a fault it first prints the last lines of the gateway, and of each journal."""
         if kind:
             for path in (self.lines, *self.work.glob("*journal")):
-                print(f"{path.name}:", *lines_of(path)[-LAST:], sep="\n    ", file=sys.stderr)
+                print(f"{path.name}:", *lines_of(path)[-SHOWN_LINES:], sep="\n    ", file=sys.stderr)
         return super().__exit__(kind, *rest)
 
     def start_program(self, program, *options):
@@ -110,27 +110,27 @@ class Chain(contextlib.ExitStack):
         self.desk.touch()
         self.gateway = self.enter_context(Program(self.work / "journal"))
         words = ["live", "--base", BASE, "--serial", self.stick.path, "--desk", self.desk, "--out", self.lines]
-        self.gateway.run([program, *words, "--turns", TURNS, *options])
-        self.learn()
+        self.gateway.run([program, *words, "--turns", TURNS_OF_A_DAY, *options])
+        self.learn_devices()
 
     def start_unit(self, program):
         """Starts the gateway by the commands of its unit."""
         (self.work / "bin").mkdir()
         (self.work / "bin/enogate").symlink_to(program)
         self.gateway = self.enter_context(Gateway(self.work))
-        self.gateway.run_unit(BASE=BASE, SERIAL=self.stick.path, TURNS=TURNS)
+        self.gateway.run_unit(BASE=BASE, SERIAL=self.stick.path, TURNS=TURNS_OF_A_DAY)
         wait_for(self.desk.exists, bool)
-        self.learn()
+        self.learn_devices()
 
-    def learn(self):
+    def learn_devices(self):
         """Learns the devices, which shows that the gateway works."""
-        self.order(*LEARNED)
-        answers = wait_for(lambda: lines_of(self.lines), lambda lines: len(lines) == len(LEARNED))
-        if len(answers) != len(LEARNED):
+        self.append_orders(*LEARN_ORDERS)
+        answers = wait_for(lambda: lines_of(self.lines), lambda lines: len(lines) == len(LEARN_ORDERS))
+        if len(answers) != len(LEARN_ORDERS):
             sys.exit("the gateway does not answer")
-        self.stick.collect_all(WITHIN)
+        self.stick.collect_all(TIMEOUT)
 
-    def order(self, *orders):
+    def append_orders(self, *orders):
         """Appends orders to the desk, all at once."""
         with self.desk.open("a") as desk:
             desk.write("".join(f"{order}\n" for order in orders))
@@ -149,10 +149,10 @@ class Chain(contextlib.ExitStack):
         """Returns the tail of a file that gets the messages on this topic."""
         path = self.work / topic.replace("/", ".")
         client = self.enter_context(Program(path.with_suffix(".journal")))
-        client.run(self.broker.words("sub", "-R", "-t", topic, "-t", PROBE), out=path)
+        client.run(self.broker.client_command("sub", "-R", "-t", topic, "-t", PROBE_TOPIC), out=path)
 
         def is_heard():
-            self.broker.publish(PROBE, "")
+            self.broker.publish(PROBE_TOPIC, "")
             return lines_of(path)
 
         wait_for(is_heard, bool)

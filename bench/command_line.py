@@ -13,11 +13,11 @@ class Parser(argparse.ArgumentParser):
         return self.text
 
 
-def up_to(most):
+def number_up_to(most):
     """The type of an argument that is a number from 1 to this one."""
-    def number(word):
+    def parsed(word):
         if not 1 <= int(word) <= most:
             raise ValueError(word)
         return int(word)
 
-    return number
+    return parsed

@@ -15,18 +15,19 @@ from oracle.esp3 import packet, pieces, telegram
 PROGRAM = ROOT / "crates/enogate/out/enogate"  # what `make build` makes
 
 SENDERS = [0x01800000 + 0x111 * k for k in range(200)]
-CONTACTS = [telegram(0xD5, b"\x09", sender) for sender in SENDERS]
+CONTACT_TELEGRAMS = [telegram(0xD5, b"\x09", sender) for sender in SENDERS]
 # For each kind of device (contact, rocker, temperature sensor): its profile, and the RORG, the payload and the status
 # of its telegrams.
-KINDS = [("D5-00-01", 0xD5, b"\x09", 0), ("F6-02-01", 0xF6, b"\x50", 0x30), ("A5-02-05", 0xA5, b"\0\0\x7F\x08", 0)]
-IN_TURN = list(zip(SENDERS, itertools.cycle(KINDS)))
-MIXED = [telegram(rorg, payload, sender, status) for sender, (_, rorg, payload, status) in IN_TURN]
-SENSOR = telegram(0xA5, bytes.fromhex("FB7F7F0B"), 0x01800ABC)
-LONGEST = packet(1, bytes(65535), bytes(255))
+DEVICE_KINDS = [
+    ("D5-00-01", 0xD5, b"\x09", 0), ("F6-02-01", 0xF6, b"\x50", 0x30), ("A5-02-05", 0xA5, b"\0\0\x7F\x08", 0)]
+SENDERS_WITH_KINDS = list(zip(SENDERS, itertools.cycle(DEVICE_KINDS)))
+MIXED_TELEGRAMS = [telegram(rorg, payload, sender, status) for sender, (_, rorg, payload, status) in SENDERS_WITH_KINDS]
+SENSOR_TELEGRAM = telegram(0xA5, bytes.fromhex("FB7F7F0B"), 0x01800ABC)
+LONGEST_PACKET = packet(1, bytes(65535), bytes(255))
 
 
 @functools.cache
-def noise():
+def noise_bytes():
     """Random bytes, the same in each run."""
     return random.Random(1).randbytes(24_000_000)
 
@@ -46,12 +47,12 @@ class Workload(typing.NamedTuple):
         return self.source() if callable(self.source) else self.source
 
     @property
-    def words(self):
+    def arguments(self):
         """The arguments of the program."""
         return ["replay", "--base", "FF800000", *self.options]
 
     @property
-    def unit(self):
+    def unit_of_cost(self):
         """What a cost is divided by: packets, or bytes if the stream has none."""
         return "packet" if self.packets else "byte"
 
@@ -68,20 +69,23 @@ class Workload(typing.NamedTuple):
         return "".join([*orders, *map(pieces, iter(lambda: source.read(next(sizes)), b""))])
 
 
-ONE_CONTACT = Workload([(SENDERS[0], "D5-00-01")], CONTACTS[0], [21], packets=1)
-DEVICES = [(sender, eep) for sender, (eep, *_) in IN_TURN]
-MIXED_DEVICES = Workload(DEVICES, b"".join(MIXED), list(map(len, MIXED)), packets=len(MIXED))
-EXPLAIN = ("--explain",)
+CONTACT_WORKLOAD = Workload([(SENDERS[0], "D5-00-01")], CONTACT_TELEGRAMS[0], [21], packets=1)
+MIXED_SENDERS = [(sender, eep) for sender, (eep, *_) in SENDERS_WITH_KINDS]
+MIXED_WORKLOAD = Workload(
+    MIXED_SENDERS, b"".join(MIXED_TELEGRAMS), list(map(len, MIXED_TELEGRAMS)), packets=len(MIXED_TELEGRAMS))
+EXPLAIN_OPTION = ("--explain",)
 
 WORKLOADS = {
-    "packets": ONE_CONTACT,
-    "explained": ONE_CONTACT._replace(options=EXPLAIN),
-    "devices": Workload([(sender, "D5-00-01") for sender in SENDERS], b"".join(CONTACTS), [21], packets=len(CONTACTS)),
-    "mixed": MIXED_DEVICES,
-    "mixed explained": MIXED_DEVICES._replace(options=EXPLAIN),
-    "readings": Workload([(0x01800ABC, "A5-08-01")], SENSOR, [24], packets=1),
-    "long": Workload([], LONGEST, [99], packets=1),
-    "noise": Workload([], noise, [24]),
-    "headers": Workload([], LONGEST[:6], [24]),
-    "starts": Workload([], LONGEST[:6] + b"\x55" * 65791, [24]),
+    "packets": CONTACT_WORKLOAD,
+    "explained": CONTACT_WORKLOAD._replace(options=EXPLAIN_OPTION),
+    "devices": Workload(
+        [(sender, "D5-00-01") for sender in SENDERS], b"".join(CONTACT_TELEGRAMS), [21],
+        packets=len(CONTACT_TELEGRAMS)),
+    "mixed": MIXED_WORKLOAD,
+    "mixed explained": MIXED_WORKLOAD._replace(options=EXPLAIN_OPTION),
+    "readings": Workload([(0x01800ABC, "A5-08-01")], SENSOR_TELEGRAM, [24], packets=1),
+    "long": Workload([], LONGEST_PACKET, [99], packets=1),
+    "noise": Workload([], noise_bytes, [24]),
+    "headers": Workload([], LONGEST_PACKET[:6], [24]),
+    "starts": Workload([], LONGEST_PACKET[:6] + b"\x55" * 65791, [24]),
 }

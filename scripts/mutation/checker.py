@@ -6,7 +6,7 @@ import sys
 import tempfile
 
 from mutation import libraries, record
-from mutation.verdicts import Check
+from mutation.verdicts import CheckReport
 
 RT = shutil.which("rt") or sys.exit("mutants: there is no rt on the PATH")
 KIT = os.path.dirname(os.path.dirname(os.path.realpath(RT)))
@@ -15,11 +15,11 @@ sys.dont_write_bytecode = True
 import rtlib  # noqa: E402 (it is in the folder that the lines above find)
 
 
-class NotBuilt(Exception):
+class LibrariesNotBuilt(Exception):
     """Why a crate cannot be checked as it is."""
 
 
-def lanes():
+def lane_count():
     """How many checks run at a time."""
     return int(os.environ.get("RT_JOBS") or len(os.sched_getaffinity(0)))
 
@@ -29,12 +29,12 @@ def crates(root):
     return rtlib.crates_below(root)
 
 
-def kit():
+def kit_name():
     """The kit's name, which differs in each version."""
-    return record.content(f"{KIT}/KIT-ID").decode()
+    return record.file_content(f"{KIT}/KIT-ID").decode()
 
 
-def linked(one, other):
+def link_or_copy(one, other):
     """Copies a kept file, or links it if it holds a proof: a check replaces such a file and never changes it."""
     if one.endswith(".oantt"):
         try:
@@ -44,9 +44,9 @@ def linked(one, other):
     return shutil.copy2(one, other)
 
 
-def listing(folder):
+def file_sums(folder):
     """The names and the sums of the files of the folder. They show whether one was changed, lost or added."""
-    return [(it, record.sum_of(record.content(it))) for it in record.files_below(folder)]
+    return [(it, record.digest_of(record.file_content(it))) for it in record.files_below(folder)]
 
 
 class Checker:
@@ -54,34 +54,34 @@ class Checker:
 
     def __init__(self, crate, root):
         self.crate, self.folder, self.root = crate, crate.folder, root
-        self.room = tempfile.TemporaryDirectory(prefix="mutation-")
-        self.seed, self.files = f"{self.room.name}/seed", None
+        self.work_folder = tempfile.TemporaryDirectory(prefix="mutation-")
+        self.seed, self.files = f"{self.work_folder.name}/seed", None
         self.seconds = self.checks = 0
 
-    def begin(self):
+    def check_unchanged(self):
         """Checks the unchanged crate, and returns this check. It uses the results of an earlier `rt check`, if any."""
-        if not libraries.are_built(self.root, self.crate.below(), kit()):
-            raise NotBuilt(f"the libraries below {self.crate.name} are not built: run `make build`")
+        if not libraries.are_built(self.root, self.crate.below(), kit_name()):
+            raise LibrariesNotBuilt(f"the libraries below {self.crate.name} are not built: run `make build`")
         kept = f"{self.folder}/out/incremental"
         if os.path.isdir(kept):
-            shutil.copytree(kept, self.seed, symlinks=True, copy_function=linked)
+            shutil.copytree(kept, self.seed, symlinks=True, copy_function=link_or_copy)
         else:
             os.mkdir(self.seed)
-        found = self.run({}, self.seed)
-        self.files = listing(self.seed)
+        found = self.run_prover({}, self.seed)
+        self.files = file_sums(self.seed)
         return found
 
     def check(self, texts, only=()):
         """Checks the crate with these texts of files, by path, in place of its own.
 
         If `only` has names of functions, only these and those that they call are checked."""
-        with tempfile.TemporaryDirectory(prefix="kept-", dir=self.room.name) as kept:
-            shutil.copytree(self.seed, kept, symlinks=True, copy_function=linked, dirs_exist_ok=True)
-            return self.run(texts, kept, [f"--only={it.partition('::')[2]}" for it in only])
+        with tempfile.TemporaryDirectory(prefix="kept-", dir=self.work_folder.name) as kept:
+            shutil.copytree(self.seed, kept, symlinks=True, copy_function=link_or_copy, dirs_exist_ok=True)
+            return self.run_prover(texts, kept, [f"--only={it.partition('::')[2]}" for it in only])
 
-    def run(self, texts, kept, flags=()):
+    def run_prover(self, texts, kept, flags=()):
         # (tests/minutes recognizes the checks by this prefix)
-        with tempfile.TemporaryDirectory(prefix="mutants-", dir=self.room.name) as copy:
+        with tempfile.TemporaryDirectory(prefix="mutants-", dir=self.work_folder.name) as copy:
             for part in rtlib.PARTS:
                 if os.path.isdir(f"{self.folder}/{part}"):
                     shutil.copytree(f"{self.folder}/{part}", f"{copy}/{part}")
@@ -97,11 +97,11 @@ class Checker:
                 ran.returncode = os.waitstatus_to_exitcode(status)
         self.seconds += used.ru_utime + used.ru_stime
         self.checks += 1
-        return Check(ran.returncode, printed, texts)
+        return CheckReport(ran.returncode, printed, texts)
 
-    def is_sound(self):
+    def is_seed_unchanged(self):
         """Whether no check has changed the seed."""
-        return listing(self.seed) == self.files
+        return file_sums(self.seed) == self.files
 
     def close(self):
-        self.room.cleanup()
+        self.work_folder.cleanup()

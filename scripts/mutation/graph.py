@@ -6,7 +6,7 @@ CALL = re.compile(r"((?:\bself)?\.|\b\w+::|)\b([a-z_]\w*)\b")
 NO_CALLS = re.compile(r'//.*|"(?:[^"\\]|\\.)*"')
 
 
-class Graph:
+class CallGraph:
     """The functions of a crate. A check of it named `names`, each after those that it calls."""
 
     def __init__(self, crate, functions, names):
@@ -15,7 +15,7 @@ class Graph:
         self.reported = self.names_by_key()
         self.rank = {key: place[found[0]] for key, found in self.reported.items() if found}
         self.calls = {it.key: self.calls_of(it) for it in functions}
-        self.reaches = {key: self.reach_of(key) for key in self.calls}
+        self.reached = {key: self.functions_reached(key) for key in self.calls}
 
     def names_by_key(self):
         """The names that a check gives each function and its closures. It gives none if no name or several names fit,
@@ -33,17 +33,17 @@ class Graph:
         if function.type:
             # (a method is named in the module of its type, which another file may hold)
             joined = {(function.type + it).lower() for it in function.trait} or {function.type.lower()}
-            return [it for it in self.methods(function.name) if it.split("::")[-2].lower() in joined]
+            return [it for it in self.methods_named(function.name) if it.split("::")[-2].lower() in joined]
         path = function.path.removeprefix("src/").removesuffix(".rt").split("/")
         module = "::".join([self.crate, *([] if path in (["lib"], ["main"]) else path)])
         return [it for it in self.names if it == f"{module}::{function.name}"]
 
     def similar_names(self, function, taken):
         """The names of methods that begin with this one's type, without those that are exactly another function's."""
-        found = self.methods(function.name) if function.type else []
+        found = self.methods_named(function.name) if function.type else []
         return [it for it in found if it.split("::")[-2].startswith(function.type) and it not in taken]
 
-    def methods(self, name):
+    def methods_named(self, name):
         return [it for it in self.names if it.endswith(f"::{name}")]
 
     def with_closures(self, function, name):
@@ -66,7 +66,7 @@ class Graph:
             found.update(it.key for it in named)
         return found
 
-    def reach_of(self, start):
+    def functions_reached(self, start):
         found, left = set(), [*self.calls[start]]
         while left:
             it = left.pop()
@@ -74,16 +74,16 @@ class Graph:
             found.add(it)
         return found
 
-    def clash(self, one, other):
+    def may_affect(self, one, other):
         """Whether two functions are one, or one calls the other, directly or through others."""
-        return one == other or one in self.reaches[other] or other in self.reaches[one]
+        return one == other or one in self.reached[other] or other in self.reached[one]
 
     def batches(self, mutants):
         """The mutants in a few lists, callees first. No two functions of a list clash."""
         found = []
-        for mutant in sorted(mutants, key=lambda it: (len(self.reaches[it.function.key]), it.name)):
+        for mutant in sorted(mutants, key=lambda it: (len(self.reached[it.function.key]), it.name)):
             key = mutant.function.key
-            batch = next((it for it in found if not any(self.clash(key, one.function.key) for one in it)), None)
+            batch = next((it for it in found if not any(self.may_affect(key, one.function.key) for one in it)), None)
             if batch is None:
                 found.append(batch := [])
             batch.append(mutant)

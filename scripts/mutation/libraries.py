@@ -3,43 +3,44 @@ import contextlib
 import os
 import subprocess
 
-from mutation.record import content, files_below, files_of, sum_of, sum_of_files
+from mutation.record import file_content, files_below, checked_files, digest_of, digest_of_files
 
 # The libraries that `scripts/mutants --ci` built last, one in each line: the name of the crate, the sum of its sources,
 # and that of the library. `rt check` leaves a stamp in each library, and needs no such line; `rt ci` leaves none.
-NOTE = "target/libraries"
+NOTE_FILE = "target/libraries"
 
 
-def sources_of(crate, kit):
+def source_sum(crate, kit_name):
     """The name of a crate, and the sum of all that its library is built from, except for the libraries below it."""
     uses = repr((sorted(it.name for it in crate.deps), sorted(crate.of_kit)))
-    return f"{crate.name} {sum_of(kit.encode(), uses.encode(), sum_of_files(files_of(crate)))}"
+    return f"{crate.name} {digest_of(kit_name.encode(), uses.encode(), digest_of_files(checked_files(crate)))}"
 
 
-def library_of(crate):
+def library_sum(crate):
     """The sum of the files of a crate's library."""
-    return sum_of_files([(os.path.relpath(it, crate.rlib), content(it)) for it in files_below(crate.rlib)]).decode()
+    files = [(os.path.relpath(it, crate.rlib), file_content(it)) for it in files_below(crate.rlib)]
+    return digest_of_files(files).decode()
 
 
-def are_built(root, crates, kit):
+def are_built(root, crates, kit_name):
     """Whether the libraries of these crates, which are all that one crate uses, are built from their sources."""
-    path = f"{root}/{NOTE}"
-    noted = content(path).decode().splitlines() if os.path.exists(path) else []
-    if all(f"{sources_of(it, kit)} {library_of(it)}" in noted for it in crates):
+    path = f"{root}/{NOTE_FILE}"
+    noted = file_content(path).decode().splitlines() if os.path.exists(path) else []
+    if all(f"{source_sum(it, kit_name)} {library_sum(it)}" in noted for it in crates):
         return True
     return all(it.is_built() for it in crates)
 
 
-def run_and_note(root, crates, kit, words):
+def run_and_note(root, crates, kit_name, words):
     """Runs a command that builds the libraries of all crates, and notes them if it passes and no source has changed
     meanwhile. Returns its status."""
-    path = f"{root}/{NOTE}"
+    path = f"{root}/{NOTE_FILE}"
     with contextlib.suppress(FileNotFoundError):
         os.remove(path)
-    before = [sources_of(it, kit) for it in crates]
+    before = [source_sum(it, kit_name) for it in crates]
     status = subprocess.run(words, check=False).returncode
-    if status == 0 and before == [sources_of(it, kit) for it in crates]:
+    if status == 0 and before == [source_sum(it, kit_name) for it in crates]:
         os.makedirs(os.path.dirname(path), exist_ok=True)
         with open(path, "w", encoding="utf-8") as it:
-            it.writelines(f"{of} {library_of(made)}\n" for of, made in zip(before, crates) if os.path.isdir(made.rlib))
+            it.writelines(f"{of} {library_sum(made)}\n" for of, made in zip(before, crates) if os.path.isdir(made.rlib))
     return status if status >= 0 else 128 - status

@@ -3,14 +3,14 @@ import os
 import re
 from typing import NamedTuple
 
-from mutation.sources import Function, functions_of
+from mutation.sources import Function, split_functions
 
 # A ghost member of an `impl`, as `ghost state = { .. };`, is a definition, and stays.
-GHOSTS = re.compile(r"^ *(?:ghost\b(?! \w+ = \{)|//).*\n?", re.M)
+GHOST_LINES = re.compile(r"^ *(?:ghost\b(?! \w+ = \{)|//).*\n?", re.M)
 CLAUSES = re.compile(r"\s*\b(?:requires|ensures)\b.*", re.S)
 
 
-class Unusable(Exception):
+class UnusableMutant(Exception):
     """Why a mutant cannot be applied, or shows nothing about the code."""
 
 
@@ -22,7 +22,7 @@ class Mutant(NamedTuple):
     fault: str  # why it is unusable, or ""
 
 
-def read(path):
+def read_text(path):
     with open(path, encoding="utf-8") as it:
         return it.read()
 
@@ -34,34 +34,34 @@ def edits_in(text):
             path = line[len("file: ") :].strip()
         elif line.startswith("old: "):
             if old:
-                raise Unusable("an 'old:' line has no 'new:' line")
+                raise UnusableMutant("an 'old:' line has no 'new:' line")
             old = line[len("old: ") :]
         elif line.startswith("new:"):
             if not path or not old:
-                raise Unusable("a 'new:' line stands before any 'file:' or 'old:' line")
+                raise UnusableMutant("a 'new:' line stands before any 'file:' or 'old:' line")
             edits.append((path, old, re.sub(r"\A ", "", line[len("new:") :])))
             old = ""
         elif line.startswith(("file:", "old:")):
-            raise Unusable(f"there is no text after '{line.strip()}', or no space before it")
+            raise UnusableMutant(f"there is no text after '{line.strip()}', or no space before it")
     if old:
-        raise Unusable("an 'old:' line has no 'new:' line")
+        raise UnusableMutant("an 'old:' line has no 'new:' line")
     if not edits:
-        raise Unusable("it has no 'file:', 'old:' and 'new:' lines in this order")
+        raise UnusableMutant("it has no 'file:', 'old:' and 'new:' lines in this order")
     return tuple(edits)
 
 
-def applied(folder, edits):
+def edited_texts(folder, edits):
     """The new texts of the files of this crate that these edits change, by path."""
     texts = {}
     for path, old, new in edits:
         if not re.fullmatch(r"(src|specs|proofs)(/\w+)+\.(rt|antt)", path):
-            raise Unusable(f"'file: {path}' names no file of src/, specs/ or proofs/")
+            raise UnusableMutant(f"'file: {path}' names no file of src/, specs/ or proofs/")
         if path not in texts:
             if not os.path.isfile(f"{folder}/{path}"):
-                raise Unusable(f"there is no file {path}")
-            texts[path] = read(f"{folder}/{path}")
+                raise UnusableMutant(f"there is no file {path}")
+            texts[path] = read_text(f"{folder}/{path}")
         if texts[path].count(old) != 1:
-            raise Unusable(
+            raise UnusableMutant(
                 f"an 'old:' text is in {path} {texts[path].count(old)} times, and not once: {old.strip()[:60]}"
             )
         texts[path] = texts[path].replace(old, new)
@@ -71,7 +71,7 @@ def applied(folder, edits):
 def changed_function(folder, edits):
     """The function of src/ if these edits change only its body, or None. Edits of no code are unusable."""
     bodies, is_code, is_more = [], False, False
-    for path, text in applied(folder, edits).items():
+    for path, text in edited_texts(folder, edits).items():
         if path.startswith("specs/"):
             is_code = is_more = True
             continue
@@ -79,48 +79,49 @@ def changed_function(folder, edits):
             # (only the changed bodies come into a batch)
             is_more = True
             continue
-        (old, old_rest), (new, new_rest) = functions_of(path, read(f"{folder}/{path}")), functions_of(path, text)
+        old, old_rest = split_functions(path, read_text(f"{folder}/{path}"))
+        new, new_rest = split_functions(path, text)
         if [it.key for it in old] != [it.key for it in new]:
             return None
         is_more |= old_rest != new_rest or any(one.head != other.head for one, other in zip(old, new))
-        is_code |= code("\n".join(old_rest)) != code("\n".join(new_rest))
-        is_code |= any(code_of(one) != code_of(other) for one, other in zip(old, new))
+        is_code |= code_in("\n".join(old_rest)) != code_in("\n".join(new_rest))
+        is_code |= any(code_of_function(one) != code_of_function(other) for one, other in zip(old, new))
         bodies += [one for one, other in zip(old, new) if one.body != other.body]
     if not is_code:
-        raise Unusable("it changes no code: only a clause, a proof, a comment or nothing")
+        raise UnusableMutant("it changes no code: only a clause, a proof, a comment or nothing")
     return bodies[0] if len(bodies) == 1 and not is_more else None
 
 
-def code(text):
+def code_in(text):
     """The text without comments and ghost lines, except for ghost members of an `impl`."""
-    return GHOSTS.sub("", text).strip()
+    return GHOST_LINES.sub("", text).strip()
 
 
-def code_of(function):
-    return CLAUSES.sub("", function.head).rstrip("{ \n"), code(function.body)
+def code_of_function(function):
+    return CLAUSES.sub("", function.head).rstrip("{ \n"), code_in(function.body)
 
 
 def read_mutant(folder, path):
     """The mutant of this file, for the crate in this folder."""
-    text, edits, function, fault = read(path), (), None, ""
+    text, edits, function, fault = read_text(path), (), None, ""
     try:
         edits = edits_in(text)
         function = changed_function(folder, edits)
-    except Unusable as why:
+    except UnusableMutant as why:
         fault = str(why)
     return Mutant(os.path.basename(path), text, edits, function, fault)
 
 
-def together(folder, mutants):
+def combined_texts(folder, mutants):
     """The new texts of the files that these mutants change, by path.
 
     Each mutant is applied to the unchanged file, since the 'new:' of one may hold the 'old:' of another."""
     if len(mutants) == 1:
-        return applied(folder, mutants[0].edits)
-    lines = {path: read(f"{folder}/{path}").split("\n") for path in {it.function.path for it in mutants}}
+        return edited_texts(folder, mutants[0].edits)
+    lines = {path: read_text(f"{folder}/{path}").split("\n") for path in {it.function.path for it in mutants}}
     # (from the last function to the first, so that the lines before keep their numbers)
     for mutant in sorted(mutants, key=lambda it: -it.function.line):
-        old, text = mutant.function, applied(folder, mutant.edits)[mutant.function.path]
-        new = next(it for it in functions_of(old.path, text)[0] if it.key == old.key)
+        old, text = mutant.function, edited_texts(folder, mutant.edits)[mutant.function.path]
+        new = next(it for it in split_functions(old.path, text)[0] if it.key == old.key)
         lines[old.path][old.line : old.line + len(old.lines)] = new.lines
     return {path: "\n".join(it) for path, it in lines.items()}

@@ -4,20 +4,20 @@ import os
 import re
 from typing import NamedTuple
 
-from mutation.sources import functions_of
+from mutation.sources import split_functions
 
-FOLDER = "tests/refusals"
-COUNTS = "tests/mutant-counts"
+RECORD_FOLDER = "tests/mutant-records"
+COUNTS_FILE = "tests/mutant-counts"
 # The files that a check reads of a crate.
-PARTS = ("src", "specs", "proofs", "c")
+CHECKED_FOLDERS = ("src", "specs", "proofs", "c")
 # The proof files of one function, in a folder of its name. The proofs of other functions do not read these files.
-OF_ONE_FUNCTION = ("Answers.antt", "Invariants.antt", "Proof.antt")
+FUNCTION_PROOF_FILES = ("Answers.antt", "Invariants.antt", "Proof.antt")
 FUNCTION = re.compile(rb"\bfn (\w+)")
 # Replaces the function's name if the proof of another function or statement fails.
-ELSEWHERE = "-"
+NOT_ITS_FUNCTION = "-"
 
 
-class Digests(NamedTuple):
+class MutantDigests(NamedTuple):
     """Digests of everything that the refusal of a mutant depends on: `own` if its own function is refused, otherwise
     `whole`."""
 
@@ -25,10 +25,10 @@ class Digests(NamedTuple):
     whole: str
 
     def of(self, function):
-        return self.whole if function == ELSEWHERE else self.own
+        return self.whole if function == NOT_ITS_FUNCTION else self.own
 
 
-def sum_of(*texts):
+def digest_of(*texts):
     found = hashlib.sha256()
     for it in texts:
         found.update(f"{len(it)} ".encode() + it)
@@ -39,83 +39,83 @@ def files_below(folder):
     return sorted(f"{at}/{name}" for at, _, names in os.walk(folder) for name in names)
 
 
-def content(path):
+def file_content(path):
     with open(path, "rb") as it:
         return it.read()
 
 
-def files_of(crate):
+def checked_files(crate):
     """The files that a check reads of the crate, as pairs of a path in its folder and the content."""
-    files = [file for part in PARTS for file in files_below(f"{crate.folder}/{part}")]
-    return [(os.path.relpath(it, crate.folder), content(it)) for it in files]
+    files = [file for part in CHECKED_FOLDERS for file in files_below(f"{crate.folder}/{part}")]
+    return [(os.path.relpath(it, crate.folder), file_content(it)) for it in files]
 
 
 def without_bodies(path, text):
     """What the proofs of other functions read of a source: no bodies or comments. A file with macros is kept whole."""
     if not path.endswith(".rt") or b"macro_rules!" in text:
         return text
-    functions, rest = functions_of(path, text.decode())
+    functions, rest = split_functions(path, text.decode())
     return "\n".join([*rest, *(it.head for it in functions)]).encode()
 
 
-def sum_of_files(files):
-    return sum_of(*(part for path, text in files for part in (path.encode(), text))).encode()
+def digest_of_files(files):
+    return digest_of(*(part for path, text in files for part in (path.encode(), text))).encode()
 
 
-class Reads:
-    """What the checks of a crate's mutants read. `kit` is the kit's name."""
+class CheckInputs:
+    """What the checks of a crate's mutants read. `kit_name` is the kit's name."""
 
-    def __init__(self, crate, root, kit):
+    def __init__(self, crate, root, kit_name):
         crates = sorted([crate, *crate.below()], key=lambda it: it.name)
         uses = [repr((it.name, sorted(dep.name for dep in it.deps), sorted(it.of_kit))).encode() for it in crates]
-        self.files = files_of(crate)
-        shared = [sum_of_files(shared_of(self.files if it is crate else files_of(it))) for it in crates]
-        self.shared = sum_of(kit.encode(), content(f"{root}/HANDLES"), *uses, *shared).encode()
-        self.whole = sum_of_files(self.files)
+        self.files = checked_files(crate)
+        shared = [digest_of_files(shared_inputs(self.files if it is crate else checked_files(it))) for it in crates]
+        self.shared = digest_of(kit_name.encode(), file_content(f"{root}/HANDLES"), *uses, *shared).encode()
+        self.whole = digest_of_files(self.files)
         # (functions that call each other have one proof, which reads all their bodies)
         self.has_cycles = any(b"#[cycle(" in text for _, text in self.files)
 
-    def proofs_of(self, function):
+    def proof_files_of(self, function):
         """The proof files of this function, and those of cycles of calls."""
         names = {function.name}
         return [(path, text) for path, text in self.files if is_of_one_function(path, names)]
 
-    def own_of(self, function):
+    def own_text_of(self, function):
         """The text of the function, with its place among those of its file that have the same head and type."""
-        functions = functions_of(function.path, dict(self.files).get(function.path, b"").decode())[0]
+        functions = split_functions(function.path, dict(self.files).get(function.path, b"").decode())[0]
         alike = [it for it in functions if (it.type, it.head) == (function.type, function.head)]
         before = sum(it.line < function.line for it in alike)
         return "\n".join([*[str(before)] * (before > 0), function.type, *function.lines])
 
     def digests(self, mutant):
-        whole = sum_of(self.shared, self.whole, mutant.text.encode())[:16]
+        whole = digest_of(self.shared, self.whole, mutant.text.encode())[:16]
         if self.has_cycles or not mutant.function:
-            return Digests(whole, whole)
-        own = self.own_of(mutant.function).encode()
-        proofs = sum_of_files(self.proofs_of(mutant.function))
-        return Digests(sum_of(self.shared, own, proofs, mutant.text.encode())[:16], whole)
+            return MutantDigests(whole, whole)
+        own = self.own_text_of(mutant.function).encode()
+        proofs = digest_of_files(self.proof_files_of(mutant.function))
+        return MutantDigests(digest_of(self.shared, own, proofs, mutant.text.encode())[:16], whole)
 
 
 def is_of_one_function(path, names):
     """Whether it is a proof file of a function with one of these names, or of a cycle of calls."""
     part, *folders, name = path.split("/")
-    return part == "proofs" and name in OF_ONE_FUNCTION and any(it in names or it[0] == "+" for it in folders)
+    return part == "proofs" and name in FUNCTION_PROOF_FILES and any(it in names or it[0] == "+" for it in folders)
 
 
-def shared_of(files):
+def shared_inputs(files):
     """What the proofs of other functions, in this crate and above it, read of these files."""
     names = {it.decode() for path, text in files if path.startswith("src/") for it in FUNCTION.findall(text)}
     return [(path, without_bodies(path, text)) for path, text in files if not is_of_one_function(path, names)]
 
 
-def recorded(root, crate, digests):
+def valid_records(root, crate, digests):
     """The lines of the crate's record that are valid for the present files, by mutant. `digests` has those of each."""
-    path = f"{root}/{FOLDER}/{crate}"
-    lines = content(path).decode().splitlines() if os.path.exists(path) else []
-    return {name: line for line in lines for name in [held_by(line, digests)] if name}
+    path = f"{root}/{RECORD_FOLDER}/{crate}"
+    lines = file_content(path).decode().splitlines() if os.path.exists(path) else []
+    return {name: line for line in lines for name in [mutant_of_record(line, digests)] if name}
 
 
-def held_by(line, digests):
+def mutant_of_record(line, digests):
     """The mutant of this line of a record, or "" if the line is not valid."""
     sum, name, function = (line.split(" ") + ["", ""])[:3]
     return name if function and name in digests and sum == digests[name].of(function) else ""
@@ -125,19 +125,19 @@ def write_record(root, crate, digests, results):
     """Writes the mutants that this run refused, each with its function, and the earlier lines of those it did not try.
 
     `digests` has those of each mutant of the crate, by name; `results` has the mutants that were tried."""
-    known, lines = recorded(root, crate, digests), []
+    known, lines = valid_records(root, crate, digests), []
     for name, found in sorted(digests.items()):
         if name not in results:
             lines += [known[name]] if name in known else []
         elif results[name].outcome.is_refusal:
-            function = results[name].text if results[name].is_own else ELSEWHERE
+            function = results[name].text if results[name].is_by_own_proof else NOT_ITS_FUNCTION
             lines.append(f"{found.of(function)} {name} {function}")
-    os.makedirs(f"{root}/{FOLDER}", exist_ok=True)
-    with open(f"{root}/{FOLDER}/{crate}", "w", encoding="utf-8") as it:
+    os.makedirs(f"{root}/{RECORD_FOLDER}", exist_ok=True)
+    with open(f"{root}/{RECORD_FOLDER}/{crate}", "w", encoding="utf-8") as it:
         it.write("".join(f"{line}\n" for line in lines))
 
 
-def sample_of(names, size, turn):
+def sample_for_turn(names, size, turn):
     """The crate and the mutants of this turn. The turns go through lists that hold each recorded mutant once.
 
     `names` has the recorded mutants by crate. A list is of one crate, since each crate costs a check without mutants.
@@ -148,7 +148,7 @@ def sample_of(names, size, turn):
     return lots[turn % len(lots)] if lots else ("", [])
 
 
-def counts_of(root):
+def expected_counts(root):
     """The hand-kept numbers of mutants, by crate."""
-    lines = content(f"{root}/{COUNTS}").decode().splitlines()
+    lines = file_content(f"{root}/{COUNTS_FILE}").decode().splitlines()
     return {name: int(count) for name, count in (it.split() for it in lines if it and not it.startswith("#"))}

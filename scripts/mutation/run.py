@@ -6,20 +6,20 @@ import os
 import subprocess
 
 from mutation import checker, record
-from mutation.mutants import read, read_mutant
-from mutation.tries import Tries
+from mutation.mutants import read_text, read_mutant
+from mutation.tries import CrateTries
 
 # The number of recorded mutants that a run tries again.
-SAMPLE = 8
+SAMPLE_SIZE = 8
 
 
-def mutants_of(folder):
+def mutants_in(folder):
     return [read_mutant(folder, it) for it in sorted(glob.glob(f"{folder}/mutants/*.edit"))]
 
 
-def miscounted(root, crates):
+def count_faults(root, crates):
     """The crates that do not have as many mutants as tests/mutant-counts says, and files that are no mutants."""
-    want = record.counts_of(root)
+    want = record.expected_counts(root)
     have = {
         it.name: len(glob.glob(f"{it.folder}/mutants/*.edit") + glob.glob(f"{it.folder}/must-fail/*.edit"))
         for it in crates
@@ -27,13 +27,13 @@ def miscounted(root, crates):
     others = {file for it in crates for file in record.files_below(f"{it.folder}/mutants")}
     others -= {file for it in crates for file in glob.glob(f"{it.folder}/mutants/*.edit")}
     return [f"{os.path.relpath(it, root)} has another name than mutants have" for it in sorted(others)] + [
-        f"{name} has {have.get(name, 0)} mutants, and {record.COUNTS} says {want.get(name, 0)}"
+        f"{name} has {have.get(name, 0)} mutants, and {record.COUNTS_FILE} says {want.get(name, 0)}"
         for name in sorted({*want, *have})
         if have.get(name, 0) != want.get(name, 0)
     ]
 
 
-def commits(root):
+def commit_count(root):
     """How many commits led to this state, or 0 if git does not say."""
     ran = subprocess.run(
         ["git", "-C", root, "rev-list", "--count", "HEAD"], capture_output=True, text=True, check=False
@@ -41,30 +41,30 @@ def commits(root):
     return 0 if ran.returncode else int(ran.stdout)
 
 
-class Run:
+class MutantRun:
     """The tries of these crates' mutants, as many checks at a time as there are lanes."""
 
-    def __init__(self, root, crates, lanes, make_checker=checker.Checker):
+    def __init__(self, root, crates, lane_count, make_checker=checker.Checker):
         self.root, self.crates, self.make_checker = root, crates, make_checker
-        self.pool = concurrent.futures.ThreadPoolExecutor(lanes)
-        self.mutants = {it.name: mutants_of(it.folder) for it in crates}
+        self.pool = concurrent.futures.ThreadPoolExecutor(lane_count)
+        self.mutants = {it.name: mutants_in(it.folder) for it in crates}
         self.digests = {it.name: self.digests_of(it) for it in crates}
         self.tried, self.faults = {}, []
 
     def digests_of(self, crate):
-        reads = record.Reads(crate, self.root, checker.kit())
+        reads = record.CheckInputs(crate, self.root, checker.kit_name())
         return {it.name: reads.digests(it) for it in self.mutants[crate.name]}
 
-    def lanes(self, function, items):
+    def map_in_lanes(self, function, items):
         return list(self.pool.map(function, items))
 
     def new_and_sample(self):
         """The mutants that are not recorded, and a sample of those that are, by crate."""
         old = {}
         for name, found in self.mutants.items():
-            known = record.recorded(self.root, name, self.digests[name])
+            known = record.valid_records(self.root, name, self.digests[name])
             old[name] = [it for it in found if not it.fault and it.name in known]
-        crate, sample = record.sample_of(old, SAMPLE, commits(self.root))
+        crate, sample = record.sample_for_turn(old, SAMPLE_SIZE, commit_count(self.root))
         return {
             name: [it for it in found if it not in old[name] or name == crate and it in sample]
             for name, found in self.mutants.items()
@@ -76,21 +76,22 @@ class Run:
         with concurrent.futures.ThreadPoolExecutor(len(crates) or 1) as threads:
             for tries in threads.map(lambda it: self.try_crate(it, chosen[it.name]), crates):
                 self.tried[tries.name] = tries.results
-                print(summary(tries), flush=True)
+                print(summary_of_crate(tries), flush=True)
 
     def try_crate(self, crate, mutants):
         checks = self.make_checker(crate, self.root)
         paths = sorted(glob.glob(f"{crate.folder}/src/**/*.rt", recursive=True))
-        sources = {os.path.relpath(it, crate.folder): read(it) for it in paths}
-        tries, fault = Tries(crate.name, sources, checks, self.lanes), ""
+        sources = {os.path.relpath(it, crate.folder): read_text(it) for it in paths}
+        tries, fault = CrateTries(crate.name, sources, checks, self.map_in_lanes), ""
         try:
-            fault = self.pool.submit(tries.begin).result()
+            fault = self.pool.submit(tries.check_unchanged).result()
             if not fault:
                 tries.try_all(mutants)
-                fault = "" if checks.is_sound() else f"{crate.name}: a check changed what the others began with"
+                if not checks.is_seed_unchanged():
+                    fault = f"{crate.name}: a check changed what the others began with"
                 if self.digests_of(crate) != self.digests[crate.name]:
                     fault = f"{crate.name}: a file that the checks read was changed during the run"
-        except checker.NotBuilt as why:
+        except checker.LibrariesNotBuilt as why:
             fault = str(why)
         finally:
             checks.close()
@@ -107,7 +108,7 @@ class Run:
         for name in (it for it, found in self.mutants.items() if found):
             record.write_record(self.root, name, self.digests[name], self.tried.get(name, {}))
 
-    def lines(self):
+    def result_lines(self):
         """A line for each mutant that was tried, with whether it is refused."""
         for name, results in sorted(self.tried.items()):
             for mutant, it in sorted(results.items()):
@@ -115,11 +116,11 @@ class Run:
                 yield it.outcome.is_refusal, f"{name}/{mutant}: {it.outcome.value}: {it.text}{where}"
 
     @property
-    def untried(self):
+    def untried_count(self):
         return sum(map(len, self.mutants.values())) - sum(map(len, self.tried.values()))
 
 
-def summary(tries):
+def summary_of_crate(tries):
     counts = collections.Counter(f"{it.outcome.value} ({it.where})" for it in tries.results.values())
     text = ", ".join(f"{count} {outcome}" for outcome, count in sorted(counts.items()))
     cost = f"{tries.checker.checks} checks, {tries.checker.seconds:.0f} processor seconds"

@@ -2,10 +2,10 @@
 import re
 from typing import NamedTuple
 
-HEAD = re.compile(r"^ *(?:pub(?:\([^)]*\))? )?(?:const )?(?:unsafe )?fn (\w+)")
+FUNCTION_HEAD = re.compile(r"^ *(?:pub(?:\([^)]*\))? )?(?:const )?(?:unsafe )?fn (\w+)")
 # A quotation mark that neither begins nor ends a text.
 NO_QUOTES = re.compile(r"\\.|'\"'")
-BLOCK = re.compile(r"^(?:pub(?:\([^)]*\))? )?(?:unsafe )?(impl|trait)\b(.*)")
+BLOCK_HEAD = re.compile(r"^(?:pub(?:\([^)]*\))? )?(?:unsafe )?(impl|trait)\b(.*)")
 
 
 class Function(NamedTuple):
@@ -29,7 +29,7 @@ class Function(NamedTuple):
         return f"{self.head}\n{self.body}".split("\n")
 
 
-def body_of(lines, start):
+def body_range(lines, start):
     """The lines that open and close the body of the function whose head begins here, or None if it has no body."""
     indent = lines[start][: len(lines[start]) - len(lines[start].lstrip())]
     opens = re.compile(rf"{indent}(?:\{{|\).*\{{|where\b.*\{{)$")
@@ -43,7 +43,7 @@ def body_of(lines, start):
     return close and (at, close)
 
 
-def without_parameters(text):
+def without_generics(text):
     """The words after `impl` or `trait`, without lifetimes, parameters of its own and `where`."""
     text = re.sub(r"'\w+,? ?|\s*(?:where\b.*)?\{?$", "", text).strip()
     depth = 0
@@ -54,28 +54,28 @@ def without_parameters(text):
     return text
 
 
-def owner_of(line):
+def type_and_trait(line):
     """The type, and the words of the trait, that the functions of this block belong to."""
 
     def words(text):
         return re.findall(r"\w+", re.sub(r"\w+::", "", text))
 
-    made, _, of = without_parameters(BLOCK.match(line)[2]).partition(" for ")
+    made, _, of = without_generics(BLOCK_HEAD.match(line)[2]).partition(" for ")
     if not of:
         return words(re.split(r":(?!:)", made)[0])[0], ()
     return words(of)[0], ("".join(words(made)), "".join(re.findall(r"\w+", re.sub(r"^[^<]*::", "", made))))
 
 
-def functions_of(path, text):
+def split_functions(path, text):
     """The functions of a file that have bodies, and its other lines without comments, with one for each function."""
     lines, at, found, rest, owner, is_text = text.split("\n"), 0, [], [], ("", ()), False
     while at < len(lines):
-        if BLOCK.match(lines[at]):
-            owner = owner_of(lines[at])
+        if BLOCK_HEAD.match(lines[at]):
+            owner = type_and_trait(lines[at])
         elif lines[at] == "}":
             owner = "", ()
-        name = HEAD.match(lines[at])
-        ends = name and body_of(lines, at)
+        name = FUNCTION_HEAD.match(lines[at])
+        ends = name and body_range(lines, at)
         if ends:
             head, body = "\n".join(lines[at : ends[0] + 1]), "\n".join(lines[ends[0] + 1 : ends[1] + 1])
             found.append(Function(path, *owner, name[1], head, body, at))

@@ -13,19 +13,19 @@ sys/socket sys/stat sys/wait time unistd""".split()
 SIZES = {"i8": 1, "u8": 1, "i16": 2, "u16": 2, "i32": 4, "u32": 4, "i64": 8, "u64": 8, "usize": 8}
 
 
-def number(text):
+def value_of(text):
     """The value of an expression that means the same in Python."""
     if not re.fullmatch(r"[-+<|() 0-9a-fox]+", text):
         sys.exit(f"not a number: {text}")
     return eval(text)
 
 
-def constants(text):
+def constants_in(text):
     for name, _, value in re.findall(r"^(?:pub )?const (\w+): (\w+) = ([^;]+);", text, re.M):
-        yield f"{name} == {number(value)}"
+        yield f"{name} == {value_of(value)}"
 
 
-def structures(text):
+def structures_in(text):
     """The structures of the C library. `Tried` is skipped: it is the kit's own."""
     known = {kind: (size, size) for kind, size in SIZES.items()}
     for name, body in re.findall(r"^pub struct (\w+) \{\n(.*?)^\}", text, re.M | re.S):
@@ -48,7 +48,7 @@ def structures(text):
 def main():
     text = "".join(pathlib.Path(file).read_text() for file in sys.argv[1:])
     print("#define _GNU_SOURCE", *(f"#include <{name}.h>" for name in HEADERS), sep="\n")
-    for fact in [*constants(text), *structures(text)]:
+    for fact in [*constants_in(text), *structures_in(text)]:
         print(f'_Static_assert({fact}, "");')
 
 

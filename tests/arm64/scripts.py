@@ -16,7 +16,7 @@ sys.path.insert(0, str(pathlib.Path(__file__).resolve().parent.parent))
 
 from oracle.random_scripts import numbered
 
-PARTS = 4
+PART_COUNT = 4
 
 
 def run(program, base, script, options):
@@ -31,7 +31,7 @@ def files_in(folder):
     return {name: found if name.endswith(".db") else len(found) for name, found in files.items()}
 
 
-def at_once(program, base, script):
+def run_at_once(program, base, script):
     """The results of one run of a script with each of the options, and the files that these leave."""
     with tempfile.TemporaryDirectory() as folder:
         folder = pathlib.Path(folder)
@@ -41,28 +41,28 @@ def at_once(program, base, script):
         return runs, files_in(folder)
 
 
-def parts_of(script):
+def script_parts(script):
     lines = script.splitlines(keepends=True)
-    size = len(lines) // PARTS + 1
+    size = len(lines) // PART_COUNT + 1
     return [b"".join(lines[place : place + size]) for place in range(0, len(lines), size)]
 
 
-def in_parts(programs, base, script):
+def run_in_parts(programs, base, script):
     """The results of the parts of a script, which these programs run in turn, and the files after each part."""
     with tempfile.TemporaryDirectory() as folder:
         folder = pathlib.Path(folder)
         runs = []
-        for place, part in enumerate(parts_of(script)):
+        for place, part in enumerate(script_parts(script)):
             runs.append(run(programs[place % len(programs)], base, part, ["--db", folder / "parts.db"]))
             runs.append(files_in(folder))
         return runs
 
 
-def compared(one, other, base, script):
+def compare_script(one, other, base, script):
     """Whether all results are the same, and how many lines the first run wrote."""
-    first = at_once(one, base, script)
-    turns = [in_parts(programs, base, script) for programs in ([one], [other], [one, other], [other, one])]
-    is_same = first == at_once(other, base, script) and all(runs == turns[0] for runs in turns)
+    first = run_at_once(one, base, script)
+    turns = [run_in_parts(programs, base, script) for programs in ([one], [other], [one, other], [other, one])]
+    is_same = first == run_at_once(other, base, script) and all(runs == turns[0] for runs in turns)
     ended = all(status == 0 for _, _, status in first[0])
     return is_same and ended, first[0][0][0].count(b"\n")
 
@@ -71,7 +71,7 @@ def main():
     one, other, count = *sys.argv[1:3], int(sys.argv[3])
     scripts = [numbered(number) for number in range(count)]
     with concurrent.futures.ThreadPoolExecutor(os.cpu_count()) as pool:
-        results = list(pool.map(lambda it: compared(one, other, *it), scripts))
+        results = list(pool.map(lambda it: compare_script(one, other, *it), scripts))
     differ = [number for number, (is_same, _) in enumerate(results) if not is_same]
     lines = sum(lines for _, lines in results)
     print(f"{count} scripts of {lines:,} lines", f"differ: {differ}" if differ else "are the same")

@@ -12,15 +12,15 @@ from stick import BASE, COMMAND, READ_BASE, RESPONSE
 
 ROOT = pathlib.Path(__file__).resolve().parents[2]
 PROGRAM = ROOT / "crates/enogate/out/enogate"
-KEPT = ROOT / "target/machine"
-SUITE, SIZE = "bookworm", "1200M"
+KEPT_FOLDER = ROOT / "target/machine"
+DEBIAN_SUITE, DISK_SIZE = "bookworm", "1200M"
 PACKAGES = ("linux-image-amd64", "systemd-sysv", "udev", "procps", "logrotate", "mosquitto", "mosquitto-clients")
 # The commands that are needed, each with its Debian package.
 NEEDED = {"qemu-system-x86_64": "qemu-system-x86", "mmdebstrap": "mmdebstrap", "mke2fs": "e2fsprogs",
           "busybox": "busybox-static", "dpkg-deb": "dpkg", "strip": "binutils"}
 # The initrd loads these modules and what they depend on.
-MODULES = ("virtio_pci", "virtio_blk", "crc32c_generic", "ext4", "virtio_console", "xhci_pci")
-INIT = """#!/bin/busybox sh
+INITRD_MODULES = ("virtio_pci", "virtio_blk", "crc32c_generic", "ext4", "virtio_console", "xhci_pci")
+INIT_SCRIPT = """#!/bin/busybox sh
 /bin/busybox mount -t devtmpfs dev /dev
 for module in $(/bin/busybox cat /order); do /bin/busybox insmod "/$module"; done
 until [ -b /dev/vda ]; do /bin/busybox sleep 0.1; done
@@ -29,11 +29,11 @@ until [ -b /dev/vda ]; do /bin/busybox sleep 0.1; done
 exec /bin/busybox switch_root /root /sbin/init
 """
 # What the system does not need, for a faster boot.
-MASKED = ("getty@tty1.service", "serial-getty@ttyS0.service", "systemd-logind.service", "e2scrub_reap.service",
-          "apt-daily.timer", "apt-daily-upgrade.timer", "dpkg-db-backup.timer", "systemd-binfmt.service",
-          "modprobe@drm.service", "modprobe@fuse.service", "modprobe@efi_pstore.service")
+MASKED_UNITS = ("getty@tty1.service", "serial-getty@ttyS0.service", "systemd-logind.service", "e2scrub_reap.service",
+                "apt-daily.timer", "apt-daily-upgrade.timer", "dpkg-db-backup.timer", "systemd-binfmt.service",
+                "modprobe@drm.service", "modprobe@fuse.service", "modprobe@efi_pstore.service")
 # The rule of the package also names QEMU's adapter, whose texts cannot be set.
-RULES, ADAPTER = "60-enocean.rules", {"EnOcean GmbH": "QEMU", "EnOcean USB 3*": "QEMU USB SERIAL"}
+RULES_FILE, ADAPTER_NAMES = "60-enocean.rules", {"EnOcean GmbH": "QEMU", "EnOcean USB 3*": "QEMU USB SERIAL"}
 FILES = {
     "etc/machine-id": "0123456789abcdef0123456789abcdef\n",
     "etc/hostname": "machine\n",
@@ -69,7 +69,7 @@ while got := os.read(line, 4096):
         "[Service]\nExecStart=mosquitto_sub -R -v -t #\nStandardOutput=append:/run/heard\nRestart=always\n"
         "[Install]\nWantedBy=multi-user.target\n",
 }
-UNITS = ("agent", "heard", "mosquitto", "enogate@hall", "enogate-mqtt@hall")
+WATCHED_UNITS = ("agent", "heard", "mosquitto", "enogate@hall", "enogate-mqtt@hall")
 
 
 def lacks():
@@ -86,40 +86,40 @@ def call(*words, **options):
     return done.stdout
 
 
-def packages():
+def packages_with_dependencies():
     """The packages of the system, with those that the package depends on."""
     fields = (ROOT / "packaging/debian/control").read_text()
     depends = re.search(r"^Depends: (.*)$", fields, re.MULTILINE)[1].split(",")
     return sorted({*PACKAGES, *(re.match(r"\s*([^\s:]+)", one)[1] for one in depends)})
 
 
-def debian():
+def debian_folder():
     """The folder of the Debian system, which is made if its list of packages is new."""
-    names = ",".join(packages())
-    made = KEPT / "debian"
-    listed = KEPT / "packages"
+    names = ",".join(packages_with_dependencies())
+    made = KEPT_FOLDER / "debian"
+    listed = KEPT_FOLDER / "packages"
     if not listed.exists() or listed.read_text() != names:
         shutil.rmtree(made, ignore_errors=True)
-        call("mmdebstrap", "--variant=minbase", f"--include={names}", SUITE, made)
+        call("mmdebstrap", "--variant=minbase", f"--include={names}", DEBIAN_SUITE, made)
         listed.write_text(names)
     return made
 
 
-def built():
+def built_disk():
     """The disk of the system with the package of the built program, its kernel and its initrd."""
-    KEPT.mkdir(parents=True, exist_ok=True)
-    with tempfile.TemporaryDirectory(prefix="image-", dir=KEPT) as folder:
+    KEPT_FOLDER.mkdir(parents=True, exist_ok=True)
+    with tempfile.TemporaryDirectory(prefix="image-", dir=KEPT_FOLDER) as folder:
         work = pathlib.Path(folder)
         # the program that is there is not built again
         call("make", "-s", "-o", PROGRAM.relative_to(ROOT), "package", f"PACKAGES={work}", cwd=ROOT)
         package, = work.glob("enogate_*.deb")
-        base = debian()
-        parts = package.read_bytes() + pathlib.Path(__file__).read_bytes() + (KEPT / "packages").read_bytes()
+        base = debian_folder()
+        parts = package.read_bytes() + pathlib.Path(__file__).read_bytes() + (KEPT_FOLDER / "packages").read_bytes()
         digest = hashlib.sha256(parts).hexdigest()
-        made = [KEPT / name for name in ("disk", "kernel", "initrd")]
-        if (KEPT / "digest").exists() and (KEPT / "digest").read_text() == digest:
+        made = [KEPT_FOLDER / name for name in ("disk", "kernel", "initrd")]
+        if (KEPT_FOLDER / "digest").exists() and (KEPT_FOLDER / "digest").read_text() == digest:
             return made
-        (KEPT / "digest").unlink(missing_ok=True)
+        (KEPT_FOLDER / "digest").unlink(missing_ok=True)
         root = work / "root"
         call("cp", "-a", base, root)
         shutil.copy(package, root / "root")
@@ -128,8 +128,8 @@ def built():
         shutil.copy(next((root / "boot").glob("vmlinuz-*")), made[1])
         make_initrd(root, work / "initrd", made[2])
         made[0].unlink(missing_ok=True)
-        call("mke2fs", "-q", "-t", "ext4", "-E", "lazy_itable_init=0", "-d", root, made[0], SIZE)
-        (KEPT / "digest").write_text(digest)
+        call("mke2fs", "-q", "-t", "ext4", "-E", "lazy_itable_init=0", "-d", root, made[0], DISK_SIZE)
+        (KEPT_FOLDER / "digest").write_text(digest)
         return made
 
 
@@ -138,13 +138,13 @@ def configure(root):
     for name, text in FILES.items():
         (root / name).parent.mkdir(parents=True, exist_ok=True)
         (root / name).write_text(text)
-    rules = (root / "usr/lib/udev/rules.d" / RULES).read_text()
-    for own, adapter in ADAPTER.items():
+    rules = (root / "usr/lib/udev/rules.d" / RULES_FILE).read_text()
+    for own, adapter in ADAPTER_NAMES.items():
         assert f'"{own}"' in rules, rules
         rules = rules.replace(f'"{own}"', f'"{own}|{adapter}"')
-    (root / "etc/udev/rules.d" / RULES).write_text(rules)
-    call("chroot", root, "systemctl", "mask", *MASKED)
-    call("chroot", root, "systemctl", "enable", *UNITS)
+    (root / "etc/udev/rules.d" / RULES_FILE).write_text(rules)
+    call("chroot", root, "systemctl", "mask", *MASKED_UNITS)
+    call("chroot", root, "systemctl", "enable", *WATCHED_UNITS)
     # what only the build of the disk needed
     for pattern in ("root/*.deb", "boot/initrd*", "var/cache/apt/*.bin"):
         for path in root.glob(pattern):
@@ -158,12 +158,12 @@ def make_initrd(root, work, initrd):
     shutil.copy(shutil.which("busybox"), work / "bin")
     kernel = next((root / "lib/modules").iterdir()).name
     needed = {}
-    for module in MODULES:
+    for module in INITRD_MODULES:
         for line in call("chroot", root, "modprobe", "-S", kernel, "--show-depends", module).splitlines():
             if line.startswith("insmod "):
                 path = line.split()[1]
                 needed[os.path.basename(path)] = shutil.copy(f"{root}{path}", work)
     (work / "order").write_text("\n".join(needed) + "\n")
-    (work / "init").write_text(INIT)
+    (work / "init").write_text(INIT_SCRIPT)
     (work / "init").chmod(0o755)
     call("sh", "-c", 'cd "$0" && find . | busybox cpio -o -H newc >"$1"', work, initrd)

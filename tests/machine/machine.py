@@ -18,22 +18,23 @@ from stick import Stick  # noqa: E402
 
 # How long the host waits for the machine, in seconds: without KVM a boot takes more than a minute.
 WITHIN, PAUSE = 600.0, 0.5
-STICKS = 2
-KERNEL = ("root=/dev/vda console=ttyS0 quiet mitigations=off audit=0 selinux=0 apparmor=0 tsc=reliable no_timer_check "
-          "random.trust_cpu=on systemd.default_timeout_start_sec=900 systemd.default_device_timeout_sec=900")
+STICK_COUNT = 2
+KERNEL_ARGUMENTS = ("root=/dev/vda console=ttyS0 quiet mitigations=off audit=0 selinux=0 apparmor=0 tsc=reliable "
+                    "no_timer_check "
+                    "random.trust_cpu=on systemd.default_timeout_start_sec=900 systemd.default_device_timeout_sec=900")
 # Without KVM, the clock of the machine counts its instructions: it is right however busy this computer is.
-EMULATED = ["-accel", "tcg", "-icount", "shift=2,sleep=on", "-cpu", "Nehalem"]
+EMULATION_ARGUMENTS = ["-accel", "tcg", "-icount", "shift=2,sleep=on", "-cpu", "Nehalem"]
 # The log of QEMU's driver blklogwrites consists of sectors. The first one has the head of the log. An entry has a
 # sector for its numbers (the first sector, how many, flags), and then what was written.
 SECTOR, ENTRY, FLUSH, DISCARD = 512, struct.Struct("<QQQ"), 1, 4
 END = re.compile(r"\n?\x04(\d+)\n")
 
 
-def accelerated():
+def processor_arguments():
     """The arguments for the processor. A /dev/kvm without these flags emulates, too, and may hang."""
     with open("/proc/cpuinfo", encoding="ascii") as file:
         has_flags = re.search(r"\b(vmx|svm)\b", file.read())
-    return ["-accel", "kvm", "-cpu", "host"] if has_flags and os.access("/dev/kvm", os.W_OK) else EMULATED
+    return ["-accel", "kvm", "-cpu", "host"] if has_flags and os.access("/dev/kvm", os.W_OK) else EMULATION_ARGUMENTS
 
 
 class Machine:
@@ -45,13 +46,14 @@ class Machine:
         for path in (self.log, *work.glob("*.socket")):
             path.unlink(missing_ok=True)
         self.log.touch()
-        copy(disk, self.disk)
-        words = ["qemu-system-x86_64", *accelerated(), "-m", "384", "-nodefaults", "-display", "none", "-no-reboot",
-                 "-kernel", kernel, "-initrd", initrd, "-append", KERNEL, "-serial", f"file:{work}/console",
+        copy_disk(disk, self.disk)
+        words = ["qemu-system-x86_64", *processor_arguments(), "-m", "384", "-nodefaults", "-display", "none",
+                 "-no-reboot",
+                 "-kernel", kernel, "-initrd", initrd, "-append", KERNEL_ARGUMENTS, "-serial", f"file:{work}/console",
                  *self.devices(), *(["-rtc", f"base={clock}"] if clock else [])]
         with open(work / "qemu", "w") as file:
             self.process = subprocess.Popen(words, stdin=subprocess.DEVNULL, stdout=file, stderr=file)
-        self.sticks = [Stick(work / f"stick{number}.socket") for number in range(STICKS)]
+        self.sticks = [Stick(work / f"stick{number}.socket") for number in range(STICK_COUNT)]
         # what has come from the agent, and the time before which the journal is not read
         self.text, self.since = "", "@0"
         self.agent = socket.socket(socket.AF_UNIX)
@@ -63,7 +65,7 @@ class Machine:
     def devices(self):
         """The arguments for disk, agent and sticks."""
         sockets = {name: f"socket,id={name},path={self.work}/{name}.socket,server=on,wait=off"
-                   for name in ("agent", *(f"stick{number}" for number in range(STICKS)))}
+                   for name in ("agent", *(f"stick{number}" for number in range(STICK_COUNT)))}
         disks = (f"driver=file,node-name=data,filename={self.disk},cache.no-flush=on",
                  f"driver=file,node-name=log,filename={self.log},cache.no-flush=on",
                  "driver=blklogwrites,node-name=disk,file=data,log=log")
@@ -71,7 +73,7 @@ class Machine:
         words += [word for text in sockets.values() for word in ("-chardev", text)]
         for device in ("virtio-blk-pci,drive=disk", "virtio-serial-pci", "virtserialport,chardev=agent,name=agent",
                        "qemu-xhci", *(f"usb-serial,chardev=stick{number},serial=FT00000{number}"
-                                      for number in range(STICKS))):
+                                      for number in range(STICK_COUNT))):
             words += ["-device", device]
         return words
 
@@ -93,7 +95,7 @@ class Machine:
         found, self.text = self.text[:end.start()], self.text[end.end():]
         return found
 
-    def until(self, command, wanted):
+    def run_until(self, command, wanted):
         """Runs a command until it prints this, and returns what it printed."""
         end = time.monotonic() + WITHIN
         while not re.search(wanted, found := self.run(command)):
@@ -109,11 +111,11 @@ class Machine:
 
     def answers(self):
         """Waits until the gateway answers."""
-        self.until("enogatectl --timeout 20 hall status", "learn window *closed")
+        self.run_until("enogatectl --timeout 20 hall status", "learn window *closed")
 
     def journal(self, wanted):
         """Waits until the journal of the gateway has this."""
-        return self.until(f"journalctl -o cat -t enogate-hall --since {self.since}", wanted)
+        return self.run_until(f"journalctl -o cat -t enogate-hall --since {self.since}", wanted)
 
     def kill(self):
         """Ends QEMU, with everything that it holds."""
@@ -132,16 +134,16 @@ class Machine:
         """The power failed just after a write since the log had the size `start`. `disk` becomes what the disk had
         then, with a part of what was written since the last flush. Returns the size of the log at this moment."""
         self.kill()
-        copy(self.before, disk)
-        found = list(entries(self.log.read_bytes()))
+        copy_disk(self.before, disk)
+        found = list(log_entries(self.log.read_bytes()))
         number = rng.choice([number for number, record in enumerate(found, 1)
                              if record.end > start and not record.is_flush])
         with open(disk, "r+b") as file:
-            records.Cutter(File(file), found).after(number, mode, rng)
+            records.PowerCutter(DiskFile(file), found).image_after(number, mode, rng)
         return found[number - 1].end
 
 
-class File:
+class DiskFile:
     """A disk, as records.Cutter writes to it."""
 
     def __init__(self, file):
@@ -155,7 +157,7 @@ class File:
         self.file.write(data)
 
 
-def entries(log):
+def log_entries(log):
     """The writes and flushes in a log. The last one may be incomplete."""
     place = SECTOR
     while place + SECTOR <= len(log):
@@ -170,7 +172,7 @@ def entries(log):
             yield records.Record(-1, b"", place)
 
 
-def copy(old, new):
+def copy_disk(old, new):
     """Copies a disk, without its empty parts."""
     subprocess.run(["cp", "--sparse=always", old, new], check=True)
 

@@ -3,8 +3,8 @@ import os
 import tempfile
 import unittest
 
-from mutation.sources import functions_of
-from mutation.verdicts import Check
+from mutation.sources import split_functions
+from mutation.verdicts import CheckReport
 
 # `twice` calls `once`, and `thrice` calls both; `other` and Pair::sum call nothing.
 SOURCES = {
@@ -39,10 +39,10 @@ impl Pair {
 """,
 }
 NAMES = ["tiny::once", "tiny::twice", "tiny::thrice", "tiny::other", "tiny::pairs::Pair::sum"]
-CALLS = {"tiny::twice": ["tiny::once"], "tiny::thrice": ["tiny::once", "tiny::twice"]}
+CALLEES = {"tiny::twice": ["tiny::once"], "tiny::thrice": ["tiny::once", "tiny::twice"]}
 
 
-def edit(path, *pairs):
+def mutant_text(path, *pairs):
     """The text of a mutant: pairs of old and new texts."""
     return f"file: {path}\n" + "".join(f"old: {old}\nnew: {new}\n" for old, new in pairs)
 
@@ -57,7 +57,7 @@ class FakeChecker:
     def __init__(self, folder, sources):
         self.folder, self.sources, self.labels, self.only = folder, sources, [], []
 
-    def begin(self):
+    def check_unchanged(self):
         return self.check({})
 
     def check(self, texts, only=()):
@@ -66,11 +66,11 @@ class FakeChecker:
         self.only.append([*only])
         whole = "\n".join(texts.values())
         if "GIBBERISH" in whole:
-            return Check(1, "src/lib.rt:1:1: error[syntax]: what is this\n")
+            return CheckReport(1, "src/lib.rt:1:1: error[syntax]: what is this\n")
         if "DEEP" in whole:
-            return Check(3, "src/lib.rt:1:1: error: antt ran out of steps\nantt ran out of the steps\n")
+            return CheckReport(3, "src/lib.rt:1:1: error: antt ran out of steps\nantt ran out of the steps\n")
         said = {name: "proved" for name in NAMES}
-        functions = [it for path, text in texts.items() for it in functions_of(path, text)[0]]
+        functions = [it for path, text in texts.items() for it in split_functions(path, text)[0]]
         for name, function in zip(NAMES, functions):
             if "HIDDEN" in function.body:
                 del said[name]
@@ -79,20 +79,20 @@ class FakeChecker:
         for word, name in (("WORSE", "tiny::other"), ("WORST", "tiny::once")):
             if word in whole:
                 said[name] = "not proved"
-        for name, callees in CALLS.items():
+        for name, callees in CALLEES.items():
             refused = [it for it in callees if said.get(it, "proved") != "proved"]
             if refused and said.get(name) == "proved":
                 said[name] = f"no proof: it calls {refused[0]}, which is not proved"
         if only:
-            reached = {*only, *(callee for name in only for callee in CALLS.get(name, []))}
+            reached = {*only, *(callee for name in only for callee in CALLEES.get(name, []))}
             said = {name: text for name, text in said.items() if name in reached}
         proved = all(it == "proved" for it in said.values())
         lines = [f"fn {name}: {text}" for name, text in said.items()]
         last = f"only={len(only)} proved=?" if only else "logic=proved" if proved else "logic=not-proved"
-        return Check(0 if proved else 1, "\n".join([*lines, last]) + "\n")
+        return CheckReport(0 if proved else 1, "\n".join([*lines, last]) + "\n")
 
 
-class InFolder(unittest.TestCase):
+class CrateFolderTest(unittest.TestCase):
     """A test with the crate `tiny` in a folder of its own."""
 
     def setUp(self):

@@ -5,7 +5,7 @@ import types
 import unittest
 from unittest import mock
 
-from fakes import SOURCES, InFolder
+from fakes import SOURCES, CrateFolderTest
 from mutation import checker
 
 # It prints what was passed, and each file that it finds, adds one to what it keeps, and ends with the status in
@@ -23,7 +23,7 @@ exit ${status:-0}
 """
 
 
-class Checks(InFolder):
+class CheckerRuns(CrateFolderTest):
     def setUp(self):
         super().setUp()
         prover = self.write("../prover", PROVER)
@@ -36,20 +36,20 @@ class Checks(InFolder):
         self.checker = checker.Checker(crate, os.path.dirname(self.folder))
         self.addCleanup(self.checker.close)
 
-    def kept(self, check):
+    def kept_results(self, check):
         return [it for it in check.printed.splitlines() if it.startswith("kept: ")]
 
     def test_the_words(self):
-        first = self.checker.begin().printed.splitlines()[0]
+        first = self.checker.check_unchanged().printed.splitlines()[0]
         self.assertEqual(first, f"words: check words --jobs 1 keeps=False --incremental {self.checker.seed}")
 
     def test_the_words_for_some_functions(self):
-        self.checker.begin()
+        self.checker.check_unchanged()
         first = self.checker.check({}, ["tiny::once", "tiny::pairs::Pair::sum"]).printed.splitlines()[0]
         self.assertIn(" --jobs 1 --only=once --only=pairs::Pair::sum keeps=False ", first)
 
     def test_the_texts_stand_in_place_of_the_files(self):
-        self.checker.begin()
+        self.checker.check_unchanged()
         check = self.checker.check({"src/pairs.rt": "another text\n"})
         self.assertIn("\nanother text\n", check.printed)
         self.assertIn("    a + STEP\n", check.printed)
@@ -60,15 +60,15 @@ class Checks(InFolder):
 
     def test_each_check_begins_with_the_seed(self):
         self.write("out/incremental/before", "")
-        self.assertEqual(self.kept(self.checker.begin()), ["kept: before"])
+        self.assertEqual(self.kept_results(self.checker.check_unchanged()), ["kept: before"])
         for _ in range(2):
-            self.assertEqual(self.kept(self.checker.check({})), ["kept: added1", "kept: before"])
-        self.assertTrue(self.checker.is_sound())
+            self.assertEqual(self.kept_results(self.checker.check({})), ["kept: added1", "kept: before"])
+        self.assertTrue(self.checker.is_seed_unchanged())
         self.assertEqual(os.listdir(f"{self.folder}/out/incremental"), ["before"])
 
     def test_a_change_of_the_seed_is_seen(self):
         self.write("out/incremental/before", "one")
-        self.checker.begin()
+        self.checker.check_unchanged()
         path = f"{self.checker.seed}/before"
         for change in (
             lambda: pathlib.Path(path).write_text("two", encoding="utf-8"),
@@ -76,46 +76,46 @@ class Checks(InFolder):
             lambda: os.rename(path, f"{path}s"),
             lambda: os.remove(f"{path}s"),
         ):
-            self.checker.files = checker.listing(self.checker.seed)
-            self.assertTrue(self.checker.is_sound())
+            self.checker.files = checker.file_sums(self.checker.seed)
+            self.assertTrue(self.checker.is_seed_unchanged())
             change()
-            self.assertFalse(self.checker.is_sound())
+            self.assertFalse(self.checker.is_seed_unchanged())
 
     def test_another_time_is_no_change_of_the_seed(self):
         self.write("out/incremental/before", "one")
-        self.checker.begin()
+        self.checker.check_unchanged()
         os.utime(f"{self.checker.seed}/before", (1, 1))
-        self.assertTrue(self.checker.is_sound())
+        self.assertTrue(self.checker.is_seed_unchanged())
 
     def test_libraries_that_are_not_built(self):
         with mock.patch.object(checker.libraries, "are_built", return_value=False) as asked:
-            with self.assertRaisesRegex(checker.NotBuilt, "the libraries below tiny are not built"):
-                self.checker.begin()
-        asked.assert_called_once_with(os.path.dirname(self.folder), [], checker.kit())
+            with self.assertRaisesRegex(checker.LibrariesNotBuilt, "the libraries below tiny are not built"):
+                self.checker.check_unchanged()
+        asked.assert_called_once_with(os.path.dirname(self.folder), [], checker.kit_name())
 
     def test_the_status_is_the_provers(self):
-        self.checker.begin()
+        self.checker.check_unchanged()
         for text, status in (("0", 0), ("1", 1), ("3", 3), ("KILL", -9)):
             self.assertEqual(self.checker.check({"src/status": text}).status, status)
 
     def test_what_the_checks_cost(self):
-        self.checker.begin()
+        self.checker.check_unchanged()
         self.checker.check({})
         self.assertEqual(self.checker.checks, 2)
         self.assertGreater(self.checker.seconds, 0)
 
     def test_a_file_with_a_proof_is_linked_and_others_are_copied(self):
         for name, is_one in (("a.oantt", True), ("a.antt", False), ("index", False)):
-            made = checker.linked(self.write(f"kept/{name}", ""), f"{self.folder}/{name}")
+            made = checker.link_or_copy(self.write(f"kept/{name}", ""), f"{self.folder}/{name}")
             self.assertEqual(os.path.samefile(f"{self.folder}/kept/{name}", made or f"{self.folder}/{name}"), is_one)
 
 
-class Parts(unittest.TestCase):
+class CheckedFolders(unittest.TestCase):
     def test_lanes(self):
         with mock.patch.dict(os.environ, {"RT_JOBS": "3"}):
-            self.assertEqual(checker.lanes(), 3)
+            self.assertEqual(checker.lane_count(), 3)
         with mock.patch.dict(os.environ, {"RT_JOBS": ""}):
-            self.assertEqual(checker.lanes(), len(os.sched_getaffinity(0)))
+            self.assertEqual(checker.lane_count(), len(os.sched_getaffinity(0)))
 
 
 if __name__ == "__main__":

@@ -1,20 +1,20 @@
 """Unit tests of scripts/mutation/graph.py."""
 import unittest
 
-from fakes import NAMES, SOURCES, InFolder, edit
-from mutation.graph import Graph
+from fakes import NAMES, SOURCES, CrateFolderTest, mutant_text
+from mutation.graph import CallGraph
 from mutation.mutants import read_mutant
-from mutation.sources import functions_of
+from mutation.sources import split_functions
 
 
-def functions(sources):
-    return [it for path, text in sources.items() for it in functions_of(path, text)[0]]
+def functions_in(sources):
+    return [it for path, text in sources.items() for it in split_functions(path, text)[0]]
 
 
-class Names(unittest.TestCase):
+class ReportedNames(unittest.TestCase):
     def names(self, path, text, *reported):
-        (function,) = functions_of(path, text)[0]
-        return Graph("tiny", [function], list(reported)).reported[function.key]
+        (function,) = split_functions(path, text)[0]
+        return CallGraph("tiny", [function], list(reported)).reported[function.key]
 
     def test_free_functions_have_their_files_module(self):
         text = "fn f() {\n}\n"
@@ -45,11 +45,11 @@ class Names(unittest.TestCase):
         self.assertEqual(self.names("src/a.rt", text, "tiny::a::Framer::f", "tiny::b::Framer::f"), [])
 
 
-class Twins(unittest.TestCase):
+class AmbiguousNames(unittest.TestCase):
     """Functions that one name may belong to."""
 
     def reported(self, sources, *names):
-        return [[*names] for names in Graph("tiny", functions(sources), list(names)).reported.values()]
+        return [[*names] for names in CallGraph("tiny", functions_in(sources), list(names)).reported.values()]
 
     def test_a_name_of_two_functions_is_neithers(self):
         text = "impl Framer {\n    fn f() {\n    }\n}\n"
@@ -69,29 +69,30 @@ class Twins(unittest.TestCase):
         self.assertEqual(self.reported({"src/a.rt": text}, "tiny::FramerInto::into"), [["tiny::FramerInto::into"]])
 
 
-class Batches(InFolder):
+class CallsAndBatches(CrateFolderTest):
     def setUp(self):
         super().setUp()
-        self.graph = Graph("tiny", functions(SOURCES), NAMES)
+        self.graph = CallGraph("tiny", functions_in(SOURCES), NAMES)
 
-    def named(self, keys):
+    def names_in(self, keys):
         return {key[3] for key in keys}
 
     def test_callees(self):
-        calls = {key[3]: self.named(found) for key, found in self.graph.calls.items()}
+        calls = {key[3]: self.names_in(found) for key, found in self.graph.calls.items()}
         want = {"once": set(), "twice": {"once"}, "thrice": {"once", "twice"}, "other": set(), "sum": set()}
         self.assertEqual(calls, want)
 
     def test_calls_in_comments_and_texts_are_none(self):
         text = 'fn a() {\n}\n\nfn b() {\n    // a()\n    "a()"\n}\n'
-        graph = Graph("tiny", functions({"src/lib.rt": text}), ["tiny::a", "tiny::b"])
+        graph = CallGraph("tiny", functions_in({"src/lib.rt": text}), ["tiny::a", "tiny::b"])
         self.assertEqual([*graph.calls.values()], [set(), set()])
 
     def test_callees_of_callees(self):
         text = "fn a() {\n}\n\nfn b() {\n    a()\n}\n\nfn c() {\n    b()\n}\n"
-        graph = Graph("tiny", functions({"src/lib.rt": text}), ["tiny::a", "tiny::b", "tiny::c"])
+        graph = CallGraph("tiny", functions_in({"src/lib.rt": text}), ["tiny::a", "tiny::b", "tiny::c"])
         self.assertEqual(
-            {key[3]: self.named(it) for key, it in graph.reaches.items()}, {"a": set(), "b": {"a"}, "c": {"a", "b"}}
+            {key[3]: self.names_in(it) for key, it in graph.reached.items()},
+            {"a": set(), "b": {"a"}, "c": {"a", "b"}},
         )
 
     def test_methods_are_found_by_their_type(self):
@@ -102,7 +103,7 @@ class Batches(InFolder):
             "src/c.rt": "fn j() {\n    One::g();\n    a::f()\n}\n\nfn k() {\n    f()\n}\n",
         }
         names = ["One::f", "One::g", "Two::f", "Two::h", "Two::i", "c::j", "c::k"]
-        graph = Graph("tiny", functions(sources), [f"tiny::{it}" for it in names])
+        graph = CallGraph("tiny", functions_in(sources), [f"tiny::{it}" for it in names])
         calls = {
             key[3]: {key[1:4:2] for key in found} for key, found in graph.calls.items() if key[1:4:2] != ("Two", "f")
         }
@@ -115,7 +116,7 @@ class Batches(InFolder):
     def mutants(self, *texts):
         found = [("src/lib.rt", f"    {it}", f"    WRONG {it}") for it in texts]
         return [
-            read_mutant(self.folder, self.write(f"mutants/{at}.edit", edit(it[0], it[1:])))
+            read_mutant(self.folder, self.write(f"mutants/{at}.edit", mutant_text(it[0], it[1:])))
             for at, it in enumerate(found)
         ]
 
@@ -125,8 +126,9 @@ class Batches(InFolder):
         self.assertEqual(batches, [["once"], ["once"], ["twice"], ["thrice"], ["thrice"]])
 
     def test_functions_that_do_not_meet_are_together(self):
+        text = mutant_text("src/pairs.rt", ("self.first", "WRONG"))
         found = self.mutants("a + STEP") + [
-            read_mutant(self.folder, self.write("mutants/pair.edit", edit("src/pairs.rt", ("self.first", "WRONG"))))
+            read_mutant(self.folder, self.write("mutants/pair.edit", text))
         ]
         self.assertEqual([[it.function.name for it in batch] for batch in self.graph.batches(found)], [["once", "sum"]])
 

@@ -4,33 +4,33 @@ import sys
 import types
 import unittest
 
-from fakes import InFolder
+from fakes import CrateFolderTest
 from mutation import libraries
 
 # A shell script that builds no library, and ends with its status.
 COMMAND = ["sh", "-c", "exit $0"]
 
 
-class Libraries(InFolder):
+class BuiltLibraries(CrateFolderTest):
     def setUp(self):
         super().setUp()
         self.root = os.path.dirname(self.folder)
-        self.low = self.crate("low")
-        self.middle = self.crate("middle", self.low)
+        self.low = self.make_crate("low")
+        self.middle = self.make_crate("middle", self.low)
         self.crates = [self.low, self.middle]
 
-    def crate(self, name, *deps):
+    def make_crate(self, name, *deps):
         folder = f"{self.root}/{name}"
         self.write(f"../{name}/src/lib.rt", name)
         self.write(f"../{name}/out/rlib/{name}.rlib/format", name)
         of = {"name": name, "folder": folder, "rlib": f"{folder}/out/rlib/{name}.rlib", "of_kit": ["std"]}
         return types.SimpleNamespace(**of, deps=[*deps], is_built=lambda: False)
 
-    def note(self, *words, kit="kit 1"):
-        return libraries.run_and_note(self.root, self.crates, kit, [*words] or [*COMMAND, "0"])
+    def build_and_note(self, *words, kit_name="kit 1"):
+        return libraries.run_and_note(self.root, self.crates, kit_name, [*words] or [*COMMAND, "0"])
 
-    def are_built(self, kit="kit 1"):
-        return libraries.are_built(self.root, self.crates, kit)
+    def are_built(self, kit_name="kit 1"):
+        return libraries.are_built(self.root, self.crates, kit_name)
 
     def test_none_below(self):
         self.assertTrue(libraries.are_built(self.root, [], "kit 1"))
@@ -39,7 +39,7 @@ class Libraries(InFolder):
         self.assertFalse(self.are_built())
 
     def test_noted_libraries(self):
-        self.assertEqual(self.note(), 0)
+        self.assertEqual(self.build_and_note(), 0)
         self.assertTrue(self.are_built())
 
     def test_stamps(self):
@@ -48,7 +48,7 @@ class Libraries(InFolder):
             self.assertEqual(self.are_built(), one and other)
 
     def test_a_stamp_and_a_note_are_not_taken_together(self):
-        self.note()
+        self.build_and_note()
         self.low.is_built = lambda: True
         self.write("../low/out/rlib/low.rlib/format", "built again")
         self.assertFalse(self.are_built())
@@ -63,20 +63,20 @@ class Libraries(InFolder):
             "low/out/rlib/low.rlib/format",
             "middle/out/rlib/middle.rlib/new",
         ):
-            self.note()
+            self.build_and_note()
             self.assertTrue(self.are_built())
             self.write(f"../{path}", "another")
             self.assertFalse(self.are_built(), path)
 
     def test_a_file_with_another_name(self):
         for folder in (f"{self.low.folder}/src", self.low.rlib):
-            self.note()
+            self.build_and_note()
             os.rename(f"{folder}/{os.listdir(folder)[0]}", f"{folder}/renamed")
             self.assertFalse(self.are_built(), folder)
 
     def test_another_kit_or_other_dependencies(self):
-        self.note()
-        self.assertFalse(self.are_built(kit="kit 2"))
+        self.build_and_note()
+        self.assertFalse(self.are_built(kit_name="kit 2"))
         self.low.of_kit = ["std", "hex"]
         self.assertFalse(self.are_built())
         self.low.of_kit, self.middle.deps = ["std"], []
@@ -84,11 +84,11 @@ class Libraries(InFolder):
 
     def test_a_library_that_is_not_there(self):
         os.rename(self.low.rlib, f"{self.low.rlib}.none")
-        self.note()
+        self.build_and_note()
         self.assertFalse(self.are_built())
 
     def test_times_do_not_count(self):
-        self.note()
+        self.build_and_note()
         for at, (source, library) in enumerate(((30, 20), (20, 30))):
             os.utime(f"{self.low.folder}/src/lib.rt", (source, source))
             os.utime(self.low.rlib, (library, library))
@@ -99,18 +99,18 @@ class Libraries(InFolder):
         self.assertFalse(self.are_built())
 
     def test_a_command_that_fails_leaves_no_note(self):
-        self.note()
-        self.assertEqual(self.note(*COMMAND, "3"), 3)
+        self.build_and_note()
+        self.assertEqual(self.build_and_note(*COMMAND, "3"), 3)
         self.assertFalse(self.are_built())
-        self.assertEqual(self.note("sh", "-c", "kill -9 $$"), 128 + 9)
+        self.assertEqual(self.build_and_note("sh", "-c", "kill -9 $$"), 128 + 9)
 
     def test_a_note_is_gone_while_the_command_runs(self):
-        self.note()
-        is_gone = f"import os, sys; sys.exit(os.path.exists({self.root!r} + '/{libraries.NOTE}'))"
-        self.assertEqual(self.note(sys.executable, "-c", is_gone), 0)
+        self.build_and_note()
+        is_gone = f"import os, sys; sys.exit(os.path.exists({self.root!r} + '/{libraries.NOTE_FILE}'))"
+        self.assertEqual(self.build_and_note(sys.executable, "-c", is_gone), 0)
 
     def test_a_source_that_changes_while_the_command_runs(self):
-        self.assertEqual(self.note("sh", "-c", f"echo >{self.low.folder}/src/lib.rt"), 0)
+        self.assertEqual(self.build_and_note("sh", "-c", f"echo >{self.low.folder}/src/lib.rt"), 0)
         self.assertFalse(self.are_built())
         self.write("../low/src/lib.rt", "low")
         self.assertFalse(self.are_built())

@@ -1,28 +1,28 @@
 """Unit tests of scripts/mutation/mutants.py."""
 import unittest
 
-from fakes import SOURCES, InFolder, edit
-from mutation.mutants import read_mutant, together
+from fakes import SOURCES, CrateFolderTest, mutant_text
+from mutation.mutants import read_mutant, combined_texts
 
 
-class Mutants(InFolder):
+class ReadMutants(CrateFolderTest):
     def mutant(self, text, name="turns"):
         return read_mutant(self.folder, self.write(f"mutants/{name}.edit", text))
 
     def test_the_function_is_the_one_whose_body_changes(self):
-        it = self.mutant("-- A comment.\n" + edit("src/lib.rt", ("    a + STEP", "    a")))
+        it = self.mutant("-- A comment.\n" + mutant_text("src/lib.rt", ("    a + STEP", "    a")))
         self.assertEqual((it.name, it.function.name, it.fault), ("turns.edit", "once", ""))
 
     def test_a_method(self):
-        it = self.mutant(edit("src/pairs.rt", ("self.first + ", "")))
+        it = self.mutant(mutant_text("src/pairs.rt", ("self.first + ", "")))
         self.assertEqual((it.function.type, it.function.name), ("Pair", "sum"))
 
     def test_several_pairs_in_one_function(self):
-        it = self.mutant(edit("src/lib.rt", ("let b = twice(a)", "let c = twice(a)"), ("once(b)", "once(c)")))
+        it = self.mutant(mutant_text("src/lib.rt", ("let b = twice(a)", "let c = twice(a)"), ("once(b)", "once(c)")))
         self.assertEqual(it.function.name, "thrice")
 
     def test_two_functions_are_no_single_one(self):
-        it = self.mutant(edit("src/lib.rt", ("    a + STEP", "    a"), ("    once(once(a))", "    once(a)")))
+        it = self.mutant(mutant_text("src/lib.rt", ("    a + STEP", "    a"), ("    once(once(a))", "    once(a)")))
         self.assertEqual((it.function, it.fault), (None, ""))
 
     def test_a_constant_and_a_head_are_no_body(self):
@@ -31,7 +31,7 @@ class Mutants(InFolder):
             ("pub fn other(a", "pub fn other(mut a"),
             ("fn other", "fn others"),
         ):
-            it = self.mutant(edit("src/lib.rt", pair))
+            it = self.mutant(mutant_text("src/lib.rt", pair))
             self.assertEqual((it.function, it.fault), (None, ""))
 
     def test_a_body_and_something_else_are_no_single_body(self):
@@ -39,12 +39,12 @@ class Mutants(InFolder):
             (("STEP: u64 = 1", "STEP: u64 = 2"), ("    a + STEP", "    a")),
             (("pub fn once(a", "pub fn once(mut a"), ("    a + STEP", "    a")),
         ):
-            it = self.mutant(edit("src/lib.rt", *pairs))
+            it = self.mutant(mutant_text("src/lib.rt", *pairs))
             self.assertEqual((it.function, it.fault), (None, ""))
 
     def test_a_definition_is_tried_but_belongs_to_no_function(self):
         self.write("specs/Lib.antt", "def a := 1\n")
-        it = self.mutant(edit("specs/Lib.antt", ("def a := 1", "def a := 2")))
+        it = self.mutant(mutant_text("specs/Lib.antt", ("def a := 1", "def a := 2")))
         self.assertEqual((it.function, it.fault), (None, ""))
 
     def test_what_cannot_be_applied(self):
@@ -58,13 +58,13 @@ class Mutants(InFolder):
             ("file: src/lib.rt\nold: a + STEP\nold: once(b)\nnew: a\n", "has no 'new:' line"),
             ("file: src/lib.rt\nold: a + STEP\nnew: a\nfile:src/pairs.rt\n", "no space before it"),
             ("file: src/lib.rt\nold: a + STEP\nnew: a\nold:\n", "no space before it"),
-            (edit("src//lib.rt", ("a + STEP", "a")), "no file of src/"),
-            (edit("src/none.rt", ("a", "b")), "no file src/none.rt"),
-            (edit("docs/a.md", ("a", "b")), "no file of src/"),
-            (edit("src/../src/lib.rt", ("a + STEP", "a")), "no file of src/"),
-            (edit("src/lib.rt", ("a + STAP", "a")), "0 times"),
-            (edit("src/lib.rt", ("once", "twice")), "times, and not once"),
-            (edit("src/lib.rt", ("a + STEP", "a + STEP")), "changes no code"),
+            (mutant_text("src//lib.rt", ("a + STEP", "a")), "no file of src/"),
+            (mutant_text("src/none.rt", ("a", "b")), "no file src/none.rt"),
+            (mutant_text("docs/a.md", ("a", "b")), "no file of src/"),
+            (mutant_text("src/../src/lib.rt", ("a + STEP", "a")), "no file of src/"),
+            (mutant_text("src/lib.rt", ("a + STAP", "a")), "0 times"),
+            (mutant_text("src/lib.rt", ("once", "twice")), "times, and not once"),
+            (mutant_text("src/lib.rt", ("a + STEP", "a + STEP")), "changes no code"),
         ):
             self.assertIn(fault, self.mutant(text).fault, text)
 
@@ -80,11 +80,11 @@ class Mutants(InFolder):
             ("src/lib.rt", ("// one", "// two")),
             ("proofs/f/Proof.antt", ("a", "b")),
         ):
-            self.assertIn("changes no code", self.mutant(edit(path, pair)).fault, pair)
+            self.assertIn("changes no code", self.mutant(mutant_text(path, pair)).fault, pair)
 
     def test_a_ghost_member_is_a_definition(self):
         self.write("src/lib.rt", "impl A for B {\n    ghost state = { held };\n\n    fn f(&self) {}\n}\n")
-        it = self.mutant(edit("src/lib.rt", ("{ held }", "{ lost }")))
+        it = self.mutant(mutant_text("src/lib.rt", ("{ held }", "{ lost }")))
         self.assertEqual((it.function, it.fault), (None, ""))
 
     def test_an_empty_new_text_removes(self):
@@ -96,38 +96,39 @@ class Mutants(InFolder):
         self.assertEqual(it.edits, (("src/lib.rt", "    a + STEP", "    a"),))
 
 
-class Together(InFolder):
-    def of(self, *texts):
+class CombinedTexts(CrateFolderTest):
+    def combined(self, *texts):
         found = [read_mutant(self.folder, self.write(f"mutants/{at}.edit", text)) for at, text in enumerate(texts)]
         self.assertEqual([it.fault for it in found], [""] * len(texts))
-        return together(self.folder, found)
+        return combined_texts(self.folder, found)
 
     def test_one_mutant(self):
         text = SOURCES["src/lib.rt"].replace("a + STEP", "a")
-        self.assertEqual(self.of(edit("src/lib.rt", ("a + STEP", "a"))), {"src/lib.rt": text})
+        self.assertEqual(self.combined(mutant_text("src/lib.rt", ("a + STEP", "a"))), {"src/lib.rt": text})
 
     def test_several_files_and_functions(self):
-        found = self.of(
-            edit("src/lib.rt", ("    once(once(a))", "    once(a)")),
-            edit("src/lib.rt", ("    a + STEP", "    a")),
-            edit("src/pairs.rt", ("self.first + ", "")),
+        found = self.combined(
+            mutant_text("src/lib.rt", ("    once(once(a))", "    once(a)")),
+            mutant_text("src/lib.rt", ("    a + STEP", "    a")),
+            mutant_text("src/pairs.rt", ("self.first + ", "")),
         )
         text = SOURCES["src/lib.rt"].replace("once(once(a))", "once(a)").replace("    a + STEP", "    a")
         self.assertEqual(found["src/lib.rt"], text)
         self.assertEqual(found["src/pairs.rt"], SOURCES["src/pairs.rt"].replace("self.first + ", ""))
 
     def test_the_new_text_of_one_may_hold_the_old_text_of_another(self):
-        found = self.of(
-            edit("src/lib.rt", ("    a + STEP", "    once(once(a))")),
-            edit("src/lib.rt", ("    once(once(a))", "    a + STEP")),
+        found = self.combined(
+            mutant_text("src/lib.rt", ("    a + STEP", "    once(once(a))")),
+            mutant_text("src/lib.rt", ("    once(once(a))", "    a + STEP")),
         )
         self.assertEqual(found["src/lib.rt"].count("once(once(a))"), 1)
         self.assertIn("pub fn twice(a: u64) -> u64 {\n    a + STEP\n}", found["src/lib.rt"])
 
     def test_texts_of_other_numbers_of_lines(self):
         self.write("src/lib.rt", SOURCES["src/lib.rt"] + "\npub fn late(a: u64) -> u64 {\n    let b = a;\n    b\n}\n")
-        found = self.of(
-            "file: src/lib.rt\nold:     a + STEP\nnew:\n", edit("src/lib.rt", ("    let b = a;", "    let b = 0;"))
+        found = self.combined(
+            "file: src/lib.rt\nold:     a + STEP\nnew:\n",
+            mutant_text("src/lib.rt", ("    let b = a;", "    let b = 0;")),
         )
         self.assertIn("pub fn once(a: u64) -> u64 {\n\n}", found["src/lib.rt"])
         self.assertTrue(found["src/lib.rt"].endswith("{\n    let b = 0;\n    b\n}\n"))
@@ -136,7 +137,7 @@ class Together(InFolder):
         form = "impl {} {{\n    fn f(&self) -> u64 {{\n        {}\n    }}\n}}\n"
         twins = form.format("One", "1") + "\n" + form.format("Two", "1 + 0")
         self.write("src/twins.rt", twins)
-        found = self.of(edit("src/twins.rt", ("1 + 0", "2")), edit("src/lib.rt", ("a + STEP", "a")))
+        found = self.combined(mutant_text("src/twins.rt", ("1 + 0", "2")), mutant_text("src/lib.rt", ("a + STEP", "a")))
         self.assertEqual(found["src/twins.rt"], twins.replace("1 + 0", "2"))
 
 

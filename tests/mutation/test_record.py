@@ -4,20 +4,20 @@ import types
 import unittest
 from unittest import mock
 
-from fakes import InFolder
+from fakes import CrateFolderTest
 from mutation import record
 from mutation.mutants import Mutant
-from mutation.sources import functions_of
-from mutation.tries import Result
+from mutation.sources import split_functions
+from mutation.tries import TryResult
 from mutation.verdicts import Outcome
 
 
-def crate(folder, name, *deps, of_kit=("std",)):
+def fake_crate(folder, name, *deps, of_kit=("std",)):
     below = [it for dep in deps for it in [*dep.below(), dep]]
     return types.SimpleNamespace(name=name, folder=folder, deps=list(deps), of_kit=of_kit, below=lambda: below)
 
 
-LIB = """\
+SOURCE = """\
 const STEP: u64 = 1;
 
 // Adds one.
@@ -34,24 +34,24 @@ pub fn other(a: u64) -> u64 {
 pub fn law()
     ensures { StepIs 1 };
 """
-OTHER_BODY = LIB.replace("    a\n", "    a + 0\n")
+OTHER_BODY = SOURCE.replace("    a\n", "    a + 0\n")
 
 
-class OfDigests(InFolder):
+class DigestTest(CrateFolderTest):
     def setUp(self):
         super().setUp()
         self.root = os.path.dirname(self.folder)
         self.write("../HANDLES", "Handles allowed: none.\n")
-        self.write("../low/src/lib.rt", LIB)
-        self.write("src/lib.rt", LIB)
-        self.low = crate(f"{self.root}/low", "low")
-        self.tiny = crate(self.folder, "tiny", self.low)
+        self.write("../low/src/lib.rt", SOURCE)
+        self.write("src/lib.rt", SOURCE)
+        self.low = fake_crate(f"{self.root}/low", "low")
+        self.tiny = fake_crate(self.folder, "tiny", self.low)
 
-    def digests(self, text="old: a\nnew: b\n", kit="kit 1", of=None, function="once"):
+    def digests(self, text="old: a\nnew: b\n", kit_name="kit 1", of=None, function="once"):
         """The digests of a mutant of this function, or of one that changes more than a body if it is None."""
         with open(f"{self.folder}/src/lib.rt", encoding="utf-8") as it:
-            found = {it.name: it for it in functions_of("src/lib.rt", it.read())[0]}
-        reads = record.Reads(of or self.tiny, self.root, kit)
+            found = {it.name: it for it in split_functions("src/lib.rt", it.read())[0]}
+        reads = record.CheckInputs(of or self.tiny, self.root, kit_name)
         return reads.digests(Mutant("a.edit", text, (), found.get(function), ""))
 
     def same_and_others(self, *changes):
@@ -73,14 +73,14 @@ class OfDigests(InFolder):
             return it.read()
 
 
-class Digests(OfDigests):
+class DigestDependencies(DigestTest):
     def test_their_form(self):
         for it in self.digests():
             self.assertRegex(it, "^[0-9a-f]{16}$")
         self.assertNotEqual(*self.digests())
 
     def test_what_no_check_reads(self):
-        changes = ("mutants/b.edit", "old: c\n"), ("out/kept", "1"), ("../high/src/lib.rt", LIB)
+        changes = ("mutants/b.edit", "old: c\n"), ("out/kept", "1"), ("../high/src/lib.rt", SOURCE)
         self.assertEqual(self.same_and_others(*changes), [(True, True)] * 3)
 
     def test_what_only_the_proofs_of_other_functions_read(self):
@@ -90,7 +90,7 @@ class Digests(OfDigests):
             ("proofs/other/Invariants.antt", "a"),
             ("proofs/fn/other/loops/Proof.antt", "a"),
             ("proofs/law/Answers.antt", "a"),
-            ("src/lib.rt", LIB.replace("Adds one", "Adds 1")),
+            ("src/lib.rt", SOURCE.replace("Adds one", "Adds 1")),
         )
         self.assertEqual(self.same_and_others(*changes), [(True, False)] * len(changes))
 
@@ -99,13 +99,13 @@ class Digests(OfDigests):
         self.assertEqual(self.same_and_others(("proofs/once_more/Answers.antt", "a")), [(True, False)])
 
     def test_bodies_of_others_in_a_folder_of_its_name(self):
-        self.write("src/once/more.rt", LIB)
+        self.write("src/once/more.rt", SOURCE)
         self.assertEqual(self.same_and_others(("src/once/more.rt", OTHER_BODY)), [(True, False)])
 
     def test_bodies_and_proofs_of_functions_below(self):
         changes = (
             ("../low/src/lib.rt", OTHER_BODY),
-            ("../low/src/lib.rt", LIB.replace("a + STEP", "STEP + a")),
+            ("../low/src/lib.rt", SOURCE.replace("a + STEP", "STEP + a")),
             ("../low/proofs/once/Answers.antt", "a"),
             ("../low/proofs/+once/Invariants.antt", "a"),
         )
@@ -117,9 +117,9 @@ class Digests(OfDigests):
 
     def test_what_all_proofs_read(self):
         changes = (
-            ("src/lib.rt", LIB.replace("STEP: u64 = 1", "STEP: u64 = 2")),
-            ("src/lib.rt", LIB.replace("pub fn other(a: u64)", "pub fn other(b: u64)")),
-            ("src/lib.rt", f"{LIB}\nstruct New {{}}\n"),
+            ("src/lib.rt", SOURCE.replace("STEP: u64 = 1", "STEP: u64 = 2")),
+            ("src/lib.rt", SOURCE.replace("pub fn other(a: u64)", "pub fn other(b: u64)")),
+            ("src/lib.rt", f"{SOURCE}\nstruct New {{}}\n"),
             ("src/new.rt", ""),
             ("specs/Lib.antt", "a"),
             ("specs/other/Answers.antt", "a"),
@@ -134,9 +134,9 @@ class Digests(OfDigests):
             ("proofs/other/Lib.antt", "a"),
             ("proofs/other/ForCallers.antt", "a"),
             ("c/a.c", "a"),
-            ("../low/src/lib.rt", LIB.replace("result ≡ a + 1", "result ≡ a + 2")),
-            ("../low/src/lib.rt", LIB.replace("STEP: u64 = 1", "STEP: u64 = 2")),
-            ("../low/src/lib.rt", LIB.replace("fn once", "fn lower")),
+            ("../low/src/lib.rt", SOURCE.replace("result ≡ a + 1", "result ≡ a + 2")),
+            ("../low/src/lib.rt", SOURCE.replace("STEP: u64 = 1", "STEP: u64 = 2")),
+            ("../low/src/lib.rt", SOURCE.replace("fn once", "fn lower")),
             ("../low/specs/Lib.antt", "a"),
             ("../low/proofs/Lemmas.antt", "a"),
             ("../low/proofs/ForCallers.antt", "a"),
@@ -147,8 +147,8 @@ class Digests(OfDigests):
 
     def test_what_the_proof_of_its_own_function_reads(self):
         changes = (
-            ("src/lib.rt", LIB.replace("a + STEP", "STEP + a")),
-            ("src/lib.rt", LIB.replace("result ≡ a + 1", "result ≡ a + 2")),
+            ("src/lib.rt", SOURCE.replace("a + STEP", "STEP + a")),
+            ("src/lib.rt", SOURCE.replace("result ≡ a + 1", "result ≡ a + 2")),
             ("proofs/once/Answers.antt", "a"),
             ("proofs/once/Invariants.antt", "a"),
             ("proofs/once/Proof.antt", "a"),
@@ -158,13 +158,13 @@ class Digests(OfDigests):
         self.assertEqual(self.same_and_others(*changes), [(False, False)] * len(changes))
 
     def test_the_bodies_of_a_macro(self):
-        self.write("../low/src/macros.rt", f"macro_rules! many {{}}\n{LIB}")
+        self.write("../low/src/macros.rt", f"macro_rules! many {{}}\n{SOURCE}")
         changes = [("../low/src/macros.rt", f"macro_rules! many {{}}\n{OTHER_BODY}")]
         self.assertEqual(self.same_and_others(*changes), [(False, False)])
 
     def test_what_looks_like_a_body_in_another_file_than_a_source(self):
         for path in ("specs/Lib.antt", "proofs/Lemmas.antt", "../low/specs/Lib.antt", "c/a.c"):
-            self.write(path, LIB)
+            self.write(path, SOURCE)
             self.assertEqual(self.same_and_others((path, OTHER_BODY)), [(False, False)], path)
 
     def test_functions_that_call_each_other_have_one_proof(self):
@@ -172,14 +172,14 @@ class Digests(OfDigests):
         self.assertEqual(self.same_and_others(("src/lib.rt", OTHER_BODY)), [(False, False)])
 
     def test_another_kit_graph_or_mutant(self):
-        seen = [self.digests(), self.digests(text="old: a\nnew: c\n"), self.digests(kit="kit 2")]
-        seen.append(self.digests(of=crate(self.folder, "tiny")))
-        seen.append(self.digests(of=crate(self.folder, "tiny", self.low, of_kit=("std", "hex"))))
-        seen.append(self.digests(of=crate(self.folder, "little", self.low)))
-        seen.append(self.digests(of=crate(self.folder, "tinier", self.low)))
-        middle = crate(f"{self.root}/middle", "middle", self.low)
+        seen = [self.digests(), self.digests(text="old: a\nnew: c\n"), self.digests(kit_name="kit 2")]
+        seen.append(self.digests(of=fake_crate(self.folder, "tiny")))
+        seen.append(self.digests(of=fake_crate(self.folder, "tiny", self.low, of_kit=("std", "hex"))))
+        seen.append(self.digests(of=fake_crate(self.folder, "little", self.low)))
+        seen.append(self.digests(of=fake_crate(self.folder, "tinier", self.low)))
+        middle = fake_crate(f"{self.root}/middle", "middle", self.low)
         for deps in ([middle], [self.low, middle]):
-            of = crate(self.folder, "tiny", *deps)
+            of = fake_crate(self.folder, "tiny", *deps)
             of.below = lambda: [self.low, middle]
             seen.append(self.digests(of=of))
         self.assertEqual(len({it.own for it in seen}), len(seen))
@@ -192,9 +192,9 @@ class Digests(OfDigests):
         self.assertNotEqual(self.digests(function=None).own, before.own)
 
     def test_the_order_of_crates_does_not_matter(self):
-        lowest, found = crate(f"{self.root}/lowest", "lowest"), set()
+        lowest, found = fake_crate(f"{self.root}/lowest", "lowest"), set()
         for below, of_kit in (([self.low, lowest], ("std", "hex")), ([lowest, self.low], ("hex", "std"))):
-            found.add(self.digests(of=crate(self.folder, "tiny", *below, of_kit=of_kit)))
+            found.add(self.digests(of=fake_crate(self.folder, "tiny", *below, of_kit=of_kit)))
         self.assertEqual(len(found), 1)
 
     def test_the_order_of_files_does_not_matter(self):
@@ -220,8 +220,8 @@ class Digests(OfDigests):
                 methods = (f"    fn once(&self) {{\n        {it}\n    }}\n" for it in bodies)
                 text = "".join(f"{head} {{\n{it}}}\n" for head, it in zip((one, two), methods))
                 self.write("src/lib.rt", text)
-                changed = functions_of("src/lib.rt", text)[0][bodies.index("a")]
-                reads = record.Reads(self.tiny, self.root, "kit 1")
+                changed = split_functions("src/lib.rt", text)[0][bodies.index("a")]
+                reads = record.CheckInputs(self.tiny, self.root, "kit 1")
                 found.append(reads.digests(Mutant("a.edit", "old: a\n", (), changed, "")).own)
             self.assertNotEqual(*found)
 
@@ -248,18 +248,18 @@ class Digests(OfDigests):
         self.assertNotEqual(self.digests().whole, before.whole)
 
     def test_a_sum_of_several_texts_depends_on_where_each_ends(self):
-        self.assertNotEqual(record.sum_of(b"ab", b"c"), record.sum_of(b"a", b"bc"))
-        self.assertNotEqual(record.sum_of(b"ab"), record.sum_of(b"ab", b""))
+        self.assertNotEqual(record.digest_of(b"ab", b"c"), record.digest_of(b"a", b"bc"))
+        self.assertNotEqual(record.digest_of(b"ab"), record.digest_of(b"ab", b""))
 
 
-class Records(InFolder):
+class RecordFiles(CrateFolderTest):
     def digests(self, **sums):
-        return {name: record.Digests(sum, sum.upper()) for name, sum in sums.items()}
+        return {name: record.MutantDigests(sum, sum.upper()) for name, sum in sums.items()}
 
     def write_record(self, digests, **results):
-        found = {name: Result(*it) for name, it in results.items()}
+        found = {name: TryResult(*it) for name, it in results.items()}
         record.write_record(self.folder, "tiny", digests, found)
-        with open(f"{self.folder}/tests/refusals/tiny", encoding="utf-8") as it:
+        with open(f"{self.folder}/tests/mutant-records/tiny", encoding="utf-8") as it:
             return it.read()
 
     def test_refusals_with_their_function(self):
@@ -268,7 +268,7 @@ class Records(InFolder):
         limit = (Outcome.LIMIT, "alone", "no")
         text = self.write_record(digests, b=own, a=alone, c=limit)
         self.assertEqual(text, "AAAA a -\nbbbb b tiny::once\nCCCC c -\n")
-        self.assertEqual({*record.recorded(self.folder, "tiny", digests)}, {*"abc"})
+        self.assertEqual({*record.valid_records(self.folder, "tiny", digests)}, {*"abc"})
 
     def test_no_other_outcome_is_recorded(self):
         for it in (Outcome.MISSED, Outcome.UNUSABLE, Outcome.LOST, Outcome.UNKNOWN):
@@ -283,40 +283,39 @@ class Records(InFolder):
     def test_lines_that_hold(self):
         digests = self.digests(a="aaaa", b="bbbb", c="cccc", d="dddd", e="eeee", f="ffff")
         lines = ["aaaa a f", "BBBB b -", "CCCC c f", "dddd d -", "eeee e", "ffff f ", "gggg g f", "aaaa b f", ""]
-        self.write("tests/refusals/tiny", "".join(f"{it}\n" for it in lines))
-        self.assertEqual(record.recorded(self.folder, "tiny", digests), {"a": "aaaa a f", "b": "BBBB b -"})
+        self.write("tests/mutant-records/tiny", "".join(f"{it}\n" for it in lines))
+        self.assertEqual(record.valid_records(self.folder, "tiny", digests), {"a": "aaaa a f", "b": "BBBB b -"})
 
     def test_no_record(self):
-        self.assertEqual(record.recorded(self.folder, "none", {}), {})
+        self.assertEqual(record.valid_records(self.folder, "none", {}), {})
 
 
-class Samples(unittest.TestCase):
+class SampledMutants(unittest.TestCase):
     NAMES = {"b": [*"123456789"], "a": [*"12"], "c": []}
 
     def test_a_sample_is_of_one_crate(self):
-        self.assertEqual(record.sample_of(self.NAMES, 4, 0), ("a", ["1", "2"]))
-        self.assertEqual(record.sample_of(self.NAMES, 4, 1), ("b", ["1", "2", "3", "4"]))
-        self.assertEqual(record.sample_of(self.NAMES, 4, 3), ("b", ["9"]))
-        self.assertEqual(record.sample_of(self.NAMES, 4, 4), ("a", ["1", "2"]))
+        self.assertEqual(record.sample_for_turn(self.NAMES, 4, 0), ("a", ["1", "2"]))
+        self.assertEqual(record.sample_for_turn(self.NAMES, 4, 1), ("b", ["1", "2", "3", "4"]))
+        self.assertEqual(record.sample_for_turn(self.NAMES, 4, 3), ("b", ["9"]))
+        self.assertEqual(record.sample_for_turn(self.NAMES, 4, 4), ("a", ["1", "2"]))
 
     def test_each_mutant_is_in_one_sample_of_a_round(self):
-        found = [
-            (crate, it) for turn in range(4) for crate, names in [record.sample_of(self.NAMES, 4, turn)] for it in names
-        ]
+        samples = [record.sample_for_turn(self.NAMES, 4, turn) for turn in range(4)]
+        found = [(crate, it) for crate, names in samples for it in names]
         self.assertEqual(sorted(found), sorted((crate, it) for crate, names in self.NAMES.items() for it in names))
 
     def test_a_round_has_as_many_samples_as_there_are_lists(self):
-        found = [record.sample_of(self.NAMES, 2, turn)[1] for turn in range(6)]
+        found = [record.sample_for_turn(self.NAMES, 2, turn)[1] for turn in range(6)]
         self.assertEqual(["".join(it) for it in found], ["12", "12", "34", "56", "78", "9"])
 
     def test_nothing_recorded(self):
-        self.assertEqual(record.sample_of({"a": []}, 4, 7), ("", []))
+        self.assertEqual(record.sample_for_turn({"a": []}, 4, 7), ("", []))
 
 
-class Counts(InFolder):
+class ExpectedCounts(CrateFolderTest):
     def test_lines_and_comments(self):
         self.write("tests/mutant-counts", "# How many.\n\ntiny 3\nlow 12\n")
-        self.assertEqual(record.counts_of(self.folder), {"tiny": 3, "low": 12})
+        self.assertEqual(record.expected_counts(self.folder), {"tiny": 3, "low": 12})
 
 
 if __name__ == "__main__":

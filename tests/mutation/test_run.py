@@ -8,13 +8,13 @@ import types
 import unittest
 from unittest import mock
 
-from fakes import SOURCES, FakeChecker, InFolder, edit
+from fakes import SOURCES, FakeChecker, CrateFolderTest, mutant_text
 from mutation import checker, record
-from mutation.run import SAMPLE, Run, miscounted
-from mutation.verdicts import Check
+from mutation.run import SAMPLE_SIZE, MutantRun, count_faults
+from mutation.verdicts import CheckReport
 
 
-class Fake(FakeChecker):
+class FakeRunChecker(FakeChecker):
     """A checker as Run makes it."""
 
     checks, seconds, sound, opened = 2, 3.4, True, 0
@@ -22,45 +22,45 @@ class Fake(FakeChecker):
     def __init__(self, crate, root):
         assert root and crate.folder.startswith(root)
         super().__init__(crate.folder, SOURCES)
-        Fake.opened += 1
+        FakeRunChecker.opened += 1
 
-    def is_sound(self):
+    def is_seed_unchanged(self):
         return self.sound
 
     def close(self):
-        Fake.opened -= 1
+        FakeRunChecker.opened -= 1
 
 
-class NotBuilt(Fake):
-    def begin(self):
-        raise checker.NotBuilt("the libraries below tiny are not built")
+class LibrariesNotBuilt(FakeRunChecker):
+    def check_unchanged(self):
+        raise checker.LibrariesNotBuilt("the libraries below tiny are not built")
 
 
-class Unproved(Fake):
-    def begin(self):
-        return Check(1, "fn tiny::once: not proved\nlogic=not-proved\n")
+class UnprovedChecker(FakeRunChecker):
+    def check_unchanged(self):
+        return CheckReport(1, "fn tiny::once: not proved\nlogic=not-proved\n")
 
 
-class Unsound(Fake):
+class UnsoundChecker(FakeRunChecker):
     sound = False
 
 
-class Counted(Fake):
+class CountingChecker(FakeRunChecker):
     """Counts how many checks run at the same time."""
 
     lock, now, peak = threading.Lock(), 0, 0
 
     def check(self, texts, only=()):
-        with Counted.lock:
-            Counted.now += 1
-            Counted.peak = max(Counted.peak, Counted.now)
+        with CountingChecker.lock:
+            CountingChecker.now += 1
+            CountingChecker.peak = max(CountingChecker.peak, CountingChecker.now)
         time.sleep(0.01)
-        with Counted.lock:
-            Counted.now -= 1
+        with CountingChecker.lock:
+            CountingChecker.now -= 1
         return super().check(texts, only)
 
 
-class Runs(InFolder):
+class MutantRuns(CrateFolderTest):
     def setUp(self):
         super().setUp()
         self.root = os.path.dirname(self.folder)
@@ -76,19 +76,19 @@ class Runs(InFolder):
         self.crate = types.SimpleNamespace(**of)
 
     def add(self, name, old, new, path="src/lib.rt", folder="mutants"):
-        self.write(f"{folder}/{name}.edit", edit(path, (old, new)))
+        self.write(f"{folder}/{name}.edit", mutant_text(path, (old, new)))
 
-    def run_with(self, made=Fake):
-        return Run(self.root, [self.crate], 2, made)
+    def run_with(self, made=FakeRunChecker):
+        return MutantRun(self.root, [self.crate], 2, made)
 
-    def recorded(self, run):
-        return record.recorded(self.root, "tiny", run.digests["tiny"])
+    def valid_records(self, run):
+        return record.valid_records(self.root, "tiny", run.digests["tiny"])
 
-    def tried(self, run, chosen):
+    def run_tries(self, run, chosen):
         printed = io.StringIO()
         with contextlib.redirect_stdout(printed):
             run.try_all(chosen)
-        self.assertEqual(Fake.opened, 0)
+        self.assertEqual(FakeRunChecker.opened, 0)
         return printed.getvalue()
 
     def test_all_mutants(self):
@@ -96,56 +96,56 @@ class Runs(InFolder):
         self.add("pair", "self.first", "WRONG", "src/pairs.rt")
         self.add("same", "    once(b)", "    once(b + 0)")
         run = self.run_with()
-        printed = self.tried(run, run.mutants)
+        printed = self.run_tries(run, run.mutants)
         want = "tiny: 1 NOT REFUSED (alone), 2 refused at its own function (batch); 2 checks, 3 processor seconds\n"
         self.assertEqual(printed, want)
         self.assertEqual(
-            [*run.lines()],
+            [*run.result_lines()],
             [
                 (True, "tiny/one.edit: refused at its own function: tiny::once (batch)"),
                 (True, "tiny/pair.edit: refused at its own function: tiny::pairs::Pair::sum (batch)"),
                 (False, "tiny/same.edit: NOT REFUSED: tiny::thrice (alone)"),
             ],
         )
-        self.assertEqual((run.untried, run.faults), (0, []))
+        self.assertEqual((run.untried_count, run.faults), (0, []))
 
     def test_only_new_mutants_and_a_sample(self):
-        for at in range(SAMPLE + 3):
+        for at in range(SAMPLE_SIZE + 3):
             self.add(f"one{at:02}", "    a + STEP", f"    WRONG {at}")
         run = self.run_with()
-        self.assertEqual(len(run.new_and_sample()["tiny"]), SAMPLE + 3)
-        self.tried(run, run.mutants)
+        self.assertEqual(len(run.new_and_sample()["tiny"]), SAMPLE_SIZE + 3)
+        self.run_tries(run, run.mutants)
         run.write_records()
         self.add("new", "    a + STEP", "    WRONG at last")
         self.add("one00", "    a + STEP", "    WRONG again")
         run = self.run_with()
         chosen = [it.name for it in run.new_and_sample()["tiny"]]
-        self.assertEqual(chosen, ["new.edit", "one00.edit", *(f"one{at:02}.edit" for at in range(1, SAMPLE + 1))])
-        self.tried(run, run.new_and_sample())
-        self.assertEqual(run.untried, 2)
+        self.assertEqual(chosen, ["new.edit", "one00.edit", *(f"one{at:02}.edit" for at in range(1, SAMPLE_SIZE + 1))])
+        self.run_tries(run, run.new_and_sample())
+        self.assertEqual(run.untried_count, 2)
 
     def test_a_record_keeps_what_was_not_tried(self):
         self.add("one", "    a + STEP", "    WRONG")
         self.add("two", "    once(once(a))", "    WRONG")
         run = self.run_with()
-        self.tried(run, run.mutants)
+        self.run_tries(run, run.mutants)
         run.write_records()
-        self.assertEqual({*self.recorded(run)}, {"one.edit", "two.edit"})
+        self.assertEqual({*self.valid_records(run)}, {"one.edit", "two.edit"})
         os.remove(f"{self.folder}/mutants/two.edit")
         run = self.run_with()
-        self.tried(run, {"tiny": []})
+        self.run_tries(run, {"tiny": []})
         run.write_records()
-        self.assertEqual({*self.recorded(run)}, {"one.edit"})
+        self.assertEqual({*self.valid_records(run)}, {"one.edit"})
 
     def test_no_more_checks_at_a_time_than_lanes(self):
         self.add("one", "    a + STEP", "    WRONG")
         self.add("const", "STEP: u64 = 1", "STEP: u64 = WRONG")
         crates = [types.SimpleNamespace(**{**vars(self.crate), "name": f"tiny{at}"}) for at in range(5)]
         for lanes in (2, 3):
-            Counted.peak = 0
-            run = Run(self.root, crates, lanes, Counted)
-            self.tried(run, run.mutants)
-            self.assertEqual(Counted.peak, lanes)
+            CountingChecker.peak = 0
+            run = MutantRun(self.root, crates, lanes, CountingChecker)
+            self.run_tries(run, run.mutants)
+            self.assertEqual(CountingChecker.peak, lanes)
 
     def two_crates(self):
         needs = {"tiny1": lambda: 1, "tiny2": lambda: 2}
@@ -153,23 +153,23 @@ class Runs(InFolder):
 
     def test_the_crate_that_costs_more_begins_first(self):
         self.add("one", "    a + STEP", "    WRONG")
-        run = Run(self.root, self.two_crates(), 2, Fake)
-        self.assertRegex(self.tried(run, run.mutants), "^tiny2: .*\ntiny1: ")
+        run = MutantRun(self.root, self.two_crates(), 2, FakeRunChecker)
+        self.assertRegex(self.run_tries(run, run.mutants), "^tiny2: .*\ntiny1: ")
 
     def test_a_sample_is_of_its_crate_if_another_has_the_same_mutant(self):
         self.add("one", "    a + STEP", "    WRONG")
-        run = Run(self.root, self.two_crates(), 2, Fake)
+        run = MutantRun(self.root, self.two_crates(), 2, FakeRunChecker)
         for name, found in run.digests.items():
-            self.write(f"../tests/refusals/{name}", f"{found['one.edit'].own} one.edit {name}::once\n")
-        with mock.patch("mutation.record.sample_of", lambda names, *_: ("tiny1", names["tiny1"])):
+            self.write(f"../tests/mutant-records/{name}", f"{found['one.edit'].own} one.edit {name}::once\n")
+        with mock.patch("mutation.record.sample_for_turn", lambda names, *_: ("tiny1", names["tiny1"])):
             chosen = run.new_and_sample()
         self.assertEqual({name: len(it) for name, it in chosen.items()}, {"tiny1": 1, "tiny2": 0})
 
     def test_a_crate_without_mutants_has_no_record(self):
         run = self.run_with()
-        self.tried(run, run.mutants)
+        self.run_tries(run, run.mutants)
         run.write_records()
-        self.assertFalse(os.path.exists(f"{self.root}/tests/refusals"))
+        self.assertFalse(os.path.exists(f"{self.root}/tests/mutant-records"))
 
     def test_another_kit_has_other_digests(self):
         self.add("one", "    a + STEP", "    WRONG")
@@ -182,64 +182,64 @@ class Runs(InFolder):
 
     def test_a_crate_whose_libraries_are_not_built(self):
         self.add("one", "    a + STEP", "    WRONG")
-        run = self.run_with(NotBuilt)
-        self.assertIn("tiny: no result", self.tried(run, run.mutants))
-        self.assertEqual((run.faults, run.untried), (["the libraries below tiny are not built"], 1))
+        run = self.run_with(LibrariesNotBuilt)
+        self.assertIn("tiny: no result", self.run_tries(run, run.mutants))
+        self.assertEqual((run.faults, run.untried_count), (["the libraries below tiny are not built"], 1))
 
     def test_a_crate_that_is_not_proved_as_it_is(self):
         self.add("one", "    a + STEP", "    WRONG")
-        run = self.run_with(Unproved)
-        self.tried(run, run.mutants)
-        self.assertEqual((len(run.faults), run.untried), (1, 1))
+        run = self.run_with(UnprovedChecker)
+        self.run_tries(run, run.mutants)
+        self.assertEqual((len(run.faults), run.untried_count), (1, 1))
         self.assertIn("tiny is not proved as it is", run.faults[0])
 
     def test_checks_that_change_what_they_began_with(self):
         self.add("one", "    a + STEP", "    WRONG")
-        run = self.run_with(Unsound)
-        self.tried(run, run.mutants)
+        run = self.run_with(UnsoundChecker)
+        self.run_tries(run, run.mutants)
         self.assertEqual(run.faults, ["tiny: a check changed what the others began with"])
         run.write_records()
-        self.assertEqual(self.recorded(run), {})
+        self.assertEqual(self.valid_records(run), {})
 
     def test_files_that_change_during_the_run(self):
         self.add("one", "    a + STEP", "    WRONG")
         run = self.run_with()
         self.write("src/new.rt", "")
-        self.tried(run, run.mutants)
+        self.run_tries(run, run.mutants)
         run.write_records()
         self.assertEqual(run.faults, ["tiny: a file that the checks read was changed during the run"])
-        self.assertEqual(self.recorded(run), {})
+        self.assertEqual(self.valid_records(run), {})
 
     def test_a_file_that_is_lost_during_the_run(self):
         self.add("pair", "self.first", "WRONG", "src/pairs.rt")
         run = self.run_with()
-        with mock.patch("mutation.tries.Tries.try_all", lambda *_: os.remove(f"{self.folder}/src/pairs.rt")):
-            self.tried(run, run.mutants)
+        with mock.patch("mutation.tries.CrateTries.try_all", lambda *_: os.remove(f"{self.folder}/src/pairs.rt")):
+            self.run_tries(run, run.mutants)
         self.assertEqual(run.faults, ["tiny: a file that the checks read was changed during the run"])
 
     def test_a_mutant_without_a_result(self):
         self.add("one", "    a + STEP", "    WRONG")
         self.add("two", "    once(once(a))", "    WRONG")
         run = self.run_with()
-        with mock.patch("mutation.tries.Tries.try_alone", lambda tries, it: (run.mutants["tiny"][0], None)):
+        with mock.patch("mutation.tries.CrateTries.try_alone", lambda tries, it: (run.mutants["tiny"][0], None)):
             with contextlib.suppress(AttributeError):
-                self.tried(run, run.mutants)
+                self.run_tries(run, run.mutants)
         self.assertEqual(run.faults, ["tiny: two.edit was not tried"])
 
     def test_an_exception_in_a_check_ends_the_run(self):
         self.add("one", "    a + STEP", "    WRONG")
         run = self.run_with()
-        with mock.patch("mutation.tries.Tries.try_alone", side_effect=OSError("no space left")):
+        with mock.patch("mutation.tries.CrateTries.try_alone", side_effect=OSError("no space left")):
             with self.assertRaises(OSError):
-                self.tried(run, run.mutants)
+                self.run_tries(run, run.mutants)
 
     def test_a_recorded_mutant_that_cannot_be_applied_is_tried(self):
         self.add("one", "    a + STAP", "    WRONG")
         run = self.run_with()
-        self.write("../tests/refusals/tiny", f"{run.digests['tiny']['one.edit'].own} one.edit tiny::once\n")
-        with mock.patch("mutation.record.sample_of", lambda *_: ("", [])):
-            self.tried(run, run.new_and_sample())
-        self.assertEqual([is_refused for is_refused, _ in run.lines()], [False])
+        self.write("../tests/mutant-records/tiny", f"{run.digests['tiny']['one.edit'].own} one.edit tiny::once\n")
+        with mock.patch("mutation.record.sample_for_turn", lambda *_: ("", [])):
+            self.run_tries(run, run.new_and_sample())
+        self.assertEqual([is_refused for is_refused, _ in run.result_lines()], [False])
 
     def test_the_counts(self):
         self.add("one", "    a + STEP", "    WRONG")
@@ -251,7 +251,7 @@ class Runs(InFolder):
             ("tiny 2\nlow 3\n", ["low has 0 mutants, and tests/mutant-counts says 3"]),
         ):
             self.write("../tests/mutant-counts", text)
-            self.assertEqual(miscounted(self.root, [self.crate]), faults)
+            self.assertEqual(count_faults(self.root, [self.crate]), faults)
 
     def test_a_file_that_is_no_mutant(self):
         self.write("../tests/mutant-counts", "tiny 1\n")
@@ -260,7 +260,7 @@ class Runs(InFolder):
             self.write(f"mutants/{path}", "")
         names = (".three.edit", "more/four.edit", "two.edti")
         want = [f"tiny/mutants/{it} has another name than mutants have" for it in names]
-        self.assertEqual(miscounted(self.root, [self.crate]), want)
+        self.assertEqual(count_faults(self.root, [self.crate]), want)
 
 
 if __name__ == "__main__":

@@ -11,7 +11,7 @@ from unittest import mock
 PATH = os.path.realpath(f"{__file__}/../../../scripts/mutants")
 
 
-def loaded():
+def load_script():
     loader = importlib.machinery.SourceFileLoader("mutants_script", PATH)
     module = importlib.util.module_from_spec(importlib.util.spec_from_loader("mutants_script", loader))
     loader.exec_module(module)
@@ -21,7 +21,7 @@ def loaded():
 class FakeRun:
     """The functions that scripts/mutants needs of a run."""
 
-    untried, mutants = 5, "all"
+    untried_count, mutants = 5, "all"
 
     def __init__(self, found, faults, done):
         self.found, self.faults, self.done = found, faults, done
@@ -35,25 +35,25 @@ class FakeRun:
     def write_records(self):
         self.done.append("recorded")
 
-    def lines(self):
+    def result_lines(self):
         yield from self.found
 
 
-class Script(unittest.TestCase):
-    def main(self, *words, found=((True, "low/a: refused"),), faults=(), miscounted=(), script=None):
+class MutantsScript(unittest.TestCase):
+    def run_main(self, *words, found=((True, "low/a: refused"),), faults=(), count_faults=(), script=None):
         """The status of a run with these words, what it printed, and what it did."""
-        script, done, printed = script or loaded(), [], io.StringIO()
+        script, done, printed = script or load_script(), [], io.StringIO()
         crates = [types.SimpleNamespace(name=it) for it in ("low", "high")]
 
-        def made(_root, chosen, lanes):
-            done.append(f"{' '.join(it.name for it in chosen)} in {lanes}")
+        def made(_root, chosen, lane_count):
+            done.append(f"{' '.join(it.name for it in chosen)} in {lane_count}")
             return FakeRun(found, [*faults], done)
 
         with (
             mock.patch.object(script.checker, "crates", lambda _: crates),
-            mock.patch.object(script.checker, "lanes", lambda: 3),
-            mock.patch.object(script, "Run", made),
-            mock.patch.object(script, "miscounted", lambda *_: [*miscounted]),
+            mock.patch.object(script.checker, "lane_count", lambda: 3),
+            mock.patch.object(script, "MutantRun", made),
+            mock.patch.object(script, "count_faults", lambda *_: [*count_faults]),
             contextlib.redirect_stdout(printed),
             contextlib.redirect_stderr(printed),
         ):
@@ -65,47 +65,47 @@ class Script(unittest.TestCase):
 
     def test_all_mutants_of_all_crates(self):
         want = (0, "mutants: 1 refused in this run, 5 not tried, 0 faults\n", ["low high in 3", "tried all"])
-        self.assertEqual(self.main(), want)
+        self.assertEqual(self.run_main(), want)
 
     def test_new_mutants(self):
-        status, printed, done = self.main("--new")
+        status, printed, done = self.run_main("--new")
         self.assertEqual((status, done), (0, ["low high in 3", "tried new and a sample"]))
         self.assertTrue(printed.endswith("1 refused in this run, 5 recorded, 0 faults\n"), printed)
 
     def test_a_record_is_written_on_request(self):
-        self.assertEqual(self.main("--record")[2], ["low high in 3", "tried all", "recorded"])
+        self.assertEqual(self.run_main("--record")[2], ["low high in 3", "tried all", "recorded"])
 
     def test_ci_only_runs_rt_and_notes_the_libraries(self):
-        script = loaded()
+        script = load_script()
         noted = []
 
-        def run_and_note(_root, crates, kit, words):
-            noted.append(([it.name for it in crates], kit, words[1:]))
+        def run_and_note(_root, crates, kit_name, words):
+            noted.append(([it.name for it in crates], kit_name, words[1:]))
             return 3
 
         with mock.patch.object(script.libraries, "run_and_note", run_and_note):
-            self.assertEqual(self.main("--ci", script=script), (3, "", []))
-        self.assertEqual(noted, [(["low", "high"], script.checker.kit(), ["ci"])])
+            self.assertEqual(self.run_main("--ci", script=script), (3, "", []))
+        self.assertEqual(noted, [(["low", "high"], script.checker.kit_name(), ["ci"])])
 
     def test_crates_by_name(self):
-        self.assertEqual(self.main("high")[2], ["high in 3", "tried all"])
-        status, printed, done = self.main("high", "none")
+        self.assertEqual(self.run_main("high")[2], ["high in 3", "tried all"])
+        status, printed, done = self.run_main("high", "none")
         self.assertEqual((status, done), (2, []))
         self.assertIn("no crate has the name none", printed)
 
     def test_a_line_for_each_mutant(self):
         found = ((True, "low/a: refused"), (False, "low/b: NOT REFUSED"))
         last = "mutants: low/b: NOT REFUSED\nmutants: 1 refused in this run, 5 not tried, 1 faults\n"
-        self.assertEqual(self.main("--list", found=found)[:2], (1, f"low/a: refused\n{last}"))
-        self.assertEqual(self.main(found=found)[:2], (1, last))
+        self.assertEqual(self.run_main("--list", found=found)[:2], (1, f"low/a: refused\n{last}"))
+        self.assertEqual(self.run_main(found=found)[:2], (1, last))
 
     def test_each_fault_fails_the_run(self):
         for given in (
             {"found": ((False, "a fault"),)},
             {"faults": ["a fault"]},
-            {"miscounted": ["a fault"]},
+            {"count_faults": ["a fault"]},
         ):
-            status, printed, _ = self.main(**given)
+            status, printed, _ = self.run_main(**given)
             self.assertEqual(status, 1, given)
             self.assertIn("mutants: a fault\n", printed)
             self.assertIn(" 1 faults\n", printed)

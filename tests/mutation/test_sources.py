@@ -1,9 +1,9 @@
 """Unit tests of scripts/mutation/sources.py: the texts are as `rt fmt` lays them out."""
 import unittest
 
-from mutation.sources import functions_of
+from mutation.sources import split_functions
 
-FREE = """\
+FREE_FUNCTIONS = """\
 //! A file.
 use core::fmt;
 
@@ -29,7 +29,7 @@ pub(crate) const fn second(
 }
 """
 
-BLOCKS = """\
+FUNCTIONS_IN_BLOCKS = """\
 impl Framer {
     pub fn push(&mut self, byte: u8) -> bool {
         self.len = 1;
@@ -67,56 +67,57 @@ fn last() {
 """
 
 
-class Functions(unittest.TestCase):
-    def of(self, text):
-        return functions_of("src/a.rt", text)[0]
+class SplitFunctions(unittest.TestCase):
+    def functions_in(self, text):
+        return split_functions("src/a.rt", text)[0]
 
     def test_free_functions(self):
-        first, second = self.of(FREE)
+        first, second = self.functions_in(FREE_FUNCTIONS)
         self.assertEqual((first.name, first.type, first.trait, first.path), ("first", "", (), "src/a.rt"))
         self.assertEqual(first.head, "pub fn first(a: u64) -> u64 {")
         self.assertEqual(first.body, "    a + 1\n}")
         self.assertEqual(second.name, "second")
 
     def test_clauses_belong_to_the_head(self):
-        second = self.of(FREE)[1]
+        second = self.functions_in(FREE_FUNCTIONS)[1]
         self.assertTrue(second.head.endswith("    ensures { result ≡ b - a }\n{"))
         self.assertTrue(second.body.startswith("    if a < b {"))
         self.assertTrue(second.body.endswith("    }\n}"))
 
     def test_a_head_may_end_with_its_bounds(self):
         for bounds in ("where T: Copy {", "where\n    T: Copy,\n{"):
-            (it,) = self.of(f"fn f<T>(\n    a: T,\n) -> T\n{bounds}\n    a\n}}\n")
+            (it,) = self.functions_in(f"fn f<T>(\n    a: T,\n) -> T\n{bounds}\n    a\n}}\n")
             self.assertEqual((it.head.endswith(bounds), it.body), (True, "    a\n}"))
 
     def test_lines_are_those_of_the_file(self):
-        for text in (FREE, BLOCKS):
+        for text in (FREE_FUNCTIONS, FUNCTIONS_IN_BLOCKS):
             lines = text.split("\n")
-            for it in self.of(text):
+            for it in self.functions_in(text):
                 self.assertEqual(lines[it.line : it.line + len(it.lines)], it.lines)
 
     def test_methods_have_their_type(self):
-        found = {it.name: (it.type, it.trait) for it in self.of(BLOCKS)}
+        found = {it.name: (it.type, it.trait) for it in self.functions_in(FUNCTIONS_IN_BLOCKS)}
         self.assertEqual(found["push"], ("Framer", ()))
         self.assertEqual(found["twice"], ("Source", ()))
         self.assertEqual(found["last"], ("", ()))
 
     def test_methods_of_a_trait_have_its_words(self):
-        found = {it.name: (it.type, it.trait) for it in self.of(BLOCKS)}
+        found = {it.name: (it.type, it.trait) for it in self.functions_in(FUNCTIONS_IN_BLOCKS)}
         self.assertEqual(found["fmt"], ("Lines", ("Debug", "Debug")))
         self.assertEqual(found["from"], ("Fault", ("FromError", "FromioError")))
 
     def test_a_head_without_a_body_is_no_function(self):
-        self.assertNotIn("read", [it.name for it in self.of(BLOCKS)])
+        self.assertNotIn("read", [it.name for it in self.functions_in(FUNCTIONS_IN_BLOCKS)])
 
     def test_other_lines_are_kept_without_comments(self):
-        rest = functions_of("src/a.rt", FREE)[1]
+        rest = split_functions("src/a.rt", FREE_FUNCTIONS)[1]
         self.assertEqual(rest, ["use core::fmt;", "const MOST: u64 = 4;", "fn first", "fn second"])
 
     def test_the_key_of_an_edited_function_is_the_same(self):
-        other = FREE.replace("a + 1", "a + 2")
-        self.assertEqual([it.key for it in self.of(FREE)], [it.key for it in self.of(other)])
-        self.assertNotEqual(self.of(FREE)[0].body, self.of(other)[0].body)
+        other = FREE_FUNCTIONS.replace("a + 1", "a + 2")
+        keys, other_keys = ([it.key for it in self.functions_in(text)] for text in (FREE_FUNCTIONS, other))
+        self.assertEqual(keys, other_keys)
+        self.assertNotEqual(self.functions_in(FREE_FUNCTIONS)[0].body, self.functions_in(other)[0].body)
 
 
 if __name__ == "__main__":

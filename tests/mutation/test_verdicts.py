@@ -1,7 +1,7 @@
 """Unit tests of scripts/mutation/verdicts.py: the lines are as `rattle check` prints them."""
 import unittest
 
-from mutation.verdicts import Check, Outcome
+from mutation.verdicts import CheckReport, Outcome
 
 REFUSED = """\
 src/lib.rt:4:5: error: `tiny::once`: 1 of 3 parts is not proved
@@ -14,19 +14,19 @@ logic=not-proved
 """
 
 
-class Checks(unittest.TestCase):
+class CheckReports(unittest.TestCase):
     def test_only_own_proofs_that_fail_are_refusals(self):
-        self.assertEqual(Check(1, REFUSED).refused, ["tiny::once", "tiny::thrice"])
+        self.assertEqual(CheckReport(1, REFUSED).refused, ["tiny::once", "tiny::thrice"])
 
     def test_a_proof_that_another_one_lacks_is_no_refusal(self):
         for reason in ("it calls `f`", "it passes `f`, which has no proof", "a call of a function without a proof"):
-            self.assertEqual(Check(1, f"fn tiny::once: no proof: {reason}\nlogic=not-proved\n").refused, [])
+            self.assertEqual(CheckReport(1, f"fn tiny::once: no proof: {reason}\nlogic=not-proved\n").refused, [])
 
     def test_a_check_that_is_whole_has_a_verdict(self):
         proved = "fn tiny::once: proved\nlogic=proved functions=1\n"
         only, refused = "fn tiny::once: proved\nonly=1 proved=1\n", "fn tiny::once: not proved\nonly=1 proved=0\n"
         for status, printed in ((1, REFUSED), (0, proved), (0, only), (1, refused)):
-            self.assertTrue(Check(status, printed).is_whole)
+            self.assertTrue(CheckReport(status, printed).has_verdict)
         for status, printed in (
             (-9, REFUSED),
             (3, REFUSED),
@@ -39,16 +39,16 @@ class Checks(unittest.TestCase):
             (2, only),
             (1, refused.removesuffix("only=1 proved=0\n")),
         ):
-            self.assertFalse(Check(status, printed).is_whole, (status, printed))
+            self.assertFalse(CheckReport(status, printed).has_verdict, (status, printed))
 
     def test_proved_means_each_name(self):
-        it = Check(1, REFUSED)
+        it = CheckReport(1, REFUSED)
         self.assertTrue(it.is_proved(["tiny::other"]))
         for names in (["tiny::other", "tiny::once"], ["tiny::last"], ["tiny::none"]):
             self.assertFalse(it.is_proved(names))
 
     def outcome(self, status, printed, *names):
-        return Check(status, printed).outcome(names)
+        return CheckReport(status, printed).outcome(names)
 
     def test_refused_at_its_own_function(self):
         self.assertEqual(self.outcome(1, REFUSED, "tiny::once"), (Outcome.OWN, "tiny::once"))
@@ -99,8 +99,8 @@ class Checks(unittest.TestCase):
     def test_an_edited_proof_has_to_be_read(self):
         path = "proofs/once/Proof.antt"
         printed = f"{path}:4:5: error: `tiny::once`: `b` is not in scope\n{REFUSED}"
-        self.assertIs(Check(1, printed, {path: "b"}).outcome(["tiny::once"])[0], Outcome.UNUSABLE)
-        self.assertIs(Check(1, printed, {"src/lib.rt": "b"}).outcome(["tiny::once"])[0], Outcome.OWN)
+        self.assertIs(CheckReport(1, printed, {path: "b"}).outcome(["tiny::once"])[0], Outcome.UNUSABLE)
+        self.assertIs(CheckReport(1, printed, {"src/lib.rt": "b"}).outcome(["tiny::once"])[0], Outcome.OWN)
 
     def test_kept_work_that_cannot_be_used(self):
         printed = "error: module M of .Rattle-below-specs is another. Run the lower steps again\n" + REFUSED

@@ -9,46 +9,47 @@ import sys
 
 sys.path[:0] = [str(pathlib.Path(__file__).parents[1] / "program")]
 
-from model import ACTUATOR, BARE, CONTACT, DELETION, PRESS, QUERY, UNIVERSAL, VERSION_1, VERSION_1_DEVICES  # noqa: E402
-from model import Gateway, sent, tells_change  # noqa: E402
+from model import ACTUATOR, BARE_TEACH_IN, CONTACT_TEACH_IN, DELETION, PRESS, QUERY, UNIVERSAL  # noqa: E402
+from model import VERSION_1, VERSION_1_DEVICES  # noqa: E402
+from model import Gateway, sent, is_change_of_device  # noqa: E402
 
 NAME, BASE = "hall.db", "FF800000"
 # The lines of a check: another device can be learned.
-CHECKED = ["list", "add 00FACADE D5-00-01", "label 00FACADE Checked", "list"]
+CHECK_LINES = ["list", "add 00FACADE D5-00-01", "label 00FACADE Checked", "list"]
 PROFILES = ("D5-00-01", "F6-02-01", "A5-02-05", "A5-04-01", "D2-01-12")
 # There are few devices, so that each is changed and removed often.
-FIRST, DEVICES = 0x01800A00, 40
+FIRST_SENDER, DEVICE_COUNT = 0x01800A00, 40
 
 
-def lines_of(number, rng):
+def change_lines(number, rng):
     """Lines that make a change of any kind."""
-    device, other = (f"{FIRST + rng.randrange(DEVICES):08X}" for _ in range(2))
-    sender = FIRST + rng.randrange(DEVICES)
+    device, other = (f"{FIRST_SENDER + rng.randrange(DEVICE_COUNT):08X}" for _ in range(2))
+    sender = FIRST_SENDER + rng.randrange(DEVICE_COUNT)
     return rng.choice((
         [f"add {device} {rng.choice(PROFILES)}"], [f"add {device} {rng.choice(PROFILES)}", f"label {device} L{number}"],
         [f"label {device} Lamp {number}", f"label {other}"], [f"remove {device}"],
-        ["learn on", sent(CONTACT, sender), sent(QUERY, sender + 1), "learn off"],
+        ["learn on", sent(CONTACT_TEACH_IN, sender), sent(QUERY, sender + 1), "learn off"],
         ["learn on answer", sent(UNIVERSAL, sender), sent(DELETION, sender + 1), "learn off"],
         ["learn as F6-02-01", sent(PRESS, sender), "learn off"], ["learn as D2-01-12", sent(ACTUATOR, sender)],
-        ["learn as A5-10-03", sent(BARE, sender)],
+        ["learn as A5-10-03", sent(BARE_TEACH_IN, sender)],
     ))
 
 
-def of_version_1():
+def gateway_of_version_1():
     """The gateway over the registry of version 1."""
     gateway = Gateway()
     gateway.devices = dict(VERSION_1_DEVICES)
     return gateway
 
 
-def started(gateway):
+def after_restart(gateway):
     """The gateway after another start."""
     new = Gateway()
     new.devices, new.labels = copy.deepcopy(gateway.devices), copy.deepcopy(gateway.labels)
     return new
 
 
-class Building:
+class DatabaseRuns:
     """The gateways that run one after the other over the database in this folder. `states` has the gateway after each
     line that changes it. `acknowledged` has the size of the disk's log when this line had been answered, and `places`
     has this size with the places of the database on the disk. `size_of_log` and `places_of` return size and places."""
@@ -62,7 +63,7 @@ class Building:
     def use_version_1(self):
         """The first run migrates a registry of version 1."""
         shutil.copy(VERSION_1, self.path)
-        self.gateway = of_version_1()
+        self.gateway = gateway_of_version_1()
         self.states = [self.gateway]
 
     @property
@@ -72,14 +73,14 @@ class Building:
     def run(self, rng, changes):
         """Runs a gateway with so many changes, and ends it in any way."""
         words = [self.program, "replay", "--base", BASE, "--db", self.path]
-        self.gateway = started(self.gateway)
+        self.gateway = after_restart(self.gateway)
         with subprocess.Popen(words, stdin=subprocess.PIPE, stdout=subprocess.PIPE, env=self.environment) as process:
             for number in range(changes):
-                for line in lines_of(number, rng):
-                    self.give(process, line)
+                for line in change_lines(number, rng):
+                    self.give_and_compare(process, line)
             self.end(process, rng)
 
-    def give(self, process, line):
+    def give_and_compare(self, process, line):
         """Gives a line, and waits for its answer, which must be that of the oracle."""
         self.gateway = copy.deepcopy(self.gateway)
         wanted = self.gateway.answer(line).encode()
@@ -87,10 +88,10 @@ class Building:
         process.stdin.flush()
         found = process.stdout.read(len(wanted))
         assert found == wanted, (line, found, wanted)
-        if tells_change(line, wanted.decode()):
-            self.keep(self.gateway)
+        if is_change_of_device(line, wanted.decode()):
+            self.keep_state(self.gateway)
 
-    def keep(self, gateway):
+    def keep_state(self, gateway):
         """Keeps the next state, which the program has reported."""
         self.gateway = gateway
         self.states.append(gateway)
@@ -102,50 +103,50 @@ class Building:
         way = rng.choice(("input", signal.SIGTERM, signal.SIGKILL, "change"))
         if way == "change":
             # it may be carried out or not; the next run finds what became of it
-            line = f"add {FIRST + rng.randrange(DEVICES):08X} {rng.choice(PROFILES)}"
+            line = f"add {FIRST_SENDER + rng.randrange(DEVICE_COUNT):08X} {rng.choice(PROFILES)}"
             process.stdin.write(line.encode() + b"\n")
             process.stdin.flush()
             process.kill()
             process.wait()
-            self.find_out(line)
+            self.find_out_if_done(line)
         elif way != "input":
             process.send_signal(way)
 
-    def find_out(self, line):
+    def find_out_if_done(self, line):
         """Looks in the database whether this line was carried out, and keeps the next state if it was."""
-        before, after = started(self.gateway), started(self.gateway)
+        before, after = after_restart(self.gateway), after_restart(self.gateway)
         after.answer(line)
         found = subprocess.run([self.program, "replay", "--base", BASE, "--db", self.path], input=b"list\n",
                                stdout=subprocess.PIPE, env=self.environment).stdout.decode()
         assert found in (before.listed(), after.listed()), (line, found)
         if found == after.listed():
-            self.keep(after)
+            self.keep_state(after)
 
 
-def answers(gateway):
+def check_answers(gateway):
     """The answers to the lines of a check if the database has the devices of this gateway."""
-    gateway = started(gateway)
-    return "".join(gateway.answer(line) for line in CHECKED)
+    gateway = after_restart(gateway)
+    return "".join(gateway.answer(line) for line in CHECK_LINES)
 
 
 def states_of_check(gateway):
     """The gateway after each line of a check that changes it."""
     found = []
-    for line in CHECKED:
-        gateway = started(gateway)
-        if tells_change(line, gateway.answer(line)):
+    for line in CHECK_LINES:
+        gateway = after_restart(gateway)
+        if is_change_of_device(line, gateway.answer(line)):
             found.append(gateway)
     return found
 
 
-def checked(program, path, states):
+def check_database(program, path, states):
     """Gives the lines of a check to the program with this database. Returns the number of the first of these states
     whose answers it gives, and an empty text; if it gives those of none, None and what it did."""
-    text = "".join(f"{line}\n" for line in CHECKED).encode()
+    text = "".join(f"{line}\n" for line in CHECK_LINES).encode()
     done = subprocess.run([program, "replay", "--base", BASE, "--db", path], input=text, capture_output=True)
     found = done.stdout.decode()
     if done.returncode == 0:
         for number, state in enumerate(states):
-            if found == answers(state):
+            if found == check_answers(state):
                 return number, ""
     return None, f"status {done.returncode}, {done.stderr.decode()!r}, {found!r}"

@@ -42,11 +42,11 @@ class Disk(Operations):
 
     def write(self, path, data, offset, fh):
         self.data[offset:offset + len(data)] = data
-        self.log.write(records.written(offset, data))
+        self.log.write(records.write_record(offset, data))
         return len(data)
 
     def fsync(self, path, datasync, fh):
-        self.log.write(records.FLUSHED)
+        self.log.write(records.FLUSH_RECORD)
         return 0
 
     def flush(self, path, fh):

@@ -22,7 +22,7 @@ def default_seed():
     return int(count.stdout or 0)
 
 
-def skip(reasons):
+def print_and_skip(reasons):
     """Prints what is missing. Returns the exit status of a test that is skipped for these reasons."""
     for why in reasons:
         print(f"tests/power: skipped, since this is missing: {why}")

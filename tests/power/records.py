@@ -7,16 +7,16 @@ import dataclasses
 import random
 import struct
 
-HEAD = struct.Struct("<qI")
-FLUSHED = HEAD.pack(-1, 0)
+RECORD_HEAD = struct.Struct("<qI")
+FLUSH_RECORD = RECORD_HEAD.pack(-1, 0)
 PAGE, SECTOR = 4096, 512
 # The modes of a cut, and the size of the parts of a write. Each part may be missing. None means the whole write.
 MODES = {"none": None, "all": None, "writes": None, "pages": PAGE, "sectors": SECTOR, "bytes": SECTOR}
 
 
-def written(offset, data):
+def write_record(offset, data):
     """The record of a write."""
-    return HEAD.pack(offset, len(data)) + data
+    return RECORD_HEAD.pack(offset, len(data)) + data
 
 
 @dataclasses.dataclass(frozen=True)
@@ -35,8 +35,8 @@ def records_in(log):
     """The records of a log."""
     found, place = [], 0
     while place < len(log):
-        offset, size = HEAD.unpack_from(log, place)
-        place += HEAD.size + size
+        offset, size = RECORD_HEAD.unpack_from(log, place)
+        place += RECORD_HEAD.size + size
         found.append(Record(offset, log[place - size:place], place))
     return found
 
@@ -48,7 +48,7 @@ class Image:
         self.pages = {number: bytearray(page) for number, page in dict(pages).items()}
 
     @classmethod
-    def of(cls, path):
+    def from_file(cls, path):
         """The image in a file."""
         image = cls()
         with open(path, "rb") as file:
@@ -85,7 +85,7 @@ class Image:
                 file.write(page)
 
 
-class Cutter:
+class PowerCutter:
     """Makes the images after power failures at later and later places of the records. The disk had this image first.
     `places` has the parts of the disk with the files of the gateway: for several sizes of the log, the starts and ends
     of the parts when it had this size."""
@@ -95,7 +95,7 @@ class Cutter:
         # how many records the image has
         self.count = 0
 
-    def after(self, cut, mode, rng):
+    def image_after(self, cut, mode, rng):
         """The image if the power fails after so many records."""
         last = max((number for number in range(cut) if self.records[number].is_flush), default=0)
         for record in self.records[self.count:last]:
@@ -114,7 +114,7 @@ class Cutter:
         for start in range(0, len(record.data), size):
             part = record.data[start:start + size]
             if mode == "bytes" and self.is_of_gateway(record, start, len(part)):
-                part = interrupted(image.read(record.offset + start, len(part)), part, rng)
+                part = interrupted_write(image.read(record.offset + start, len(part)), part, rng)
             elif mode != "all" and rng.random() < 0.5:
                 continue
             image.write(record.offset + start, part)
@@ -126,12 +126,12 @@ class Cutter:
         return any(begin <= first and first + size <= end for begin, end in parts)
 
 
-def interrupted(old, new, rng):
+def interrupted_write(old, new, rng):
     """What a power failure may leave of a write: each byte that was to change has the old, the new, or any value."""
     return bytes(before if before == after else rng.choice((before, after, rng.randrange(256)))
                  for before, after in zip(old, new))
 
 
-def chosen(count, cuts, rng: random.Random):
+def choose_cuts(count, cuts, rng: random.Random):
     """Chooses this many cuts among the places of `count` records, in ascending order, each with a mode."""
     return sorted((rng.randrange(count) + 1, rng.choice(sorted(MODES))) for _ in range(cuts))

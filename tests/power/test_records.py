@@ -4,12 +4,13 @@ import random
 import tempfile
 import unittest
 
-from records import FLUSHED, MODES, PAGE, SECTOR, Cutter, Image, chosen, interrupted, records_in, written
+from records import FLUSH_RECORD, MODES, PAGE, SECTOR, Image, PowerCutter
+from records import choose_cuts, interrupted_write, records_in, write_record
 
 
 def records(*parts):
     """The records of these writes; None is a flush."""
-    return records_in(b"".join(FLUSHED if part is None else written(*part) for part in parts))
+    return records_in(b"".join(FLUSH_RECORD if part is None else write_record(*part) for part in parts))
 
 
 def content(image, size):
@@ -34,7 +35,7 @@ class Records(unittest.TestCase):
             path = pathlib.Path(folder, "image")
             image.save(path, 3 * PAGE)
             text = path.read_bytes()
-            self.assertEqual(Image.of(path).pages, image.pages)
+            self.assertEqual(Image.from_file(path).pages, image.pages)
         self.assertEqual(text, b"x" + bytes(PAGE - 3) + b"abcd" + bytes(2 * PAGE - 2))
         image.copy().write(0, b"y")
         self.assertEqual(image.pages[0][0], ord("x"))
@@ -44,7 +45,7 @@ class Cuts(unittest.TestCase):
     def images(self, found, cut, mode, size, tries=200):
         """All images that a cut leaves."""
         rng = random.Random(1)
-        return {content(Cutter(Image(), found).after(cut, mode, rng), size) for _ in range(tries)}
+        return {content(PowerCutter(Image(), found).image_after(cut, mode, rng), size) for _ in range(tries)}
 
     def test_what_was_flushed_is_there(self):
         found = records((0, b"a"), (1, b"b"), None, (2, b"c"), (3, b"d"), None, (4, b"e"))
@@ -76,8 +77,9 @@ class Cuts(unittest.TestCase):
         found = records((0, b"x" * 2 * SECTOR))
         rng, values = random.Random(1), set()
         for _ in range(50):
-            image = Cutter(Image(), found, [(found[0].end - 1, [(0, SECTOR)]), (found[0].end, [(SECTOR, 2 * SECTOR)]),
-                                            (found[0].end + 1, [(0, SECTOR)])]).after(1, "bytes", rng)
+            image = PowerCutter(Image(), found, [(found[0].end - 1, [(0, SECTOR)]),
+                                                 (found[0].end, [(SECTOR, 2 * SECTOR)]),
+                                                 (found[0].end + 1, [(0, SECTOR)])]).image_after(1, "bytes", rng)
             text = content(image, 2 * SECTOR)
             self.assertIn(text[:SECTOR], (bytes(SECTOR), b"x" * SECTOR))
             self.assertIn(0, text[SECTOR:])
@@ -87,17 +89,17 @@ class Cuts(unittest.TestCase):
 
     def test_bytes_that_do_not_change(self):
         for _ in range(100):
-            text = interrupted(b"abcdef", b"abxdey", random.Random(1))
+            text = interrupted_write(b"abcdef", b"abxdey", random.Random(1))
             self.assertEqual((text[:2], text[3:5]), (b"ab", b"de"))
 
     def test_later_and_later_cuts(self):
         found = records((0, b"a"), None, (0, b"b"), (1, b"c"), None, (0, b"d"))
-        cutter, rng = Cutter(Image(), found), random.Random(1)
-        self.assertEqual([content(cutter.after(cut, "all", rng), 2) for cut in range(1, 7)],
+        cutter, rng = PowerCutter(Image(), found), random.Random(1)
+        self.assertEqual([content(cutter.image_after(cut, "all", rng), 2) for cut in range(1, 7)],
                          [b"a\0", b"a\0", b"b\0", b"bc", b"bc", b"dc"])
 
     def test_the_choice(self):
-        places = chosen(50, 400, random.Random(1))
+        places = choose_cuts(50, 400, random.Random(1))
         self.assertEqual(places, sorted(places))
         self.assertEqual({place for place, _ in places}, set(range(1, 51)))
         self.assertEqual({mode for _, mode in places}, set(MODES))

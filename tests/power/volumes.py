@@ -13,7 +13,7 @@ MB = 1 << 20
 # Without its last option, the kernel would write empty tables for some seconds after the mount.
 MAKE_EXT4 = ["mkfs.ext4", "-q", "-F", "-J", "size=4", "-E", "lazy_itable_init=0"]
 # By name: the type, the size, the program that makes it, and the options of a mount.
-SYSTEMS = {
+FILE_SYSTEMS = {
     "ext4": ("ext4", 32 * MB, MAKE_EXT4, "data=ordered"),
     "ext4-writeback": ("ext4", 32 * MB, MAKE_EXT4, "data=writeback"),
     "xfs": ("xfs", 320 * MB, ["mkfs.xfs", "-q", "-f"], "nouuid"),
@@ -23,26 +23,26 @@ SYSTEMS = {
 # How often a mount is tried, because the device may still be in use, and the pause before each further try, in seconds.
 TRIES, PAUSE = 5, 0.1
 # How often an unmount is tried, with the same pause: a process that was killed may still be at its end.
-UNMOUNTS = 100
+MAX_UNMOUNTS = 100
 # What is tried before the last mount: a superblock of ext4 has two sectors, and is not in the journal.
-REPAIR = {"ext4": ["e2fsck", "-f", "-y"]}
+REPAIR_COMMANDS = {"ext4": ["e2fsck", "-f", "-y"]}
 # How often the file of a disk in user space is looked for, with the same pause.
-LOOKS = 200
+MAX_MOUNT_LOOKS = 200
 # The file systems that overwrite the contents of a file in place, at the offsets that FIEMAP reports.
-IN_PLACE = ("ext4", "xfs")
+IN_PLACE_SYSTEMS = ("ext4", "xfs")
 # The call FIEMAP, its request, each extent of its answer, how many extents are asked for, and the flags of an extent
 # that has no place yet.
 FIEMAP, REQUEST, EXTENT = 0xC020660B, struct.Struct("=QQLLLL"), struct.Struct("=QQQQQLLLL")
-MOST_EXTENTS, PLACELESS = 16, 6
+MOST_EXTENTS, EXTENTS_WITHOUT_PLACE = 16, 6
 
 
 class NotMounted(Exception):
     """The file system cannot be mounted. The text says why."""
 
 
-def missing(name):
+def missing_requirement(name):
     """What this machine lacks for this file system; empty if it lacks nothing."""
-    kind, _, make, _ = SYSTEMS[name]
+    kind, _, make, _ = FILE_SYSTEMS[name]
     with open("/proc/filesystems", encoding="ascii") as file:
         if kind not in file.read().split():
             return f"{kind} in the kernel"
@@ -60,7 +60,7 @@ def call(*words):
 
 
 @contextlib.contextmanager
-def looped(path):
+def loop_device(path):
     """A loop device over this file."""
     device = call("losetup", "--find", "--show", path)
     try:
@@ -72,8 +72,8 @@ def looped(path):
 @contextlib.contextmanager
 def mounted(name, image, folder):
     """Mounts the image of this file system in the folder."""
-    kind, _, _, options = SYSTEMS[name]
-    with looped(image) as device:
+    kind, _, _, options = FILE_SYSTEMS[name]
+    with loop_device(image) as device:
         for number in range(TRIES):
             try:
                 call("mount", "-t", kind, "-o", options, device, folder)
@@ -82,8 +82,9 @@ def mounted(name, image, folder):
                 if number == TRIES - 1:
                     raise
                 time.sleep(PAUSE)
-                if number == TRIES - 2 and kind in REPAIR:
-                    subprocess.run([*REPAIR[kind], device], stdout=subprocess.DEVNULL, stderr=subprocess.DEVNULL)
+                if number == TRIES - 2 and kind in REPAIR_COMMANDS:
+                    subprocess.run([*REPAIR_COMMANDS[kind], device],
+                                   stdout=subprocess.DEVNULL, stderr=subprocess.DEVNULL)
         try:
             yield
         finally:
@@ -92,7 +93,7 @@ def mounted(name, image, folder):
 
 def unmount(folder):
     """Unmounts the file system that is mounted in this folder."""
-    for _ in range(UNMOUNTS - 1):
+    for _ in range(MAX_UNMOUNTS - 1):
         try:
             call("umount", folder)
             return
@@ -102,10 +103,10 @@ def unmount(folder):
 
 
 @contextlib.contextmanager
-def recorded(name, work, image=None):
+def recorded_disk(name, work, image=None):
     """A disk in user space with this image, or with a new file system. Yields the paths of its file
     and of its log."""
-    _, size, make, _ = SYSTEMS[name]
+    _, size, make, _ = FILE_SYSTEMS[name]
     folder, log = os.path.join(work, "recorded"), os.path.join(work, "log")
     os.makedirs(folder)
     open(log, "wb").close()
@@ -113,12 +114,12 @@ def recorded(name, work, image=None):
     path = os.path.join(folder, "disk")
     with subprocess.Popen(words, start_new_session=True) as process:
         try:
-            for _ in range(LOOKS):
+            for _ in range(MAX_MOUNT_LOOKS):
                 if os.path.exists(path):
                     break
                 time.sleep(PAUSE)
             if not image:
-                with looped(path) as device:
+                with loop_device(path) as device:
                     call(*make, device)
             yield path, log
         finally:
@@ -131,14 +132,14 @@ def recorded(name, work, image=None):
 def places_of(name, path):
     """The parts of the disk that have the contents of this file, each with its start and its end. None are known if the
     file system writes files at other places each time."""
-    if SYSTEMS[name][0] not in IN_PLACE or not os.path.exists(path):
+    if FILE_SYSTEMS[name][0] not in IN_PLACE_SYSTEMS or not os.path.exists(path):
         return []
     request = bytearray(REQUEST.pack(0, (1 << 64) - 1, 0, 0, MOST_EXTENTS, 0) + bytes(MOST_EXTENTS * EXTENT.size))
     with open(path, "rb") as file:
         fcntl.ioctl(file, FIEMAP, request)
     count = REQUEST.unpack_from(request)[3]
     found = [EXTENT.unpack_from(request, REQUEST.size + number * EXTENT.size) for number in range(count)]
-    return [(place, place + size) for _, place, size, _, _, flags, *_ in found if not flags & PLACELESS]
+    return [(place, place + size) for _, place, size, _, _, flags, *_ in found if not flags & EXTENTS_WITHOUT_PLACE]
 
 
 def places_of_database(name, path):

@@ -29,47 +29,47 @@ VERSION_1_DEVICES = {
     0xFFFFFFFE: ("D2-05-00", None),
 }
 
-CONTACT, QUERY, PRESS, ACTUATOR = "D5 00", "A5 08284680", "F6 50", "D2 0460E4"
-UNSUPPORTED, BARE, REPLY = "A5 50084680", "A5 00000000", "A5 082846F0"
+CONTACT_TEACH_IN, QUERY, PRESS, ACTUATOR = "D5 00", "A5 08284680", "F6 50", "D2 0460E4"
+UNSUPPORTED, BARE_TEACH_IN, TEACH_IN_REPLY = "A5 50084680", "A5 00000000", "A5 082846F0"
 
 # UTE queries, one of them of a profile that is not supported, and a reply.
 UNIVERSAL, DELETION, NOT_USED = "D4 A00146001201D2", "D4 900146001201D2", "D4 B00146001201D2"
 UNIVERSAL_UNSUPPORTED, UNIVERSAL_REPLY = "D4 A00146000032D2", "D4 910146001201D2"
 
 
-def whole(lines):
+def joined_lines(lines):
     return "".join(line + "\n" for line in lines)
 
 
 def answers(lines, refused=(), fault="memory", gateway=None):
     """The required answer to each line, if the lines with these numbers fail with this error."""
     gateway = gateway or Gateway()
-    told = []
+    found = []
     for number, line in enumerate(lines):
         if number in refused:
             gateway.counts["refused"] += 1
-            told.append(error(fault))
+            found.append(error(fault))
         else:
-            told.append(gateway.answer(line))
-    return told
+            found.append(gateway.answer(line))
+    return found
 
 
-def ending(told, fault="", status=0):
+def expected_run(lines, fault="", status=0):
     """The text that a run writes to its two streams, and its status."""
-    return "".join(told), fault, status
+    return "".join(lines), fault, status
 
 
-def new_in(work, name):
+def new_databases(work, name):
     """By its number, a database for each run, which does not exist yet."""
     return lambda number: work / f"{name}_{number}.db"
 
 
-def tells_change(line, answer):
+def is_change_of_device(line, answer):
     """Whether the answer to this line says that what is kept of a device is another: learned, forgotten or labelled."""
     return re.search('"(accepted|deleted)"', answer) or (line.startswith("label ") and answer == OK)
 
 
-def lists_behind(lines, refused):
+def lists_after(lines, refused):
     """The answers to `list` that a start may give after a run in which the lines with these numbers were refused. In
     the first, all that was acknowledged is done, and nothing else. The others are for an end that was not clean: one
     more change is done, which was refused after the last one that was acknowledged."""
@@ -79,34 +79,34 @@ def lists_behind(lines, refused):
             other = copy.deepcopy(gateway)
             other.answer(line)
             others.append(other.listed())
-        elif tells_change(line, gateway.answer(line)):
+        elif is_change_of_device(line, gateway.answer(line)):
             others = []
     return [gateway.listed(), *others]
 
 
-def refused_by_store(lines, told):
+def lines_failed_in_store(lines, output):
     """The numbers of the lines that failed, if each line was answered as the oracle says or, if it needs the database,
     with `store`; otherwise None."""
     gateway, numbers = Gateway(), []
     for number, line in enumerate(lines):
         needs_store = not re.match("learn|status|S 5500010002", line)
-        if needs_store and told.startswith(error("store")):
+        if needs_store and output.startswith(error("store")):
             numbers.append(number)
             gateway.counts["refused"] += 1
             answer = error("store")
         else:
             answer = gateway.answer(line)
-        if not told.startswith(answer):
+        if not output.startswith(answer):
             return None
-        told = told[len(answer) :]
-    return numbers if told == "" else None
+        output = output[len(answer) :]
+    return numbers if output == "" else None
 
 
-def is_kept(lines, refused):
+def check_of_kept_devices(lines, refused):
     """Whether a start after a run finds what it may, by its case; `refused` has the lines refused in each case."""
 
-    def is_so(case, told, database):
-        lists = lists_behind([] if case == "start" else lines, refused[case])
-        return run("list\n", database=database)[0] in (lists if told[2] else lists[:1])
+    def is_so(case, run_result, database):
+        lists = lists_after([] if case == "start" else lines, refused[case])
+        return run("list\n", database=database)[0] in (lists if run_result[2] else lists[:1])
 
     return is_so

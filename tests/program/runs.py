@@ -12,7 +12,7 @@ sys.path.insert(0, str(ROOT / "tests"))
 
 PROGRAM = pathlib.Path(os.environ.get("TESTED_PROGRAM", ROOT / "crates/enogate/out/enogate"))
 # If the program is emulated, a limit of the process would limit the emulator.
-CAN_BE_LIMITED = "TESTED_PROGRAM" not in os.environ
+MAY_BE_LIMITED = "TESTED_PROGRAM" not in os.environ
 REFUSE_CALL = "refuse_call.c"
 
 ADD = "add 01800ABC D5-00-01\n"
@@ -24,13 +24,13 @@ TEST = pathlib.Path(sys.argv[0]).name
 failed = []
 
 
-def wants(name, is_so):
+def report_check(name, is_so):
     print(f"{TEST}: {name} {'ok' if is_so else 'FAILED'}", flush=True)
     if not is_so:
         failed.append(name)
 
 
-def counts(ignored=0, readings=0, responses=0, teach=0, mode="closed"):
+def status_line(ignored=0, readings=0, responses=0, teach=0, mode="closed"):
     """The answer to `status` if no order was refused."""
     return (
         f'{{"ignored":{ignored},"mode":"{mode}","readings":{readings},"refused":0,"responses":{responses},'
@@ -38,67 +38,68 @@ def counts(ignored=0, readings=0, responses=0, teach=0, mode="closed"):
     )
 
 
-def on_small_stack():
+def limit_stack():
     """Limits a process to a stack of 128 KiB."""
     resource.setrlimit(resource.RLIMIT_STACK, (128 << 10, 128 << 10))
 
 
-def in_little_memory():
+def limit_memory():
     """Limits a process to this stack and 20 MiB of addresses."""
-    on_small_stack()
+    limit_stack()
     resource.setrlimit(resource.RLIMIT_AS, (20 << 20, 20 << 20))
 
 
 REPLAY = ["replay"]
 
 
-def live(serial=os.devnull, desk="/dev/stdin", turns=8):
+def live_words(serial=os.devnull, desk="/dev/stdin", turns=8):
     """The words of a run of `live` that prints its answers. Without other paths its standard input is the desk, of
     which it reads at most 256 bytes in each turn, and the serial line has no bytes."""
     return ["live", "--serial", serial, "--desk", desk, "--out", "/dev/stdout", "--turns", str(turns)]
 
 
-def command(base, database, service=REPLAY):
+def program_words(base, database, service=REPLAY):
     return [PROGRAM, *service, "--base", base] + (["--db", database] if database else [])
 
 
 def run(script, base="FF800000", database=None, service=REPLAY, **settings):
     """The text that a run writes to its two streams, and its status. The script comes through a pipe."""
-    words = command(base, database, service)
+    words = program_words(base, database, service)
     done = subprocess.run(words, input=script, capture_output=True, text=True, **settings)
     return done.stdout, done.stderr, done.returncode
 
 
-def preloading(work, source, **variables):
+def preload_environment(work, source, **variables):
     """The environment of a run with the library of this source, which these variables control."""
     library = work / (source + ".so")
     if not library.exists():
         source = ROOT / "tests" / "preload" / source
         subprocess.run(["cc", "-O1", "-shared", "-fPIC", "-o", library, source, "-ldl"], check=True)
-    told = {name: str(value) for name, value in variables.items()}
-    return {**os.environ, "LD_PRELOAD": str(library), **told}
+    values = {name: str(value) for name, value in variables.items()}
+    return {**os.environ, "LD_PRELOAD": str(library), **values}
 
 
-def calls(work, kind, script, database=None, **settings):
+def count_calls(work, kind, script, database=None, **settings):
     """How many calls of this kind a run makes."""
     counted = work / "calls"
-    run(script, database=database, env=preloading(work, REFUSE_CALL, REFUSE_KIND=kind, COUNT_CALLS=counted), **settings)
+    run(script, database=database, env=preload_environment(
+        work, REFUSE_CALL, REFUSE_KIND=kind, COUNT_CALLS=counted), **settings)
     return int(counted.read_text())
 
 
-def refuse_each(
+def check_each_refused_call(
     work, name, kind, script, case_of, cases, database=None, is_kept=None, first=1, on=False, service=REPLAY
 ):
     """Each call of this kind fails in turn, from number `first` on, by itself or with all calls after it; in the end
     none fails. Each run is on the database of its number. It ends in a case, `none` if no call fails, and then
     `is_kept` holds for the database. Each of these cases occurs."""
-    last = calls(work, kind, script, database and database(0), service=service)
-    preloading(work, REFUSE_CALL)
+    last = count_calls(work, kind, script, database and database(0), service=service)
+    preload_environment(work, REFUSE_CALL)
 
     def differs(number):
         mark, path = work / f"mark_{number}", database and database(number)
         call = {"REFUSE_KIND": kind, "REFUSE_NUMBER": number, "REFUSE_MARK": mark, **({"REFUSE_ON": 1} if on else {})}
-        ended = run(script, database=path, service=service, env=preloading(work, REFUSE_CALL, **call))
+        ended = run(script, database=path, service=service, env=preload_environment(work, REFUSE_CALL, **call))
         case = case_of(ended)
         met.add(case)
         was_refused = mark.exists()
@@ -110,14 +111,14 @@ def refuse_each(
     met = set()
     with concurrent.futures.ThreadPoolExecutor(os.cpu_count()) as pool:
         differ = [text for text in pool.map(differs, range(first, last + 2)) if text]
-    wants(f"each of {last + 1 - first} {name}", not differ and met == set(cases))
+    report_check(f"each of {last + 1 - first} {name}", not differ and met == set(cases))
     for text in differ[:3]:
         print(text)
     if missing := set(cases) - met:
         print(f"not met: {missing}")
 
 
-def devices_in(database):
+def device_ids_in(database):
     connection = sqlite3.connect(database)
     rows = [row[0] for row in connection.execute("SELECT id FROM enogate_device_v2 ORDER BY id")]
     connection.close()

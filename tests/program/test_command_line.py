@@ -6,7 +6,7 @@ import unittest
 from runs import ACCEPTED, OK, READING, ROOT
 from testcase import ProgramTest
 
-CONTACT = ROOT / "examples/contact.txt"
+CONTACT_SCRIPT = ROOT / "examples/contact.txt"
 FOLDER = ROOT / "docs"
 EXPLANATION = (
     '{"dbm":-45,"dest":null,"eep":"D5-00-01","id":"01800ABC","maker":null,"payload":"09",'
@@ -22,7 +22,7 @@ READINGS = (
     '{"code":0,"data":"FF800000","name":"OK","type":"response"}\n'
     '{"ignored":0,"mode":"closed","readings":2,"refused":0,"responses":1,"teach":0,"type":"status"}\n'
 )
-RANGE = '{"error":"range","type":"error"}\n'
+RANGE_ERROR = '{"error":"range","type":"error"}\n'
 HELP = """\
 A gateway for EnOcean radio devices
 
@@ -65,20 +65,20 @@ Options:
 """
 
 
-class Replay(ProgramTest):
+class ReplayRuns(ProgramTest):
     """Scripts, and base IDs."""
 
     def test_the_first_example(self):
-        self.assert_ended(self.replay(script=CONTACT), ACCEPTED + READING)
+        self.assert_ended(self.replay(script=CONTACT_SCRIPT), ACCEPTED + READING)
 
     def test_the_first_example_with_explanations(self):
-        self.assert_ended(self.replay("--explain", script=CONTACT), ACCEPTED + EXPLANATION + READING)
+        self.assert_ended(self.replay("--explain", script=CONTACT_SCRIPT), ACCEPTED + EXPLANATION + READING)
 
     def test_the_example_of_readings(self):
         self.assert_ended(self.replay(script=ROOT / "examples/readings.txt"), READINGS)
 
     def test_a_base_in_lower_case(self):
-        self.assert_ended(self.replay(base="ff800000", script=CONTACT), ACCEPTED + READING)
+        self.assert_ended(self.replay(base="ff800000", script=CONTACT_SCRIPT), ACCEPTED + READING)
 
     def test_an_empty_script(self):
         self.assert_ended(self.replay(base="FFFFFF80"))
@@ -88,7 +88,7 @@ class Replay(ProgramTest):
         script = "teach 127\ncentral 127 on\nlevel 127 0 0\nteach 126\ncentral 126 on\n"
         first = "S 55000a0701eba5e047ff80fffffffe0003ffffffffff0061\n"
         second = "S 55000a0701eba501000009fffffffe0003ffffffffff00cc\n"
-        self.assert_ended(self.replay(base="FFFFFF80", script=script), 3 * RANGE + first + OK + second + OK)
+        self.assert_ended(self.replay(base="FFFFFF80", script=script), 3 * RANGE_ERROR + first + OK + second + OK)
 
     def test_bad_bases(self):
         for base in ("FF800001", "FF7FFF80", "FFFFFFFF", "FF80000", "FF8000000", "0xFF8000", ""):
@@ -99,7 +99,7 @@ class Replay(ProgramTest):
         self.assert_fault(self.replay(base=b"\377"), "an argument is not text", 2)
 
 
-class Streams(ProgramTest):
+class UnusableStreams(ProgramTest):
     """Input that cannot be read, and output that cannot be written."""
 
     def test_a_closed_input(self):
@@ -112,10 +112,10 @@ class Streams(ProgramTest):
 
     def test_an_output_that_is_full(self):
         with open("/dev/full", "wb") as full:
-            self.assert_fault(self.replay(script=CONTACT, stdout=full), "write")
+            self.assert_fault(self.replay(script=CONTACT_SCRIPT, stdout=full), "write")
 
     def test_a_closed_output(self):
-        self.assert_fault(self.replay(script=CONTACT, preexec_fn=lambda: os.close(1)), "write")
+        self.assert_fault(self.replay(script=CONTACT_SCRIPT, preexec_fn=lambda: os.close(1)), "write")
 
     def test_a_bad_base_that_cannot_be_printed(self):
         with open("/dev/full", "wb") as full:
@@ -129,18 +129,18 @@ class Streams(ProgramTest):
 
     def test_the_reads_of_a_script_of_1000_bytes(self):
         """A read takes at most 256 bytes: four reads take the script, and the fifth finds its end."""
-        run = self.replay(script=1000 * "0", env=self.counting())
+        run = self.replay(script=1000 * "0", env=self.count_calls_environment())
         self.assert_ended(run, '{"error":"too_long","type":"error"}\n')
         self.assertEqual(self.calls("read"), {"read file": 5})
 
 
-class Pages(ProgramTest):
+class HelpAndVersion(ProgramTest):
     """Help, the version, and messages on usage."""
 
     def test_help(self):
-        for command, page in (([], HELP), (["replay"], REPLAY_HELP), (["live"], LIVE_HELP)):
-            with self.subTest(command=command):
-                self.assert_ended(self.run_program(*command, "--help"), page)
+        for program_words, page in (([], HELP), (["replay"], REPLAY_HELP), (["live"], LIVE_HELP)):
+            with self.subTest(program_words=program_words):
+                self.assert_ended(self.run_program(*program_words, "--help"), page)
 
     def test_the_version(self):
         for option in ("--version", "-V"):

@@ -5,14 +5,14 @@ import collections
 import random
 import unittest
 
-from runs import ACCEPTED, ADD, OK, REFUSE_CALL, counts
+from runs import ACCEPTED, ADD, OK, REFUSE_CALL, status_line
 from testcase import LiveTest, ProgramTest, text_of
 
 from oracle.esp3 import ALL, check8, packet, pieces, radio, telegram
 
 DEVICE = 0x01800ABC
 PACKET = "S 55000707017AD50901800ABC0001FFFFFFFF2D001F\n"
-CONTACT = pieces(telegram(0xD5, b"\x00", DEVICE))
+CONTACT_TEACH_IN = pieces(telegram(0xD5, b"\x00", DEVICE))
 
 
 def from_device(rorg, payload):
@@ -23,10 +23,10 @@ def from_device(rorg, payload):
 # Telegrams of 4BS and UTE that teach in or out, or seem to.
 QUERY, UNSUPPORTED = from_device(0xA5, "08284680"), from_device(0xA5, "50084680")
 BARE, REPLY = from_device(0xA5, "00000000"), from_device(0xA5, "082846F0")
-UNIVERSAL, UNIVERSAL_UNSUPPORTED = from_device(0xD4, "A00146001201D2"), from_device(0xD4, "A00146000032D2")
+UTE_QUERIES, UNIVERSAL_UNSUPPORTED = from_device(0xD4, "A00146001201D2"), from_device(0xD4, "A00146000032D2")
 DELETION, NOT_USED = from_device(0xD4, "900146001201D2"), from_device(0xD4, "B00146001201D2")
 UNIVERSAL_REPLY = from_device(0xD4, "910146001201D2")
-ALL_UNIVERSAL = UNIVERSAL + UNIVERSAL_UNSUPPORTED + DELETION + NOT_USED + UNIVERSAL_REPLY
+ALL_UNIVERSAL = UTE_QUERIES + UNIVERSAL_UNSUPPORTED + DELETION + NOT_USED + UNIVERSAL_REPLY
 ALL_BUT_CONTACT = QUERY + UNSUPPORTED + BARE + REPLY + ALL_UNIVERSAL
 
 WINDOWS = {"on": "learn on\n", "answer": "learn on answer\n"}
@@ -43,7 +43,7 @@ class GrowthsTest(ProgramTest):
         """How many allocations a run of this service has, and what it prints."""
         counted = self.work / "counted"
         counted.unlink(missing_ok=True)
-        env = self.preloading(REFUSE_CALL, REFUSE_KIND="growth", COUNT_CALLS=counted)
+        env = self.preload_environment(REFUSE_CALL, REFUSE_KIND="growth", COUNT_CALLS=counted)
         run = serve(*options, env=env, **settings)
         self.assertEqual((text_of(run.stderr), run.returncode), ("", 0))
         return int(counted.read_text()), text_of(run.stdout)
@@ -71,7 +71,7 @@ class GrowthsTest(ProgramTest):
         return options
 
 
-class Queries(GrowthsTest):
+class DatabaseQueries(GrowthsTest):
     """A sender is looked up in the database once."""
 
     def test_a_sender_that_is_not_learned_is_looked_up_once(self):
@@ -95,15 +95,15 @@ class Queries(GrowthsTest):
         self.assertGreater(first - line, line)
 
 
-class Remembered(GrowthsTest, LiveTest):
+class RememberedSenders(GrowthsTest, LiveTest):
     """After 1,000 devices and 24 unknown senders have sent once, three rounds of them in turn have as many allocations
     as one device and one unknown sender that send as often. So no packet queries the database."""
 
-    ADDS = "".join(f"add {sender:08X} D5-00-01\n" for sender in range(1000))
+    ADD_SCRIPT = "".join(f"add {sender:08X} D5-00-01\n" for sender in range(1000))
 
     def in_replay(self, orders, packets, *options):
         growths, output = self.growths(orders + pieces(packets) + "status\n", *options)
-        self.assertEqual(output.splitlines(keepends=True)[-1], counts(96, 4000))
+        self.assertEqual(output.splitlines(keepends=True)[-1], status_line(96, 4000))
         return growths, output
 
     def in_live(self, orders, packets, *options):
@@ -128,24 +128,25 @@ class Remembered(GrowthsTest, LiveTest):
     def test_senders_are_remembered_in_memory(self):
         for serve in (self.in_replay, self.in_live):
             with self.subTest(serve=serve.__name__):
-                self.assert_remembers(serve, self.ADDS)
+                self.assert_remembers(serve, self.ADD_SCRIPT)
 
     def test_senders_are_remembered_with_a_registry_in_a_file(self):
         in_file = ["--db", self.work / "thousand.db"]
-        self.replay(*in_file, script=self.ADDS)
+        self.replay(*in_file, script=self.ADD_SCRIPT)
         for serve in (self.in_replay, self.in_live):
             with self.subTest(serve=serve.__name__):
                 self.assert_remembers(serve, "", *in_file)
 
 
-class Lines(GrowthsTest):
+class OutputLines(GrowthsTest):
     """Packets that need only the memory of their line of output, and so do not query the database."""
 
     def sizes(self, script):
         """How many allocations of each size a run has; the sizes are in bytes."""
         recorded = self.work / "recorded"
         recorded.unlink(missing_ok=True)
-        self.replay(script=script, env=self.preloading("record_growths.c", RECORD_GROWTHS=recorded, RECORD_FROM=0))
+        self.replay(script=script, env=self.preload_environment(
+            "record_growths.c", RECORD_GROWTHS=recorded, RECORD_FROM=0))
         return collections.Counter(map(int, recorded.read_text().split()))
 
     def assert_lines_only(self, orders, line, *options):
@@ -165,7 +166,7 @@ class Lines(GrowthsTest):
                 self.assertEqual((len(line), sorted((more - few).elements())), (length, buffers))
 
     def test_packets_of_a_device_that_was_taught_in_over_the_air(self):
-        self.assert_lines_only(WINDOWS["on"] + CONTACT, PACKET)
+        self.assert_lines_only(WINDOWS["on"] + CONTACT_TEACH_IN, PACKET)
 
     def test_teach_ins_that_are_refused(self):
         kinds = {"unsupported": UNSUPPORTED, "bare": BARE}
@@ -177,7 +178,7 @@ class Lines(GrowthsTest):
                     self.assert_lines_only(window, line, *asked)
 
 
-class TeachIn(GrowthsTest):
+class TeachInGrowths(GrowthsTest):
     """A telegram that teaches a device in or out asks the database as often as an order that does the same."""
 
     def assert_as_adds(self, add, script):
@@ -186,7 +187,7 @@ class TeachIn(GrowthsTest):
         self.assertEqual(output.count('"result":"accepted"'), 50)
 
     def test_50_contacts_have_the_growths_of_50_adds(self):
-        self.assert_as_adds(ADD, WINDOWS["on"] + 50 * CONTACT)
+        self.assert_as_adds(ADD, WINDOWS["on"] + 50 * CONTACT_TEACH_IN)
 
     def test_50_4bs_queries_have_the_growths_of_50_adds(self):
         for mode, window in WINDOWS.items():
@@ -201,12 +202,12 @@ class TeachIn(GrowthsTest):
     def test_50_ute_queries_have_the_growths_of_50_adds(self):
         for mode, window in WINDOWS.items():
             with self.subTest(mode=mode):
-                self.assert_as_adds(ADD_VLD, window + 50 * UNIVERSAL)
+                self.assert_as_adds(ADD_VLD, window + 50 * UTE_QUERIES)
 
     def test_50_deletions_have_the_growths_of_50_removes(self):
         for mode, window in WINDOWS.items():
             with self.subTest(mode=mode):
-                output = self.assert_alike(50 * (ADD_VLD + REMOVE), window + 50 * (UNIVERSAL + DELETION))
+                output = self.assert_alike(50 * (ADD_VLD + REMOVE), window + 50 * (UTE_QUERIES + DELETION))
                 self.assertEqual(output.count('"result":"deleted"'), 50)
 
     def test_each_deletion_of_a_device_that_is_not_learned_asks_the_database(self):
@@ -214,16 +215,16 @@ class TeachIn(GrowthsTest):
         self.assertEqual([growths for growths in made if growths <= line], [], f"{made}, and a line has {line}")
 
     def test_a_device_that_was_deleted_over_the_air_is_not_looked_up(self):
-        deletions = WINDOWS["answer"] + 50 * (UNIVERSAL + DELETION)
+        deletions = WINDOWS["answer"] + 50 * (UTE_QUERIES + DELETION)
         self.assert_alike(deletions, deletions + 1000 * PACKET)
 
 
-def spoilt(good):
+def with_wrong_crc(good):
     """A packet with a wrong CRC."""
     return good[:-1] + bytes([good[-1] ^ 1])
 
 
-class NoMemory(GrowthsTest):
+class InputsWithoutAllocations(GrowthsTest):
     """Bytes and orders that need no memory after the start: about 100,000 bytes of each kind."""
 
     def assert_no_memory(self, script, ignored, mode="closed"):
@@ -234,7 +235,7 @@ class NoMemory(GrowthsTest):
         self.assert_alike("", script)
         rest = pieces(b"\x01" + bytes(65_791) + telegram(0xD5, b"\x09", DEVICE)) + "status\n"
         done = OK * sum(line.startswith("learn") for line in script.splitlines())
-        self.assert_ended(self.replay(script=script + rest), done + counts(ignored, mode=mode))
+        self.assert_ended(self.replay(script=script + rest), done + status_line(ignored, mode=mode))
 
     def test_random_bytes(self):
         self.assert_no_memory(pieces(random.Random(1).randbytes(100_000)), 1)
@@ -251,10 +252,10 @@ class NoMemory(GrowthsTest):
         self.assert_no_memory(pieces(header * 16_667), 1)
 
     def test_packets_with_a_wrong_check(self):
-        self.assert_no_memory(pieces(spoilt(telegram(0xD5, b"\x09", DEVICE)) * 5000), 1)
+        self.assert_no_memory(pieces(with_wrong_crc(telegram(0xD5, b"\x09", DEVICE)) * 5000), 1)
 
     def test_the_longest_packets_with_a_wrong_check(self):
-        self.assert_no_memory(pieces(spoilt(packet(9, bytes(65535), bytes(255))) * 2), 1)
+        self.assert_no_memory(pieces(with_wrong_crc(packet(9, bytes(65535), bytes(255))) * 2), 1)
 
     def test_packets_of_another_type(self):
         self.assert_no_memory(pieces(packet(9, telegram(0xD5, b"\x09", DEVICE)[6:20]) * 5000), 5001)
@@ -263,7 +264,7 @@ class NoMemory(GrowthsTest):
         self.assert_no_memory(pieces(packet(9, bytes(65535), bytes(255)) * 2), 3)
 
     def test_teach_ins_in_a_closed_window(self):
-        self.assert_no_memory(500 * (CONTACT + ALL_BUT_CONTACT), 5001)
+        self.assert_no_memory(500 * (CONTACT_TEACH_IN + ALL_BUT_CONTACT), 5001)
 
     def test_replies_in_an_open_window(self):
         for mode, window in WINDOWS.items():
@@ -274,12 +275,12 @@ class NoMemory(GrowthsTest):
         self.assert_no_memory("learn as D5-00-01\n" + 500 * ALL_BUT_CONTACT, 4501, "as D5-00-01")
 
     def test_1bs_and_replies_and_ute_in_the_mode_of_a_4bs_sensor(self):
-        self.assert_no_memory(LEARN_4BS + 700 * (CONTACT + REPLY + ALL_UNIVERSAL), 4901, "as A5-02-05")
+        self.assert_no_memory(LEARN_4BS + 700 * (CONTACT_TEACH_IN + REPLY + ALL_UNIVERSAL), 4901, "as A5-02-05")
 
     def test_teach_ins_in_the_mode_of_a_profile_without_teach_in(self):
         for profile in ("F6-02-01", "D2-01-12"):
             with self.subTest(profile=profile):
-                script = f"learn as {profile}\n" + 500 * (CONTACT + ALL_BUT_CONTACT)
+                script = f"learn as {profile}\n" + 500 * (CONTACT_TEACH_IN + ALL_BUT_CONTACT)
                 self.assert_no_memory(script, 5001, f"as {profile}")
 
     def test_learn_orders(self):
@@ -306,13 +307,13 @@ def error_line(name):
     return f'{{"error":"{name}","type":"error"}}\n'
 
 
-class Orders(GrowthsTest):
+class OrderGrowths(GrowthsTest):
     """How many allocations a list, an `add`, a `remove` and a `label` have, as counted on this program with the kit
     that the README names. The numbers show a change, such as a second query of the database. They do not show that
     there is only one query."""
 
-    TWO = "add 00000001 D5-00-01\nadd 00000002 D5-00-01\n"
-    LABEL = "label 00000001 x\n"
+    TWO_ADDS = "add 00000001 D5-00-01\nadd 00000002 D5-00-01\n"
+    LABEL_ORDER = "label 00000001 x\n"
 
     def assert_growths(self, wanted, script, line):
         """After this script the line has this many allocations."""
@@ -320,19 +321,19 @@ class Orders(GrowthsTest):
         self.assertEqual(after - before, wanted)
 
     def test_a_third_add(self):
-        self.assert_growths(51, self.TWO, "add 00000003 D5-00-01\n")
+        self.assert_growths(51, self.TWO_ADDS, "add 00000003 D5-00-01\n")
 
     def test_an_add_of_a_known_device(self):
-        self.assert_growths(32, self.TWO, "add 00000001 D5-00-01\n")
+        self.assert_growths(32, self.TWO_ADDS, "add 00000001 D5-00-01\n")
 
     def test_an_add_of_a_device_with_a_label(self):
-        self.assert_growths(42, self.TWO + self.LABEL, "add 00000001 D5-00-01\n")
+        self.assert_growths(42, self.TWO_ADDS + self.LABEL_ORDER, "add 00000001 D5-00-01\n")
 
     def test_a_second_remove(self):
-        self.assert_growths(15, self.TWO + "remove 00000001\n", "remove 00000002\n")
+        self.assert_growths(15, self.TWO_ADDS + "remove 00000001\n", "remove 00000002\n")
 
     def test_a_second_list_of_two_devices(self):
-        self.assert_growths(22, self.TWO + "list\n", "list\n")
+        self.assert_growths(22, self.TWO_ADDS + "list\n", "list\n")
 
     def test_a_list_of_100_devices(self):
         """Their buffer is allocated at once."""
@@ -340,22 +341,22 @@ class Orders(GrowthsTest):
         self.assert_growths(279, adds, "list\n")
 
     def test_a_label(self):
-        self.assert_growths(42, self.TWO, self.LABEL)
+        self.assert_growths(42, self.TWO_ADDS, self.LABEL_ORDER)
 
     def test_a_label_in_place_of_another(self):
-        self.assert_growths(41, self.TWO + self.LABEL, "label 00000001 y\n")
+        self.assert_growths(41, self.TWO_ADDS + self.LABEL_ORDER, "label 00000001 y\n")
 
     def test_the_longest_label(self):
-        self.assert_growths(42, self.TWO, "label 00000001 abcdefghijklmnopqrstuvwxyz 12345\n")
+        self.assert_growths(42, self.TWO_ADDS, "label 00000001 abcdefghijklmnopqrstuvwxyz 12345\n")
 
     def test_the_empty_label(self):
-        self.assert_growths(31, self.TWO, "label 00000001\n")
+        self.assert_growths(31, self.TWO_ADDS, "label 00000001\n")
 
     def test_a_label_of_a_device_that_is_not_learned(self):
-        self.assert_growths(15, self.TWO, "label 00000003 x\n")
+        self.assert_growths(15, self.TWO_ADDS, "label 00000003 x\n")
 
     def test_a_label_of_a_device_that_was_found_not_to_be_learned(self):
-        self.assert_growths(0, self.TWO + "label 00000003 x\n", "label 00000003 x\n")
+        self.assert_growths(0, self.TWO_ADDS + "label 00000003 x\n", "label 00000003 x\n")
 
 
 if __name__ == "__main__":

@@ -10,31 +10,31 @@ from runs import ACCEPTED, OK, PROGRAM, READING, ROOT
 from testcase import LiveTest
 
 FOLDER = ROOT / "docs"
-CONTACT = bytes.fromhex("55000707017AD50901800ABC0001FFFFFFFF2D001F")
+CONTACT_PACKET = bytes.fromhex("55000707017AD50901800ABC0001FFFFFFFF2D001F")
 BASE_REQUEST = bytes.fromhex("5500010005700838")
 EXPLANATION = (
     '{"dbm":-45,"dest":null,"eep":"D5-00-01","id":"01800ABC","maker":null,"payload":"09",'
     '"rorg":"D5","status":"00","type":"packet","why":"read"}\n'
 )
-LABELLED = (
+LABEL_ANSWERS = (
     '{"type":"ok"}\n'
     '{"eep":"D5-00-01","id":"01800ABC","label":"Door \\"A\\"","maker":null,"type":"device"}\n'
     '{"count":1,"type":"list"}\n'
 )
-EARLIER = "an earlier line\n"
+EARLIER_LINE = "an earlier line\n"
 
 
-def in_a_minute():
+def limit_processor_time():
     """Limits a process to a minute of a processor, which only a run that hangs takes."""
     resource.setrlimit(resource.RLIMIT_CPU, (60, 60))
 
 
-class Gateway(LiveTest):
+class BytesOfLive(LiveTest):
     """The bytes that `live` reads and writes."""
 
     def packet_in_the_second_turn(self):
         """A telegram comes in the second turn, and the last line of the desk has no end."""
-        self.line.write_bytes(bytes(256) + CONTACT)
+        self.line.write_bytes(bytes(256) + CONTACT_PACKET)
         self.desk.write_text("add 01800ABC D5-00-01\nlist")
 
     def test_a_turn_reads_256_bytes_and_answers_whole_lines(self):
@@ -49,14 +49,14 @@ class Gateway(LiveTest):
 
     def test_one_turn_in_place_of_earlier_answers(self):
         self.packet_in_the_second_turn()
-        self.answers.write_text(EARLIER + ACCEPTED + READING)
+        self.answers.write_text(EARLIER_LINE + ACCEPTED + READING)
         self.assert_ended(self.live())
         self.assert_content(self.answers, ACCEPTED)
 
     def test_a_label_and_nothing_for_the_serial_line(self):
         self.desk.write_bytes(b'add 01800ABC D5-00-01\nlabel 01800ABC Door "A"\r\nlist\n')
         self.assert_ended(self.live())
-        self.assert_content(self.answers, ACCEPTED + LABELLED)
+        self.assert_content(self.answers, ACCEPTED + LABEL_ANSWERS)
         self.assertEqual(self.line.read_bytes(), b"")
 
     def test_an_order_for_the_module(self):
@@ -86,18 +86,19 @@ class Gateway(LiveTest):
         """These are a day, and more than 16 bits count."""
         silent = self.file("silent")
         files = {"line": silent, "desk": silent, "answers": "/dev/null"}
-        self.assert_ended(self.live(turns=864000, **files, env=self.counting(), preexec_fn=in_a_minute))
+        self.assert_ended(self.live(turns=864000, **files, env=self.count_calls_environment(),
+                          preexec_fn=limit_processor_time))
         self.assertEqual(self.calls("read"), {"read file": 1728000})
 
 
-class Access(LiveTest):
+class OpenedPaths(LiveTest):
     """How the three files are opened."""
 
     def test_each_file_is_opened_once_in_this_order_with_no_more_access(self):
         self.line.write_bytes(bytes(300))
         self.desk.write_text("base\n")
         opens = self.work / "opens"
-        self.assert_ended(self.live(env=self.preloading("record_opens.c", RECORD_OPENS=opens)))
+        self.assert_ended(self.live(env=self.preload_environment("record_opens.c", RECORD_OPENS=opens)))
         self.assert_content(opens, f"{self.line} read-write\n{self.desk} read\n{self.answers} write create truncate\n")
 
     def test_a_user_may_only_read_the_desk_and_only_write_the_answers(self):
@@ -135,16 +136,16 @@ class WrongPaths(LiveTest):
     def test_serial_lines_that_do_not_open(self):
         for path in (self.none, self.no_folder, FOLDER, ""):
             with self.subTest(path=path):
-                self.answers.write_text(EARLIER)
+                self.answers.write_text(EARLIER_LINE)
                 self.assert_fault(self.live(line=path), "cannot open")
-                self.assert_content(self.answers, EARLIER)
+                self.assert_content(self.answers, EARLIER_LINE)
 
     def test_desks_that_do_not_open(self):
         for path in (self.none, self.no_folder, ""):
             with self.subTest(path=path):
-                self.answers.write_text(EARLIER)
+                self.answers.write_text(EARLIER_LINE)
                 self.assert_fault(self.live(desk=path), "cannot open")
-                self.assert_content(self.answers, EARLIER)
+                self.assert_content(self.answers, EARLIER_LINE)
 
     def test_a_file_of_answers_is_not_made_if_there_is_no_desk(self):
         self.assert_fault(self.live(desk=self.none, answers=self.new), "cannot open")
@@ -187,7 +188,7 @@ class WrongPaths(LiveTest):
 
     def test_a_serial_line_that_cannot_be_written(self):
         """The radio bytes are written before the answer, so an order that is not sent has no answer."""
-        self.answers.write_text(EARLIER)
+        self.answers.write_text(EARLIER_LINE)
         self.assert_fault(self.live(line="/dev/full"), "write")
         self.assert_content(self.answers, "")
 

@@ -5,24 +5,24 @@ import threading
 import unittest
 
 from runs import ACCEPTED, ADD, PROGRAM, READING, ROOT
-from tables import FIRST, META, SECOND
-from testcase import HANGS, NOTHING, ProgramTest
+from tables import DEVICE_TABLE_1, VERSION_TABLE, DEVICE_TABLE_2
+from testcase import TIMEOUT, NOTHING, ProgramTest
 
 CONTACT_SCRIPT = ROOT / "examples/contact.txt"
 PACKET = "S 55000707017AD50901800ABC0001FFFFFFFF2D001F\n"
 LISTED = '{"eep":"D5-00-01","id":"01800ABC","label":"","maker":null,"type":"device"}\n{"count":1,"type":"list"}\n'
 # SQL after which rows can be inserted that break the checks of a table, and such rows.
-UNCHECKED = f"PRAGMA ignore_check_constraints = ON; {META};"
+UNCHECKED = f"PRAGMA ignore_check_constraints = ON; {VERSION_TABLE};"
 BAD_ROWS = ("4294967295, 1, -1", "-1, 1, -1", "5, -5, -1", "5, 16777216, -1", "5, 1, 2048", "5, 1, -2")
 
 
-def sqlite3(database, *texts):
+def run_sqlite3(database, *texts):
     """The output of the stock sqlite3 for these texts."""
-    command = ["sqlite3", "-bail", database, *texts]
-    return subprocess.run(command, stdin=subprocess.DEVNULL, stdout=subprocess.PIPE, check=True).stdout.decode()
+    program_words = ["sqlite3", "-bail", database, *texts]
+    return subprocess.run(program_words, stdin=subprocess.DEVNULL, stdout=subprocess.PIPE, check=True).stdout.decode()
 
 
-def backup(database, copy):
+def run_backup(database, copy):
     """Runs contrib/enogate-backup, and returns its status and what it prints to standard error."""
     run = subprocess.run([ROOT / "contrib/enogate-backup", database, copy], capture_output=True)
     return run.returncode, run.stderr.decode()
@@ -38,7 +38,7 @@ class RegistryTest(ProgramTest):
         return self.replay("--db", database, script=script, **settings)
 
 
-class Starts(RegistryTest):
+class NextStarts(RegistryTest):
     """The next start knows the devices that one start learned."""
 
     def test_a_second_start_knows_the_devices_of_the_first(self):
@@ -51,29 +51,29 @@ class Starts(RegistryTest):
 
     def test_a_registry_in_memory_opens_no_file(self):
         opens = self.work / "opens"
-        env = self.preloading("record_opens.c", RECORD_OPENS=opens)
+        env = self.preload_environment("record_opens.c", RECORD_OPENS=opens)
         self.assert_ended(self.replay(script=CONTACT_SCRIPT, env=env), ACCEPTED + READING)
         self.assertFalse(opens.exists())
 
     def test_a_registry_in_a_file_opens_that_file(self):
         opens = self.work / "opens"
         self.assert_ended(self.replay_on(self.database, CONTACT_SCRIPT), ACCEPTED + READING)
-        env = self.preloading("record_opens.c", RECORD_OPENS=opens)
+        env = self.preload_environment("record_opens.c", RECORD_OPENS=opens)
         self.assert_ended(self.replay_on(self.database, CONTACT_SCRIPT, env=env), ACCEPTED + READING)
         self.assertIn(f"{self.database} read-write", opens.read_text())
 
 
-class Kills(RegistryTest):
+class KilledRuns(RegistryTest):
     """A run learned a device, and goes on until the test kills it."""
 
     def setUp(self):
         super().setUp()
         self.copy = self.work / "copy.db"
-        command = [PROGRAM, "replay", "--base", "FF800000", "--db", self.database]
+        program_words = [PROGRAM, "replay", "--base", "FF800000", "--db", self.database]
         pipes = {"stdin": subprocess.PIPE, "stdout": subprocess.PIPE, "stderr": subprocess.DEVNULL}
-        self.running = self.enterContext(subprocess.Popen(command, **pipes))
+        self.running = self.enterContext(subprocess.Popen(program_words, **pipes))
         self.addCleanup(self.running.kill)
-        guard = threading.Timer(HANGS, self.running.kill)
+        guard = threading.Timer(TIMEOUT, self.running.kill)
         self.addCleanup(guard.cancel)
         guard.start()
         self.running.stdin.write(ADD.encode())
@@ -88,7 +88,7 @@ class Kills(RegistryTest):
         self.assert_fault(self.replay_on(self.database), "store")
 
     def test_a_registry_in_use_is_not_copied(self):
-        self.assertNotEqual(backup(self.database, self.copy)[0], 0)
+        self.assertNotEqual(run_backup(self.database, self.copy)[0], 0)
         self.assertFalse(self.copy.exists())
 
     def test_a_start_after_a_kill_knows_what_was_answered(self):
@@ -97,12 +97,12 @@ class Kills(RegistryTest):
 
     def test_a_copy_after_a_kill_has_what_was_answered(self):
         self.kill()
-        self.assertEqual(backup(self.database, self.copy), (0, ""))
+        self.assertEqual(run_backup(self.database, self.copy), (0, ""))
         self.assert_ended(self.replay_on(self.copy, "list\n"), LISTED)
         self.assert_ended(self.replay_on(self.database, "list\n"), LISTED)
 
 
-class Paths(RegistryTest):
+class DatabasePaths(RegistryTest):
     def test_paths_that_are_no_registry(self):
         for path in (self.work / "no/folder.db", ":memory:", ""):
             with self.subTest(path=path):
@@ -119,7 +119,7 @@ class OtherDatabases(RegistryTest):
     def assert_refused(self, fault, statements):
         """The database that these statements make is refused, and its file keeps each byte."""
         self.database.unlink(missing_ok=True)
-        sqlite3(self.database, statements)
+        run_sqlite3(self.database, statements)
         before = self.database.read_bytes()
         self.assert_fault(self.replay_on(self.database), fault)
         self.assertEqual(self.database.read_bytes(), before)
@@ -129,26 +129,26 @@ class OtherDatabases(RegistryTest):
         none, new = self.work / "none", self.work / "new"
         paths = ["--base", "FF800000", "--serial", none, "--desk", none, "--out", new, "--turns", "1"]
         for name, statements in (
-            ("one", f"{META}; INSERT INTO enogate_meta VALUES (1, 2);"),
-            ("nine", f"{META}; {SECOND}; INSERT INTO enogate_meta VALUES (1, 9);"),
+            ("one", f"{VERSION_TABLE}; INSERT INTO enogate_meta VALUES (1, 2);"),
+            ("nine", f"{VERSION_TABLE}; {DEVICE_TABLE_2}; INSERT INTO enogate_meta VALUES (1, 9);"),
         ):
             with self.subTest(database=name):
                 database = self.work / f"{name}.db"
-                sqlite3(database, statements)
-                before = sqlite3(database, ".dump")
+                run_sqlite3(database, statements)
+                before = run_sqlite3(database, ".dump")
                 self.assert_fault(self.replay_on(database), "not a registry")
                 self.assert_fault(self.run_program("live", *paths, "--db", database), "not a registry")
-                self.assertEqual(sqlite3(database, ".dump"), before)
+                self.assertEqual(run_sqlite3(database, ".dump"), before)
 
     def test_rows_of_version_2_that_break_the_checks(self):
         """SQLite itself opens no file with such rows."""
-        rest = f"{SECOND}; INSERT INTO enogate_meta VALUES (1, 2); INSERT INTO enogate_device_v2"
+        rest = f"{DEVICE_TABLE_2}; INSERT INTO enogate_meta VALUES (1, 2); INSERT INTO enogate_device_v2"
         for row in BAD_ROWS:
             with self.subTest(row=row):
                 self.assert_refused("store", f"{UNCHECKED} {rest} VALUES ({row}, '');")
 
     def test_rows_of_version_1_that_break_the_checks(self):
-        rest = f"{FIRST}; INSERT INTO enogate_meta VALUES (1, 1); INSERT INTO enogate_device"
+        rest = f"{DEVICE_TABLE_1}; INSERT INTO enogate_meta VALUES (1, 1); INSERT INTO enogate_device"
         for row in BAD_ROWS:
             with self.subTest(row=row):
                 self.assert_refused("store", f"{UNCHECKED} {rest} VALUES ({row});")
@@ -156,11 +156,12 @@ class OtherDatabases(RegistryTest):
     def test_wrong_version_rows(self):
         for rows in ("(2, 2)", "(1, 2), (2, 2)"):
             with self.subTest(rows=rows):
-                self.assert_refused("store", f"{UNCHECKED} {SECOND}; INSERT INTO enogate_meta VALUES {rows};")
+                self.assert_refused("store", f"{UNCHECKED} {DEVICE_TABLE_2}; INSERT INTO enogate_meta VALUES {rows};")
 
     def test_a_trigger_on_a_table_of_a_registry(self):
         trigger = "CREATE TRIGGER by_device AFTER INSERT ON enogate_device_v2 BEGIN DELETE FROM enogate_meta; END;"
-        self.assert_refused("not a registry", f"{META}; {SECOND}; INSERT INTO enogate_meta VALUES (1, 2); {trigger}")
+        self.assert_refused(
+            "not a registry", f"{VERSION_TABLE}; {DEVICE_TABLE_2}; INSERT INTO enogate_meta VALUES (1, 2); {trigger}")
 
     def test_the_stock_sqlite3_reads_a_closed_registry(self):
         """It finds exactly the two tables. One device was learned, and got a label. The second one was removed by
@@ -168,14 +169,14 @@ class OtherDatabases(RegistryTest):
         first = 'add 01800ABC D5-00-01\nadd 00000001 D5-00-01\nlabel 00000001 Door "A"\n'
         self.replay_on(self.database, first)
         self.replay_on(self.database, "remove 01800ABC\n")
-        shown = sqlite3(
+        shown = run_sqlite3(
             self.database,
             "SELECT type, name, sql FROM sqlite_schema ORDER BY rowid",
             "SELECT k, version FROM enogate_meta",
             "SELECT id, eep, maker, label FROM enogate_device_v2 ORDER BY id",
             "PRAGMA integrity_check",
         )
-        tables = f"table|enogate_meta|{META}\ntable|enogate_device_v2|{SECOND}\n"
+        tables = f"table|enogate_meta|{VERSION_TABLE}\ntable|enogate_device_v2|{DEVICE_TABLE_2}\n"
         self.assertEqual(shown, tables + '1|2\n1|13959169|-1|Door "A"\nok\n')
 
 

@@ -3,7 +3,7 @@ as for the packets below, so there is no space for calls that nest once per byte
 MiB of addresses. Measured, it needs about 6 MiB, and about 14 MiB with a registry in a file."""
 import unittest
 
-from runs import ACCEPTED, OK, READING, counts, in_little_memory, on_small_stack
+from runs import ACCEPTED, OK, READING, status_line, limit_memory, limit_stack
 from testcase import ProgramTest
 
 from oracle import session
@@ -29,7 +29,7 @@ RESPONSES = (
     '{"code":213,"data":"0901800ABC00","name":null,"type":"response"}\n'
     + '{"code":0,"data":"' + 131068 * "0" + '","name":"OK","type":"response"}\n'
 )
-ANSWERS = ACCEPTED + READING + RESPONSES + counts(258, 1, responses=2)
+ANSWERS = ACCEPTED + READING + RESPONSES + status_line(258, 1, responses=2)
 
 
 class SmallStack(ProgramTest):
@@ -38,19 +38,19 @@ class SmallStack(ProgramTest):
         self.in_file = ["--db", self.work / "registry.db"]
 
     def test_packets_of_each_type_on_a_small_stack(self):
-        run = self.replay(script=packets_of_each_type(), preexec_fn=on_small_stack)
+        run = self.replay(script=packets_of_each_type(), preexec_fn=limit_stack)
         self.assert_ended(run, ANSWERS)
 
     def test_packets_of_each_type_on_a_small_stack_with_a_registry_in_a_file(self):
-        run = self.replay(*self.in_file, script=packets_of_each_type(), preexec_fn=on_small_stack)
+        run = self.replay(*self.in_file, script=packets_of_each_type(), preexec_fn=limit_stack)
         self.assert_ended(run, ANSWERS)
 
     def test_packets_of_each_type_in_little_memory(self):
-        run = self.replay(script=packets_of_each_type(), preexec_fn=in_little_memory)
+        run = self.replay(script=packets_of_each_type(), preexec_fn=limit_memory)
         self.assert_ended(run, ANSWERS)
 
     def test_packets_of_each_type_in_little_memory_with_a_registry_in_a_file(self):
-        run = self.replay(*self.in_file, script=packets_of_each_type(), preexec_fn=in_little_memory)
+        run = self.replay(*self.in_file, script=packets_of_each_type(), preexec_fn=limit_memory)
         self.assert_ended(run, ANSWERS)
 
     def assert_row(self, name, part, *options, limit):
@@ -60,20 +60,20 @@ class SmallStack(ProgramTest):
         self.assert_ended(run, session.part(row, part).decode())
 
     def test_every_teach_in_telegram_in_every_mode(self):
-        self.assert_row("verdicts", "plain", limit=on_small_stack)
-        self.assert_row("verdicts", "plain", *self.in_file, limit=in_little_memory)
+        self.assert_row("verdicts", "plain", limit=limit_stack)
+        self.assert_row("verdicts", "plain", *self.in_file, limit=limit_memory)
 
     def test_every_teach_in_telegram_in_every_mode_with_explanations(self):
-        self.assert_row("verdicts", "explained", "--explain", limit=on_small_stack)
-        self.assert_row("verdicts", "explained", "--explain", *self.in_file, limit=in_little_memory)
+        self.assert_row("verdicts", "explained", "--explain", limit=limit_stack)
+        self.assert_row("verdicts", "explained", "--explain", *self.in_file, limit=limit_memory)
 
     def test_every_teach_in_telegram_in_every_mode_with_1000_devices(self):
-        self.assert_row("verdicts-full", "plain", limit=on_small_stack)
-        self.assert_row("verdicts-full", "plain", *self.in_file, limit=in_little_memory)
+        self.assert_row("verdicts-full", "plain", limit=limit_stack)
+        self.assert_row("verdicts-full", "plain", *self.in_file, limit=limit_memory)
 
     def test_every_teach_in_telegram_in_every_mode_with_1000_devices_and_explanations(self):
-        self.assert_row("verdicts-full", "explained", "--explain", limit=on_small_stack)
-        self.assert_row("verdicts-full", "explained", "--explain", *self.in_file, limit=in_little_memory)
+        self.assert_row("verdicts-full", "explained", "--explain", limit=limit_stack)
+        self.assert_row("verdicts-full", "explained", "--explain", *self.in_file, limit=limit_memory)
 
 
 class ThousandDevices(ProgramTest):
@@ -88,18 +88,18 @@ class ThousandDevices(ProgramTest):
     )
 
     def test_1000_devices_in_little_memory(self):
-        run = self.replay(script=self.SCRIPT, preexec_fn=in_little_memory)
+        run = self.replay(script=self.SCRIPT, preexec_fn=limit_memory)
         self.assert_ended(run, self.ANSWERS)
 
     def test_1000_devices_and_their_longest_labels_in_little_memory_with_a_registry_in_a_file(self):
         """Each byte of these labels is printed as two."""
         in_file = ["--db", self.work / "registry.db"]
-        run = self.replay(*in_file, script=self.SCRIPT, preexec_fn=in_little_memory)
+        run = self.replay(*in_file, script=self.SCRIPT, preexec_fn=limit_memory)
         self.assert_ended(run, self.ANSWERS)
         labels = {sender: 32 * "\\" for sender in range(1000)}
         script = "".join(f"label {sender:08X} {label}\n" for sender, label in labels.items()) + "list\n"
         listed = device_lines(dict.fromkeys(labels, ("D5-00-01", None)), labels)
-        run = self.replay(*in_file, script=script, preexec_fn=in_little_memory)
+        run = self.replay(*in_file, script=script, preexec_fn=limit_memory)
         self.assert_ended(run, 1000 * OK + listed)
 
 

@@ -5,10 +5,10 @@ import subprocess
 import tempfile
 import unittest
 
-from runs import PROGRAM, preloading
+from runs import PROGRAM, preload_environment
 
 # In seconds. Only a run that hangs is stopped: on a busy machine the longest, with 2,022 syncs, took 8 seconds.
-HANGS = 120
+TIMEOUT = 120
 NOTHING = pathlib.Path(os.devnull)
 
 
@@ -38,13 +38,13 @@ class ProgramTest(unittest.TestCase):
         path.write_bytes(content if isinstance(content, bytes) else content.encode())
         return path
 
-    def preloading(self, source, **variables):
+    def preload_environment(self, source, **variables):
         """The environment of a run that preloads the library of this source in tests/preload."""
-        return preloading(self.libraries, source, **variables)
+        return preload_environment(self.libraries, source, **variables)
 
-    def counting(self, **variables):
+    def count_calls_environment(self, **variables):
         """The environment of a run whose calls are counted by a library. The library reads these variables."""
-        return self.preloading("count_calls.c", COUNT_CALLS=self.work / "calls", **variables)
+        return self.preload_environment("count_calls.c", COUNT_CALLS=self.work / "calls", **variables)
 
     def calls(self, kind=""):
         """How many calls that run has made, by those of the names in the library that begin like this."""
@@ -56,7 +56,7 @@ class ProgramTest(unittest.TestCase):
         settings are those of `subprocess.run`."""
         script = script if isinstance(script, pathlib.Path) else self.file("script", script)
         with script.open("rb") as stdin:
-            defaults = {"stdin": stdin, "stdout": subprocess.PIPE, "stderr": subprocess.PIPE, "timeout": HANGS}
+            defaults = {"stdin": stdin, "stdout": subprocess.PIPE, "stderr": subprocess.PIPE, "timeout": TIMEOUT}
             return subprocess.run([program, *words], **{**defaults, **settings})
 
     def replay(self, *options, base="FF800000", script=NOTHING, **settings):

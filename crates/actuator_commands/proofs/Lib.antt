@@ -1,7 +1,1 @@
-pub mod SpaceLemmas
-pub mod WordLemmas
-pub mod NumberLemmas
-pub mod SpellingLemmas
-pub mod LabelLemmas
-pub mod OrderLemmas
-pub mod ForCallers
+pub mod MessageLemmas

@@ -1,5 +1,1 @@
-pub mod Limits
-pub mod Words
-pub mod Orders
 pub mod Packets
-pub mod private

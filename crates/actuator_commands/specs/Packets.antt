@@ -1,16 +1,17 @@
 -- The radio telegrams of orders to devices (EnOcean Equipment Profiles 2.6). Own choice: the orders.
 use Rattle.std.specs.Prelude.{ℕ, ◌+◌, ◌==◌, ◌&&◌, Bool, if◌then◌else◌, List, [], ◌∷◌, Option, Some, None}
-use Rattle.std.specs.Prelude.{Result, Ok, Err, is_some, option_map}
+use Rattle.std.specs.Prelude.{◌≡◌, Result, Ok, Err, is_some, option_map}
 use Rattle.erp1_telegrams.specs.declared.eep.Eep.{Eep}
 use Rattle.erp1_telegrams.specs.Telegram.{Telegram}
 use Rattle.learned_devices.specs.declared.Device.{Device}
-use Rattle.actuator_commands.specs.declared.orders.Order.{Order}
-use Rattle.actuator_commands.specs.declared.orders.Order.TheVariants.{Switch, Dim, Query, Meter, Blind, Stop}
-use Rattle.actuator_commands.specs.declared.orders.Order.TheVariants.{Central, Level, Teach}
-use Rattle.actuator_commands.specs.declared.orders.OrderFault.{OrderFault}
-use Rattle.actuator_commands.specs.declared.orders.OrderFault.TheVariants.{Range, UnknownDevice, WrongProfile}
-use Rattle.actuator_commands.specs.declared.orders.Quantity.{Quantity}
-use Rattle.actuator_commands.specs.declared.orders.Quantity.TheVariants.{Energy, Power}
+use Rattle.desk_orders.specs.declared.orders.Order.{Order}
+use Rattle.desk_orders.specs.declared.orders.Order.TheVariants.{Switch, Dim, Query, Meter, Blind, Stop}
+use Rattle.desk_orders.specs.declared.orders.Order.TheVariants.{Central, Level, Teach}
+use Rattle.desk_orders.specs.Recipients.{recipient_id, sends}
+use Rattle.desk_orders.specs.declared.orders.OrderFault.{OrderFault}
+use Rattle.desk_orders.specs.declared.orders.OrderFault.TheVariants.{Range, UnknownDevice, WrongProfile}
+use Rattle.desk_orders.specs.declared.orders.Quantity.{Quantity}
+use Rattle.desk_orders.specs.declared.orders.Quantity.TheVariants.{Energy, Power}
 use Rattle.actuator_commands.specs.declared.packets.ActuatorKind.{ActuatorKind}
 use Rattle.actuator_commands.specs.declared.packets.ActuatorKind.TheVariants as actuator
 
@@ -21,9 +22,9 @@ is_profile_of_actuator actuator.Blind eep = eep.rorg == 0xD2 && eep.func == 0x05
 
 -- The message of an order: to the device with an ID, a payload by the device's profile, or none if that has no such
 -- order; or to all, from the sender with this offset from the base ID.
-pub data Message : Type 0 where
-  ToOne : (id : ℕ) → (payload_of : Eep → Option (List ℕ)) → Message
-  ToAll : (offset : ℕ) → (payload : List ℕ) → Message
+pub data AddressedPayload : Type 0 where
+  ToOne : (id : ℕ) → (payload_of : Eep → Option (List ℕ)) → AddressedPayload
+  ToAll : (offset : ℕ) → (payload : List ℕ) → AddressedPayload
 
 -- a payload to these actuators, and none to other devices
 abbrev pub payload_for : ActuatorKind → (payload : List ℕ) → Eep → Option (List ℕ)
@@ -43,7 +44,7 @@ meter_query_byte channel Energy = channel
 meter_query_byte channel Power = channel + 128
 
 -- The table: the message of each order to devices.
-abbrev pub message_of : Order → Option Message
+abbrev pub message_of : Order → Option AddressedPayload
 -- "D2-01", command 1: the channel, and the value in percent. The bits DV are 0: immediately
 message_of (Switch id channel on) =
     Some (ToOne id (payload_for actuator.SwitchOrDimmer (0x01 ∷ channel ∷ (if on then 0x64 else 0x00) ∷ [])))
@@ -68,17 +69,14 @@ message_of (Teach offset) = Some (ToAll offset (0xE0 ∷ 0x47 ∷ 0xFF ∷ 0x80 
 message_of order = None
 
 -- the device of a message, if it is for one
-abbrev pub recipient_of : Option Message → Option ℕ
+abbrev pub recipient_of : Option AddressedPayload → Option ℕ
 recipient_of (Some (ToOne id payload_of)) = Some id
 recipient_of message = None
 
--- the device of an order, if it is for one
-abbrev pub recipient_id : Order → Option ℕ
-recipient_id order = recipient_of (message_of order)
-
--- whether the order is for devices
-abbrev pub sends : Order → Bool
-sends order = is_some (message_of order)
+-- an order is for the device of its message, and is for devices if it has a message
+abbrev pub MessagesHaveRecipients : Type 0
+MessagesHaveRecipients =
+    (order : Order) → (recipient_id order ≡ recipient_of (message_of order)) × (sends order ≡ is_some (message_of order))
 
 -- A message to one is a VLD telegram from the base ID, and one to all a 4BS telegram from the base ID and its offset.
 -- No sender has the broadcast ID (EnOcean Serial Protocol 3, "Packet type 1: RADIO_ERP1").
@@ -99,7 +97,7 @@ four_bs_to_all base offset payload =
       dbm = None;
     })
 
-abbrev pub telegram_for : Message → Option Device → (base : ℕ) → Result Telegram OrderFault
+abbrev pub telegram_for : AddressedPayload → Option Device → (base : ℕ) → Result Telegram OrderFault
 telegram_for (ToOne id payload_of) None base = Err UnknownDevice
 telegram_for (ToOne id payload_of) (Some device) base = telegram_to_one base id (payload_of device.eep)
 telegram_for (ToAll offset payload) device base = four_bs_to_all base offset payload

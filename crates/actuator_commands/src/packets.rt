@@ -3,14 +3,15 @@ ghost use Rattle.std.specs.Prelude.{◌≡◌, ◌+◌, ◌^◌, ◌<◌, ◌≤
 ghost use Rattle.std.specs.Option.{option_copied};
 ghost use Rattle.erp1_telegrams.specs.Address.{is_base_id};
 ghost use Rattle.erp1_telegrams.specs.Telegram.{payload_length_fits};
-ghost use Rattle.actuator_commands.specs.Limits.{max_channel};
-ghost use Rattle.actuator_commands.specs.Orders.{IsInRange};
+ghost use Rattle.desk_orders.specs.Limits.{max_channel};
+ghost use Rattle.desk_orders.specs.Orders.{IsInRange};
+ghost use Rattle.desk_orders.specs.Recipients.{sends};
 ghost use Rattle.actuator_commands.specs.Packets.{ToOne, is_profile_of_actuator, meter_query_byte, order_telegram};
 ghost use Rattle.actuator_commands.specs.Packets.{payload_for};
-ghost use Rattle.actuator_commands.specs.Packets.{query_payload, sends, telegram_for, four_bs_to_all, telegram_to_one};
+ghost use Rattle.actuator_commands.specs.Packets.{query_payload, telegram_for, four_bs_to_all, telegram_to_one};
 
-use crate::orders::{Order, OrderFault, Quantity};
 use arrayvec::ArrayVec;
+use desk_orders::{Order, OrderFault, Quantity};
 use erp1_telegrams::{BROADCAST, Contents, Eep, Telegram, rorg};
 use learned_devices::Device;
 

@@ -2,7 +2,7 @@
 ghost use Rattle.std.specs.Prelude.{◌≡◌, ◌*◌, ◌^◌, ◌<◌, ◌≤◌, length};
 ghost use Rattle.bit_fields.specs.Bits.{bits, number};
 
-/// The number in the bytes, the most significant byte first.
+// The number in the bytes, the most significant byte first.
 pub(crate) fn read(bytes: &[u8]) -> u64
     requires { length bytes.now ≤ 5 }
     ensures { result ≡ number (bits bytes.now) }
@@ -14,7 +14,7 @@ pub(crate) fn read(bytes: &[u8]) -> u64
     wide
 }
 
-/// Writes the number `wide` into the bytes, the most significant byte first.
+// Writes the number `wide` into the bytes, the most significant byte first.
 pub(crate) fn write(bytes: &mut [u8], wide: u64)
     requires few { length bytes.old ≤ 5 }
     requires fits { wide < 2 ^ (8 * length bytes.old) }

@@ -6,7 +6,7 @@ ghost use Rattle.byte_io.specs.Transfers.{Transfer, transfer_of};
 use crate::failed::Failed;
 use std::marker::Model;
 
-/// The reads of a source, or the writes of a sink, in order.
+// The reads of a source, or the writes of a sink, in order.
 #[derive(Drop)]
 pub(crate) struct History {
     pub(crate) ghost transfers: { List Transfer },
@@ -23,7 +23,7 @@ impl History {
         History {}
     }
 
-    /// The history with one more read or write: its result, and its buffer or its text.
+    // The history with one more read or write: its result, and its buffer or its text.
     pub(crate) fn with(&self, _answer: &Result<usize, Failed>, _bytes: &[u8]) -> History
         ensures { result.transfers ≡ self.now.transfers ++ transfer_of _answer.now _bytes.now ∷ [] }
     {

@@ -1,8 +1,7 @@
 -- The meaning of the texts that copy the devices of version 1 and drop its table.
 use Rattle.keyed_table.proofs.Common.{◌≡◌, ℕ, [], false, None, Ok, refl, Schema, Insert, DropTable, view_named, Abort}
 use Rattle.keyed_table.proofs.Common.{Draft, program_of, plain_query, ParsesAs, CompilesTo}
-use Rattle.device_registry.proofs.Common.{First, Second, copy_sql, drop_sql, device_table_name, device_table}
-use Rattle.device_registry.proofs.Common.{IsTableAt}
+use Rattle.device_registry.proofs.Common.{First, Second, copy_sql, drop_sql, device_table_name, device_table, IsTableAt}
 use Rattle.sqlite_resolve.specs.Compile.{command, insert, insert_or_abort, new_rows, source_of, queried}
 use Rattle.sqlite_resolve.specs.Write.{inserted, selected, as_row, places}
 use Rattle.sqlite_tied.specs.Compute.{everything}

@@ -14,7 +14,7 @@ use Rattle.device_registry.specs.declared.fault.OpenFault.TheVariants.{NotARegis
 use Rattle.device_registry.specs.Stored.{AreVersion2Trees, AdmitsRegistry}
 use Rattle.device_registry.specs.Holding.{RewritesVersion}
 use Rattle.device_registry.specs.Opening.{IsPrepared, KeepsFoundDevices, IsForeignDatabase, IsOpened, FailsToOpen}
-use Rattle.device_registry.specs.Opening.{FoundDevicesAreUnique, ReturnedIsFound, FailedOpensKeep, ClosedFilesAreFound}
+use Rattle.device_registry.specs.Opening.{FoundDevicesAreUnique, ReturnedIsFound, FailedOpensKeepRegistries, ClosedFilesAreFound}
 use Rattle.keyed_table.proofs.Statements.{spared_remains, ready_with, survives_itself, updates_from}
 use Rattle.keyed_table.proofs.ListedTables.{one_database}
 use Rattle.device_registry.proofs.TablesRecognized.{admits, before, is_absent, is_present, status_implies}
@@ -213,25 +213,25 @@ fails {old} {new} fault survives not_a_registry = record {
 }
 
 -- an open that committed nothing failed with a fault other than `NotARegistry`
-pub refused_first : (old new : State) (fault : OpenFault) → fault ≢ NotARegistry → Survives old new (λ _. ⊥)
+pub failed_first : (old new : State) (fault : OpenFault) → fault ≢ NotARegistry → Survives old new (λ _. ⊥)
     → FailsToOpen old new fault
-refused_first old new fault other survives = fails fault
+failed_first old new fault other survives = fails fault
     (survives_weaker old new (λ _. ⊥) _ (λ clean trees no. absurd no) survives) (λ clean is. absurd (other is))
 
 -- the open failed before its first call of the database, when it allocated the cache
 pub not_asked : (s : State) (fault : StoreFault) → FailsToOpen s s (Failed fault)
-not_asked s fault = refused_first s s (Failed fault) (λ is. let e = is in cc) (survives_itself s (λ _. ⊥))
+not_asked s fault = failed_first s s (Failed fault) (λ is. let e = is in cc) (survives_itself s (λ _. ⊥))
 
 -- if `create_or_recognize` fails, its postconditions also hold for the state before `check_open`
-pub refused_then : {T : Type 0} (r : Result T OpenFault) (old mid new : State)
+pub failed_then : {T : Type 0} (r : Result T OpenFault) (old mid new : State)
     → (HasCleanDisk mid → IsUnchanged old mid × IsSettledOpen old) → Survives old mid (λ _. ⊥)
     → Survives mid new (KeepsFoundDevices mid.now.trees)
     → (HasCleanDisk new → r ≡ Err NotARegistry → IsForeignDatabase mid.now.trees)
     → (HasCleanDisk new → r
     ≡ Err NotARegistry → IsUnchanged mid new × ((trees : Trees) → new.may_leave trees → mid.may_leave trees))
     → IfErr r (FailsToOpen old new)
-refused_then (Ok v) old mid new was first second other same = tt
-refused_then (Err fault) old mid new was first second other same =
+failed_then (Ok v) old mid new was first second other same = tt
+failed_then (Err fault) old mid new was first second other same =
     fails fault (survives_then old mid new (λ _. ⊥) (KeepsFoundDevices mid.now.trees) _ (λ clean trees no. absurd no)
     (λ clean trees kept.
     let it = was (before second clean) in
@@ -259,13 +259,13 @@ found_devices_are_unique trees left found (inr (free, is)) (inl (w, two)) = absu
     sym (holds_present two.db two.same two.sound two) ∙ admits_absent two.db two.same two.sound free in cc)
 found_devices_are_unique trees left found (inr (free, is)) (inr (again, too)) = is ∙ sym too
 
-pub failed_opens_keep : {C : Type 0} (state : C → State) → FailedOpensKeep state
-failed_opens_keep state old new fault clean refused = (
-  λ before trees may. elim (refused.crash clean trees may) [
+pub failed_opens_keep_registries : {C : Type 0} (state : C → State) → FailedOpensKeepRegistries state
+failed_opens_keep_registries state old new fault clean failed = (
+  λ before trees may. elim (failed.crash clean trees may) [
     | inl early ↦ before trees early
     | inr kept ↦ (kept.1.devices, inl (Second, kept.1.holds))
   ],
-  λ devices next. elim (refused.crash clean next.0 next.1) [
+  λ devices next. elim (failed.crash clean next.0 next.1) [
     | inl early ↦ inl (next.0, early, next.2)
     | inr kept ↦ inr (
       kept.0,

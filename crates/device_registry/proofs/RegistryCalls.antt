@@ -12,7 +12,7 @@ use Rattle.learned_devices.proofs.ForCallers.{no_more_commits, more_commits_afte
 use Rattle.std.proofs.Common.{Global, Vec, IsErrAnd}
 use Rattle.std.proofs.lemmas.Result.{MatchResult-weaker}
 use Rattle.learned_devices.specs.DeviceStoreState.{DeviceStoreState, LeavesPending}
-use Rattle.learned_devices.specs.StoreCalls.{LooksUp, ListsAll, RefusesToLearn, Learns}
+use Rattle.learned_devices.specs.StoreCalls.{LooksUp, ListsAll, FailsToLearn, Learns}
 use Rattle.device_registry.specs.Faults.{fault_of}
 use Rattle.device_registry.specs.Holding.{AreVersion2Registries}
 use Rattle.device_registry.specs.Ready.{IsReadyIfOpen, WritesNothing, CommitsOrMayBeLeft}
@@ -138,7 +138,7 @@ module _ {old new : State} (update : DeviceUpdate) (well : IsWell old) (ready : 
   pub turned_well : {T E : Type 0} (r : Result T E) → CommitsOrMayBeLeft old new update r → IsWell new
   turned_well (Ok done) turns = (registries turns, λ clean _. (made_ready turns clean).1)
   turned_well (Err e) turns =
-      (registries turns, λ clean is_open. ready_on old new (turns.refused clean) is_open (ready (turns.clean clean)))
+      (registries turns, λ clean is_open. ready_on old new (turns.failed clean) is_open (ready (turns.clean clean)))
 
   -- while the connection is open, a crash leaves what is committed
   pub updates : {T E : Type 0} {a b : Option ℕ} → AtMostMoreCommits 1 a b → (r : Result T E)
@@ -170,7 +170,7 @@ module _ {old new : State} (update : DeviceUpdate) (well : IsWell old) (ready : 
         let early = turns.clean clean in
         let was = shows_them early (ready early) has in
         record {
-          now = λ _ is_open. ((turns.refused clean is_open).1 devices was).holds;
+          now = λ _ is_open. ((turns.failed clean is_open).1 devices was).holds;
           crash = λ left (trees, may, holds). elim (turns.crash clean trees may) [
             | inl before ↦ inl (trees, before, holds)
             | inr made ↦ inr (held_once trees left (apply_update devices update) holds (made.1 devices was))
@@ -228,10 +228,10 @@ module _ {a b : DeviceStoreState} {devices : Devices} (first : Keeps a b devices
         [ inl before ↦ inl (first.crash left before) | inr made ↦ inr made ];
   }
 
-  refuses_then : (c : DeviceStoreState) (it : Device) (fault : LearnFault) → RefusesToLearn b c it devices fault
-      → RefusesToLearn a c it devices fault
-  refuses_then c it Full (full, second) = (full, keeps_then second)
-  refuses_then c it (Failed fault) second = either_weaker (is_full_for devices it.id) second keeps_then pends_then
+  fails_then : (c : DeviceStoreState) (it : Device) (fault : LearnFault) → FailsToLearn b c it devices fault
+      → FailsToLearn a c it devices fault
+  fails_then c it Full (full, second) = (full, keeps_then second)
+  fails_then c it (Failed fault) second = either_weaker (is_full_for devices it.id) second keeps_then pends_then
 
 module _ {old mid new : DeviceStoreState} (early : mid.honest → old.honest)
     (same : mid.honest → mid.commits ≡ old.commits)
@@ -254,7 +254,7 @@ module _ {old mid new : DeviceStoreState} (early : mid.honest → old.honest)
     commits = λ clean. more_commits_after (same (learns.clean clean)) (learns.commits clean);
     devices = λ clean devices has.
         let keeps = kept (learns.clean clean) devices has in
-        MatchResult-weaker r (learns.devices clean devices keeps.now) (λ _ done. done) (refuses_then keeps new it);
+        MatchResult-weaker r (learns.devices clean devices keeps.now) (λ _ done. done) (fails_then keeps new it);
   }
 
 pub updates_after : {E A F : Type 0} {old mid new : DeviceStoreState} {id : ℕ} {known : Option Device}

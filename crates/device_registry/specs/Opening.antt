@@ -18,8 +18,7 @@ use Rattle.learned_devices.specs.Devices.{Devices, max_devices}
 use Rattle.device_registry.specs.Stored.{IsRegistry, HoldsVersion2, AreVersion2Trees}
 use Rattle.device_registry.specs.Ready.{IsReadyWith, IsReady}
 use Rattle.device_registry.specs.Holding.{AreVersion2Registries, HasDevicesIfOpen, DevicesAreCommitted, RewritesVersion}
-use Rattle.device_registry.specs.Holding.{OpenFinds}
-use Rattle.device_registry.specs.Holding.{Opens}
+use Rattle.device_registry.specs.Holding.{OpenFinds, Opens}
 
 -- the maximum size of the cache of looked-up senders. Own choice
 abbrev pub max_cached : ℕ
@@ -72,8 +71,8 @@ pub record FailsToOpen (old new : State) (fault : OpenFault) : Type 0 where
 
 -- An open failed, and dropped its connection. After `NotARegistry`, some state satisfies `FailsToOpen`. No contract
 -- says that it is the last state of the connection.
-abbrev pub RefusesAndDrops : {C : Type 0} → (C → State) → C → OpenFault → Type 0
-RefusesAndDrops {C} state conn fault =
+abbrev pub FailsAndDrops : {C : Type 0} → (C → State) → C → OpenFault → Type 0
+FailsAndDrops {C} state conn fault =
     fault ≡ NotARegistry → (last : C) × FailsToOpen (state conn) (state last) fault
 
 -- ---- theorems
@@ -97,8 +96,8 @@ FindsSomeAfterCrash s = (trees : Trees) → s.may_leave trees → (devices : Dev
 
 -- After a failed open, the next one finds devices if it would have found some before. They are what it could have found
 -- before, or what was committed then.
-abbrev pub FailedOpensKeep : {C : Type 0} → (C → State) → Type 0
-FailedOpensKeep {C} state = (old new : C) (fault : OpenFault) → HasCleanDisk (state new)
+abbrev pub FailedOpensKeepRegistries : {C : Type 0} → (C → State) → Type 0
+FailedOpensKeepRegistries {C} state = (old new : C) (fault : OpenFault) → HasCleanDisk (state new)
     → FailsToOpen (state old) (state new) fault
     → (FindsSomeAfterCrash (state old) → FindsSomeAfterCrash (state new))
     × ((devices : Devices) → MayFindAfterCrash (state new) devices → MayFindAfterCrash (state old) devices
@@ -114,8 +113,8 @@ RegistriesAreRecognized {C} state =
 
 -- Only a database that is no registry is rejected as such. This also holds of an open that drops its connection, if
 -- the disk had returned what was written when the connection was dropped.
-abbrev pub OnlyNonRegistriesAreRefused : {C : Type 0} → (C → State) → Type 0
-OnlyNonRegistriesAreRefused {C} state = (conn last : C) → HasCleanDisk (state last)
+abbrev pub OnlyNonRegistriesAreRejected : {C : Type 0} → (C → State) → Type 0
+OnlyNonRegistriesAreRejected {C} state = (conn last : C) → HasCleanDisk (state last)
     → FailsToOpen (state conn) (state last) NotARegistry → IsForeignDatabase (state conn).committed.trees
 
 -- the next open finds what a closed registry returned

@@ -2,15 +2,15 @@
 ghost use Rattle.std.specs.Prelude.{◌≡◌};
 ghost use Rattle.std.specs.List.{list_any};
 ghost use Rattle.sqlite.specs.Order.{column};
-ghost use Rattle.device_registry.specs.private.CatalogRows.{has_text, is_catalog_row, are_our_tables};
+ghost use Rattle.device_registry.specs.private.CatalogRows.{is_text, is_catalog_row, are_our_tables};
 
 use crate::table::statements::CREATE_META;
 use crate::table::{META, Version};
 use sqlite::Row;
 use sqlite::types::ValueRef;
 
-fn has_text(row: &Row, at: usize, text: &[u8]) -> bool
-    ensures { result ≡ has_text (column row.now at) text.now }
+fn is_text(row: &Row, at: usize, text: &[u8]) -> bool
+    ensures { result ≡ is_text (column row.now at) text.now }
 {
     match row.get_ref(at) {
         Ok(ValueRef::Text(found)) => found == text,
@@ -21,10 +21,10 @@ fn has_text(row: &Row, at: usize, text: &[u8]) -> bool
 fn is_catalog_row(row: &Row, name: &[u8], text: &[u8]) -> bool
     ensures { result ≡ is_catalog_row name.now text.now row.now }
 {
-    has_text(row, 0, name) && has_text(row, 2, text)
+    is_text(row, 0, name) && is_text(row, 2, text)
 }
 
-/// Whether the rows list an object with this name and text.
+// Whether the rows list an object with this name and text.
 fn has_catalog_row(rows: &[Row], name: &[u8], text: &[u8]) -> bool
     ensures { result ≡ list_any (is_catalog_row name.now text.now) rows.now }
 {

@@ -6,7 +6,7 @@ use learned_devices::StoreFault;
 use sqlite::{Error, ErrorCode};
 use std::alloc::AllocError;
 
-/// The fault for an error of SQLite.
+// The fault for an error of SQLite.
 pub(crate) fn store_fault_of(error: Error) -> StoreFault
     ensures { result ≡ fault_of error }
 {
@@ -46,7 +46,7 @@ impl From<AllocError> for OpenFault {
 
     ghost from_gives = { λ _ why. why ≡ Failed out_of_memory };
 
-    fn from(refused: AllocError) -> OpenFault {
-        OpenFault::Failed(StoreFault::from(refused))
+    fn from(error: AllocError) -> OpenFault {
+        OpenFault::Failed(StoreFault::from(error))
     }
 }

@@ -3,16 +3,15 @@ ghost use Rattle.std.specs.Prelude.{◌≡◌, ◌↔◌};
 ghost use Rattle.sqlite_trees.specs.View.{IsClean};
 ghost use Rattle.sqlite_store.specs.FileStore.{view};
 ghost use Rattle.device_registry.specs.declared.cache_limits.TheConstants.{MAX_CACHED};
-ghost use Rattle.device_registry.specs.Opening.{max_cached};
+ghost use Rattle.device_registry.specs.Opening.{max_cached, ClosedFilesAreFound, DevicesAreLimited};
+ghost use Rattle.device_registry.specs.Opening.{FoundDevicesAreUnique, ReturnedIsFound, RegistriesAreRecognized};
+ghost use Rattle.device_registry.specs.Opening.{OnlyNonRegistriesAreRejected, FailedOpensKeepRegistries};
 ghost use Rattle.sqlite.specs.Held.{state};
 ghost use Rattle.device_registry.specs.Holding.{HasSomeDevicesIfOpen, HeldDevicesMayBeLeft, SomeDevicesAreLeft};
 ghost use Rattle.device_registry.specs.Holding.{AreVersion2Registries, HasDevicesIfOpen, MayRecover};
 ghost use Rattle.learned_devices.specs.Devices.{Devices};
 ghost use Rattle.sqlite.specs.State.{HasCleanDisk};
-ghost use Rattle.device_registry.specs.Opening.{ClosedFilesAreFound, DevicesAreLimited, FoundDevicesAreUnique};
-ghost use Rattle.device_registry.specs.Opening.{ReturnedIsFound};
 ghost use Rattle.device_registry.specs.FilesHeld.{CrashedFilesHold, CrashedFilesHoldFound, SomeFilesAreLeft};
-ghost use Rattle.device_registry.specs.Opening.{RegistriesAreRecognized, OnlyNonRegistriesAreRefused, FailedOpensKeep};
 ghost use Rattle.device_registry.specs.Ranges.{RegistriesAreInRange};
 
 use crate::device_table::DeviceTable;
@@ -45,8 +44,8 @@ pub fn registries_are_in_range<C: SqlConnection>()
 
 /// After a failed `prepare`, which is what an open does, the next open finds what it could have found before, or what
 /// was committed then. It finds something if it would have before.
-pub fn failed_opens_keep<C: SqlConnection>()
-    ensures { FailedOpensKeep C.state }
+pub fn failed_opens_keep_registries<C: SqlConnection>()
+    ensures { FailedOpensKeepRegistries C.state }
 {}
 
 /// The next open finds whatever a crash leaves of a registry. No open rejects, as no registry, what can be found: a
@@ -57,8 +56,8 @@ pub fn registries_are_recognized<C: SqlConnection>()
 
 /// Only a database that is no registry is rejected as such. This also holds of an open that drops its connection, if
 /// the disk had returned what was written when the connection was dropped.
-pub fn only_non_registries_are_refused<C: SqlConnection>()
-    ensures { OnlyNonRegistriesAreRefused C.state }
+pub fn only_non_registries_are_rejected<C: SqlConnection>()
+    ensures { OnlyNonRegistriesAreRejected C.state }
 {}
 
 /// The next open finds what a closed registry returned.

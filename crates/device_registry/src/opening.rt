@@ -3,13 +3,12 @@ ghost use Rattle.std.specs.Prelude.{◌≡◌, ◌≤◌, false, IsTrue, IfOk, I
 ghost use Rattle.sqlite.specs.State.{HasCleanDisk, Survives, IsUnchanged};
 ghost use Rattle.sqlite_trees.specs.Tree.{Trees};
 ghost use Rattle.learned_devices.specs.Devices.{Devices};
-ghost use Rattle.device_registry.specs.Opening.{max_cached};
+ghost use Rattle.device_registry.specs.Opening.{max_cached, IsSettledOpen, KeepsDatabaseIfStillOpen, IsPrepared};
+ghost use Rattle.device_registry.specs.Opening.{KeepsFoundDevices, IsForeignDatabase, IsOpened, FailsAndDrops};
+ghost use Rattle.device_registry.specs.Opening.{FailsToOpen};
 ghost use Rattle.device_registry.specs.Holding.{RewritesVersion};
 ghost use Rattle.device_registry.specs.Stored.{AreVersion2Trees};
 ghost use Rattle.device_registry.specs.Ready.{KeepsOtherTables, KeepsRows};
-ghost use Rattle.device_registry.specs.Opening.{IsSettledOpen, KeepsDatabaseIfStillOpen, IsPrepared, KeepsFoundDevices};
-ghost use Rattle.device_registry.specs.Opening.{IsForeignDatabase};
-ghost use Rattle.device_registry.specs.Opening.{IsOpened, RefusesAndDrops, FailsToOpen};
 
 use crate::cache::new_cache;
 use crate::cache_limits::DEFAULT_CACHED;
@@ -24,7 +23,7 @@ use crate::table::Version;
 use sqlite::Error;
 use std::alloc::Global;
 
-/// Checks that the connection is open, by compiling a statement, which writes nothing.
+// Checks that the connection is open, by compiling a statement, which writes nothing.
 fn check_open<C: SqlConnection>(conn: &mut C) -> Result<(), Error>
     requires idle { (C.state conn.old).in_transaction ≡ false }
     ensures idle { OnOk result ((C.state conn.new).in_transaction ≡ false) }
@@ -41,13 +40,13 @@ fn check_open<C: SqlConnection>(conn: &mut C) -> Result<(), Error>
     Ok(())
 }
 
-/// Accepts the registry in the database, migrates it, or creates it.
+// Accepts the registry in the database, migrates it, or creates it.
 fn create_or_recognize<C: SqlConnection>(conn: &mut C) -> Result<(), OpenFault>
     requires idle { (C.state conn.old).in_transaction ≡ false }
     requires rest { HasCleanDisk (C.state conn.old) → IsSettledOpen (C.state conn.old) }
     ensures prepared { HasCleanDisk (C.state conn.new) → OnOk result ((devices : Devices) × IsPrepared
         (C.state conn.old) (C.state conn.new) devices) }
-    ensures refused { HasCleanDisk (C.state conn.new) → result ≡ Err OpenFault.NotARegistry → IsForeignDatabase
+    ensures rejected { HasCleanDisk (C.state conn.new) → result ≡ Err OpenFault.NotARegistry → IsForeignDatabase
         (C.state conn.old).now.trees }
     ensures unchanged { HasCleanDisk (C.state conn.new) → result ≡ Err OpenFault.NotARegistry →
         IsUnchanged (C.state conn.old) (C.state conn.new)
@@ -104,7 +103,7 @@ pub fn prepare<C: SqlConnection>(conn: &mut C) -> Result<(), OpenFault>
         (C.state conn.new).now) }
     ensures kept { HasCleanDisk (C.state conn.new) → OnErr result (IsTrue (C.state conn.new).is_open →
         IsSettledOpen (C.state conn.new) × ((C.state conn.new).now ≡ (C.state conn.old).now)) }
-    ensures refused { IfErr result (FailsToOpen (C.state conn.old) (C.state conn.new)) }
+    ensures failed { IfErr result (FailsToOpen (C.state conn.old) (C.state conn.new)) }
 {
     check_open(conn)?;
     create_or_recognize(conn)
@@ -115,7 +114,7 @@ impl<C: SqlConnection + Drop> RegistryOver<C> {
     pub fn open(alloc: Global, conn: C) -> Result<RegistryOver<C>, OpenFault>
         requires idle { (C.state conn).in_transaction ≡ false }
         ensures opened { IfOk result (λ r. HasCleanDisk (C.state r) → IsOpened (C.state conn) (C.state r)) }
-        ensures refused { IfErr result (RefusesAndDrops C.state conn) }
+        ensures failed { IfErr result (FailsAndDrops C.state conn) }
     {
         match RegistryOver::open_with(alloc, conn, DEFAULT_CACHED) {
             Ok(registry) => Ok(registry),
@@ -137,11 +136,11 @@ impl<C: SqlConnection> RegistryOver<C> {
         requires cached { (1 ≤ cache) × (cache ≤ max_cached) }
         ensures clean { IfOk result (λ r. HasCleanDisk (C.state r) → HasCleanDisk (C.state conn)) }
         ensures opened { IfOk result (λ r. HasCleanDisk (C.state r) → IsOpened (C.state conn) (C.state r)) }
-        ensures refused { IfErr result (λ e. FailsToOpen (C.state conn) (C.state e.1) e.0) }
+        ensures failed { IfErr result (λ e. FailsToOpen (C.state conn) (C.state e.1) e.0) }
     {
         let cache = match new_cache(alloc, cache) {
             Ok(cache) => cache,
-            Err(refused) => return Err((refused.into(), conn)),
+            Err(error) => return Err((error.into(), conn)),
         };
         let mut conn = conn;
         match prepare(&mut conn) {

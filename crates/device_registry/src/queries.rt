@@ -8,8 +8,7 @@ ghost use Rattle.sqlite.specs.State.{HasCleanDisk, IsUnchanged, Survives, Execut
 ghost use Rattle.sqlite.specs.State.{Shown, FailsToQuery, CommitsShowing};
 ghost use Rattle.learned_devices.specs.CommitCounts.{with_one_more};
 ghost use Rattle.learned_devices.specs.Devices.{Devices, DeviceUpdate, apply_update, forget_update, device_data};
-ghost use Rattle.learned_devices.specs.Devices.{is_full_for, devices_by_ascending_id};
-ghost use Rattle.learned_devices.specs.Devices.{device_of};
+ghost use Rattle.learned_devices.specs.Devices.{is_full_for, devices_by_ascending_id, device_of};
 ghost use Rattle.device_registry.specs.Table.{upsert_sql, delete_sql, rewrite_version_sql};
 ghost use Rattle.device_registry.specs.Queries.{is_select};
 ghost use Rattle.device_registry.specs.Stored.{HoldsVersion2};
@@ -24,7 +23,7 @@ use crate::table::statements::{COUNT_OTHERS, DELETE, FIND, FIND_ALL, REWRITE_VER
 use learned_devices::{Device, MAX_DEVICES};
 use sqlite::{Error, Row, Statement, params};
 
-/// Compiles a statement, which writes nothing. Fails on a connection that a failure has closed.
+// Compiles a statement, which writes nothing. Fails on a connection that a failure has closed.
 fn compile<C: SqlConnection>(conn: &mut C, sql: &str) -> Result<Statement, Error>
     requires { IsReadyIfOpen (C.state conn.old) }
     ensures text { HasCleanDisk (C.state conn.new) → IfOk result (λ statement. statement.text ≡ sql.now) }
@@ -37,7 +36,7 @@ fn compile<C: SqlConnection>(conn: &mut C, sql: &str) -> Result<Statement, Error
     conn.prepare(sql)
 }
 
-/// The rows that a query for one sender shows.
+// The rows that a query for one sender shows.
 fn query_with_id<C: SqlConnection>(conn: &mut C, sql: &str, id: u32) -> Result<Vec<Row>, Error>
     ensures shown { HasCleanDisk (C.state conn.new) → IfOk result
         (λ rows. Shown sql.now (Int (pos id) ∷ []) (C.state conn.old) (C.state conn.new) rows.items) }
@@ -50,7 +49,7 @@ fn query_with_id<C: SqlConnection>(conn: &mut C, sql: &str, id: u32) -> Result<V
     conn.query_all(sql, params![i64::from(id)])
 }
 
-/// The rows that a compiled query for one sender shows.
+// The rows that a compiled query for one sender shows.
 fn query_compiled_with_id<C: SqlConnection>(
     conn: &mut C,
     statement: &Statement,
@@ -69,7 +68,7 @@ fn query_compiled_with_id<C: SqlConnection>(
     conn.query_all_prepared(statement, params![i64::from(id)])
 }
 
-/// The rows of a sender.
+// The rows of a sender.
 pub(crate) fn look_up<C: SqlConnection>(conn: &mut C, id: u32) -> Result<Vec<Row>, Error>
     requires { IsReadyIfOpen (C.state conn.old) }
     ensures stays { WritesNothing (C.state conn.old) (C.state conn.new) }
@@ -84,7 +83,7 @@ pub(crate) fn look_up<C: SqlConnection>(conn: &mut C, id: u32) -> Result<Vec<Row
     query_compiled_with_id(conn, &find, id)
 }
 
-/// Whether the registry is full for a sender.
+// Whether the registry is full for a sender.
 pub(crate) fn is_full_for<C: SqlConnection>(conn: &mut C, id: u32) -> Result<bool, Error>
     requires { HasCleanDisk (C.state conn.old) → IsReady (C.state conn.old) }
     ensures stays { WritesNothing (C.state conn.old) (C.state conn.new) }
@@ -96,7 +95,7 @@ pub(crate) fn is_full_for<C: SqlConnection>(conn: &mut C, id: u32) -> Result<boo
     Ok(shown_count(&rows)? >= MAX_DEVICES as u64)
 }
 
-/// The rows of all devices, by ascending ID.
+// The rows of all devices, by ascending ID.
 pub(crate) fn list_devices<C: SqlConnection>(conn: &mut C) -> Result<Vec<Row>, Error>
     requires { IsReadyIfOpen (C.state conn.old) }
     ensures stays { WritesNothing (C.state conn.old) (C.state conn.new) }
@@ -109,7 +108,7 @@ pub(crate) fn list_devices<C: SqlConnection>(conn: &mut C) -> Result<Vec<Row>, E
     conn.query_all_prepared(&all, &[])
 }
 
-/// Upserts a device; implements any update whose result is `device`.
+// Upserts a device; implements any update whose result is `device`.
 pub(crate) fn upsert<C: SqlConnection>(conn: &mut C, device: Device) -> Result<usize, Error>
     requires ready { HasCleanDisk (C.state conn.old) → IsReady (C.state conn.old) }
     requires room { HasCleanDisk (C.state conn.old) → (devices : Devices) → IsReadyWith
@@ -134,7 +133,7 @@ fn run_delete<C: SqlConnection>(conn: &mut C, id: i64) -> Result<usize, Error>
     conn.execute(DELETE, params![id])
 }
 
-/// Deletes the device of a sender.
+// Deletes the device of a sender.
 fn forget<C: SqlConnection>(conn: &mut C, id: u32) -> Result<usize, Error>
     requires { HasCleanDisk (C.state conn.old) → IsReady (C.state conn.old) }
     ensures turns { CommitsOrMayBeLeft (C.state conn.old) (C.state conn.new) (forget_update id) result }
@@ -143,7 +142,7 @@ fn forget<C: SqlConnection>(conn: &mut C, id: u32) -> Result<usize, Error>
     run_delete(conn, i64::from(id))
 }
 
-/// Rewrites the version row unchanged, so that an update without effect commits too.
+// Rewrites the version row unchanged, so that an update without effect commits too.
 pub(crate) fn rewrite_version<C: SqlConnection>(conn: &mut C) -> Result<usize, Error>
     requires { HasCleanDisk (C.state conn.old) → IsReady (C.state conn.old) }
     ensures runs { HasCleanDisk (C.state conn.new) → Executes rewrite_version_sql [] (C.state conn.old)
@@ -164,7 +163,7 @@ pub(crate) fn rewrite_version<C: SqlConnection>(conn: &mut C) -> Result<usize, E
     conn.execute(REWRITE_VERSION, &[])
 }
 
-/// Deletes the device of a sender if it is known. Commits also if it is not.
+// Deletes the device of a sender if it is known. Commits also if it is not.
 pub(crate) fn delete_or_rewrite_if_absent<C: SqlConnection>(
     conn: &mut C,
     id: u32,

@@ -18,7 +18,7 @@ use crate::table::statements::{LIST_OBJECTS, READ_VERSION};
 use learned_devices::MAX_DEVICES;
 use sqlite::{Error, Row};
 
-/// The rows that a query without parameters shows.
+// The rows that a query without parameters shows.
 fn query_rows<C: SqlConnection>(conn: &mut C, sql: &str) -> Result<Vec<Row>, Error>
     requires { HasCleanDisk (C.state conn.old) → IsPlain (understood
         (C.state conn.old).now.schema sql.now) }
@@ -33,7 +33,7 @@ fn query_rows<C: SqlConnection>(conn: &mut C, sql: &str) -> Result<Vec<Row>, Err
     conn.query_all(sql, &[])
 }
 
-/// Whether the two tables of this version are listed with our texts.
+// Whether the two tables of this version are listed with our texts.
 fn lists_our_tables<C: SqlConnection>(conn: &mut C, version: Version) -> Result<bool, Error>
     requires { HasCleanDisk (C.state conn.old) → IsDatabase (C.state conn.old).now }
     ensures ours { HasCleanDisk (C.state conn.new) → IfOk result (λ yes. IsUnchanged (C.state conn.old)
@@ -49,7 +49,7 @@ fn lists_our_tables<C: SqlConnection>(conn: &mut C, version: Version) -> Result<
     Ok(are_our_tables(&rows, version))
 }
 
-/// Whether the version row is that of this version, and the other rows are those of devices, not too many.
+// Whether the version row is that of this version, and the other rows are those of devices, not too many.
 fn has_valid_rows<C: SqlConnection>(conn: &mut C, version: Version) -> Result<bool, Error>
     requires { HasCleanDisk (C.state conn.old) → HasTables version (C.state conn.old).now.schema }
     ensures whole { HasCleanDisk (C.state conn.new) → IfOk result (λ yes. IsUnchanged (C.state conn.old)

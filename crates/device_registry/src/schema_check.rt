@@ -3,8 +3,7 @@ ghost use Rattle.std.specs.Prelude.{◌≡◌};
 ghost use Rattle.std.specs.List.{list_any};
 ghost use Rattle.sqlite.specs.Table.{Table};
 ghost use Rattle.device_registry.specs.SchemaChecks.{refers_to, is_referenced, has_foreign_key_to_ours, is_indexed};
-ghost use Rattle.device_registry.specs.SchemaChecks.{lacks_needed_sequence_table};
-ghost use Rattle.device_registry.specs.SchemaChecks.{migration_adds_no_sequence};
+ghost use Rattle.device_registry.specs.SchemaChecks.{lacks_needed_sequence_table, migration_adds_no_sequence};
 ghost use Rattle.device_registry.specs.SchemaChecks.{has_one_table, tree_of_table};
 ghost use Rattle.device_registry.specs.private.TablesStatus.{is_index_or_view, are_creatable, are_unaffected};
 ghost use Rattle.device_registry.specs.private.TablesStatus.{tables_in_trees, tables_status};
@@ -13,7 +12,7 @@ use crate::table::{META, Version};
 use sqlite_schema::names::same_name;
 use sqlite_schema::schema::{Schema, Table};
 
-/// Whether an index or a view has this name.
+// Whether an index or a view has this name.
 fn is_index_or_view(schema: &Schema, name: &[u8]) -> bool
     ensures { result ≡ is_index_or_view schema.now name.now }
 {
@@ -30,7 +29,7 @@ fn refers_to(table: &Table, name: &[u8]) -> bool
         .any(|reference| same_name(reference.parent.as_slice(), name))
 }
 
-/// Whether a foreign key refers to a table of this name.
+// Whether a foreign key refers to a table of this name.
 fn is_referenced(schema: &Schema, name: &[u8]) -> bool
     ensures { result ≡ is_referenced schema.now name.now }
 {
@@ -41,7 +40,7 @@ fn is_referenced(schema: &Schema, name: &[u8]) -> bool
         .any(|table| refers_to(table, name))
 }
 
-/// Whether a foreign key refers to a table of ours, of either version.
+// Whether a foreign key refers to a table of ours, of either version.
 fn has_foreign_key_to_ours(schema: &Schema) -> bool
     ensures { result ≡ has_foreign_key_to_ours schema.now }
 {
@@ -70,15 +69,15 @@ fn counts_rowids(schema: &Schema) -> bool
         .any(|table| table.is_counted)
 }
 
-/// Whether a table counts its rowids without SQLite's table of the counts.
+// Whether a table counts its rowids without SQLite's table of the counts.
 fn lacks_needed_sequence_table(schema: &Schema) -> bool
     ensures { result ≡ lacks_needed_sequence_table schema.now }
 {
     counts_rowids(schema) && schema.table_named(b"sqlite_sequence").is_none()
 }
 
-/// Whether a registry of this version allows these tables. In version 1 no table may count its rowids without SQLite's
-/// table of the counts, because the migration would add that table.
+// Whether a registry of this version allows these tables. In version 1 no table may count its rowids without SQLite's
+// table of the counts, because the migration would add that table.
 fn migration_adds_no_sequence(schema: &Schema, version: Version) -> bool
     ensures { result ≡ migration_adds_no_sequence version schema.now }
 {
@@ -88,7 +87,7 @@ fn migration_adds_no_sequence(schema: &Schema, version: Version) -> bool
     }
 }
 
-/// Whether the tables can be created in a schema without tables of our names.
+// Whether the tables can be created in a schema without tables of our names.
 fn are_creatable(schema: &Schema) -> bool
     ensures { result ≡ are_creatable schema.now }
 {
@@ -99,7 +98,7 @@ fn are_creatable(schema: &Schema) -> bool
         && !lacks_needed_sequence_table(schema)
 }
 
-/// Whether exactly one table is in the tree.
+// Whether exactly one table is in the tree.
 fn has_one_table(schema: &Schema, tree: u32) -> bool
     ensures { result ≡ has_one_table schema.now tree }
 {
@@ -112,8 +111,8 @@ fn has_one_table(schema: &Schema, tree: u32) -> bool
         == 1
 }
 
-/// Whether other objects do not affect the tables of this version, which are in these trees. There is no table of the
-/// other version.
+// Whether other objects do not affect the tables of this version, which are in these trees. There is no table of the
+// other version.
 fn are_unaffected(schema: &Schema, version: Version, meta: u32, devices: u32) -> bool
     ensures { result ≡ are_unaffected version schema.now meta devices }
 {
@@ -126,7 +125,7 @@ fn are_unaffected(schema: &Schema, version: Version, meta: u32, devices: u32) ->
         && migration_adds_no_sequence(schema, version)
 }
 
-/// The tree of the table with this name.
+// The tree of the table with this name.
 fn tree_of_table(schema: &Schema, name: &[u8]) -> Option<u32>
     ensures { result ≡ tree_of_table schema.now name.now }
 {
@@ -146,7 +145,7 @@ pub enum TablesStatus {
     Unusable,
 }
 
-/// What the schema has, if the tables of our names are in these trees.
+// What the schema has, if the tables of our names are in these trees.
 fn tables_in_trees(
     schema: &Schema,
     meta: Option<u32>,

@@ -112,7 +112,7 @@ pub trait SqlConnection {
             → OnErr result (KeepsDatabaseIfStillOpen (state self.old) (state self.new)) }
         ensures counted { commits self.new ≡ with_one_more (commits self.old) };
 
-    // While the connection is open, a crash leaves what is committed.
+    /// While the connection is open, a crash leaves what is committed.
     ghost settled: { (s : Self) (trees : Trees) → IsTrue (state s).is_open → (state s).may_leave trees
         → trees ≡ (state s).committed.trees };
 }

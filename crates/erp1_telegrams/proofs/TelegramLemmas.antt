@@ -13,9 +13,7 @@ use Rattle.esp3_frames.specs.Packet.{Packet}
 use Rattle.erp1_telegrams.specs.declared.telegram.TelegramFault.{TelegramFault}
 use Rattle.erp1_telegrams.specs.declared.telegram.TelegramFault.TheVariants.{NotRadio, OtherKind, BadLength}
 use Rattle.erp1_telegrams.specs.Telegram.{Telegram, CarriesTelegram, is_decoded_rorg, payload_length_fits, destination}
-use Rattle.erp1_telegrams.specs.Telegram.{dbm_of_optional}
-use Rattle.erp1_telegrams.specs.Telegram.{telegram_in}
-use Rattle.erp1_telegrams.specs.Telegram.{telegram_of, radio_packet}
+use Rattle.erp1_telegrams.specs.Telegram.{dbm_of_optional, telegram_in, telegram_of, radio_packet}
 
 -- ---- the table of RORGs
 

@@ -1,6 +1,5 @@
 //! Reading and writing telegrams in packets.
-ghost use Rattle.std.specs.Prelude.{◌≡◌, ◌≤◌, ◌+◌, ◌-◌, ◌++◌, length, nat_lt, if◌then◌else◌};
-ghost use Rattle.std.specs.Prelude.{Ok, Err, OnOk, OnErr};
+ghost use Rattle.std.specs.Prelude.{◌≡◌, ◌≤◌, ◌+◌, ◌-◌, ◌++◌, length, nat_lt, if◌then◌else◌, Ok, Err, OnOk, OnErr};
 ghost use Rattle.arrayvec.specs.ArrayVec.{array_vec_len};
 ghost use Rattle.esp3_frames.specs.Packet.{IsPacket, spelling};
 ghost use Rattle.esp3_frames.specs.Outcome.{packet_of};
@@ -37,7 +36,7 @@ pub fn read(p: &PacketRef<'_>) -> Result<Telegram, TelegramFault>
     Telegram::new(*rorg, payload, sender, *status, dest, dbm)
 }
 
-/// The destination and the dBm of the optional data.
+// The destination and the dBm of the optional data.
 fn destination_and_dbm(opt: &[u8]) -> (u32, Option<u8>)
     ensures dest { result.0 ≡ destination opt.now }
     ensures dbm { result.1 ≡ dbm_of_optional opt.now }

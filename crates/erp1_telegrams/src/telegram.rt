@@ -165,7 +165,7 @@ impl Telegram {
     }
 }
 
-/// Whether telegrams with this RORG are read.
+// Whether telegrams with this RORG are read.
 pub(crate) fn is_decoded_rorg(rorg: u8) -> bool
     ensures { result ≡ is_decoded_rorg rorg }
 {

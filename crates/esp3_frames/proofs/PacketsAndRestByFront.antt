@@ -9,8 +9,7 @@ use Rattle.esp3_frames.specs.Packet.{max_packet, Packet, IsPacket}
 use Rattle.esp3_frames.specs.Framing.{BeginsWithPacket}
 use Rattle.esp3_frames.specs.Framing.Framing.{ends, finds}
 use Rattle.esp3_frames.specs.PacketsAndRest.{Front, front_of, PacketsAndRest, packets_and_rest_after_skipping}
-use Rattle.esp3_frames.specs.PacketsAndRest.{packets_and_rest, packets_in}
-use Rattle.esp3_frames.specs.PacketsAndRest.{rest_of}
+use Rattle.esp3_frames.specs.PacketsAndRest.{packets_and_rest, packets_in, rest_of}
 use Rattle.esp3_frames.specs.PacketsAndRest.Front.{Never, Partial, Whole}
 use Rattle.esp3_frames.proofs.PacketLemmas.{packet_length, one_reading, begins_not_may}
 use Rattle.esp3_frames.proofs.FrontLemmas.{front_partial, front_whole}

@@ -1,6 +1,5 @@
 -- The packets of a serial line, and their bytes (EnOcean Serial Protocol 3, "Packet structure").
-use Rattle.std.specs.Prelude.{◌≡◌, ℕ, ◌+◌, ◌/◌, ◌%◌, ◌<◌, ◌≤◌, List, [], ◌∷◌, ◌++◌, length}
-use Rattle.std.specs.Prelude.{Bool, ◌&&◌, nat_lt}
+use Rattle.std.specs.Prelude.{◌≡◌, ℕ, ◌+◌, ◌/◌, ◌%◌, ◌<◌, ◌≤◌, List, [], ◌∷◌, ◌++◌, length, Bool, ◌&&◌, nat_lt}
 use Rattle.esp3_frames.specs.Check.{check}
 
 -- the maximum length of the data, in bytes: its length field has two bytes

@@ -2,8 +2,7 @@
 ghost use Rattle.std.specs.Prelude.{◌≡◌, ◌≢◌, ℕ, ◌+◌, ◌<◌, ◌≤◌, List, [], ◌∷◌, ◌++◌, ◌⊎◌};
 ghost use Rattle.std.specs.Prelude.{length, take, drop, slice_index, bit_xor, replicate, if◌then◌else◌, Ok, Err};
 ghost use Rattle.esp3_frames.specs.Check.{check, crc_after_zeros};
-ghost use Rattle.esp3_frames.specs.Packet.{max_data, max_optional_data, max_packet, Packet, IsPacket};
-ghost use Rattle.esp3_frames.specs.Packet.{OneReading};
+ghost use Rattle.esp3_frames.specs.Packet.{max_data, max_optional_data, max_packet, Packet, IsPacket, OneReading};
 ghost use Rattle.esp3_frames.specs.Framing.{Framing, BeginsWithPacket, MayBecomePacket, NeverPacket};
 ghost use Rattle.esp3_frames.specs.PacketsAndRest.{front_of, front_after_header, may_begin, packets_and_rest};
 ghost use Rattle.esp3_frames.specs.PacketsAndRest.{packets_in, rest_of};

@@ -49,8 +49,8 @@ module _ (w : List ℕ) (h : Header) (has : HasHeader w h) where
       let n : announced_data_len h < length (drop 6 w) = omega (arith, length-drop 6 w) in
       behind ∙ front_after_header-whole h.data_len h.opt_len h.kind (drop 6 w) n (last ∙ right)
 
-  pub refused : announced_data_len h + 7 ≤ length w → (IsRight h w → ⊥) → front_of w ≡ Never
-  refused long wrong =
+  pub rejected : announced_data_len h + 7 ≤ length w → (IsRight h w → ⊥) → front_of w ≡ Never
+  rejected long wrong =
       let n : announced_data_len h < length (drop 6 w) = omega (arith, length-drop 6 w) in
       behind ∙ front_after_header-never h.data_len h.opt_len h.kind (drop 6 w) n (λ e. wrong (sym last ∙ e))
 

@@ -1,9 +1,7 @@
 -- The running CRCs of a window while bytes come and go.
-use Rattle.std.proofs.Common.{◌≡◌, ℕ, ◌+◌, ◌<◌, ◌≤◌}
-use Rattle.std.proofs.Common.{List, [], ◌∷◌, ◌++◌, length, take, drop, slice_set}
-use Rattle.std.proofs.Common.{get_or, bit_xor, sym, subst, ap, ◌∙◌, append_assoc, arith}
-use Rattle.std.proofs.Common.{length-append, length-take, length-drop}
-use Rattle.std.proofs.Common.{inl, inr}
+use Rattle.std.proofs.Common.{◌≡◌, ℕ, ◌+◌, ◌<◌, ◌≤◌, List, [], ◌∷◌, ◌++◌, length, take, drop, slice_set, get_or}
+use Rattle.std.proofs.Common.{bit_xor, sym, subst, ap, ◌∙◌, append_assoc, arith, length-append, length-take}
+use Rattle.std.proofs.Common.{length-drop, inl, inr}
 use Rattle.std.proofs.Math.Seq.{take-add}
 use Rattle.std.proofs.lemmas.Bool.{cases_lt}
 use Rattle.std.proofs.lemmas.List.{take_all, take-append-le, take_more, get_or-set_same, get_or-set_other}

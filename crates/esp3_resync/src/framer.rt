@@ -1,7 +1,6 @@
 //! The framer: extracts packets from the bytes of a serial line.
-ghost use Rattle.std.specs.Prelude.{◌≡◌, ◌≢◌, ◌+◌, ℕ, ◌<◌, ◌≤◌, ◌↔◌};
-ghost use Rattle.std.specs.Prelude.{[], ◌∷◌, ◌++◌, length, take};
-ghost use Rattle.std.specs.Prelude.{vec_capacity, Some, None, IsTrue, IsSome, IfOk, IfSome, IfNone};
+ghost use Rattle.std.specs.Prelude.{◌≡◌, ◌≢◌, ◌+◌, ℕ, ◌<◌, ◌≤◌, ◌↔◌, [], ◌∷◌, ◌++◌, length, take, vec_capacity, Some};
+ghost use Rattle.std.specs.Prelude.{None, IsTrue, IsSome, IfOk, IfSome, IfNone};
 ghost use Rattle.std.specs.Bool.{OnTrue, OnFalse};
 ghost use Rattle.std.specs.Option.{option_map};
 ghost use Rattle.esp3_frames.specs.Framing.{MayBecomePacket};

@@ -1,6 +1,5 @@
 -- Fractions in lowest terms. They are an own choice: no standard says how to write a value.
-use Rattle.std.specs.Prelude.{ℕ, ◌/◌, ◌%◌, ◌<◌, ◌==◌, ◌&&◌, if◌then◌else◌, suc, zero, ℤ, pos, int_div}
-use Rattle.std.specs.Prelude.{unsigned_abs}
+use Rattle.std.specs.Prelude.{ℕ, ◌/◌, ◌%◌, ◌<◌, ◌==◌, ◌&&◌, if◌then◌else◌, suc, zero, ℤ, pos, int_div, unsigned_abs}
 use Rattle.std.specs.Int.{IsGcd}
 
 -- a fraction: a signed numerator, and a denominator

@@ -52,7 +52,7 @@ pub fn over(raw: u32, divisor: u32) -> Fraction
     reduced(i64::from(raw), divisor)
 }
 
-/// `top / bottom` in lowest terms.
+// `top / bottom` in lowest terms.
 pub(crate) fn reduced(top: i64, bottom: u32) -> Fraction
     requires { 0 < bottom }
     ensures exact { ratio result ≡ lowest top bottom }

@@ -1,6 +1,5 @@
 //! Linear scales between two bounds.
-ghost use Rattle.std.specs.Prelude.{◌≡◌, ◌≢◌, ◌^◌, ◌≤◌, ◌↔◌, ℤ, pos, negsuc, ◌≤ℤ◌, ◌*ℤ◌};
-ghost use Rattle.std.specs.Prelude.{IsSome, IfSome, option_map};
+ghost use Rattle.std.specs.Prelude.{◌≡◌, ◌≢◌, ◌^◌, ◌≤◌, ◌↔◌, ℤ, pos, negsuc, ◌≤ℤ◌, ◌*ℤ◌, IsSome, IfSome, option_map};
 ghost use Rattle.exact_values.specs.Ratio.{IsLowest};
 ghost use Rattle.exact_values.specs.Fraction.{ratio};
 ghost use Rattle.exact_values.specs.Scale.{IsBetween, StandsFor, interpolated, scaled};

@@ -1,9 +1,7 @@
 -- What `clap` found on a command line that it accepts.
-use Rattle.std.proofs.Common.{◌≡◌, ◌⊎◌, ◌∙◌, ◌||◌, ◌&&◌, ◌<◌, ℕ, Bool, cond}
-use Rattle.std.proofs.Common.{true, false, not, refl, sym, ap, ap₂, subst}
-use Rattle.std.proofs.Common.{arith, inl, inr}
-use Rattle.std.proofs.Common.{List, [], ◌∷◌, Option, Some, None, Result, Ok, Err, is_some, codes, slice_index_or}
-use Rattle.std.proofs.Common.{slice_get}
+use Rattle.std.proofs.Common.{◌≡◌, ◌⊎◌, ◌∙◌, ◌||◌, ◌&&◌, ◌<◌, ℕ, Bool, cond, true, false, not, refl, sym, ap, ap₂}
+use Rattle.std.proofs.Common.{subst, arith, inl, inr, List, [], ◌∷◌, Option, Some, None, Result, Ok, Err, is_some}
+use Rattle.std.proofs.Common.{codes, slice_index_or, slice_get}
 use Rattle.std.specs.Prelude.{find, option_and_then, option_map, unwrap_or}
 use Rattle.std.specs.List.{All}
 use Rattle.std.specs.Option.{option_map_or}
@@ -16,14 +14,11 @@ use Rattle.clap.specs.Faults.{entered_fault, fault_of, is_simple_and_free, level
 use Rattle.clap.specs.Kinds.{HasKind}
 use Rattle.clap.specs.Matches.{ReadsOne}
 use Rattle.clap.specs.Simple.{App, HasMatchesOf, Shape, app_of, argument_words, built, entered, filled, label_of}
-use Rattle.clap.specs.Simple.{names_of}
-use Rattle.clap.specs.Simple.{rows_at}
-use Rattle.clap.specs.Simple.{subcommand_of, subcommand_rows_of, with_rule, with_subcommand}
+use Rattle.clap.specs.Simple.{names_of, rows_at, subcommand_of, subcommand_rows_of, with_rule, with_subcommand}
 use Rattle.clap.specs.Takes.{is_given}
 use Rattle.clap.specs.Values.{IsUnsignedIn, read_as}
 use Rattle.clap.specs.Walk.{Row, Rule, Text, answers_to, arg_by_id, first_of, nothing_held, one_of, row_text}
-use Rattle.clap.specs.Walk.{rows_after}
-use Rattle.clap.specs.Walk.{rule_of, walk, walk_from}
+use Rattle.clap.specs.Walk.{rows_after, rule_of, walk, walk_from}
 use Rattle.clap.specs.declared.builder.Arg.{Arg}
 use Rattle.clap.specs.declared.builder.Command.{Command}
 use Rattle.clap.specs.declared.builder.value_parser.Reading.TheVariants.{AsWritten}
@@ -33,8 +28,7 @@ use Rattle.clap.specs.declared.parser.matches.ArgMatches.{ArgMatches}
 use Rattle.clap.proofs.SimpleLemmas.{plain_fields}
 use Rattle.clap.proofs.ValueTestLemmas.{accepts-Accepts}
 use Rattle.gateway_cli.specs.CommandLine.{HasExplain, HasRequiredOptions, IsAcceptedByClap, HasLiveOptions, base_rule}
-use Rattle.gateway_cli.specs.CommandLine.{enogate_app}
-use Rattle.gateway_cli.specs.CommandLine.{explain_rule, rows_if_replay_or_live}
+use Rattle.gateway_cli.specs.CommandLine.{enogate_app, explain_rule, rows_if_replay_or_live}
 use Rattle.gateway_cli.proofs.RequiredLemmas.{DefaultFits, HasOne, RowFits, RuleFits, default_one, found_in, given_one}
 use Rattle.gateway_cli.proofs.RequiredLemmas.{level_fits, none_missing, or_else_none}
 
@@ -59,10 +53,10 @@ taken_so words command is none =
     let P : App → Type 0 = λ app. is_simple_and_free app ≡ true → fault_of app words ≡ [] in subst P is none refl
 
 -- or it rejects them for a cause that they have
-pub refused_so : (words : List Text) (command : Command) (error : Error) → app_of command ≡ enogate_app
+pub rejected_so : (words : List Text) (command : Command) (error : Error) → app_of command ≡ enogate_app
     → (is_simple_and_free (app_of command) ≡ true → HasKind (fault_of (app_of command) words) error)
     → HasKind (fault_of enogate_app words) error
-refused_so words command error is has =
+rejected_so words command error is has =
     let P : App → Type 0 = λ app. is_simple_and_free app ≡ true → HasKind (fault_of app words) error in
     subst P is has refl
 

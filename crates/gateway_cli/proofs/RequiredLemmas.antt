@@ -1,9 +1,7 @@
 -- If `clap` accepts the words of a command whose options have one value each, or are flags, then each option that was
 -- found has one value that its parser accepts, and each option that is required, or has a default, is found.
-use Rattle.std.proofs.Common.{◌≡◌, ◌∙◌, ◌⊎◌, ◌++◌, ◌&&◌, ◌||◌, ◌==◌}
-use Rattle.std.proofs.Common.{ℕ, Bool, cond, true, false, not, zero, suc}
-use Rattle.std.proofs.Common.{refl, sym, ap, subst, arith, inl, inr, List, [], ◌∷◌, length, drop, Option, Some, None}
-use Rattle.std.proofs.Common.{is_some}
+use Rattle.std.proofs.Common.{◌≡◌, ◌∙◌, ◌⊎◌, ◌++◌, ◌&&◌, ◌||◌, ◌==◌, ℕ, Bool, cond, true, false, not, zero, suc, refl}
+use Rattle.std.proofs.Common.{sym, ap, subst, arith, inl, inr, List, [], ◌∷◌, length, drop, Option, Some, None, is_some}
 use Rattle.std.specs.Prelude.{encode_utf8, find, fold, slice_get, unwrap_or}
 use Rattle.std.specs.List.{All, list_any}
 use Rattle.std.specs.Option.{option_map_or}
@@ -14,11 +12,9 @@ use Rattle.std.proofs.lemmas.List.Elements.{All-cons, All-drop, All-get_or, All-
 use Rattle.std.proofs.lemmas.Slice.Eq.{bytes_eq-Decides}
 use Rattle.clap.specs.Facts.{explicit_source, parser_of_value, unwrap_or_range}
 use Rattle.clap.specs.Faults.{action_fault, bundle_fault, bundle_step_fault, check_fault, default_fault, defaults_fault}
-use Rattle.clap.specs.Faults.{flag_word_fault, given_default_fault}
-use Rattle.clap.specs.Faults.{flags_fault, level_fault, long_fault, option_fault, other_fault, react_fault}
-use Rattle.clap.specs.Faults.{repeat_fault}
-use Rattle.clap.specs.Faults.{set_fault, settle_fault, short_fault, step_fault, turn_fault, use_fault, values_fault}
-use Rattle.clap.specs.Faults.{walk_fault, word_fault}
+use Rattle.clap.specs.Faults.{flag_word_fault, given_default_fault, flags_fault, level_fault, long_fault, option_fault}
+use Rattle.clap.specs.Faults.{other_fault, react_fault, repeat_fault, set_fault, settle_fault, short_fault, step_fault}
+use Rattle.clap.specs.Faults.{turn_fault, use_fault, values_fault, walk_fault, word_fault}
 use Rattle.clap.specs.Kinds.{Kinds, check_kinds, or_else, range_kinds, request_kinds, value_kinds, values_kinds}
 use Rattle.clap.specs.Simple.{Shape}
 use Rattle.clap.specs.Takes.{is_given}
@@ -26,14 +22,12 @@ use Rattle.clap.specs.ValueTests.{accepts}
 use Rattle.clap.specs.Walk.{Held, Outcome, Row, Rule, Step, Text, Waiting, Walk, action_of, after_flag, after_step}
 use Rattle.clap.specs.Walk.{arg_by_id, arg_by_index, arg_by_long, arg_by_short, at_row, bundle_met, bundle_step}
 use Rattle.clap.specs.Walk.{attached_value, default_rows, done, flag_met, has_row, idle, is_empty, long_met}
-use Rattle.clap.specs.Walk.{long_or_other, more_values}
-use Rattle.clap.specs.Walk.{most_values, next, nothing_held, option, option_met, option_word, plain, plain_word}
-use Rattle.clap.specs.Walk.{positional, reacted, reading_by, refused, rows_after, settled, settled_rows, short_met}
-use Rattle.clap.specs.Walk.{short_or_plain, subcommand, subcommand_met, subcommand_or_other, takes_values}
-use Rattle.clap.specs.Walk.{to_positional}
-use Rattle.clap.specs.Walk.{trailing, used, used_as, used_by_id, value, values_or_missing, waits, walk, walk_from}
-use Rattle.clap.specs.Walk.{walked}
-use Rattle.clap.specs.Walk.{walked_from, with_default, with_values, without, word_met}
+use Rattle.clap.specs.Walk.{long_or_other, more_values, most_values, next, nothing_held, option, option_met}
+use Rattle.clap.specs.Walk.{option_word, plain, plain_word, positional, reacted, reading_by, refused, rows_after}
+use Rattle.clap.specs.Walk.{settled, settled_rows, short_met, short_or_plain, subcommand, subcommand_met}
+use Rattle.clap.specs.Walk.{subcommand_or_other, takes_values, to_positional, trailing, used, used_as, used_by_id}
+use Rattle.clap.specs.Walk.{value, values_or_missing, waits, walk, walk_from, walked, walked_from, with_default}
+use Rattle.clap.specs.Walk.{with_values, without, word_met}
 use Rattle.clap.specs.Lexer.{long_of, short_of}
 use Rattle.clap.specs.declared.builder.action.ArgAction.TheVariants.{Help, Set, SetTrue}
 use Rattle.clap.specs.declared.error.kind.ErrorKind.{ErrorKind}

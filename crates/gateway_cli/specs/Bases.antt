@@ -2,7 +2,7 @@
 -- lower case.
 use Rattle.std.specs.Prelude.{ℕ, List, if◌then◌else◌, Option, Some, None}
 use Rattle.erp1_telegrams.specs.Address.{is_base_id}
-use Rattle.actuator_commands.specs.Words.{id_in}
+use Rattle.desk_orders.specs.Words.{id_in}
 
 abbrev pub if_base_id : Option ℕ → Option ℕ
 if_base_id (Some id) = if is_base_id id then Some id else None

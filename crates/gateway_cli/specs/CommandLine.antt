@@ -171,6 +171,6 @@ IsAcceptedByClap words = fault_of enogate_app words ≡ []
 
 -- `clap` rejects the line for a cause that the line has, or because memory ran out; or it accepts it, and the base is
 -- invalid
-abbrev pub RefusesCommandLine : List Text → CommandLineFault → Type 0
-RefusesCommandLine words (ClapError error) = HasKind (fault_of enogate_app words) error
-RefusesCommandLine words BadBase = IsAcceptedByClap words × (base_of_command_line words ≡ None)
+abbrev pub RejectsCommandLine : List Text → CommandLineFault → Type 0
+RejectsCommandLine words (ClapError error) = HasKind (fault_of enogate_app words) error
+RejectsCommandLine words BadBase = IsAcceptedByClap words × (base_of_command_line words ≡ None)

@@ -9,10 +9,10 @@ use clap::builder::ValueParser;
 use clap::{Arg, ArgAction, Command};
 use std::alloc::{AllocError, Global};
 
-/// The version that `--version` prints after the program's name.
+// The version that `--version` prints after the program's name.
 const VERSION: &str = "0.2.0";
 
-/// The command `enogate` with its subcommands.
+// The command `enogate` with its subcommands.
 pub(super) fn command<'a>(alloc: Global) -> Result<Command<'a>, AllocError>
     ensures { IfOk result (λ command. app_of command ≡ enogate_app) }
 {
@@ -96,7 +96,7 @@ fn turns_option<'a>(alloc: Global) -> Arg<'a>
     .value_parser(turns)
 }
 
-/// A required option of this name whose value is a path.
+// A required option of this name whose value is a path.
 fn path_option<'a>(alloc: Global, name: &'a str, help: &'a str) -> Arg<'a>
     ensures rule { rule_of result ≡ required_rule name.entry.now }
     ensures local { result.global ≡ false }
@@ -104,7 +104,7 @@ fn path_option<'a>(alloc: Global, name: &'a str, help: &'a str) -> Arg<'a>
     required_option(alloc, name, "PATH", help)
 }
 
-/// A required option of this name with one value.
+// A required option of this name with one value.
 fn required_option<'a>(alloc: Global, name: &'a str, value_name: &'a str, help: &'a str) -> Arg<'a>
     ensures rule { rule_of result ≡ required_rule name.entry.now }
     ensures local { result.global ≡ false }

@@ -10,10 +10,9 @@ ghost use Rattle.std.specs.Prelude.{◌≡◌, ◌⊎◌, IfOk, IfErr, OnOk, Som
 ghost use Rattle.std.specs.String.{string_bytes};
 ghost use Rattle.clap.specs.Words.{takes};
 ghost use Rattle.erp1_telegrams.specs.Address;
-ghost use Rattle.gateway_cli.specs.CommandLine.{AsksFor, IsOutOfMemory, IsAcceptedByClap, RefusesCommandLine};
-ghost use Rattle.gateway_cli.specs.CommandLine.{base_of_command_line};
-ghost use Rattle.gateway_cli.specs.CommandLine.{db_of_command_line};
-ghost use Rattle.gateway_cli.specs.CommandLine.{enogate_app, explain_of_command_line};
+ghost use Rattle.gateway_cli.specs.CommandLine.{AsksFor, IsOutOfMemory, IsAcceptedByClap, RejectsCommandLine};
+ghost use Rattle.gateway_cli.specs.CommandLine.{base_of_command_line, db_of_command_line, enogate_app};
+ghost use Rattle.gateway_cli.specs.CommandLine.{explain_of_command_line};
 
 use clap::Error;
 use commands::command;
@@ -82,7 +81,7 @@ pub fn read<'a>(alloc: Global, words: &'a [String]) -> Result<Options<'a>, Comma
         ≡ explain_of_command_line (map string_bytes words.now)) }
     ensures service { IfOk result (λ options. AsksFor (map string_bytes words.now) options.service) }
     ensures is_base_id { IfOk result (λ options. Address.is_base_id options.base ≡ true) }
-    ensures refused { IfErr result (RefusesCommandLine (map string_bytes words.now)) }
+    ensures rejected { IfErr result (RejectsCommandLine (map string_bytes words.now)) }
     ensures passes { takes enogate_app (map string_bytes words.now) ≡ true →
         IfErr result (λ why. (why ≡ CommandLineFault.BadBase) ⊎ IsOutOfMemory why) }
 {

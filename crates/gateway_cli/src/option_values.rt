@@ -8,11 +8,11 @@ ghost use Rattle.gateway_cli.specs.CommandLine.{rows_if_replay_or_live};
 
 use super::{Access, FileToOpen, Options, Service};
 use crate::limits::MAX_READS;
-use actuator_commands::id_of;
 use clap::ArgMatches;
+use desk_orders::id_of;
 use erp1_telegrams::is_base_id;
 
-/// The options of the subcommand, if it is `replay` or `live` and its base ID is valid.
+// The options of the subcommand, if it is `replay` or `live` and its base ID is valid.
 pub(super) fn options_of<'a>(matches: &ArgMatches<'a>) -> Option<Options<'a>>
     requires { (rows : List Row) → option_and_then rows_if_replay_or_live (subcommand_rows_of matches.now) ≡ Some rows
         → HasRequiredOptions (subcommand_rows_of matches.now) }
@@ -34,7 +34,7 @@ pub(super) fn options_of<'a>(matches: &ArgMatches<'a>) -> Option<Options<'a>>
     })
 }
 
-/// The service of the subcommand of this name, if it is `replay` or `live`.
+// The service of the subcommand of this name, if it is `replay` or `live`.
 fn service_of<'a>(name: &str, given: &ArgMatches<'a>) -> Option<Service<'a>>
     requires { rows_if_replay_or_live (name.now, rows_of (found_of given.now)) ≡ Some (rows_of (found_of given.now))
         → HasRequiredOptions (Some (name.now, rows_of (found_of given.now))) }
@@ -49,7 +49,7 @@ fn service_of<'a>(name: &str, given: &ArgMatches<'a>) -> Option<Service<'a>>
     }
 }
 
-/// The base ID, if the text spells one.
+// The base ID, if the text spells one.
 fn base_of(text: &str) -> Option<u32>
     ensures { result ≡ base_in text.now }
 {
@@ -69,7 +69,7 @@ fn live_service_of<'a>(given: &ArgMatches<'a>) -> Service<'a>
     }
 }
 
-/// The file whose path is the value of the option of this name, with this access.
+// The file whose path is the value of the option of this name, with this access.
 fn given_file<'a>(given: &ArgMatches<'a>, name: &str, access: Access) -> FileToOpen<'a>
     requires { is_some (first_of name.now (rows_of (found_of given.now))) ≡ true }
     ensures { IsGivenFile (rows_of (found_of given.now)) name.now access result }

@@ -1,8 +1,6 @@
 -- One input, applied or failed.
-use Rattle.std.proofs.Common.{◌≡◌, inl, inr, ℕ, ◌≤◌, Bool, true, false}
-use Rattle.std.proofs.Common.{IsSome, List, []}
-use Rattle.std.proofs.Common.{◌∷◌, length, Option, Some, None, Result, Ok, Err, refl, sym, ap, subst, ◌∙◌}
-use Rattle.std.proofs.Common.{append-nil}
+use Rattle.std.proofs.Common.{◌≡◌, inl, inr, ℕ, ◌≤◌, Bool, true, false, IsSome, List, [], ◌∷◌, length, Option, Some}
+use Rattle.std.proofs.Common.{None, Result, Ok, Err, refl, sym, ap, subst, ◌∙◌, append-nil}
 use Rattle.std.specs.Prelude.{MatchBool, is_some, if◌then◌else◌}
 use Rattle.std.specs.FinMap.{get}
 use Rattle.std.specs.Option.{option_map}
@@ -16,9 +14,7 @@ use Rattle.profile_rows.specs.Reading.{Entry}
 use Rattle.profile_rows.specs.declared.unreadable.Unreadable.{Unreadable}
 use Rattle.learned_devices.specs.declared.Device.{Device}
 use Rattle.learned_devices.specs.Devices.{DeviceData, Devices, device, device_of, is_full_for, DeviceUpdate}
-use Rattle.learned_devices.specs.Devices.{learn_update}
-use Rattle.learned_devices.specs.Devices.{forget_update}
-use Rattle.learned_devices.specs.Devices.{relabel_update}
+use Rattle.learned_devices.specs.Devices.{learn_update, forget_update, relabel_update}
 use Rattle.teach_in.specs.declared.mode.Mode.{Mode}
 use Rattle.teach_in.specs.declared.mode.Mode.TheVariants.{LearnAs}
 use Rattle.teach_in.specs.Profiles.{supported}
@@ -29,43 +25,36 @@ use Rattle.teach_in.specs.declared.plans.Plan.TheVariants.{Refuse}
 use Rattle.teach_in.specs.Telegrams.{teach_in_of}
 use Rattle.teach_in.specs.Plans.{plan_of}
 use Rattle.teach_in.proofs.ForCallers.{either, of_plan}
-use Rattle.json_lines.specs.declared.error_lines.ErrorName.TheVariants as error
+use Rattle.gateway_state.specs.declared.error_reason.ErrorReason.TheVariants as error
 use Rattle.teach_in.specs.declared.verdict.Verdict.{Verdict}
 use Rattle.learned_devices.specs.declared.fault.StoreFault.{StoreFault}
 use Rattle.gateway_core.specs.declared.failure.Failure.{Failure}
 use Rattle.gateway_core.specs.declared.failure.Failure.TheVariants.{BeforeCommit, AtCommit}
-use Rattle.json_lines.specs.declared.counts.Counts.{Counts}
-use Rattle.json_lines.specs.Counts.{increment_if_any}
+use Rattle.gateway_state.specs.declared.counts.Counts.{Counts}
+use Rattle.gateway_state.specs.Counts.{increment_if_any}
 use Rattle.json_lines.specs.Lines.{Error, Teach as TeachOf, TeachLine, text}
 use Rattle.gateway_core.specs.Step.{State, Input, Answer, Effect, with_packet_line, packet_line_for, counter_in}
-use Rattle.gateway_core.specs.Step.{lines_effect, ordered_learn_effect}
-use Rattle.gateway_core.specs.Step.{if_full_of_others_else, if_learned_else_error, relabel_effect}
-use Rattle.actuator_commands.specs.Limits.{max_line}
-use Rattle.actuator_commands.specs.declared.orders.Order.{Order}
-use Rattle.actuator_commands.specs.declared.orders.OrderFault.{OrderFault}
-use Rattle.actuator_commands.specs.declared.orders.OrderFault.TheVariants.{UnknownDevice}
-use Rattle.actuator_commands.specs.Orders.{order_of}
-use Rattle.gateway_core.specs.Step.{order_effect, line_effect}
-use Rattle.gateway_core.specs.Step.{reading_effect, case_effect, data_case, effect, update_of, need_of_memory_or_store}
-use Rattle.gateway_core.specs.Step.{with_update}
-use Rattle.gateway_core.specs.Step.{state_after_applied_input, with_mode, plan_effect, teach_report_effect}
-use Rattle.gateway_core.specs.Step.{radio_bytes_of}
-use Rattle.gateway_core.specs.Step.{reply_telegram_of}
-use Rattle.gateway_core.specs.Step.{query_teach_line}
-use Rattle.gateway_core.specs.Step.{if_supported_else_error, mode_effect, error_effect, accept_effect}
-use Rattle.gateway_core.specs.Step.{device_teach_line}
-use Rattle.gateway_core.specs.Step.{unexplained_answer, send_result_effect}
+use Rattle.gateway_core.specs.Step.{lines_effect, ordered_learn_effect, if_full_of_others_else, if_learned_else_error}
+use Rattle.gateway_core.specs.Step.{relabel_effect, order_effect, line_effect, reading_effect, case_effect, data_case}
+use Rattle.gateway_core.specs.Step.{effect, update_of, need_of_memory_or_store, with_update, state_after_applied_input}
+use Rattle.gateway_core.specs.Step.{with_mode, plan_effect, teach_report_effect, radio_bytes_of, reply_telegram_of}
+use Rattle.gateway_core.specs.Step.{query_teach_line, if_supported_else_error, mode_effect, error_effect, accept_effect}
+use Rattle.gateway_core.specs.Step.{device_teach_line, unexplained_answer, send_result_effect, Cause, Memory, Need}
+use Rattle.gateway_core.specs.Step.{NeedsMemory, NeedsStore, MayFailFor}
+use Rattle.desk_orders.specs.Limits.{max_line}
+use Rattle.desk_orders.specs.declared.orders.Order.{Order}
+use Rattle.desk_orders.specs.declared.orders.OrderFault.{OrderFault}
+use Rattle.desk_orders.specs.declared.orders.OrderFault.TheVariants.{UnknownDevice}
+use Rattle.desk_orders.specs.Orders.{order_of}
 use Rattle.gateway_core.specs.Dispositions.{eep_in_query, maker_in_query}
 use Rattle.gateway_core.specs.Profiles.{read_by}
 use Rattle.gateway_core.specs.private.Failures.{cause_of}
-use Rattle.gateway_core.specs.Step.{Cause, Memory, Need, NeedsMemory, NeedsStore, MayFailFor}
 use Rattle.gateway_core.specs.Run.{failure_answer, Applied, Failed, FailedAtCommit, state_after_failure}
 use Rattle.gateway_core.specs.CrashStates.{nothing_committed_yet, after_committed_update, with_pending_update}
 use Rattle.gateway_core.specs.CrashStates.{IsCrashConsistent}
 use Rattle.gateway_core.specs.Handling.{HandlerValue, HandlesFrom, Handles}
 use Rattle.gateway_core.specs.private.Attempts.{HandlerEffect, state_of, MatchesEffect, IsUpdateCommitted, IsPending}
-use Rattle.gateway_core.specs.private.Attempts.{AppliesOrFails, Attempts, counts_from}
-use Rattle.gateway_core.specs.private.Attempts.{explained_answer_to, mode_from}
+use Rattle.gateway_core.specs.private.Attempts.{AppliesOrFails, Attempts, counts_from, explained_answer_to, mode_from}
 use Rattle.gateway_core.specs.private.Attempts.{FailsToUpdate, ChangesOnlyRegistry, TriesToLearn, TriesToForget}
 
 -- the state that consists of these parts
@@ -384,14 +373,14 @@ module _ {S : Type 0} (stored : S → DeviceStoreState) where
       subst (λ s. MatchesEffect done (effect s)) (ap (λ v. state_of v devices) same)
 
   -- an update that fails
-  refused-applies_or_fails : (old new : S) (devices : Devices) (effect : Effect) (update : DeviceUpdate)
+  failed-applies_or_fails : (old new : S) (devices : Devices) (effect : Effect) (update : DeviceUpdate)
       (failure : Failure)
       → effect.need ≡ NeedsStore → effect.update ≡ Some update
       → FailsToUpdate (stored old) (stored new) devices update failure
       → AppliesOrFails (stored old) (stored new) devices effect (Err failure)
-  refused-applies_or_fails old new devices effect update (BeforeCommit fault) need changes keeps =
+  failed-applies_or_fails old new devices effect update (BeforeCommit fault) need changes keeps =
       (permitted effect.need (cause_of fault) need, keeps)
-  refused-applies_or_fails old new devices effect update (AtCommit fault) need changes pends = rw changes pends
+  failed-applies_or_fails old new devices effect update (AtCommit fault) need changes pends = rw changes pends
 
   -- a label is committed, or the sender is unknown
   pub label-applies_or_fails : (old new : S) (devices : Devices) (id : ℕ) (label : List ℕ) (known : Bool)
@@ -419,13 +408,13 @@ module _ {S : Type 0} (stored : S → DeviceStoreState) where
       one None true is applies_or_fails = absurd (let no = is in cc)
       one None false is applies_or_fails = applies_or_fails
 
-  pub label-refused : (old new : S) (devices : Devices) (id : ℕ) (label : List ℕ) (fault : StoreFault)
+  pub label-failed : (old new : S) (devices : Devices) (id : ℕ) (label : List ℕ) (fault : StoreFault)
       → MatchBool (is_some (get devices id)) (LeavesPending (stored old) (stored new) (relabel_update id label) devices)
       (Keeps (stored old) (stored new) devices)
       → AppliesOrFails (stored old) (stored new) devices
       (if_learned_else_error (device_of devices id) (λ it. relabel_effect id label))
       (Err (AtCommit fault))
-  label-refused old new devices id label fault failed = one (get devices id) failed
+  label-failed old new devices id label fault failed = one (get devices id) failed
     where
       one : (it : Option DeviceData)
           → MatchBool (is_some it) (LeavesPending (stored old) (stored new) (relabel_update id label) devices)
@@ -456,18 +445,18 @@ module _ {S : Type 0} (stored : S → DeviceStoreState) where
 
   module _ (old new : HandlerValue S) (known : Device) (full done : State → Effect)
       (adds : (devices : Devices) → Adds known (full (state_of old devices)) (done (state_of old devices))) where
-    pub tries-refused : (failure : Failure) → TriesToLearn stored old known (Err failure) new
+    pub tries-failed : (failure : Failure) → TriesToLearn stored old known (Err failure) new
         → Attempts stored old (λ state. if_full_of_others_else state.devices known (full state) (done state))
         (Err failure)
         new
-    tries-refused (BeforeCommit fault) learns =
+    tries-failed (BeforeCommit fault) learns =
         tries-registry old new _ _ _ learns.changes_only_registry
         (λ devices keeps.
         let all = adds devices in (
           permitted _ (cause_of fault) (if_full_of_others_else-need devices known _ _ all.full_needs all.done_needs),
           keeps,
         ))
-    tries-refused (AtCommit fault) learns =
+    tries-failed (AtCommit fault) learns =
         tries-registry old new _ _ _ learns.changes_only_registry
         (λ devices pends.
         if_full_of_others_else-pending old.registry new.registry devices known (full (state_of old devices))
@@ -514,7 +503,7 @@ module _ {S : Type 0} (stored : S → DeviceStoreState) where
         tries-registry old new _ _ _ forgets.changes_only_registry
         (λ devices.
         let all = drops devices in
-        refused-applies_or_fails old.registry new.registry devices (effect (state_of old devices))
+        failed-applies_or_fails old.registry new.registry devices (effect (state_of old devices))
         (forget_update line.id) failure
         all.needs all.forgets)
 

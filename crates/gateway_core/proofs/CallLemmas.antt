@@ -1,8 +1,6 @@
 -- The calls of a gateway are a run.
 use Rattle.std.proofs.Common.{◌≡◌, ℕ, suc, ◌<◌, List, [], ◌∷◌, ◌++◌, length, take, refl, ap, sym, subst, ◌∙◌}
-use Rattle.std.proofs.Common.{append_assoc, arith}
-use Rattle.std.proofs.Common.{append-nil, Some}
-use Rattle.std.proofs.Common.{None}
+use Rattle.std.proofs.Common.{append_assoc, arith, append-nil, Some, None}
 use Rattle.learned_devices.specs.DeviceStoreState.{DeviceStoreState}
 use Rattle.esp3_frames.specs.Packet.{Packet}
 use Rattle.esp3_frames.specs.PacketsAndRest.{packets_in, rest_of}
@@ -10,8 +8,7 @@ use Rattle.esp3_frames.proofs.ForCallers.{framing_in_parts, packets_and_rest-may
 use Rattle.gateway_core.specs.Step.{Input, Received, Ordered}
 use Rattle.gateway_core.specs.Handling.{HandlerValue, Handles}
 use Rattle.gateway_core.specs.Calls.{GatewayValue, Call, Bytes, Next, Order, Transition, Transitions, bytes_of}
-use Rattle.gateway_core.specs.Calls.{answers_of, AreInputs}
-use Rattle.gateway_core.specs.Calls.{CallsAreARun, BytesOneByOne}
+use Rattle.gateway_core.specs.Calls.{answers_of, AreInputs, CallsAreARun, BytesOneByOne}
 use Rattle.gateway_core.proofs.RunLemmas.{handles-nothing, handles-append}
 
 module _ {S : Type 0} (stored : S → DeviceStoreState) where

@@ -1,27 +1,23 @@
 -- What is counted.
-use Rattle.std.proofs.Common.{◌≡◌, IsSome, ℕ, ◌+◌, ◌^◌, ◌<◌, List, [], ◌∷◌, Some, None, refl, ap}
-use Rattle.std.proofs.Common.{◌∙◌, arith, subst}
-use Rattle.std.specs.Option.{option_map}
+use Rattle.std.proofs.Common.{◌≡◌, IsSome, ℕ, ◌+◌, ◌^◌, ◌<◌, List, [], ◌∷◌, Some, None, refl, ap, ◌∙◌, arith, subst}
 use Rattle.std.proofs.Common.{append-nil}
+use Rattle.std.specs.Option.{option_map}
 use Rattle.esp3_frames.specs.Packet.{Packet}
 use Rattle.teach_in.specs.declared.outcome.Outcome.TheVariants.{Accepted, Deleted}
 use Rattle.teach_in.specs.Telegrams.{teach_in_of}
-use Rattle.json_lines.specs.declared.counts.Counter.TheVariants as count
-use Rattle.json_lines.specs.Counts.{saturated_sum, increment, saturated_increment, increment_if_any}
-use Rattle.teach_in.specs.declared.handling_reason.HandlingReason.{HandlingReason}
-use Rattle.teach_in.specs.declared.handling_reason.HandlingReason.TheVariants as why
+use Rattle.gateway_state.specs.declared.counts.Counter.TheVariants as count
+use Rattle.gateway_state.specs.Counts.{saturated_sum, increment, saturated_increment, increment_if_any}
+use Rattle.gateway_state.specs.declared.handling_reason.HandlingReason.{HandlingReason}
+use Rattle.gateway_state.specs.declared.handling_reason.HandlingReason.TheVariants as why
 use Rattle.json_lines.specs.Lines.{Reading, Teach, ResponseLine, TeachLine, text, texts}
 use Rattle.gateway_core.specs.declared.disposition.Disposition.{Disposition}
 use Rattle.gateway_core.specs.Dispositions.{without_device, counter_for, packet_text_if_any, packet_line_of}
 use Rattle.gateway_core.specs.Counting.{AppliedPacketsAreCounted, IsExplained, ExplanationsAreCounted, MatchesDeskLines}
 use Rattle.gateway_core.specs.Counting.{disposition_for_result}
 use Rattle.gateway_core.specs.Step.{State, Input, Received, Ordered, counter_in, counter_for_applied_input}
-use Rattle.gateway_core.specs.Step.{packet_effect}
-use Rattle.gateway_core.specs.Step.{device_teach_line}
-use Rattle.gateway_core.specs.Step.{Answer, Cause, Effect, query_teach_line}
+use Rattle.gateway_core.specs.Step.{packet_effect, device_teach_line, Answer, Cause, Effect, query_teach_line}
 use Rattle.gateway_core.specs.Run.{InputResult, Applied, Failed, FailedAtCommit, answer_for_result, state_after_result}
-use Rattle.gateway_core.specs.Run.{failure_count}
-use Rattle.gateway_core.specs.Run.{FailuresAreCounted, failure_answer, state_after_failure}
+use Rattle.gateway_core.specs.Run.{failure_count, FailuresAreCounted, failure_answer, state_after_failure}
 use Rattle.gateway_core.proofs.EffectLemmas.{of_packet, of_line, of_effect}
 use Rattle.gateway_core.proofs.ReportingLemmas.{no_line, other-line}
 
@@ -29,9 +25,9 @@ pub count_on : (a b c n m : ℕ) → b ≡ saturated_sum a n → c ≡ saturated
 count_on a b c n m is on = omega (arith, is, on)
 
 -- an applied input is not counted as failed
-unrefused : (state : State) (input : Input)
+without_failure : (state : State) (input : Input)
     → (increment_if_any state.counts (counter_for_applied_input state input)).refused ≡ state.counts.refused
-unrefused state =
+without_failure state =
     of_effect (λ e. (increment_if_any state.counts (counter_in e.disposition)).refused ≡ state.counts.refused) state
     (λ packet. record {
       telegrams = λ t is. record {
@@ -139,7 +135,7 @@ applied_packets_are_counted = record {
 
 -- with a word that counts as ignored, the desk receives no other line
 ignoring-says : (why : HandlingReason) → counter_for why ≡ count.Ignored → MatchesDeskLines why []
-ignoring-says why.Refused is = absurd cc
+ignoring-says why.Failed is = absurd cc
 ignoring-says why.Response is = absurd cc
 ignoring-says why.EmptyResponse is = refl
 ignoring-says why.OtherType is = refl
@@ -176,13 +172,13 @@ has-disposition state packet =
     })
 
 -- a failed packet is explained as failed, whatever the cause
-refused-explained : (state : State) (packet : Packet) (result : InputResult) (cause : Cause)
-    → disposition_for_result state packet result ≡ Some (without_device why.Refused)
+failed-explained : (state : State) (packet : Packet) (result : InputResult) (cause : Cause)
+    → disposition_for_result state packet result ≡ Some (without_device why.Failed)
     → answer_for_result state (Received packet) result ≡ failure_answer (Received packet) cause
     → state_after_result state (Received packet) result ≡ state_after_failure state → (¬ (result ≡ Applied))
     → IsExplained state packet result
-refused-explained state packet result cause is answer counts untaken = record {
-  disposition = without_device why.Refused;
+failed-explained state packet result cause is answer counts untaken = record {
+  disposition = without_device why.Failed;
   is = is;
   explanation = ap (λ (a : Answer). a.explanation) answer;
   says = λ taken. absurd (untaken taken);
@@ -206,9 +202,9 @@ explained state packet Applied =
       counts = ap (λ o. increment_if_any state.counts (counter_in o)) is;
     }
 explained state packet (Failed cause) =
-    refused-explained state packet (Failed cause) cause refl refl refl (λ taken. absurd cc)
+    failed-explained state packet (Failed cause) cause refl refl refl (λ taken. absurd cc)
 explained state packet (FailedAtCommit cause) =
-    refused-explained state packet (FailedAtCommit cause) cause refl refl refl (λ taken. absurd cc)
+    failed-explained state packet (FailedAtCommit cause) cause refl refl refl (λ taken. absurd cc)
 
 unexplained : (state : State) (line : List ℕ) (result : InputResult)
     → (answer_for_result state (Ordered line) result).explanation ≡ []
@@ -228,7 +224,7 @@ pub failures_are_counted : FailuresAreCounted
 failures_are_counted old new [] [] [] run fits =
     let same = ap (λ (s : State). s.counts.refused) run in omega (arith, same, fits)
 failures_are_counted old new (input ∷ inputs) (Applied ∷ results) (answer ∷ answers) run fits =
-    let same = unrefused old input in
+    let same = without_failure old input in
     let rest =
     failures_are_counted (state_after_result old input Applied) new inputs results answers run.2
     (omega (arith, same, fits)) in

@@ -1,14 +1,12 @@
 -- Crash consistency composes.
 use Rattle.std.proofs.Common.{◌≡◌, ◌⊎◌, inl, inr, Bool, true, false, cond, List, [], ◌∷◌, ◌++◌, Option, Some, None}
 use Rattle.std.proofs.Common.{refl, sym, ap, subst, ◌∙◌}
-use Rattle.learned_devices.specs.Devices.{Devices, apply_update}
-use Rattle.learned_devices.specs.Devices.{DeviceUpdate}
+use Rattle.learned_devices.specs.Devices.{Devices, apply_update, DeviceUpdate}
 use Rattle.gateway_core.specs.Step.{State, Input, Answer, update_of, with_update}
 use Rattle.gateway_core.specs.Run.{InputResult, Applied, Failed, FailedAtCommit, state_after_result, Run}
 use Rattle.gateway_core.specs.CrashStates.{CrashStates, nothing_committed_yet, after_committed_update}
-use Rattle.gateway_core.specs.CrashStates.{with_pending_update}
-use Rattle.gateway_core.specs.CrashStates.{crash_states_after_result}
-use Rattle.gateway_core.specs.CrashStates.{crash_states, IsOneOf, IsCrashConsistent, CrashConsistencyComposes}
+use Rattle.gateway_core.specs.CrashStates.{with_pending_update, crash_states_after_result, crash_states, IsOneOf}
+use Rattle.gateway_core.specs.CrashStates.{IsCrashConsistent, CrashConsistencyComposes}
 
 -- the crash states of a first list of inputs and then a second
 abbrev over : CrashStates → CrashStates → CrashStates

@@ -23,22 +23,22 @@ use Rattle.teach_in.specs.declared.telegrams.Teach.TheVariants as teach
 use Rattle.teach_in.specs.Profiles.{supported}
 use Rattle.teach_in.specs.Telegrams.{teach_in_of}
 use Rattle.teach_in.specs.Plans.{add, plan_of}
-use Rattle.teach_in.proofs.ForCallers.{either, LearnsByTold, Hears, AsksDeletion, Refuses, of_plan}
-use Rattle.json_lines.specs.declared.counts.Counter.TheVariants as count
-use Rattle.teach_in.specs.declared.handling_reason.HandlingReason.{HandlingReason}
-use Rattle.teach_in.specs.declared.handling_reason.HandlingReason.TheVariants as why
-use Rattle.json_lines.specs.declared.error_lines.ErrorName.{ErrorName}
-use Rattle.json_lines.specs.declared.error_lines.ErrorName.TheVariants as error
-use Rattle.actuator_commands.specs.Limits.{max_line}
-use Rattle.actuator_commands.specs.declared.orders.Order.{Order}
-use Rattle.actuator_commands.specs.declared.orders.Order.TheVariants.{LearnOn, LearnOnAnswer, LearnOff, Add, Remove}
-use Rattle.actuator_commands.specs.declared.orders.Order.TheVariants.{LearnAs, Label, List as ListAll, Status, Base}
-use Rattle.actuator_commands.specs.declared.orders.Order.TheVariants.{Switch, Dim, Query, Meter, Blind, Stop}
-use Rattle.actuator_commands.specs.declared.orders.Order.TheVariants.{Central, Level, Teach as TeachAll}
-use Rattle.actuator_commands.specs.declared.orders.OrderFault.{OrderFault}
-use Rattle.actuator_commands.specs.declared.orders.OrderFault.TheVariants.{UnknownDevice}
-use Rattle.actuator_commands.specs.Packets.{sends}
-use Rattle.actuator_commands.specs.Orders.{order_of}
+use Rattle.teach_in.proofs.ForCallers.{either, LearnsByTeachIn, Hears, AsksDeletion, Refuses, of_plan}
+use Rattle.gateway_state.specs.declared.counts.Counter.TheVariants as count
+use Rattle.gateway_state.specs.declared.handling_reason.HandlingReason.{HandlingReason}
+use Rattle.gateway_state.specs.declared.handling_reason.HandlingReason.TheVariants as why
+use Rattle.gateway_state.specs.declared.error_reason.ErrorReason.{ErrorReason}
+use Rattle.gateway_state.specs.declared.error_reason.ErrorReason.TheVariants as error
+use Rattle.desk_orders.specs.Limits.{max_line}
+use Rattle.desk_orders.specs.declared.orders.Order.{Order}
+use Rattle.desk_orders.specs.declared.orders.Order.TheVariants.{LearnOn, LearnOnAnswer, LearnOff, Add, Remove}
+use Rattle.desk_orders.specs.declared.orders.Order.TheVariants.{LearnAs, Label, List as ListAll, Status, Base}
+use Rattle.desk_orders.specs.declared.orders.Order.TheVariants.{Switch, Dim, Query, Meter, Blind, Stop}
+use Rattle.desk_orders.specs.declared.orders.Order.TheVariants.{Central, Level, Teach as TeachAll}
+use Rattle.desk_orders.specs.declared.orders.OrderFault.{OrderFault}
+use Rattle.desk_orders.specs.declared.orders.OrderFault.TheVariants.{UnknownDevice}
+use Rattle.desk_orders.specs.Recipients.{sends}
+use Rattle.desk_orders.specs.Orders.{order_of}
 use Rattle.json_lines.specs.Lines.{Reading, StatusLine, ResponseLine, Error, ReadingLine, TeachLine, ModuleResponse}
 use Rattle.json_lines.specs.Lines.{list_lines}
 use Rattle.gateway_core.specs.declared.disposition.Disposition.{Disposition}
@@ -46,19 +46,14 @@ use Rattle.gateway_core.specs.Dispositions.{without_device, counter_for, for_dev
 use Rattle.gateway_core.specs.Dispositions.{why_nothing_done, why_no_telegram_or_response, why_unread}
 use Rattle.gateway_core.specs.Profiles.{read_by}
 use Rattle.gateway_core.specs.Responses.{response_in}
-use Rattle.gateway_core.specs.Step.{State, Input, Received, Ordered, Effect, silent_effect}
-use Rattle.gateway_core.specs.Step.{Need, NeedsMemory, NeedsStore}
-use Rattle.gateway_core.specs.Step.{packet_desk_line_effect, error_effect, send_effect, send_result_effect}
-use Rattle.gateway_core.specs.Step.{sending_order_effect}
-use Rattle.gateway_core.specs.Step.{lines_effect, mode_effect, ordered_learn_effect, ordered_forget_effect}
-use Rattle.gateway_core.specs.Step.{relabel_effect}
-use Rattle.gateway_core.specs.Step.{teach_report_effect, accept_effect, delete_effect, query_teach_line}
-use Rattle.gateway_core.specs.Step.{plan_effect}
-use Rattle.gateway_core.specs.Step.{FilteredOut, TeachInTelegram, data_case, case_by_role, reading_effect, case_effect}
-use Rattle.gateway_core.specs.Step.{telegram_effect, packet_effect, line_effect}
-use Rattle.gateway_core.specs.Step.{packet_effect_from, non_telegram_effect, if_learned_else_error}
-use Rattle.gateway_core.specs.Step.{if_supported_else_error, order_effect}
-use Rattle.gateway_core.specs.Step.{effect}
+use Rattle.gateway_core.specs.Step.{State, Input, Received, Ordered, Effect, silent_effect, Need, NeedsMemory}
+use Rattle.gateway_core.specs.Step.{NeedsStore, packet_desk_line_effect, error_effect, send_effect, send_result_effect}
+use Rattle.gateway_core.specs.Step.{sending_order_effect, lines_effect, mode_effect, ordered_learn_effect}
+use Rattle.gateway_core.specs.Step.{ordered_forget_effect, relabel_effect, teach_report_effect, accept_effect}
+use Rattle.gateway_core.specs.Step.{delete_effect, query_teach_line, plan_effect, FilteredOut, TeachInTelegram}
+use Rattle.gateway_core.specs.Step.{data_case, case_by_role, reading_effect, case_effect, telegram_effect}
+use Rattle.gateway_core.specs.Step.{packet_effect, line_effect, packet_effect_from, non_telegram_effect}
+use Rattle.gateway_core.specs.Step.{if_learned_else_error, if_supported_else_error, order_effect, effect}
 use Rattle.gateway_core.proofs.DeviceLemmas.{device_of-known}
 
 -- ---- a teach-in telegram is one, whatever it contains
@@ -129,7 +124,7 @@ pub record OfTelegram (P : Effect → Type 0) (state : State) (t : Telegram) : T
   pub admits : Hears state.mode (teach_in_of t) → (eep : Eep) (maker : Option ℕ) (known : Bool)
       → plan_of t state.mode known ≡ add t eep maker
       → P (accept_effect state (teach_in_of t) (record { id = t.sender; eep = eep; maker = maker; label = [] }))
-  pub removes : LearnsByTold state.mode → AsksDeletion (teach_in_of t)
+  pub removes : LearnsByTeachIn state.mode → AsksDeletion (teach_in_of t)
       → P (delete_effect state (teach_in_of t) t.sender)
   pub refuses : Hears state.mode (teach_in_of t) → (need : Need) (line : TeachLine) → IsRefusal line.outcome
       → P (record (teach_report_effect state (teach_in_of t) line) { need = need })
@@ -199,8 +194,8 @@ sends-effect state order is = absurd cc
 
 -- it holds for each effect that a line may have that spells this
 pub record OfLine (P : Effect → Type 0) (state : State) (spelled : Result Order OrderFault) : Type 0 where
-  pub denies : (name : ErrorName) → P (error_effect name)
-  pub finds : (name : ErrorName) → P (lines_effect NeedsStore (Error name ∷ []))
+  pub denies : (name : ErrorReason) → P (error_effect name)
+  pub finds : (name : ErrorReason) → P (lines_effect NeedsStore (Error name ∷ []))
   pub opens : (set : Mode) → ((eep : Eep) → set ≡ mode.LearnAs eep → spelled ≡ Ok (LearnAs eep)) → P (mode_effect set)
   pub sends : (asked : Bool) (bytes : List ℕ) → P (send_effect asked bytes)
   pub lists : P (lines_effect NeedsStore (list_lines (devices_by_ascending_id state.devices)))

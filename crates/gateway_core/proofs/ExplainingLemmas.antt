@@ -29,25 +29,20 @@ use Rattle.teach_in.specs.Profiles.{supported}
 use Rattle.teach_in.specs.Telegrams.{teach_in_of}
 use Rattle.teach_in.specs.Plans.{add, add_if_supported, plan_in_mode, can_be_learned_by, ute_plan, plan_of, plan_row_of}
 use Rattle.teach_in.specs.Ute.{request_in, deletion_request, unused_request}
-use Rattle.teach_in.proofs.ForCallers.{IsOpen, LearnsByTold, either, hears-open, of_plan}
-use Rattle.teach_in.specs.declared.handling_reason.HandlingReason.{HandlingReason}
-use Rattle.teach_in.specs.declared.handling_reason.HandlingReason.TheVariants as why
+use Rattle.teach_in.proofs.ForCallers.{IsOpen, LearnsByTeachIn, either, hears-open, of_plan}
+use Rattle.gateway_state.specs.declared.handling_reason.HandlingReason.{HandlingReason}
+use Rattle.gateway_state.specs.declared.handling_reason.HandlingReason.TheVariants as why
 use Rattle.json_lines.specs.ShownTelegram.{shown_destination}
 use Rattle.gateway_core.specs.declared.disposition.Disposition.{Disposition}
 use Rattle.gateway_core.specs.Dispositions.{without_device, eep_in_query, packet_text_if_any, packet_line_of}
-use Rattle.gateway_core.specs.Dispositions.{for_device}
-use Rattle.gateway_core.specs.Dispositions.{shown_packet}
-use Rattle.gateway_core.specs.Dispositions.{why_no_telegram_or_response, why_nothing_done}
+use Rattle.gateway_core.specs.Dispositions.{for_device, shown_packet, why_no_telegram_or_response, why_nothing_done}
 use Rattle.gateway_core.specs.Profiles.{read_by}
 use Rattle.gateway_core.specs.Responses.{response_from, response_in}
 use Rattle.gateway_core.specs.Explaining.{RorgDoesNotFitTeachIn, ExplanationsAreTrue, IsNotFilteredOut, IsDataOf}
-use Rattle.gateway_core.specs.Explaining.{WhyIsTrue}
-use Rattle.gateway_core.specs.Explaining.{IsTeachInRequest}
-use Rattle.gateway_core.specs.Explaining.{IsPlanned, Shows}
-use Rattle.gateway_core.specs.Step.{State, Effect, case_effect, case_of, data_case, case_by_role}
-use Rattle.gateway_core.specs.Step.{FilteredOut, non_telegram_effect, packet_effect_from, packet_effect, plan_effect}
-use Rattle.gateway_core.specs.Step.{accept_effect, is_learned, reading_effect, teach_report_effect, device_teach_line}
-use Rattle.gateway_core.specs.Step.{silent_effect}
+use Rattle.gateway_core.specs.Explaining.{WhyIsTrue, IsTeachInRequest, IsPlanned, Shows}
+use Rattle.gateway_core.specs.Step.{State, Effect, case_effect, case_of, data_case, case_by_role, FilteredOut}
+use Rattle.gateway_core.specs.Step.{non_telegram_effect, packet_effect_from, packet_effect, plan_effect, accept_effect}
+use Rattle.gateway_core.specs.Step.{is_learned, reading_effect, teach_report_effect, device_teach_line, silent_effect}
 use Rattle.std.specs.Option.{option_map}
 
 -- if the effect is that of the packet, its disposition is true
@@ -226,7 +221,7 @@ module _ (t : Telegram) where
 not-closed : (now : Mode) → IsOpen now → now ≢ mode.Closed
 not-closed now is_open closed = subst IsOpen closed is_open
 
-query-open : (now : Mode) → LearnsByTold now → now ≢ mode.Closed
+query-open : (now : Mode) → LearnsByTeachIn now → now ≢ mode.Closed
 query-open now (inl is) closed = absurd (let e = sym is ∙ closed in cc)
 query-open now (inr is) closed = absurd (let e = sym is ∙ closed in cc)
 

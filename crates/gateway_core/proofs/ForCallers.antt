@@ -6,8 +6,7 @@ pub use Rattle.gateway_core.proofs.CallLemmas.{calls_are_a_run}
 pub use Rattle.gateway_core.proofs.CountLemmas.{count_on, failures_are_counted, applied_packets_are_counted}
 pub use Rattle.gateway_core.proofs.ReplyLemmas.{radio_is_reply_or_ordered}
 pub use Rattle.gateway_core.proofs.ChunkLemmas.{new_packets-append, new_packets-rest, inputs_of-append}
-pub use Rattle.gateway_core.proofs.ChunkLemmas.{cuts_do_not_matter}
-pub use Rattle.gateway_core.proofs.ChunkLemmas.{answers_do_not_depend_on_chunks}
+pub use Rattle.gateway_core.proofs.ChunkLemmas.{cuts_do_not_matter, answers_do_not_depend_on_chunks}
 pub use Rattle.gateway_core.proofs.SessionLemmas.{updates_survive_restarts}
 pub use Rattle.gateway_core.proofs.LongLineLemmas.{handles_alike}
 pub use Rattle.gateway_core.proofs.PrefixLemmas.{crash_states_are_prefixes, sessions_leave_prefixes}

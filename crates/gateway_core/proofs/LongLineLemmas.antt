@@ -3,18 +3,16 @@ use Rattle.std.proofs.Common.{◌≡◌, ℕ, ◌<◌, List, [], ◌∷◌, leng
 use Rattle.std.specs.Prelude.{if◌then◌else◌, IsSome}
 use Rattle.std.proofs.lemmas.Bool.{lt-ltb}
 use Rattle.learned_devices.specs.DeviceStoreState.{DeviceStoreState}
-use Rattle.json_lines.specs.Counts.{increment_if_any}
-use Rattle.json_lines.specs.declared.error_lines.ErrorName.TheVariants.{TooLong}
-use Rattle.actuator_commands.specs.Limits.{max_line}
-use Rattle.actuator_commands.specs.Orders.{order_of}
+use Rattle.gateway_state.specs.Counts.{increment_if_any}
+use Rattle.gateway_state.specs.declared.error_reason.ErrorReason.TheVariants.{TooLong}
+use Rattle.desk_orders.specs.Limits.{max_line}
+use Rattle.desk_orders.specs.Orders.{order_of}
 use Rattle.gateway_core.specs.Step.{State, Input, Ordered, Answer, text_answer, Effect, error_effect, order_effect}
 use Rattle.gateway_core.specs.Step.{MayFailFor, line_effect, effect, unexplained_answer, counter_in, with_update}
 use Rattle.gateway_core.specs.Step.{with_mode}
-use Rattle.gateway_core.specs.Run.{InputResult, Applied, Failed, FailedAtCommit, Run, cause_text, state_after_failure}
+use Rattle.gateway_core.specs.Run.{InputResult, Applied, Failed, FailedAtCommit, Run, failure_text, state_after_failure}
 use Rattle.gateway_core.specs.CrashStates.{CrashStates, nothing_committed_yet, after_committed_update}
-use Rattle.gateway_core.specs.CrashStates.{with_pending_update}
-use Rattle.gateway_core.specs.CrashStates.{crash_states}
-use Rattle.gateway_core.specs.CrashStates.{IsCrashConsistent}
+use Rattle.gateway_core.specs.CrashStates.{with_pending_update, crash_states, IsCrashConsistent}
 use Rattle.gateway_core.specs.Handling.{HandlerValue, HandlesFrom, Handles}
 
 effect-long : (start : State) (line : List ℕ) → max_line < length line
@@ -36,10 +34,10 @@ run_alike old new line other (Applied ∷ results) (answer ∷ answers) e run =
       devices = with_update old.devices d.update;
     }) [] results answers new in subst P e run
 run_alike old new line other (Failed cause ∷ results) (answer ∷ answers) e run =
-    let P : Effect → Type 0 = λ d. MayFailFor d.need cause × (answer ≡ text_answer (cause_text cause))
+    let P : Effect → Type 0 = λ d. MayFailFor d.need cause × (answer ≡ text_answer (failure_text cause))
     × Run (state_after_failure old) [] results answers new in subst P e run
 run_alike old new line other (FailedAtCommit cause ∷ results) (answer ∷ answers) e run =
-    let P : Effect → Type 0 = λ d. IsSome d.update × (answer ≡ text_answer (cause_text cause))
+    let P : Effect → Type 0 = λ d. IsSome d.update × (answer ≡ text_answer (failure_text cause))
     × Run (state_after_failure old) [] results answers new in subst P e run
 run_alike old new line other [] [] e run = absurd run
 run_alike old new line other [] (answer ∷ answers) e run = absurd run

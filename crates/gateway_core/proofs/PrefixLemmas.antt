@@ -1,14 +1,12 @@
 -- Crash-consistent devices are those known after a prefix of the inputs.
-use Rattle.std.proofs.Common.{◌≡◌, ◌<◌, ◌⊎◌, inl, inr, IsSome, length, List, [], ◌∷◌, ◌++◌, Option}
-use Rattle.std.proofs.Common.{Some, None, refl}
+use Rattle.std.proofs.Common.{◌≡◌, ◌<◌, ◌⊎◌, inl, inr, IsSome, length, List, [], ◌∷◌, ◌++◌, Option, Some, None, refl}
 use Rattle.std.proofs.Common.{sym, ap, subst, ◌∙◌, arith}
 use Rattle.learned_devices.specs.Devices.{Devices, DeviceUpdate}
 use Rattle.gateway_core.specs.Step.{State, Input, Answer, update_of, with_update}
 use Rattle.gateway_core.specs.Run.{InputResult, Applied, Failed, FailedAtCommit, state_after_result, Run}
 use Rattle.gateway_core.specs.CrashStates.{CrashStates, nothing_committed_yet, after_committed_update}
-use Rattle.gateway_core.specs.CrashStates.{with_pending_update}
-use Rattle.gateway_core.specs.CrashStates.{crash_states_after_result}
-use Rattle.gateway_core.specs.CrashStates.{crash_states, IsCrashConsistent}
+use Rattle.gateway_core.specs.CrashStates.{with_pending_update, crash_states_after_result, crash_states}
+use Rattle.gateway_core.specs.CrashStates.{IsCrashConsistent}
 use Rattle.gateway_core.specs.Sessions.{initial_state, with_interrupted}
 use Rattle.gateway_core.specs.Prefixes.{HasAcknowledgedUpdate, NoUpdateAcknowledged, state_after_run, AfterPrefix}
 use Rattle.gateway_core.specs.Prefixes.{CrashStatesArePrefixes, AcknowledgedAreInPrefix}

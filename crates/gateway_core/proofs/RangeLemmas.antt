@@ -1,7 +1,6 @@
 -- The numbers of devices stay in range.
-use Rattle.std.proofs.Common.{◌≡◌, inl, inr, ℕ, ◌<◌, ◌^◌, Bool}
-use Rattle.std.proofs.Common.{List, [], ◌∷◌, ◌++◌, Option, Some, None, Ok}
-use Rattle.std.proofs.Common.{refl, sym, ap, subst, ◌∙◌, arith}
+use Rattle.std.proofs.Common.{◌≡◌, inl, inr, ℕ, ◌<◌, ◌^◌, Bool, List, [], ◌∷◌, ◌++◌, Option, Some, None, Ok, refl, sym}
+use Rattle.std.proofs.Common.{ap, subst, ◌∙◌, arith}
 use Rattle.std.specs.Prelude.{◌==◌, ◌&&◌, not, IfSome, slice_index}
 use Rattle.std.specs.List.{AllByRecursion, AllZip}
 use Rattle.std.specs.Option.{option_map}
@@ -14,8 +13,7 @@ use Rattle.erp1_telegrams.specs.Telegram.{Telegram, telegram_of}
 use Rattle.erp1_telegrams.proofs.TelegramLemmas.{of_carried}
 use Rattle.learned_devices.specs.declared.Device.{Device}
 use Rattle.learned_devices.specs.Devices.{DeviceData, Devices, Operation, Learn, Forget, Relabel, DeviceUpdate}
-use Rattle.learned_devices.specs.Devices.{data_after, apply_update}
-use Rattle.learned_devices.specs.Devices.{device, learn_update}
+use Rattle.learned_devices.specs.Devices.{data_after, apply_update, device, learn_update}
 use Rattle.learned_devices.specs.Ranges.{IsProfileInRange, MakerFitsTwoBytes, HasDeviceNumbersInRange, AreInRange}
 use Rattle.learned_devices.proofs.ForCallers.{entered-in}
 use Rattle.teach_in.specs.declared.mode.Mode.{Mode}
@@ -32,24 +30,21 @@ use Rattle.teach_in.specs.Plans.{plan_row_of, can_be_learned_by, plan_of}
 use Rattle.teach_in.proofs.ForCallers.{either, of-role}
 use Rattle.teach_in.specs.declared.outcome.Outcome.{Outcome}
 use Rattle.teach_in.specs.declared.outcome.Outcome.TheVariants.{Accepted, Deleted}
-use Rattle.actuator_commands.specs.declared.orders.Order.{Order}
-use Rattle.actuator_commands.specs.declared.orders.Order.TheVariants as order
-use Rattle.actuator_commands.specs.Orders.{order_of, words_of}
-use Rattle.actuator_commands.specs.Words.{Word, Literal, Id, Profile, Number, LabelText, SpellsId, SpellsEep}
-use Rattle.actuator_commands.specs.Words.{SpellsWord}
-use Rattle.actuator_commands.proofs.OrderLemmas.{orders_are_spelled}
+use Rattle.desk_orders.specs.declared.orders.Order.{Order}
+use Rattle.desk_orders.specs.declared.orders.Order.TheVariants as order
+use Rattle.desk_orders.specs.Orders.{order_of, words_of_order}
+use Rattle.desk_orders.specs.Words.{Word, Literal, Id, Profile, Number, LabelText, SpellsId, SpellsEep, SpellsWord}
+use Rattle.desk_orders.proofs.OrderLemmas.{orders_are_spelled}
 use Rattle.json_lines.specs.Lines.{Teach, TeachLine, text}
 use Rattle.json_lines.proofs.TeachTextsInjective.{one_teach_line}
 use Rattle.gateway_core.specs.Step.{State, Input, Received, Ordered, Effect, update_of, effect, new_mode_of}
-use Rattle.gateway_core.specs.Step.{device_teach_line}
-use Rattle.gateway_core.specs.Step.{mode_set_by_learning, with_update, with_mode}
+use Rattle.gateway_core.specs.Step.{device_teach_line, mode_set_by_learning, with_update, with_mode}
 use Rattle.gateway_core.specs.Run.{InputResult, Applied, Failed, FailedAtCommit, state_after_result}
 use Rattle.gateway_core.specs.Sessions.{initial_state}
 use Rattle.gateway_core.specs.Prefixes.{HasFailedNextUpdate, HasInterruptedUpdate, state_after_run}
 use Rattle.gateway_core.specs.Reporting.{IsDeviceOfDeletedLine, OutcomeMatchesUpdate, accepted_or_deleted_update}
-use Rattle.gateway_core.specs.Ranges.{IsModeInRange, IsStateInRange}
-use Rattle.gateway_core.specs.Ranges.{PacketBodyIsBytes, StaysInRange, SessionsLeaveDevicesInRange, IsOfDevice}
-use Rattle.gateway_core.specs.Ranges.{ReportsInRange}
+use Rattle.gateway_core.specs.Ranges.{IsModeInRange, IsStateInRange, PacketBodyIsBytes, StaysInRange}
+use Rattle.gateway_core.specs.Ranges.{SessionsLeaveDevicesInRange, IsOfDevice, ReportsInRange}
 use Rattle.gateway_core.proofs.ByteLemmas.{AreBytes, field-below, four-below, front-bytes, back-bytes}
 use Rattle.gateway_core.proofs.EffectLemmas.{of_packet, of_line}
 use Rattle.gateway_core.proofs.PrefixLemmas.{sessions_leave_prefixes}
@@ -158,9 +153,9 @@ words-in (text ∷ texts) (word ∷ words) spell = (word-in text word spell.0, w
 words-in [] (word ∷ words) spell = absurd spell
 words-in (text ∷ texts) [] spell = absurd spell
 
-order-in : (line : List ℕ) (order : Order) → order_of line ≡ Ok order → AllByRecursion IsWordInBytes (words_of order)
+order-in : (line : List ℕ) (order : Order) → order_of line ≡ Ok order → AllByRecursion IsWordInBytes (words_of_order order)
 order-in line order is =
-    let (texts, whole, spell) = (orders_are_spelled.spelled line order is).0 in words-in texts (words_of order) spell
+    let (texts, whole, spell) = (orders_are_spelled.spelled line order is).0 in words-in texts (words_of_order order) spell
 
 set-in : (line : List ℕ) (mode : Mode)
     → ((eep : Eep) → mode ≡ LearnAs eep → order_of line ≡ Ok (order.LearnAs eep)) → IsModeInRange mode

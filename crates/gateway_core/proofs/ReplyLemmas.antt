@@ -8,7 +8,7 @@ use Rattle.erp1_telegrams.specs.declared.eep.Eep.{Eep}
 use Rattle.learned_devices.specs.declared.Device.{Device}
 use Rattle.learned_devices.specs.Devices.{device_of, is_full_for}
 use Rattle.teach_in.specs.Profiles.{supported}
-use Rattle.teach_in.proofs.ForCallers.{either, LearnsByTold, Hears}
+use Rattle.teach_in.proofs.ForCallers.{either, LearnsByTeachIn, Hears}
 use Rattle.teach_in.specs.declared.mode.Mode.{Mode}
 use Rattle.teach_in.specs.declared.mode.Mode.TheVariants.{LearnAnswer}
 use Rattle.teach_in.specs.declared.outcome.Outcome.{Outcome}
@@ -18,23 +18,21 @@ use Rattle.teach_in.specs.declared.telegrams.Teach.TheVariants.{FourByte, Ute}
 use Rattle.teach_in.specs.FourByte.{four_byte_reply}
 use Rattle.teach_in.specs.Telegrams.{teach_in_of}
 use Rattle.teach_in.specs.Ute.{wants_reply, ute_reply}
-use Rattle.actuator_commands.specs.Limits.{max_line}
-use Rattle.actuator_commands.specs.declared.orders.Order.{Order}
-use Rattle.actuator_commands.specs.declared.orders.Order.TheVariants.{LearnOn, LearnOnAnswer, LearnOff, Add, Remove}
-use Rattle.actuator_commands.specs.declared.orders.Order.TheVariants.{Label, List as ListAll, Status, Base}
-use Rattle.actuator_commands.specs.declared.orders.Order.TheVariants as orders
-use Rattle.actuator_commands.specs.declared.orders.OrderFault.{OrderFault}
-use Rattle.actuator_commands.specs.Orders.{order_of}
-use Rattle.actuator_commands.specs.Packets.{order_telegram, recipient_id}
+use Rattle.desk_orders.specs.Limits.{max_line}
+use Rattle.desk_orders.specs.declared.orders.Order.{Order}
+use Rattle.desk_orders.specs.declared.orders.Order.TheVariants.{LearnOn, LearnOnAnswer, LearnOff, Add, Remove}
+use Rattle.desk_orders.specs.declared.orders.Order.TheVariants.{Label, List as ListAll, Status, Base}
+use Rattle.desk_orders.specs.declared.orders.Order.TheVariants as orders
+use Rattle.desk_orders.specs.declared.orders.OrderFault.{OrderFault}
+use Rattle.desk_orders.specs.Orders.{order_of}
+use Rattle.desk_orders.specs.Recipients.{recipient_id}
+use Rattle.actuator_commands.specs.Packets.{order_telegram}
 use Rattle.json_lines.specs.Lines.{TeachLine, Teach, Done, text, texts}
 use Rattle.gateway_core.specs.Run.{Applied, Failed, FailedAtCommit}
 use Rattle.gateway_core.specs.Step.{State, Received, Ordered, Effect, device_teach_line, radio_bytes_of}
-use Rattle.gateway_core.specs.Step.{reply_telegram_of}
-use Rattle.gateway_core.specs.Step.{query_teach_line}
-use Rattle.gateway_core.specs.Step.{packet_effect, line_effect}
-use Rattle.gateway_core.specs.Step.{order_effect, sending_order_effect, send_result_effect, ordered_forget_effect}
-use Rattle.gateway_core.specs.Step.{relabel_effect, if_learned_else_error}
-use Rattle.gateway_core.specs.Step.{base_id_request, recipient_device, if_supported_else_error}
+use Rattle.gateway_core.specs.Step.{reply_telegram_of, query_teach_line, packet_effect, line_effect, order_effect}
+use Rattle.gateway_core.specs.Step.{sending_order_effect, send_result_effect, ordered_forget_effect, relabel_effect}
+use Rattle.gateway_core.specs.Step.{if_learned_else_error, base_id_request, recipient_device, if_supported_else_error}
 use Rattle.gateway_core.specs.Reporting.{IsReplyTelegram, IsSentByOrder, RadioIsReplyOrOrdered}
 use Rattle.gateway_core.proofs.EffectLemmas.{of_packet, of_line}
 
@@ -61,7 +59,7 @@ reply-is : (state : State) (t : Telegram) (mode : Mode) (kind : Kind) (outcome :
 reply-is state t mode (Ute query) outcome bytes plan_in_mode is hears e =
     let (wants, sent_as) = wanted (wants_reply query) (ute_reply query outcome state.base) bytes e in
     let (reply, says, spelled) = telegram-in (ute_reply query outcome state.base) bytes sent_as in
-    (reply, inr (query, is, wants, subst LearnsByTold (sym plan_in_mode) hears, says), spelled)
+    (reply, inr (query, is, wants, subst LearnsByTeachIn (sym plan_in_mode) hears, says), spelled)
 reply-is state t LearnAnswer (FourByte query) outcome bytes plan_in_mode is hears e =
     let (reply, says, spelled) = telegram-in (four_byte_reply query outcome state.base) bytes e in
     (reply, inl (query, is, plan_in_mode, says), spelled)

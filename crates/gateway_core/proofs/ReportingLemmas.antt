@@ -15,29 +15,25 @@ use Rattle.teach_in.specs.declared.telegrams.Teach.TheVariants.{Ute}
 use Rattle.teach_in.specs.declared.ute.UteQuery.{UteQuery}
 use Rattle.teach_in.specs.Telegrams.{teach_in_of}
 use Rattle.teach_in.proofs.ForCallers.{AsksDeletion}
-use Rattle.actuator_commands.specs.Limits.{max_line}
-use Rattle.actuator_commands.specs.declared.orders.Order.{Order}
-use Rattle.actuator_commands.specs.declared.orders.Order.TheVariants.{Label}
-use Rattle.actuator_commands.specs.declared.orders.OrderFault.{OrderFault}
-use Rattle.actuator_commands.specs.declared.orders.OrderFault.TheVariants.{UnknownDevice}
-use Rattle.actuator_commands.specs.Orders.{order_of}
+use Rattle.desk_orders.specs.Limits.{max_line}
+use Rattle.desk_orders.specs.declared.orders.Order.{Order}
+use Rattle.desk_orders.specs.declared.orders.Order.TheVariants.{Label}
+use Rattle.desk_orders.specs.declared.orders.OrderFault.{OrderFault}
+use Rattle.desk_orders.specs.declared.orders.OrderFault.TheVariants.{UnknownDevice}
+use Rattle.desk_orders.specs.Orders.{order_of}
 use Rattle.learned_devices.specs.Faults.{out_of_memory, store_failed}
-use Rattle.json_lines.specs.declared.error_lines.ErrorName.{ErrorName}
-use Rattle.json_lines.specs.declared.error_lines.ErrorName.TheVariants as error
+use Rattle.gateway_state.specs.declared.error_reason.ErrorReason.{ErrorReason}
+use Rattle.gateway_state.specs.declared.error_reason.ErrorReason.TheVariants as error
 use Rattle.json_lines.specs.Lines.{DeskLine, Reading, Teach, ListEnd, StatusLine, ResponseLine, Done, Error}
 use Rattle.json_lines.specs.Lines.{TeachLine, text, texts, list_lines}
 use Rattle.json_lines.proofs.ForCallers.{of_teach_lines}
 use Rattle.gateway_core.specs.Step.{State, Received, Ordered, Effect, device_teach_line, teach_report_effect}
-use Rattle.gateway_core.specs.Step.{accept_effect}
-use Rattle.gateway_core.specs.Step.{delete_effect}
-use Rattle.gateway_core.specs.Step.{query_teach_line, ordered_learn_effect, ordered_forget_effect, relabel_effect}
-use Rattle.gateway_core.specs.Step.{if_learned_else_error}
-use Rattle.gateway_core.specs.Step.{error_effect, packet_effect, line_effect}
-use Rattle.gateway_core.specs.Step.{order_effect, update_of, Cause, Memory, Store}
-use Rattle.gateway_core.specs.Run.{InputResult, Applied, Failed, FailedAtCommit, cause_text, answer_for_result}
+use Rattle.gateway_core.specs.Step.{accept_effect, delete_effect, query_teach_line, ordered_learn_effect}
+use Rattle.gateway_core.specs.Step.{ordered_forget_effect, relabel_effect, if_learned_else_error, error_effect}
+use Rattle.gateway_core.specs.Step.{packet_effect, line_effect, order_effect, update_of, Cause, Memory, Store}
+use Rattle.gateway_core.specs.Run.{InputResult, Applied, Failed, FailedAtCommit, failure_text, answer_for_result}
 use Rattle.gateway_core.specs.Reporting.{IsDeviceOfDeletedLine, OutcomeMatchesUpdate, UpdatesAreReported}
-use Rattle.gateway_core.specs.Reporting.{AnswersToLabelsAreTrue}
-use Rattle.gateway_core.specs.Reporting.{TeachLinesAreTrue}
+use Rattle.gateway_core.specs.Reporting.{AnswersToLabelsAreTrue, TeachLinesAreTrue}
 use Rattle.gateway_core.proofs.EffectLemmas.{IsRefusal, of_packet, of_line}
 
 abbrev IsTeach : DeskLine → Type 0
@@ -63,7 +59,7 @@ listing-other (known ∷ others) line e =
     let found = of_teach_lines (list_lines (known ∷ others)) line e in
     absurd (let is = found.1 in cc)
 
-cause-other : (cause : Cause) (line : TeachLine) → cause_text cause ≡ text (Teach line) → ⊥
+cause-other : (cause : Cause) (line : TeachLine) → failure_text cause ≡ text (Teach line) → ⊥
 cause-other Memory line e = other-line (Error (error.Failed out_of_memory)) line (λ never. never) (append-nil _ ∙ e)
 cause-other Store line e = other-line (Error (error.Failed store_failed)) line (λ never. never) (append-nil _ ∙ e)
 
@@ -246,7 +242,7 @@ updates_are_reported state (Ordered line) update e =
 -- ---- a label
 
 -- one byte distinguishes the texts of errors from that of `ok`
-not-done : (name : ErrorName) → texts (Error name ∷ []) ≡ text Done → ⊥
+not-done : (name : ErrorReason) → texts (Error name ∷ []) ≡ text Done → ⊥
 not-done name e = let at : 101 ≡ 116 = ap (λ text. slice_index_or text 2 0) e in absurd (omega (arith, at))
 
 abbrev tenth : List ℕ → ℕ
@@ -275,11 +271,11 @@ label-answers : (id : ℕ) (label : List ℕ) (known : Option Device)
 label-answers id label None = inr (append-nil _)
 label-answers id label (Some it) = inl (append-nil _)
 
-cause-not-done : (cause : Cause) → cause_text cause ≡ text Done → ⊥
+cause-not-done : (cause : Cause) → failure_text cause ≡ text Done → ⊥
 cause-not-done Memory e = not-done (error.Failed out_of_memory) (append-nil _ ∙ e)
 cause-not-done Store e = not-done (error.Failed store_failed) (append-nil _ ∙ e)
 
-cause-not-unknown : (cause : Cause) → cause_text cause ≡ text (Error (error.Order UnknownDevice)) → ⊥
+cause-not-unknown : (cause : Cause) → failure_text cause ≡ text (Error (error.Order UnknownDevice)) → ⊥
 cause-not-unknown Memory e = let at : 109 ≡ 117 = ap tenth e in absurd (omega (arith, at))
 cause-not-unknown Store e = let at : 115 ≡ 117 = ap tenth e in absurd (omega (arith, at))
 

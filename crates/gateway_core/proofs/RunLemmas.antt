@@ -4,8 +4,7 @@ use Rattle.learned_devices.proofs.ForCallers.{no_more_commits, more_commits_then
 use Rattle.learned_devices.specs.DeviceStoreState.{DeviceStoreState}
 use Rattle.gateway_core.specs.Step.{State, Input, Answer}
 use Rattle.gateway_core.specs.Run.{InputResult, Applied, Failed, FailedAtCommit, Run, failure_cause, failure_answer}
-use Rattle.gateway_core.specs.Run.{answer_for_result}
-use Rattle.gateway_core.specs.Run.{state_after_result, SameFailuresGiveSameAnswers}
+use Rattle.gateway_core.specs.Run.{answer_for_result, state_after_result, SameFailuresGiveSameAnswers}
 use Rattle.gateway_core.specs.CrashStates.{nothing_committed_yet, crash_states, IsCrashConsistent}
 use Rattle.gateway_core.specs.Handling.{HandlerValue, Handles}
 use Rattle.gateway_core.proofs.CrashLemmas.{crash_consistency_composes, safe-weaker}

@@ -5,8 +5,7 @@ use Rattle.learned_devices.specs.Devices.{Devices}
 use Rattle.gateway_core.specs.Step.{update_of}
 use Rattle.gateway_core.specs.CrashStates.{IsCrashConsistent, with_pending_update, nothing_committed_yet, crash_states}
 use Rattle.gateway_core.specs.Sessions.{initial_state}
-use Rattle.gateway_core.specs.SessionCalls.{CallsAreSessions, ClosesEndSessions}
-use Rattle.gateway_core.specs.SessionCalls.{CrashesEndSessions}
+use Rattle.gateway_core.specs.SessionCalls.{CallsAreSessions, ClosesEndSessions, CrashesEndSessions}
 use Rattle.gateway_core.proofs.CrashLemmas.{safe-weaker, safe-pending, safe-last}
 
 module _ {S : Type 0} (stored : S → DeviceStoreState) where

@@ -15,9 +15,8 @@ use Rattle.gateway_core.specs.Step.{State, Input, Answer, update_of, with_update
 use Rattle.gateway_core.specs.Run.{InputResult, Applied, Failed, FailedAtCommit, state_after_result, Run}
 use Rattle.gateway_core.specs.Promises.{Promises, IsPromiseKeptBy}
 use Rattle.gateway_core.specs.CrashStates.{CrashStates, nothing_committed_yet, after_committed_update}
-use Rattle.gateway_core.specs.CrashStates.{with_pending_update}
-use Rattle.gateway_core.specs.CrashStates.{crash_states_after_result}
-use Rattle.gateway_core.specs.CrashStates.{crash_states, IsCrashConsistent}
+use Rattle.gateway_core.specs.CrashStates.{with_pending_update, crash_states_after_result, crash_states}
+use Rattle.gateway_core.specs.CrashStates.{IsCrashConsistent}
 use Rattle.gateway_core.specs.Sessions.{Session, initial_state, with_interrupted, IsSession, AreSessions}
 use Rattle.gateway_core.specs.Sessions.{possible_update, IsNotOverriddenBy, NoneOverrides, InterruptedDoesNotOverride}
 use Rattle.gateway_core.specs.Sessions.{SessionDoesNotOverride, UpdatesSurviveRestarts}

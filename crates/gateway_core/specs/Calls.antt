@@ -4,7 +4,7 @@ use Rattle.learned_devices.specs.DeviceStoreState.{DeviceStoreState}
 use Rattle.esp3_frames.specs.Packet.{Packet}
 use Rattle.esp3_frames.specs.PacketsAndRest.{packets_in, rest_of}
 use Rattle.teach_in.specs.declared.mode.Mode.TheVariants.{Closed}
-use Rattle.json_lines.specs.Counts.{zero_counts}
+use Rattle.gateway_state.specs.Counts.{zero_counts}
 use Rattle.gateway_core.specs.Step.{Input, Received, Ordered, Answer}
 use Rattle.gateway_core.specs.Handling.{HandlerValue, Handles}
 

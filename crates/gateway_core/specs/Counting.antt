@@ -1,10 +1,10 @@
 -- Counters: which input increments which, and the reason in the line that explains a packet.
 use Rattle.std.specs.Prelude.{◌≡◌, ◌↔◌, IsSome, ℕ, List, [], ◌∷◌, Option, Some, None}
 use Rattle.esp3_frames.specs.Packet.{Packet}
-use Rattle.json_lines.specs.declared.counts.Counter.TheVariants as count
-use Rattle.teach_in.specs.declared.handling_reason.HandlingReason.{HandlingReason}
-use Rattle.teach_in.specs.declared.handling_reason.HandlingReason.TheVariants as why
-use Rattle.json_lines.specs.Counts.{increment}
+use Rattle.gateway_state.specs.declared.counts.Counter.TheVariants as count
+use Rattle.gateway_state.specs.declared.handling_reason.HandlingReason.{HandlingReason}
+use Rattle.gateway_state.specs.declared.handling_reason.HandlingReason.TheVariants as why
+use Rattle.gateway_state.specs.Counts.{increment}
 use Rattle.json_lines.specs.Lines.{DeskLine, Reading, ReadingLine, ModuleResponse, ResponseLine, TeachLine, Teach, text}
 use Rattle.json_lines.specs.PacketLines.{packet_text}
 use Rattle.gateway_core.specs.declared.disposition.Disposition.{Disposition}
@@ -28,8 +28,8 @@ pub record AppliedPacketsAreCounted : Type 0 where
 -- the disposition of a packet with this result
 abbrev pub disposition_for_result : State → Packet → InputResult → Option Disposition
 disposition_for_result state packet Applied = (effect state (Received packet)).disposition
-disposition_for_result state packet (Failed cause) = Some (without_device why.Refused)
-disposition_for_result state packet (FailedAtCommit cause) = Some (without_device why.Refused)
+disposition_for_result state packet (Failed cause) = Some (without_device why.Failed)
+disposition_for_result state packet (FailedAtCommit cause) = Some (without_device why.Failed)
 
 -- what the desk receives for an applied packet besides the explanation, by the word of the reason: its reading, the
 -- response, the outcome for a sender, or nothing for any other word
@@ -37,7 +37,7 @@ abbrev pub MatchesDeskLines : HandlingReason → List DeskLine → Type 0
 MatchesDeskLines why.Read lines = (line : ReadingLine) × (lines ≡ Reading line ∷ [])
 MatchesDeskLines why.Response lines = (line : ModuleResponse) × (lines ≡ ResponseLine line ∷ [])
 MatchesDeskLines (why.TeachIn outcome) lines = (line : TeachLine) × (line.outcome ≡ outcome) × (lines ≡ Teach line ∷ [])
-MatchesDeskLines why.Refused lines = ⊥
+MatchesDeskLines why.Failed lines = ⊥
 MatchesDeskLines why lines = lines ≡ []
 
 -- One line explains the packet. Its word is that of what the desk receives with it, and that of failures exactly when
@@ -48,7 +48,7 @@ pub record IsExplained (state : State) (packet : Packet) (result : InputResult) 
   pub explanation : (answer_for_result state (Received packet) result).explanation
       ≡ packet_text (packet_line_of packet disposition)
   pub says : result ≡ Applied → MatchesDeskLines disposition.why (effect state (Received packet)).desk
-  pub is_applied : (result ≡ Applied) ↔ (¬ (disposition.why ≡ why.Refused))
+  pub is_applied : (result ≡ Applied) ↔ (¬ (disposition.why ≡ why.Failed))
   pub counts : (state_after_result state (Received packet) result).counts
       ≡ increment state.counts (counter_for disposition.why)
 

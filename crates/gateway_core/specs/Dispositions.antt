@@ -14,17 +14,17 @@ use Rattle.teach_in.specs.declared.mode.Mode.TheVariants.{Closed}
 use Rattle.teach_in.specs.declared.telegrams.Teach.{Teach}
 use Rattle.teach_in.specs.declared.telegrams.Teach.TheVariants.{FourByte, Ute}
 use Rattle.teach_in.specs.Telegrams.{teach_in_of}
-use Rattle.json_lines.specs.declared.counts.Counter.{Counter}
-use Rattle.json_lines.specs.declared.counts.Counter.TheVariants as count
+use Rattle.gateway_state.specs.declared.counts.Counter.{Counter}
+use Rattle.gateway_state.specs.declared.counts.Counter.TheVariants as count
 use Rattle.json_lines.specs.declared.packet.PacketLine.{PacketLine}
 use Rattle.json_lines.specs.declared.packet.ShownPacket.{ShownPacket}
 use Rattle.json_lines.specs.declared.packet.ShownPacket.TheVariants as shown
-use Rattle.teach_in.specs.declared.handling_reason.HandlingReason.{HandlingReason}
-use Rattle.teach_in.specs.declared.handling_reason.HandlingReason.TheVariants.{Refused, Response, EmptyResponse}
-use Rattle.teach_in.specs.declared.handling_reason.HandlingReason.TheVariants.{OtherType, NoTelegram}
-use Rattle.teach_in.specs.declared.handling_reason.HandlingReason.TheVariants.{FilteredOut, TeachInReply, TeachIn, Read}
-use Rattle.teach_in.specs.declared.handling_reason.HandlingReason.TheVariants.{WindowClosed, OtherMode, UnknownSender}
-use Rattle.teach_in.specs.declared.handling_reason.HandlingReason.TheVariants.{WrongKind, WrongLength, OtherMessage}
+use Rattle.gateway_state.specs.declared.handling_reason.HandlingReason.{HandlingReason}
+use Rattle.gateway_state.specs.declared.handling_reason.HandlingReason.TheVariants.{Failed, Response, EmptyResponse}
+use Rattle.gateway_state.specs.declared.handling_reason.HandlingReason.TheVariants.{OtherType, NoTelegram}
+use Rattle.gateway_state.specs.declared.handling_reason.HandlingReason.TheVariants.{FilteredOut, TeachInReply, TeachIn, Read}
+use Rattle.gateway_state.specs.declared.handling_reason.HandlingReason.TheVariants.{WindowClosed, OtherMode, UnknownSender}
+use Rattle.gateway_state.specs.declared.handling_reason.HandlingReason.TheVariants.{WrongKind, WrongLength, OtherMessage}
 use Rattle.json_lines.specs.PacketLines.{packet_text}
 use Rattle.json_lines.specs.ShownTelegram.{ShownTelegram, shown_of}
 use Rattle.gateway_core.specs.declared.disposition.Disposition.{Disposition}
@@ -52,7 +52,7 @@ why_unread unreadable.OtherMessage = OtherMessage
 
 -- the counter that a packet increments
 abbrev pub counter_for : HandlingReason → Counter
-counter_for Refused = count.Refused
+counter_for Failed = count.Failed
 counter_for Response = count.Response
 counter_for (TeachIn outcome) = count.TeachLine
 counter_for Read = count.Reading

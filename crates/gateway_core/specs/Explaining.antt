@@ -1,6 +1,5 @@
 -- The meaning of each word that explains a packet, given the packet and what was known; and what the line shows.
-use Rattle.std.specs.Prelude.{◌≡◌, ◌≢◌, ◌⊎◌, ◌<◌, ⊤, false, true, length, List, [], IsErr, Option, Some, None}
-use Rattle.std.specs.Prelude.{Ok, Err}
+use Rattle.std.specs.Prelude.{◌≡◌, ◌≢◌, ◌⊎◌, ◌<◌, ⊤, false, true, length, List, [], IsErr, Option, Some, None, Ok, Err}
 use Rattle.std.specs.Option.{option_or}
 use Rattle.esp3_frames.specs.Packet.{Packet}
 use Rattle.erp1_telegrams.specs.declared.eep.Eep.{Eep}
@@ -23,9 +22,9 @@ use Rattle.teach_in.specs.Plans.{plan_of}
 use Rattle.teach_in.specs.Profiles.{supported}
 use Rattle.teach_in.specs.Telegrams.{teach_in_of}
 use Rattle.teach_in.specs.Ute.{request_in, deletion_request, unused_request}
-use Rattle.teach_in.specs.declared.handling_reason.HandlingReason.{HandlingReason}
+use Rattle.gateway_state.specs.declared.handling_reason.HandlingReason.{HandlingReason}
 use Rattle.erp1_telegrams.specs.declared.address.FilterReason.TheVariants as reason
-use Rattle.teach_in.specs.declared.handling_reason.HandlingReason.TheVariants as why
+use Rattle.gateway_state.specs.declared.handling_reason.HandlingReason.TheVariants as why
 use Rattle.json_lines.specs.PacketLines.{packet_text}
 use Rattle.json_lines.specs.ShownTelegram.{ShownTelegram}
 use Rattle.json_lines.specs.declared.packet.PacketLine.{PacketLine}
@@ -80,7 +79,7 @@ IsUnreadableData state packet disposition IsFault =
 
 -- the meaning of the word, and whose profile and maker the disposition has
 abbrev pub WhyIsTrue : State → Packet → Disposition → HandlingReason → Type 0
-WhyIsTrue state packet disposition why.Refused = ⊥
+WhyIsTrue state packet disposition why.Failed = ⊥
 WhyIsTrue state packet disposition why.Response =
     (packet.kind ≡ 2) × (0 < length packet.body) × HasProfileAndMakerOf disposition None
 WhyIsTrue state packet disposition why.EmptyResponse =

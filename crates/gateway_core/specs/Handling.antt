@@ -5,7 +5,7 @@ use Rattle.learned_devices.specs.CommitCounts.{AtMostMoreCommits}
 use Rattle.learned_devices.specs.DeviceStoreState.{DeviceStoreState}
 use Rattle.learned_devices.specs.Devices.{Devices}
 use Rattle.teach_in.specs.declared.mode.Mode.{Mode}
-use Rattle.json_lines.specs.declared.counts.Counts.{Counts}
+use Rattle.gateway_state.specs.declared.counts.Counts.{Counts}
 use Rattle.gateway_core.specs.Step.{State, Input, Answer}
 use Rattle.gateway_core.specs.Run.{InputResult, Run}
 use Rattle.gateway_core.specs.CrashStates.{nothing_committed_yet, crash_states, IsCrashConsistent}

@@ -13,18 +13,17 @@ use Rattle.teach_in.specs.declared.ute.UteQuery.{UteQuery}
 use Rattle.teach_in.specs.FourByte.{four_byte_reply}
 use Rattle.teach_in.specs.Telegrams.{teach_in_of}
 use Rattle.teach_in.specs.Ute.{wants_reply, request_in, deletion_request, ute_reply}
-use Rattle.actuator_commands.specs.Limits.{max_line}
-use Rattle.actuator_commands.specs.declared.orders.Order.{Order}
-use Rattle.actuator_commands.specs.declared.orders.Order.TheVariants.{Base, Label}
-use Rattle.actuator_commands.specs.declared.orders.OrderFault.TheVariants.{UnknownDevice}
-use Rattle.actuator_commands.specs.Orders.{order_of}
-use Rattle.actuator_commands.specs.Packets.{order_telegram, recipient_id}
-use Rattle.json_lines.specs.declared.error_lines.ErrorName.TheVariants.{Order as OrderError}
+use Rattle.desk_orders.specs.Limits.{max_line}
+use Rattle.desk_orders.specs.declared.orders.Order.{Order}
+use Rattle.desk_orders.specs.declared.orders.Order.TheVariants.{Base, Label}
+use Rattle.desk_orders.specs.declared.orders.OrderFault.TheVariants.{UnknownDevice}
+use Rattle.desk_orders.specs.Orders.{order_of}
+use Rattle.desk_orders.specs.Recipients.{recipient_id}
+use Rattle.actuator_commands.specs.Packets.{order_telegram}
+use Rattle.gateway_state.specs.declared.error_reason.ErrorReason.TheVariants.{Order as OrderError}
 use Rattle.json_lines.specs.Lines.{TeachLine, Teach, Done, Error, text}
 use Rattle.gateway_core.specs.Step.{State, Input, Received, Ordered, Effect, effect, device_teach_line}
-use Rattle.gateway_core.specs.Step.{answer_to_applied_input}
-use Rattle.gateway_core.specs.Step.{update_of}
-use Rattle.gateway_core.specs.Step.{base_id_request, recipient_device}
+use Rattle.gateway_core.specs.Step.{answer_to_applied_input, update_of, base_id_request, recipient_device}
 use Rattle.gateway_core.specs.Run.{InputResult, Applied, answer_for_result}
 
 -- A device that is reported as deleted: as stored if the desk ordered it; over the air with the profile and maker of

@@ -1,17 +1,15 @@
 -- Runs: sequences of inputs, each of which is applied or fails.
 use Rattle.std.specs.Prelude.{◌≡◌, IsSome, ℕ, ◌+◌, ◌^◌, ◌<◌, List, [], ◌∷◌, map, Option, Some, None}
-use Rattle.json_lines.specs.declared.counts.Counter.TheVariants as count
-use Rattle.json_lines.specs.declared.error_lines.ErrorName.TheVariants as error
-use Rattle.teach_in.specs.declared.handling_reason.HandlingReason.TheVariants as why
-use Rattle.json_lines.specs.Counts.{increment, saturated_sum}
+use Rattle.gateway_state.specs.declared.counts.Counter.TheVariants as count
+use Rattle.gateway_state.specs.declared.error_reason.ErrorReason.TheVariants as error
+use Rattle.gateway_state.specs.declared.handling_reason.HandlingReason.TheVariants as why
+use Rattle.gateway_state.specs.Counts.{increment, saturated_sum}
 use Rattle.json_lines.specs.Lines.{Error, text}
 use Rattle.learned_devices.specs.Faults.{out_of_memory, store_failed}
 use Rattle.gateway_core.specs.Dispositions.{without_device}
 use Rattle.gateway_core.specs.Step.{State, Input, Answer, with_packet_line, packet_line_for, text_answer}
-use Rattle.gateway_core.specs.Step.{answer_to_applied_input}
-use Rattle.gateway_core.specs.Step.{update_of, need_of_memory_or_store}
-use Rattle.gateway_core.specs.Step.{state_after_applied_input}
-use Rattle.gateway_core.specs.Step.{Cause, Memory, Store, MayFailFor}
+use Rattle.gateway_core.specs.Step.{answer_to_applied_input, update_of, need_of_memory_or_store}
+use Rattle.gateway_core.specs.Step.{state_after_applied_input, Cause, Memory, Store, MayFailFor}
 
 -- An input is applied, or it fails: `FailedAtCommit` if the call of the device store that commits its update failed,
 -- whether that call had written yet or not, and `Failed` otherwise.
@@ -26,14 +24,14 @@ MayHaveResult state input Applied = Unit {0}
 MayHaveResult state input (Failed cause) = MayFailFor (need_of_memory_or_store state input) cause
 MayHaveResult state input (FailedAtCommit cause) = IsSome (update_of state input)
 
-abbrev pub cause_text : Cause → List ℕ
-cause_text Memory = text (Error (error.Failed out_of_memory))
-cause_text Store = text (Error (error.Failed store_failed))
+abbrev pub failure_text : Cause → List ℕ
+failure_text Memory = text (Error (error.Failed out_of_memory))
+failure_text Store = text (Error (error.Failed store_failed))
 
 -- the answer to a failed input: about its sender it shows only what the telegram contains
 abbrev pub failure_answer : Input → Cause → Answer
 failure_answer input cause =
-    with_packet_line (packet_line_for input (Some (without_device why.Refused))) (text_answer (cause_text cause))
+    with_packet_line (packet_line_for input (Some (without_device why.Failed))) (text_answer (failure_text cause))
 
 -- the answer to an input with this result
 abbrev pub answer_for_result : State → Input → InputResult → Answer
@@ -43,7 +41,7 @@ answer_for_result state input (FailedAtCommit cause) = failure_answer input caus
 
 -- the state after a failed input: only the counter of failed inputs changes
 abbrev pub state_after_failure : State → State
-state_after_failure state = record state { counts = increment state.counts count.Refused }
+state_after_failure state = record state { counts = increment state.counts count.Failed }
 
 -- the state after an input with this result
 abbrev pub state_after_result : State → Input → InputResult → State

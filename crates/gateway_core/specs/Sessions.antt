@@ -4,7 +4,7 @@ use Rattle.std.specs.List.{AllByRecursion}
 use Rattle.std.specs.FinMap.{get}
 use Rattle.learned_devices.specs.Devices.{Devices, DeviceUpdate}
 use Rattle.teach_in.specs.declared.mode.Mode.TheVariants.{Closed}
-use Rattle.json_lines.specs.Counts.{zero_counts}
+use Rattle.gateway_state.specs.Counts.{zero_counts}
 use Rattle.gateway_core.specs.Step.{State, Input, Answer, update_of, state_after_applied_input}
 use Rattle.gateway_core.specs.Run.{InputResult, Applied, Failed, FailedAtCommit, state_after_result, Run}
 use Rattle.gateway_core.specs.Promises.{Promises, IsPromiseKeptBy}

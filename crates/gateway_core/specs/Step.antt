@@ -1,7 +1,6 @@
 -- One input: its effect, and so its answer and the next state.
 use Rattle.std.specs.Prelude.{ℕ, Bool, true, false, nat_lt, length, if◌then◌else◌, List, [], ◌∷◌, Option, Some, None}
-use Rattle.std.specs.Prelude.{option_map, is_some, unwrap_or}
-use Rattle.std.specs.Prelude.{Result, Ok, Err}
+use Rattle.std.specs.Prelude.{option_map, is_some, unwrap_or, Result, Ok, Err}
 use Rattle.esp3_frames.specs.Packet.{Packet, spelling}
 use Rattle.erp1_telegrams.specs.declared.eep.Eep.{Eep}
 use Rattle.erp1_telegrams.specs.declared.telegram.TelegramFault.{TelegramFault}
@@ -11,8 +10,7 @@ use Rattle.profile_rows.specs.Reading.{Entry}
 use Rattle.profile_rows.specs.declared.unreadable.Unreadable.{Unreadable}
 use Rattle.learned_devices.specs.declared.Device.{Device}
 use Rattle.learned_devices.specs.Devices.{Devices, device_of, devices_by_ascending_id, is_full_for, DeviceUpdate}
-use Rattle.learned_devices.specs.Devices.{apply_update}
-use Rattle.learned_devices.specs.Devices.{learn_update, forget_update, relabel_update}
+use Rattle.learned_devices.specs.Devices.{apply_update, learn_update, forget_update, relabel_update}
 use Rattle.teach_in.specs.declared.mode.Mode.{Mode}
 use Rattle.teach_in.specs.declared.mode.Mode.TheVariants.{Closed, Learn, LearnAnswer, LearnAs}
 use Rattle.teach_in.specs.declared.outcome.Outcome.{Outcome}
@@ -27,30 +25,30 @@ use Rattle.teach_in.specs.Ute.{ute_reply, wants_reply}
 use Rattle.teach_in.specs.Profiles.{supported}
 use Rattle.teach_in.specs.Telegrams.{teach_in_of}
 use Rattle.teach_in.specs.Plans.{plan_of}
-use Rattle.actuator_commands.specs.declared.orders.Order.{Order}
-use Rattle.actuator_commands.specs.declared.orders.Order.TheVariants.{LearnOn, LearnOnAnswer, LearnOff, Remove, Label}
-use Rattle.actuator_commands.specs.declared.orders.Order.TheVariants.{List as ListAll, Status, Base}
-use Rattle.actuator_commands.specs.declared.orders.Order.TheVariants as order
-use Rattle.actuator_commands.specs.declared.orders.OrderFault.{OrderFault}
-use Rattle.actuator_commands.specs.declared.orders.OrderFault.TheVariants.{UnknownDevice}
-use Rattle.actuator_commands.specs.Limits.{max_line}
-use Rattle.actuator_commands.specs.Orders.{order_of}
-use Rattle.actuator_commands.specs.Packets.{order_telegram, recipient_id}
-use Rattle.json_lines.specs.declared.counts.Counter.{Counter}
-use Rattle.json_lines.specs.declared.counts.Counts.{Counts}
-use Rattle.json_lines.specs.declared.error_lines.ErrorName.{ErrorName}
-use Rattle.json_lines.specs.declared.error_lines.ErrorName.TheVariants as error
-use Rattle.json_lines.specs.Counts.{increment_if_any}
+use Rattle.desk_orders.specs.declared.orders.Order.{Order}
+use Rattle.desk_orders.specs.declared.orders.Order.TheVariants.{LearnOn, LearnOnAnswer, LearnOff, Remove, Label}
+use Rattle.desk_orders.specs.declared.orders.Order.TheVariants.{List as ListAll, Status, Base}
+use Rattle.desk_orders.specs.declared.orders.Order.TheVariants as order
+use Rattle.desk_orders.specs.declared.orders.OrderFault.{OrderFault}
+use Rattle.desk_orders.specs.declared.orders.OrderFault.TheVariants.{UnknownDevice}
+use Rattle.desk_orders.specs.Limits.{max_line}
+use Rattle.desk_orders.specs.Orders.{order_of}
+use Rattle.desk_orders.specs.Recipients.{recipient_id}
+use Rattle.actuator_commands.specs.Packets.{order_telegram}
+use Rattle.gateway_state.specs.declared.counts.Counter.{Counter}
+use Rattle.gateway_state.specs.declared.counts.Counts.{Counts}
+use Rattle.gateway_state.specs.declared.error_reason.ErrorReason.{ErrorReason}
+use Rattle.gateway_state.specs.declared.error_reason.ErrorReason.TheVariants as error
+use Rattle.gateway_state.specs.Counts.{increment_if_any}
 use Rattle.json_lines.specs.declared.packet.PacketLine.{PacketLine}
-use Rattle.teach_in.specs.declared.handling_reason.HandlingReason.{HandlingReason}
-use Rattle.teach_in.specs.declared.handling_reason.HandlingReason.TheVariants as why
+use Rattle.gateway_state.specs.declared.handling_reason.HandlingReason.{HandlingReason}
+use Rattle.gateway_state.specs.declared.handling_reason.HandlingReason.TheVariants as why
 use Rattle.json_lines.specs.Lines.{DeskLine, Reading, Teach as TeachOf, StatusLine, ResponseLine, Done, Error}
 use Rattle.json_lines.specs.Lines.{TeachLine, ModuleResponse, list_lines, texts}
 use Rattle.gateway_core.specs.declared.disposition.Disposition.{Disposition}
 use Rattle.gateway_core.specs.Dispositions.{without_device, counter_for, eep_in_query, packet_text_if_any}
-use Rattle.gateway_core.specs.Dispositions.{packet_line_of}
-use Rattle.gateway_core.specs.Dispositions.{maker_in_query, for_device}
-use Rattle.gateway_core.specs.Dispositions.{why_nothing_done, why_no_telegram_or_response, why_unread}
+use Rattle.gateway_core.specs.Dispositions.{packet_line_of, maker_in_query, for_device, why_nothing_done}
+use Rattle.gateway_core.specs.Dispositions.{why_no_telegram_or_response, why_unread}
 use Rattle.gateway_core.specs.Profiles.{read_by}
 use Rattle.gateway_core.specs.Responses.{response_in}
 
@@ -253,8 +251,8 @@ packet_effect state packet = packet_effect_from state packet (telegram_of packet
 -- ---- a line
 
 -- the only effect is an error line
-abbrev pub error_effect : ErrorName → Effect
-error_effect name = record no_effect { desk = Error name ∷ [] }
+abbrev pub error_effect : ErrorReason → Effect
+error_effect reason = record no_effect { desk = Error reason ∷ [] }
 
 -- a packet is sent; the device store was asked for a device, or not
 abbrev pub send_effect : (asks_store : Bool) (bytes : List ℕ) → Effect

@@ -4,13 +4,13 @@ ghost use Rattle.gateway_core.specs.Dispositions;
 ghost use Rattle.gateway_core.specs.Dispositions.{without_device, eep_in_query, maker_in_query};
 
 use erp1_telegrams::Eep;
-use json_lines::Counter;
+use gateway_state::{Counter, HandlingReason};
 use learned_devices::Device;
 use profile_rows::Unreadable;
-use teach_in::{HandlingReason, Mode, Teach};
+use teach_in::{Mode, Teach};
 
-/// Why a packet was handled the way it was. If the packet is data of a learned device, or a device was learned from it,
-/// also the profile and maker of this device.
+// Why a packet was handled the way it was. If the packet is data of a learned device, or a device was learned from it,
+// also the profile and maker of this device.
 #[derive(Clone, Copy, Debug, PartialEq, Eq)]
 pub(crate) struct Disposition {
     pub(crate) why: HandlingReason,
@@ -46,7 +46,7 @@ impl Disposition {
         ensures { result ≡ Dispositions.counter_for self.now.why }
     {
         match self.why {
-            HandlingReason::Refused => Counter::Refused,
+            HandlingReason::Failed => Counter::Failed,
             HandlingReason::Response => Counter::Response,
             HandlingReason::TeachIn(_) => Counter::TeachLine,
             HandlingReason::Read => Counter::Reading,

@@ -80,7 +80,7 @@ impl<S: DeviceStore + Drop> GatewayOver<S> {
         }
         match GatewayOver::with_base_id(alloc, registry, base) {
             Ok(gateway) => Ok(gateway),
-            Err((refused, _)) => Err(refused.into()),
+            Err((error, _)) => Err(error.into()),
         }
     }
 }
@@ -109,7 +109,7 @@ impl<S: DeviceStore> GatewayOver<S> {
                 framer,
                 packet,
             }),
-            Err(refused) => Err((refused, registry)),
+            Err(error) => Err((error, registry)),
         }
     }
 }

@@ -24,11 +24,11 @@ use crate::handler::effect::{PacketEffect, ReplyAndMode, error_reply};
 use crate::reply::Reply;
 use erp1_telegrams::read;
 use esp3_frames::PacketRef;
-use json_lines::{Counter, Counts};
+use gateway_state::{Counter, Counts, HandlingReason};
 use learned_devices::DeviceStore;
 use std::alloc::Global;
 use std::marker::Model;
-use teach_in::{HandlingReason, Mode, classify};
+use teach_in::{Mode, classify};
 
 /// The state of a gateway: the base ID of its radio module, the learn mode, the counters, and the device store.
 #[derive(Drop)]
@@ -100,7 +100,7 @@ impl<S: DeviceStore> Handler<S> {
                 },
             ) => (disposition, mode, reply),
             Err(failure) => (
-                Disposition::without_device(HandlingReason::Refused),
+                Disposition::without_device(HandlingReason::Failed),
                 None,
                 error_reply(failure),
             ),
@@ -124,7 +124,7 @@ impl<S: DeviceStore> Handler<S> {
                 reply
             }
             Err(failure) => {
-                self.counts.increment(Counter::Refused);
+                self.counts.increment(Counter::Failed);
                 error_reply(failure)
             }
         }

@@ -6,8 +6,7 @@ ghost use Rattle.gateway_core.specs.SessionCalls.{CallsAreSessions, ClosesEndSes
 ghost use Rattle.gateway_core.specs.Calls.{CallsAreARun, BytesOneByOne};
 ghost use Rattle.gateway_core.specs.Counting.{ExplanationsAreCounted, AppliedPacketsAreCounted};
 ghost use Rattle.gateway_core.specs.Events.{AnswersDoNotDependOnChunks, InputsDoNotDependOnChunks, InputEvent};
-ghost use Rattle.gateway_core.specs.Events.{new_packets};
-ghost use Rattle.gateway_core.specs.Events.{bytes_in, inputs_of};
+ghost use Rattle.gateway_core.specs.Events.{new_packets, bytes_in, inputs_of};
 ghost use Rattle.gateway_core.specs.Explaining.{ExplanationsAreTrue};
 ghost use Rattle.gateway_core.specs.Handling.{Handles, HandlerValue};
 ghost use Rattle.gateway_core.specs.Sessions.{UpdatesSurviveRestarts};

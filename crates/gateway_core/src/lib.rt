@@ -14,7 +14,7 @@ mod reply;
 mod response;
 mod sqlite_gateway;
 
-pub use actuator_commands::{MAX_LINE, id_of};
+pub use desk_orders::{MAX_LINE, id_of};
 pub use erp1_telegrams::is_base_id;
 pub use gateway::{GatewayOver, StartFault};
 pub use handled::HandledPacket;

@@ -8,7 +8,7 @@ ghost use Rattle.gateway_core.specs.Responses;
 use erp1_telegrams::TelegramFault;
 use esp3_frames::PacketRef;
 use esp3_frames::packet_type::RESPONSE;
-use teach_in::HandlingReason;
+use gateway_state::HandlingReason;
 
 /// A response of the radio module: a return code, and the bytes after it.
 #[derive(Clone, Copy)]

@@ -12,13 +12,12 @@ use Rattle.gateway_core.specs.Handling.{HandlerValue}
 use Rattle.gateway_core.specs.Calls.{GatewayValue, Transition, Next, Bytes, Order}
 use Rattle.gateway_core.specs.Events.{InputEvent, Chunk, Line, bytes_in, inputs_of}
 use Rattle.gateway_core.proofs.ForCallers.{new_packets-rest, cuts_do_not_matter, rest_goes_on, items_behind}
-use Rattle.gateway_core.proofs.ForCallers.{rest_behind}
-use Rattle.json_lines.specs.Counts.{saturated_sum}
+use Rattle.gateway_core.proofs.ForCallers.{rest_behind, count_on}
+use Rattle.gateway_state.specs.Counts.{saturated_sum}
 use Rattle.gateway_loop.specs.OutputSpecs.{OutputSpec}
 use Rattle.gateway_loop.specs.declared.driver.Driver.{Driver}
 use Rattle.gateway_loop.specs.Processing.{HasNoReadyPacket, IsWholeOrChunkPrefix, AnswersInputs, LastAnswerCutShort}
 use Rattle.gateway_loop.specs.private.DriverSteps.{Drains, DrainsPart, DriverBreaks, Takes}
-use Rattle.gateway_core.proofs.ForCallers.{count_on}
 use Rattle.gateway_loop.proofs.AnswerLemmas.{answers_nothing, answers_one, answers-append, part_one, answers-part}
 use Rattle.gateway_loop.proofs.ProcessingLemmas.{plays_nothing, plays-append}
 

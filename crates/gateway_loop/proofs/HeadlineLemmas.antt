@@ -1,7 +1,6 @@
 -- `replay` and `live` do what the headline specifies, for a new gateway.
-use Rattle.std.proofs.Common.{◌≡◌, ◌⊎◌, ◌+◌, inl, inr, ℕ, Bool, List, [], ◌∷◌, ◌++◌, length}
-use Rattle.std.proofs.Common.{map, Option, Some, None, Ok, Err, append-nil, append_assoc, refl, sym, ap}
-use Rattle.std.proofs.Common.{subst, ◌∙◌, length-append}
+use Rattle.std.proofs.Common.{◌≡◌, ◌⊎◌, ◌+◌, inl, inr, ℕ, Bool, List, [], ◌∷◌, ◌++◌, length, map, Option, Some, None}
+use Rattle.std.proofs.Common.{Ok, Err, append-nil, append_assoc, refl, sym, ap, subst, ◌∙◌, length-append}
 use Rattle.std.specs.List.{concat, flat_map}
 use Rattle.std.proofs.lemmas.List.{map-append}
 use Rattle.std.proofs.lemmas.List.Concat.{flat_map-append}
@@ -24,9 +23,8 @@ use Rattle.gateway_loop.specs.declared.run_result.Summary.{Summary}
 use Rattle.gateway_loop.specs.Headline.{AreWholeLines, AsSpecified, BrokenOff, IsNew, IsPrefix}
 use Rattle.gateway_loop.specs.Headline.{ReplaysAsSpecified, ServesAsSpecified, all_desk_text, all_radio_bytes}
 use Rattle.gateway_loop.specs.LiveGateway.{BreaksTurn, Serves, ServesUntilFault, ServesUntilReadFails}
-use Rattle.gateway_loop.specs.LiveGateway.{ServesUntilWriteFails}
-use Rattle.gateway_loop.specs.LiveGateway.{LiveValue, NextReadFails, events_and_chunk, live_value}
-use Rattle.gateway_loop.specs.LiveGateway.{serial_reads_and_chunk}
+use Rattle.gateway_loop.specs.LiveGateway.{ServesUntilWriteFails, LiveValue, NextReadFails, events_and_chunk}
+use Rattle.gateway_loop.specs.LiveGateway.{live_value, serial_reads_and_chunk}
 use Rattle.gateway_loop.specs.Processing.{Breaks, IsWholeOrChunkPrefix}
 use Rattle.gateway_loop.specs.Script.{script, with_lf}
 use Rattle.gateway_loop.specs.ScriptReplay.{Replays, ReplaysEndedLines, ReplaysUntilFault, ReplaysUntilWriteFails}

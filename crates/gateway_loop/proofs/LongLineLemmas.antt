@@ -9,7 +9,7 @@ use Rattle.std.proofs.lemmas.Bool.{lt-leb, cases_lt}
 use Rattle.std.proofs.lemmas.List.{length-take, take_all}
 use Rattle.std.proofs.lemmas.Result.{MatchResult-weaker}
 use Rattle.hex.specs.Hex.{decode_of}
-use Rattle.actuator_commands.specs.Limits.{max_line}
+use Rattle.desk_orders.specs.Limits.{max_line}
 use Rattle.gateway_core.specs.Step.{Input, Received, Ordered, Answer}
 use Rattle.gateway_core.proofs.ForCallers.{handles_alike}
 use Rattle.esp3_frames.specs.Packet.{Packet}

@@ -1,7 +1,6 @@
 -- How a `Driver` continues with events.
-use Rattle.std.proofs.Common.{◌≡◌, ◌<◌, ◌^◌, List, [], ◌∷◌}
-use Rattle.std.proofs.Common.{◌++◌, ap, sym, ◌∙◌, append_assoc, append-nil, map}
-use Rattle.std.proofs.Common.{arith, length, length-append}
+use Rattle.std.proofs.Common.{◌≡◌, ◌<◌, ◌^◌, List, [], ◌∷◌, ◌++◌, ap, sym, ◌∙◌, append_assoc, append-nil, map, arith}
+use Rattle.std.proofs.Common.{length, length-append}
 use Rattle.learned_devices.specs.DeviceStoreState.{DeviceStoreState}
 use Rattle.esp3_frames.specs.PacketsAndRest.{rest_of}
 use Rattle.esp3_frames.proofs.ForCallers.{packets_and_rest-may_become}

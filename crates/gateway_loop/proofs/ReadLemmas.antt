@@ -1,6 +1,5 @@
 -- How the reads of a source continue.
-use Rattle.std.proofs.Common.{◌≡◌, ℕ, ◌+◌, ◌≤◌, List, [], ◌∷◌}
-use Rattle.std.proofs.Common.{◌++◌, length, take, Option, refl, ap, sym, ◌∙◌}
+use Rattle.std.proofs.Common.{◌≡◌, ℕ, ◌+◌, ◌≤◌, List, [], ◌∷◌, ◌++◌, length, take, Option, refl, ap, sym, ◌∙◌}
 use Rattle.std.proofs.Common.{append-nil, append_assoc, arith, length-append, map, subst, None, Some}
 use Rattle.std.specs.Prelude.{◌≢◌, IfSome, IsSome, Ok}
 use Rattle.std.specs.Io.KnownBytes.{Consumes, IsAtEnd, Keeps, ReadConsumes}

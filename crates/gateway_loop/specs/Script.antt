@@ -1,12 +1,11 @@
 -- The events of the bytes of a script. Own choice.
-use Rattle.std.specs.Prelude.{◌≡◌, ◌≢◌, ◌⊎◌, ◌&&◌, if◌then◌else◌, ℕ, nat_eq, nat_le}
-use Rattle.std.specs.Prelude.{List, [], ◌∷◌, ◌++◌, All}
-use Rattle.std.specs.Prelude.{length, drop, map, codes, Result, Ok, Err}
+use Rattle.std.specs.Prelude.{◌≡◌, ◌≢◌, ◌⊎◌, ◌&&◌, if◌then◌else◌, ℕ, nat_eq, nat_le, List, [], ◌∷◌, ◌++◌, All, length}
+use Rattle.std.specs.Prelude.{drop, map, codes, Result, Ok, Err}
 use Rattle.std.specs.List.{starts_with}
 use Rattle.std.specs.Str.Lines.{lines}
 use Rattle.hex.specs.Hex.{decode_of}
 use Rattle.hex.specs.declared.error.FromHexError.{FromHexError}
-use Rattle.actuator_commands.specs.Limits.{max_line}
+use Rattle.desk_orders.specs.Limits.{max_line}
 use Rattle.gateway_core.specs.Events.{InputEvent, Chunk, Line}
 
 -- the bytes that the digits of a line spell, or otherwise the line

@@ -2,8 +2,8 @@
 //! gateway's answers.
 ghost use Rattle.std.specs.Prelude.{◌≡◌, ◌<◌, ◌≤◌, [], ◌∷◌, length, take, drop, IfOk, OnOk, OnErr, MatchResult};
 ghost use Rattle.hex.specs.Hex.{decode_of};
-ghost use Rattle.json_lines.specs.Counts.{saturated_increment};
-ghost use Rattle.actuator_commands.specs.Limits.{max_line};
+ghost use Rattle.gateway_state.specs.Counts.{saturated_increment};
+ghost use Rattle.desk_orders.specs.Limits.{max_line};
 ghost use Rattle.gateway_core.specs.Events.{Line as LineEvent, Chunk as ChunkEvent};
 ghost use Rattle.gateway_core.specs.Replies.{answer_of, packet_answer};
 ghost use Rattle.gateway_loop.specs.private.DriverSteps.{Drains, DrainsPart, DriverBreaks, Takes, TakesOrBreaks};
@@ -42,8 +42,8 @@ impl<O: ReplySink, S: DeviceStore> Driver<'_, O, S> {
         Ok(())
     }
 
-    /// Takes the whole packet at the front of these bytes, or, if there is none, the bytes up to the one that makes
-    /// packets ready. Answers the packets that they complete, and returns how many bytes it took.
+    // Takes the whole packet at the front of these bytes, or, if there is none, the bytes up to the one that makes
+    // packets ready. Answers the packets that they complete, and returns how many bytes it took.
     fn process_front(&mut self, bytes: &[u8]) -> Result<usize, Failed>
         requires idle { HasNoReadyPacket self.old.gateway.now }
         requires some { 0 < length bytes.now }
@@ -67,7 +67,7 @@ impl<O: ReplySink, S: DeviceStore> Driver<'_, O, S> {
         Ok(count)
     }
 
-    /// Answers the ready packets.
+    // Answers the ready packets.
     fn answer_ready_packets(&mut self) -> Result<(), Failed>
         ensures gateway { self.new.gateway.ghost_name ≡ self.old.gateway.ghost_name }
         ensures loans { O.loans self.new.reply_sink ≡ O.loans self.old.reply_sink }
@@ -110,7 +110,7 @@ impl<O: ReplySink, S: DeviceStore> Driver<'_, O, S> {
         }
     }
 
-    /// Takes a line that begins with `S` and a space: as a chunk if digits follow, otherwise as an order.
+    // Takes a line that begins with `S` and a space: as a chunk if digits follow, otherwise as an order.
     fn process_chunk_or_order(&mut self, line: &[u8]) -> Result<(), Failed>
         requires idle { HasNoReadyPacket self.old.gateway.now }
         requires long { 2 ≤ length line.now }
@@ -136,7 +136,7 @@ impl<O: ReplySink, S: DeviceStore> Driver<'_, O, S> {
         self.items = self.items.saturating_add(1);
     }
 
-    /// Counts a packet that was handled, and writes its reply, with the line that explains it.
+    // Counts a packet that was handled, and writes its reply, with the line that explains it.
     fn answer_packet(&mut self, handled: &HandledPacket) -> Result<(), Failed>
         requires handled { HasJustHandled S.store_state self.old.gateway.now.handler (packet_answer handled.now) }
         ensures gateway { self.new.gateway.ghost_name ≡ self.old.gateway.ghost_name }
@@ -150,7 +150,7 @@ impl<O: ReplySink, S: DeviceStore> Driver<'_, O, S> {
             .put(self.gateway, Some(&handled.line), &handled.reply)
     }
 
-    /// Counts an order that was handled, and writes its reply.
+    // Counts an order that was handled, and writes its reply.
     fn answer_order(&mut self, reply: &Reply) -> Result<(), Failed>
         requires handled { HasJustHandled S.store_state self.old.gateway.now.handler (answer_of reply.now) }
         ensures gateway { self.new.gateway.ghost_name ≡ self.old.gateway.ghost_name }

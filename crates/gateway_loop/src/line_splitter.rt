@@ -54,7 +54,7 @@ impl<O: ReplySink, S: DeviceStore> LineSplitter<'_, O, S> {
         Ok(())
     }
 
-    /// Takes the line that LF ends after these bytes.
+    // Takes the line that LF ends after these bytes.
     fn process_ended_line(&mut self, lines: LineSource, bytes: &[u8]) -> Result<(), Failed>
         requires { HasNoReadyPacket self.old.driver.gateway.now }
         ensures gateway { self.new.driver.gateway.ghost_name ≡ self.old.driver.gateway.ghost_name }
@@ -96,7 +96,7 @@ impl<O: ReplySink, S: DeviceStore> LineSplitter<'_, O, S> {
     }
 }
 
-/// A line without the CR at its end, if there is one.
+// A line without the CR at its end, if there is one.
 fn strip_carriage_return(line: &[u8]) -> &[u8]
     ensures { result.now ≡ strip_carriage_return line.now }
 {
@@ -106,7 +106,7 @@ fn strip_carriage_return(line: &[u8]) -> &[u8]
     }
 }
 
-/// Takes a line without its end.
+// Takes a line without its end.
 fn process_line<O: ReplySink, S: DeviceStore>(
     driver: &mut Driver<'_, O, S>,
     lines: LineSource,

@@ -37,7 +37,7 @@ impl<W: Sink> ReplySink for ReplayOutput<'_, W> {
     }
 }
 
-/// Writes bytes as a serial chunk: `S` and a space, hexadecimal digits, LF.
+// Writes bytes as a serial chunk: `S` and a space, hexadecimal digits, LF.
 fn write_chunk<W: Sink>(writer: &mut W, bytes: &[u8]) -> Result<(), Failed>
     requires { length bytes.now ≤ 64 }
     ensures written { Writes (sink_value W.Sink writer.old) (sink_value W.Sink writer.new) result

@@ -12,8 +12,7 @@ use Rattle.gateway_core.specs.Events.{inputs_of}
 use Rattle.gateway_core.proofs.ForCallers.{crash_after_calls_ends_session, closed_session_leaves_last}
 use Rattle.gateway_main.specs.Started.{Starts}
 use Rattle.gateway_main.specs.SessionRuns.{RunsAreSessions, BrokenRunsAreSessions, ClosedRunsAreSessions}
-use Rattle.gateway_main.specs.SessionRuns.{BrokenClosedRunsAreSessions}
-use Rattle.gateway_main.specs.SessionRuns.{ClosedSessionsAreFound, CrashLeavesSession}
+use Rattle.gateway_main.specs.SessionRuns.{BrokenClosedRunsAreSessions, ClosedSessionsAreFound, CrashLeavesSession}
 
 module _ {C : Type 0} (state : C → State) (commits : C → Option ℕ) where
   handled_is_a_life : (database : C) (base : ℕ) (old new : HandlerValue C) (items : List Input)

@@ -22,7 +22,7 @@ pub enum Fault {
     Run(RunFault),
 }
 
-/// The text that the program prints for a fault of its database, or if it is out of memory.
+// The text that the program prints for a fault of its database, or if it is out of memory.
 fn text_of(why: OpenFault) -> &'static str
     ensures { result.now ≡ text_of why }
 {
@@ -38,8 +38,8 @@ impl From<AllocError> for Fault {
 
     ghost from_gives = { λ _ fault. fault ≡ memory_fault };
 
-    fn from(refused: AllocError) -> Fault {
-        Fault::Database(OpenFault::from(refused))
+    fn from(no_memory: AllocError) -> Fault {
+        Fault::Database(OpenFault::from(no_memory))
     }
 }
 

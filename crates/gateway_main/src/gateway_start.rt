@@ -48,7 +48,7 @@ pub fn start<C: SqlConnection>(
     ensures idle { IfOk result HasNoReadyPacket }
     ensures starts { IfOk result (λ gateway. HasCleanDisk (C.state gateway.handler.registry) →
         Starts C.state C.commits conn base gateway.handler) }
-    ensures refused { IfErr result (λ e. FailsToStart (C.state conn) (C.state e.1) e.0) }
+    ensures failed { IfErr result (λ e. FailsToStart (C.state conn) (C.state e.1) e.0) }
     ensures kept { IfErr result (λ e. KeepsCommittedDevices (C.state conn) (C.state e.1)) }
 {
     let registry = match RegistryOver::open_with(alloc, conn, cached_senders) {
@@ -57,7 +57,7 @@ pub fn start<C: SqlConnection>(
     };
     match GatewayOver::with_base_id(alloc, registry, base) {
         Ok(gateway) => Ok(gateway),
-        Err((refused, registry)) => Err((refused.into(), registry.close())),
+        Err((error, registry)) => Err((error.into(), registry.close())),
     }
 }
 

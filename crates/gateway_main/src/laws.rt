@@ -7,8 +7,7 @@ ghost use Rattle.gateway_core.specs.Handling.{HasStateWhileHonest};
 ghost use Rattle.gateway_loop.specs.LiveOutputs.{live_output};
 ghost use Rattle.gateway_loop.specs.Written.{AppendsReplayText, AppendsCutReplayText};
 ghost use Rattle.gateway_main.specs.SessionRuns.{BrokenClosedRunsAreSessions, BrokenRunsAreSessions};
-ghost use Rattle.gateway_main.specs.SessionRuns.{ClosedRunsAreSessions};
-ghost use Rattle.gateway_main.specs.SessionRuns.{ClosedSessionsAreFound, RunsAreSessions};
+ghost use Rattle.gateway_main.specs.SessionRuns.{ClosedRunsAreSessions, ClosedSessionsAreFound, RunsAreSessions};
 
 use byte_io::Sink;
 use device_registry::laws::devices_are_held;

@@ -33,7 +33,7 @@ pub fn program(rt: &HostRuntime) -> ExitCode {
     ExitCode::from(status(&ended))
 }
 
-/// Does what the command line asks.
+// Does what the command line asks.
 fn run_command_line(rt: &HostRuntime) -> Result<(), Ending> {
     let words = arguments_of(rt).map_err(|error| ending_without_arguments(&error))?;
     let options = command_line::read(rt.alloc(), words.as_slice())?;
@@ -44,7 +44,7 @@ fn arguments_of(rt: &HostRuntime) -> io::Result<Vec<String>> {
     Ok(env::args(rt)?.collect(rt.alloc())?)
 }
 
-/// Opens the database, serves, and closes the database.
+// Opens the database, serves, and closes the database.
 fn run(rt: &HostRuntime, options: &Options<'_>) -> Result<(), Fault>
     requires base { Address.is_base_id options.now.base ≡ true }
 {
@@ -55,7 +55,7 @@ fn run(rt: &HostRuntime, options: &Options<'_>) -> Result<(), Fault>
     }
 }
 
-/// Starts a gateway over a new database in memory, and lets it serve.
+// Starts a gateway over a new database in memory, and lets it serve.
 fn run_in_memory(rt: &HostRuntime, options: &Options<'_>) -> Result<(), Fault>
     requires base { Address.is_base_id options.now.base ≡ true }
 {
@@ -66,7 +66,7 @@ fn run_in_memory(rt: &HostRuntime, options: &Options<'_>) -> Result<(), Fault>
     }
 }
 
-/// Starts a gateway over the registry in two files, whatever they hold, lets it serve, and closes the database.
+// Starts a gateway over the registry in two files, whatever they hold, lets it serve, and closes the database.
 fn run_over_files<S: Start>(
     rt: &HostRuntime,
     path: &str,
@@ -83,7 +83,7 @@ fn run_over_files<S: Start>(
     done_or_first_fault(served, gateway.close().close())
 }
 
-/// Lets the gateway serve what the options name.
+// Lets the gateway serve what the options name.
 fn serve<C: SqlConnection>(
     rt: &HostRuntime,
     gateway: &mut GatewayOver<RegistryOver<C>>,
@@ -110,7 +110,7 @@ fn serve<C: SqlConnection>(
     }
 }
 
-/// Replays standard input to standard output.
+// Replays standard input to standard output.
 fn replay_standard<C: SqlConnection>(
     rt: &HostRuntime,
     gateway: &mut GatewayOver<RegistryOver<C>>,
@@ -124,7 +124,7 @@ fn replay_standard<C: SqlConnection>(
     replay(&mut reader, &mut writer, gateway, explains, reads)
 }
 
-/// Opens the serial line, then the desk's file and then the file of the answers, and serves them.
+// Opens the serial line, then the desk's file and then the file of the answers, and serves them.
 fn live_on_files<C: SqlConnection>(
     rt: &HostRuntime,
     files: (FileToOpen<'_>, FileToOpen<'_>, FileToOpen<'_>),
@@ -161,7 +161,7 @@ fn open(rt: &HostRuntime, file: FileToOpen<'_>) -> Result<File, Fault> {
     opened.map_err(|_| Fault::CannotOpenFile)
 }
 
-/// Prints a fault or a mistake to standard error, or help and the version to standard output.
+// Prints a fault or a mistake to standard error, or help and the version to standard output.
 fn print_ending(rt: &HostRuntime, ending: &Ending) {
     let _ = match ending {
         Ending::Failed(fault) => eprintln!(rt; "enogate: {fault}"),

@@ -4,25 +4,25 @@ use std::io;
 use std::io::{IsTerminal, Read, Seek};
 use std::time::{Clock, Duration};
 
-/// For how many milliseconds after a read of the line the next ones may be left out.
+// For how many milliseconds after a read of the line the next ones may be left out.
 const LEFT_OUT: u64 = 100;
 
-/// Reads the serial line. A read of a terminal would wait for bytes, so it is left out, and returns 0 bytes at once,
-/// while the desk's file has unread bytes: for at most `LEFT_OUT` milliseconds after the last read, and only if the
-/// desk was read since the one that was left out before.
+// Reads the serial line. A read of a terminal would wait for bytes, so it is left out, and returns 0 bytes at once,
+// while the desk's file has unread bytes: for at most `LEFT_OUT` milliseconds after the last read, and only if the
+// desk was read since the one that was left out before.
 #[derive(Drop)]
 pub(crate) struct SerialReader<'a, T> {
     clock: &'a T,
     line: &'a File,
     desk: &'a File,
-    /// When the last read ended; `None` before the first one, or if the clock failed.
+    // When the last read ended; `None` before the first one, or if the clock failed.
     ended: Option<Duration>,
-    /// Where the desk stood when a read was left out last.
+    // Where the desk stood when a read was left out last.
     desk_position: Option<u64>,
 }
 
 impl<'a, T: Clock> SerialReader<'a, T> {
-    /// A reader whose first read is not left out.
+    // A reader whose first read is not left out.
     pub(crate) fn new(clock: &'a T, line: &'a File, desk: &'a File) -> SerialReader<'a, T> {
         SerialReader {
             clock,
@@ -33,7 +33,7 @@ impl<'a, T: Clock> SerialReader<'a, T> {
         }
     }
 
-    /// Whether this read is left out. It is not if the time or the desk's position is unknown.
+    // Whether this read is left out. It is not if the time or the desk's position is unknown.
     fn leaves_out(&mut self) -> bool {
         let Some(position) = position_before_unread(self.desk) else {
             return false;
@@ -61,7 +61,7 @@ impl<T: Clock> Read for SerialReader<'_, T> {
     }
 }
 
-/// The position at which the next read of a plain file begins, if the file has bytes there.
+// The position at which the next read of a plain file begins, if the file has bytes there.
 fn position_before_unread(mut file: &File) -> Option<u64> {
     let metadata = file.metadata().ok()?;
     if !metadata.is_file() {

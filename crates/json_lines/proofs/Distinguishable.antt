@@ -2,14 +2,13 @@
 use Rattle.std.proofs.Common.{◌≡◌, ◌≢◌, ℕ, List, ◌++◌, drop, codes, refl, sym, ap, ◌∙◌, arith, append_assoc}
 use Rattle.std.specs.Prelude.{slice_index_or}
 use Rattle.std.proofs.lemmas.Bool.{eqb-false}
-use Rattle.json_lines.specs.Lines.{DeskLine, Reading}
-use Rattle.json_lines.specs.Lines.{ReadingLine, dbm_text, text_or_null, text}
+use Rattle.json_lines.specs.Lines.{DeskLine, Reading, ReadingLine, dbm_text, text_or_null, text}
 use Rattle.json_lines.specs.PacketLines.{packet_text}
 use Rattle.json_lines.specs.ShownTelegram.{ShownTelegram}
 use Rattle.json_lines.specs.declared.packet.PacketLine.{PacketLine}
 use Rattle.json_lines.specs.declared.packet.ShownPacket.{ShownPacket}
 use Rattle.json_lines.specs.declared.packet.ShownPacket.TheVariants.{Telegram, WithoutTelegram}
-use Rattle.teach_in.specs.declared.handling_reason.HandlingReason.{HandlingReason}
+use Rattle.gateway_state.specs.declared.handling_reason.HandlingReason.{HandlingReason}
 use Rattle.json_lines.proofs.CommaTexts.{behind, behind-comma}
 use Rattle.json_lines.proofs.PacketTextsInjective.{strength-alone}
 

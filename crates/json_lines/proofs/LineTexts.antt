@@ -1,8 +1,7 @@
 -- The JSON values of the lines have the texts of the lines, and contain no float; so serde_json writes the line's text
 -- for what a line sends.
-use Rattle.std.proofs.Common.{◌≡◌, ℕ, zero, suc, ℤ, pos, negsuc, ◌-ℤ◌, List, [], ◌∷◌, ◌++◌, map, codes, decimal}
-use Rattle.std.proofs.Common.{true, false}
-use Rattle.std.proofs.Common.{slice_get, Option, Some, None, refl, sym, ap, ap₂, ◌∙◌, append_assoc}
+use Rattle.std.proofs.Common.{◌≡◌, ℕ, zero, suc, ℤ, pos, negsuc, ◌-ℤ◌, List, [], ◌∷◌, ◌++◌, map, codes, decimal, true}
+use Rattle.std.proofs.Common.{false, slice_get, Option, Some, None, refl, sym, ap, ap₂, ◌∙◌, append_assoc}
 use Rattle.std.specs.Fmt.{signed_decimal}
 use Rattle.std.specs.List.{AllByRecursion, join_by, flat_map}
 use Rattle.json.specs.Print.{quoted}
@@ -21,19 +20,15 @@ use Rattle.teach_in.specs.declared.mode.Mode.TheVariants.{Closed, Learn, LearnAn
 use Rattle.teach_in.specs.declared.outcome.Outcome.{Outcome}
 use Rattle.teach_in.specs.declared.outcome.Outcome.TheVariants.{Accepted, Deleted, Unsupported, Full, General}
 use Rattle.teach_in.specs.declared.outcome.Outcome.TheVariants.{NoProfile}
-use Rattle.json_lines.specs.declared.counts.Counts.{Counts}
+use Rattle.gateway_state.specs.declared.counts.Counts.{Counts}
 use Rattle.json_lines.specs.Lines.{TeachLine, ModuleResponse, text, text_or_null, in_quotes, member_text, object_text}
 use Rattle.json_lines.specs.Lines.{Teach, DeviceLine, ListEnd, StatusLine, ResponseLine}
 use Rattle.json_lines.specs.Lines.{eep_string, outcome_word, mode_word, return_code_names}
 use Rattle.json_lines.specs.private.LineData.{NeedsNoEscape, IsLineOf, value_or_null as data_or_null, members}
-use Rattle.json_lines.specs.private.LineData.{object_of}
-use Rattle.json_lines.specs.private.LineData.{number_data}
-use Rattle.json_lines.specs.private.LineData.{profile_data}
-use Rattle.json_lines.specs.private.LineData.{teach_members, device_members, list_end_members, status_members}
-use Rattle.json_lines.specs.private.LineData.{response_members}
+use Rattle.json_lines.specs.private.LineData.{object_of, number_data, profile_data, teach_members, device_members}
+use Rattle.json_lines.specs.private.LineData.{list_end_members, status_members, response_members, dbm_data}
+use Rattle.json_lines.specs.private.LineData.{named_members, named_data, entry_data, entries_data, reading_members}
 use Rattle.json_lines.specs.Lines.{ReadingLine, Reading, dbm_text, reading_text, entry_object_text}
-use Rattle.json_lines.specs.private.LineData.{dbm_data, named_members, named_data, entry_data, entries_data}
-use Rattle.json_lines.specs.private.LineData.{reading_members}
 use Rattle.json_lines.proofs.HexTexts.{plain-id, plain-eep, plain-learn_as_text, plain_bytes}
 
 -- ---- an object

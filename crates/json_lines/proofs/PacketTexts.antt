@@ -1,6 +1,5 @@
 -- The texts of packet lines: composed of the texts of their members, and how long their parts are.
-use Rattle.std.proofs.Common.{◌≡◌, ℕ, zero, suc, ◌<◌, ◌≤◌, List, [], ◌∷◌, ◌++◌}
-use Rattle.std.proofs.Common.{length, codes, arith, append_assoc}
+use Rattle.std.proofs.Common.{◌≡◌, ℕ, zero, suc, ◌<◌, ◌≤◌, List, [], ◌∷◌, ◌++◌, length, codes, arith, append_assoc}
 use Rattle.std.proofs.Common.{append-nil, ap, ◌∙◌, sym, lit<, pos, negsuc, ◌-ℤ◌}
 use Rattle.std.proofs.lemmas.Int.{ints}
 use Rattle.std.specs.Int.Signed.{mag}
@@ -11,7 +10,7 @@ use Rattle.json_lines.specs.Lines.{dbm_text, member_text, object_text}
 use Rattle.json_lines.specs.PacketLines.{packet_members, type_and_why_members, members_text}
 use Rattle.json_lines.specs.declared.packet.ShownPacket.{ShownPacket}
 use Rattle.json_lines.specs.declared.packet.ShownPacket.TheVariants.{Telegram, WithoutTelegram}
-use Rattle.teach_in.specs.declared.handling_reason.HandlingReason.{HandlingReason}
+use Rattle.gateway_state.specs.declared.handling_reason.HandlingReason.{HandlingReason}
 
 -- a signal strength has a sign and at most three digits
 pub mag-minus : (byte : ℕ) → mag (pos 0 -ℤ pos byte) ≤ byte

@@ -1,8 +1,7 @@
 -- Packet lines with the same text are equal.
-use Rattle.std.proofs.Common.{◌≡◌, ◌≢◌, ℕ, suc, ◌<◌, ◌^◌, ◌/◌, ◌%◌, Bool, true}
-use Rattle.std.proofs.Common.{List, [], ◌∷◌, ◌++◌, codes, decimal, Option, Some, None}
-use Rattle.std.proofs.Common.{refl, sym, ap, subst, ◌∙◌, arith, append_assoc, append-nil, pos, negsuc, ◌-ℤ◌, ℤ}
-use Rattle.std.proofs.Common.{slice_index}
+use Rattle.std.proofs.Common.{◌≡◌, ◌≢◌, ℕ, suc, ◌<◌, ◌^◌, ◌/◌, ◌%◌, Bool, true, List, [], ◌∷◌, ◌++◌, codes, decimal}
+use Rattle.std.proofs.Common.{Option, Some, None, refl, sym, ap, subst, ◌∙◌, arith, append_assoc, append-nil, pos}
+use Rattle.std.proofs.Common.{negsuc, ◌-ℤ◌, ℤ, slice_index}
 use Rattle.std.specs.Prelude.{◌==◌, IfSome, slice_index_or, not}
 use Rattle.std.specs.Fmt.{signed_decimal}
 use Rattle.std.specs.Int.{w8, w32, to_be_bytes}
@@ -19,7 +18,7 @@ use Rattle.json_lines.specs.ShownTelegram.{ShownTelegram}
 use Rattle.json_lines.specs.declared.packet.PacketLine.{PacketLine}
 use Rattle.json_lines.specs.declared.packet.ShownPacket.{ShownPacket}
 use Rattle.json_lines.specs.declared.packet.ShownPacket.TheVariants.{Telegram, WithoutTelegram}
-use Rattle.teach_in.specs.declared.handling_reason.HandlingReason.{HandlingReason}
+use Rattle.gateway_state.specs.declared.handling_reason.HandlingReason.{HandlingReason}
 use Rattle.json_lines.proofs.CommaTexts.{NoComma, no-decimal, no-maker, no-null, peel}
 use Rattle.json_lines.proofs.HexTexts.{byte_bytes, holds_below-at, id_bytes, on_eep}
 use Rattle.json_lines.proofs.PacketTexts.{mag-minus}

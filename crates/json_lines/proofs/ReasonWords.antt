@@ -6,13 +6,13 @@ use Rattle.teach_in.specs.declared.outcome.Outcome.TheVariants.{Accepted, Delete
 use Rattle.teach_in.specs.declared.outcome.Outcome.TheVariants.{NoProfile}
 use Rattle.erp1_telegrams.specs.declared.address.FilterReason.TheVariants.{FromBroadcast, ForOthers}
 use Rattle.json_lines.specs.PacketLines.{reason_word}
-use Rattle.teach_in.specs.declared.handling_reason.HandlingReason.{HandlingReason}
-use Rattle.teach_in.specs.declared.handling_reason.HandlingReason.TheVariants.{Refused, Response, EmptyResponse}
-use Rattle.teach_in.specs.declared.handling_reason.HandlingReason.TheVariants.{OtherType, NoTelegram}
-use Rattle.teach_in.specs.declared.handling_reason.HandlingReason.TheVariants.{FilteredOut, TeachInReply, TeachIn}
-use Rattle.teach_in.specs.declared.handling_reason.HandlingReason.TheVariants.{WindowClosed, OtherMode, Read}
-use Rattle.teach_in.specs.declared.handling_reason.HandlingReason.TheVariants.{UnknownSender, WrongKind}
-use Rattle.teach_in.specs.declared.handling_reason.HandlingReason.TheVariants.{WrongLength, OtherMessage}
+use Rattle.gateway_state.specs.declared.handling_reason.HandlingReason.{HandlingReason}
+use Rattle.gateway_state.specs.declared.handling_reason.HandlingReason.TheVariants.{Failed, Response, EmptyResponse}
+use Rattle.gateway_state.specs.declared.handling_reason.HandlingReason.TheVariants.{OtherType, NoTelegram}
+use Rattle.gateway_state.specs.declared.handling_reason.HandlingReason.TheVariants.{FilteredOut, TeachInReply, TeachIn}
+use Rattle.gateway_state.specs.declared.handling_reason.HandlingReason.TheVariants.{WindowClosed, OtherMode, Read}
+use Rattle.gateway_state.specs.declared.handling_reason.HandlingReason.TheVariants.{UnknownSender, WrongKind}
+use Rattle.gateway_state.specs.declared.handling_reason.HandlingReason.TheVariants.{WrongLength, OtherMessage}
 
 -- the first of some reasons with this word, or otherwise the last of all
 with-word : List ℕ → List HandlingReason → HandlingReason
@@ -21,7 +21,7 @@ with-word word (why ∷ others) = if bytes_eq word (reason_word why) then why el
 
 every : List HandlingReason
 every =
-    Refused ∷ Response ∷ EmptyResponse ∷ OtherType ∷ NoTelegram ∷ FilteredOut FromBroadcast ∷ FilteredOut ForOthers
+    Failed ∷ Response ∷ EmptyResponse ∷ OtherType ∷ NoTelegram ∷ FilteredOut FromBroadcast ∷ FilteredOut ForOthers
     ∷ TeachInReply
     ∷ TeachIn Accepted ∷ TeachIn Deleted ∷ TeachIn Unsupported ∷ TeachIn Full ∷ TeachIn General ∷ TeachIn NoProfile
     ∷ WindowClosed
@@ -29,7 +29,7 @@ every =
 
 back : (why : HandlingReason) → with-word (reason_word why) every ≡ why
 unfolding with-word every
-back Refused = refl
+back Failed = refl
 back Response = refl
 back EmptyResponse = refl
 back OtherType = refl

@@ -1,7 +1,6 @@
 -- The text of a teach line is the text of only one teach line, with that line's outcome.
-use Rattle.std.proofs.Common.{◌≡◌, ◌≢◌, ℕ, List, [], ◌∷◌}
-use Rattle.std.proofs.Common.{◌++◌, drop, codes, decimal, Option, Some, None, refl, sym, ap, subst, ◌∙◌, arith}
-use Rattle.std.proofs.Common.{append_assoc, append-nil}
+use Rattle.std.proofs.Common.{◌≡◌, ◌≢◌, ℕ, List, [], ◌∷◌, ◌++◌, drop, codes, decimal, Option, Some, None, refl, sym, ap}
+use Rattle.std.proofs.Common.{subst, ◌∙◌, arith, append_assoc, append-nil}
 use Rattle.std.specs.Prelude.{if◌then◌else◌, ◌==◌, slice_index_or}
 use Rattle.std.proofs.lemmas.Bool.{eqb-false}
 use Rattle.std.proofs.lemmas.List.{append_cancel_left}
@@ -11,8 +10,7 @@ use Rattle.learned_devices.specs.declared.Device.{Device}
 use Rattle.teach_in.specs.declared.outcome.Outcome.{Outcome}
 use Rattle.teach_in.specs.declared.outcome.Outcome.TheVariants.{Accepted, Deleted, Unsupported, Full, General}
 use Rattle.teach_in.specs.declared.outcome.Outcome.TheVariants.{NoProfile}
-use Rattle.json_lines.specs.Lines.{DeskLine, Teach, DeviceLine}
-use Rattle.json_lines.specs.Lines.{TeachLine, text_or_null, outcome_word, text, texts}
+use Rattle.json_lines.specs.Lines.{DeskLine, Teach, DeviceLine, TeachLine, text_or_null, outcome_word, text, texts}
 use Rattle.json_lines.proofs.CommaTexts.{no-maker, peel}
 
 -- ---- from the maker on

@@ -16,11 +16,11 @@ use Rattle.teach_in.specs.declared.mode.Mode.TheVariants.{Closed, Learn, LearnAn
 use Rattle.teach_in.specs.declared.outcome.Outcome.{Outcome}
 use Rattle.teach_in.specs.declared.outcome.Outcome.TheVariants.{Accepted, Deleted, Unsupported, General, NoProfile}
 use Rattle.teach_in.specs.declared.outcome.Outcome.TheVariants as outcome
-use Rattle.actuator_commands.specs.declared.orders.OrderFault.TheVariants.{Syntax, Range, UnknownDevice, WrongProfile}
-use Rattle.json_lines.specs.declared.counts.Counts.{Counts}
-use Rattle.json_lines.specs.declared.error_lines.ErrorName.{ErrorName}
-use Rattle.json_lines.specs.declared.error_lines.ErrorName.TheVariants.{Order, TooLong, UnsupportedProfile, Failed}
-use Rattle.json_lines.specs.declared.error_lines.ErrorName.TheVariants as error
+use Rattle.desk_orders.specs.declared.orders.OrderFault.TheVariants.{Syntax, Range, UnknownDevice, WrongProfile}
+use Rattle.gateway_state.specs.declared.counts.Counts.{Counts}
+use Rattle.gateway_state.specs.declared.error_reason.ErrorReason.{ErrorReason}
+use Rattle.gateway_state.specs.declared.error_reason.ErrorReason.TheVariants.{Order, TooLong, UnsupportedProfile, Failed}
+use Rattle.gateway_state.specs.declared.error_reason.ErrorReason.TheVariants as error
 
 -- ---- the content of a line
 
@@ -54,7 +54,7 @@ pub data DeskLine : Type 0 where
   StatusLine : (counts : Counts) (mode : Mode) → DeskLine
   ResponseLine : (response : ModuleResponse) → DeskLine
   Done : DeskLine
-  Error : (name : ErrorName) → DeskLine
+  Error : (reason : ErrorReason) → DeskLine
 
 -- the numbers of a teach line are in the ranges of those of a device and of a query: three bytes of a profile, four of
 -- an ID, and at most two of a maker
@@ -149,7 +149,7 @@ return_code_names =
     codes "OK" ∷ codes "ERROR" ∷ codes "NOT_SUPPORTED" ∷ codes "WRONG_PARAM" ∷ codes "OPERATION_DENIED" ∷ []
 
 -- the error's name. Own choice
-abbrev pub error_word : ErrorName → List ℕ
+abbrev pub error_word : ErrorReason → List ℕ
 error_word (Order Syntax) = codes "syntax"
 error_word (Order Range) = codes "range"
 error_word (Order UnknownDevice) = codes "unknown_device"

@@ -10,17 +10,17 @@ use Rattle.json_lines.specs.declared.packet.PacketLine.{PacketLine}
 use Rattle.json_lines.specs.declared.packet.ShownPacket.{ShownPacket}
 use Rattle.json_lines.specs.declared.packet.ShownPacket.TheVariants.{Telegram, WithoutTelegram}
 use Rattle.erp1_telegrams.specs.declared.address.FilterReason.TheVariants.{FromBroadcast, ForOthers}
-use Rattle.teach_in.specs.declared.handling_reason.HandlingReason.{HandlingReason}
-use Rattle.teach_in.specs.declared.handling_reason.HandlingReason.TheVariants.{Refused, Response, EmptyResponse}
-use Rattle.teach_in.specs.declared.handling_reason.HandlingReason.TheVariants.{OtherType, NoTelegram}
-use Rattle.teach_in.specs.declared.handling_reason.HandlingReason.TheVariants.{FilteredOut, TeachInReply, TeachIn}
-use Rattle.teach_in.specs.declared.handling_reason.HandlingReason.TheVariants.{WindowClosed, OtherMode, Read}
-use Rattle.teach_in.specs.declared.handling_reason.HandlingReason.TheVariants.{UnknownSender, WrongKind}
-use Rattle.teach_in.specs.declared.handling_reason.HandlingReason.TheVariants.{WrongLength, OtherMessage}
+use Rattle.gateway_state.specs.declared.handling_reason.HandlingReason.{HandlingReason}
+use Rattle.gateway_state.specs.declared.handling_reason.HandlingReason.TheVariants.{Failed, Response, EmptyResponse}
+use Rattle.gateway_state.specs.declared.handling_reason.HandlingReason.TheVariants.{OtherType, NoTelegram}
+use Rattle.gateway_state.specs.declared.handling_reason.HandlingReason.TheVariants.{FilteredOut, TeachInReply, TeachIn}
+use Rattle.gateway_state.specs.declared.handling_reason.HandlingReason.TheVariants.{WindowClosed, OtherMode, Read}
+use Rattle.gateway_state.specs.declared.handling_reason.HandlingReason.TheVariants.{UnknownSender, WrongKind}
+use Rattle.gateway_state.specs.declared.handling_reason.HandlingReason.TheVariants.{WrongLength, OtherMessage}
 
 -- the word for the reason; for the outcome for a sender, the outcome's word. Own choice
 abbrev pub reason_word : HandlingReason → List ℕ
-reason_word Refused = codes "refused"
+reason_word Failed = codes "refused"
 reason_word Response = codes "response"
 reason_word EmptyResponse = codes "empty_response"
 reason_word OtherType = codes "other_type"

@@ -3,7 +3,7 @@ ghost use Rattle.std.specs.Prelude.{◌≡◌, ◌≢◌, ℕ, List, [], ◌∷�
 ghost use Rattle.json_lines.specs.Lines.{DeskLine, HasNumbersInRange, Teach, TeachLine, text, texts};
 ghost use Rattle.json_lines.specs.PacketLines.{HasPacketNumbersInRange, max_packet_line, packet_text, reason_word};
 ghost use Rattle.json_lines.specs.declared.packet.PacketLine.{PacketLine};
-ghost use Rattle.teach_in.specs.declared.handling_reason.HandlingReason.{HandlingReason};
+ghost use Rattle.gateway_state.specs.declared.handling_reason.HandlingReason.{HandlingReason};
 ghost use Rattle.json_lines.specs.declared.limits.TheConstants.{MAX_PACKET_LINE};
 
 /// Lines that together have the text of a teach line are one teach line, with the same outcome.

@@ -1,11 +1,10 @@
 //! The lines for the desk: one JSON object each, with no space between its parts, the members in the byte order of
-//! their names, and a line feed at the end; and the counters in a status line.
+//! their names, and a line feed at the end.
 //!
 //! A line is a value of `DeskLine`, in `specs/Lines.antt`, whose `text` is its bytes. A packet line is a `PacketLine`,
 //! whose `packet_text`, in `specs/PacketLines.antt`, is its bytes.
 #![tactic(auto)]
 
-mod counts;
 mod devices;
 mod digits;
 mod done;
@@ -22,10 +21,10 @@ mod status;
 mod teach;
 mod text_parts;
 
-pub use counts::{Counter, Counts};
 pub use devices::device_lines;
 pub use done::done_line;
-pub use error_lines::ErrorName;
+pub use error_lines::error_line;
+pub use gateway_state::Counts;
 pub use limits::MAX_PACKET_LINE;
 pub use line::Line;
 pub use packet::{PacketLine, ShownPacket, ShownTelegram, packet_line};

@@ -3,10 +3,9 @@
 ghost use Rattle.std.specs.Prelude.{◌≡◌, ◌+◌, ◌≤◌, ◌++◌, length};
 ghost use Rattle.arrayvec.specs.ArrayVec.{array_vec_len};
 ghost use Rattle.json_lines.specs.PacketLines.{raw_telegram_members, type_and_why_members, members_text};
-ghost use Rattle.json_lines.specs.PacketLines.{non_telegram_members};
-ghost use Rattle.json_lines.specs.PacketLines.{packet_members, packet_text, reception_and_sender_members};
-ghost use Rattle.json_lines.specs.PacketLines.{max_raw_telegram_members_len, max_type_and_why_members_len};
-ghost use Rattle.json_lines.specs.PacketLines.{max_packet_line};
+ghost use Rattle.json_lines.specs.PacketLines.{non_telegram_members, packet_members, packet_text};
+ghost use Rattle.json_lines.specs.PacketLines.{reception_and_sender_members, max_raw_telegram_members_len};
+ghost use Rattle.json_lines.specs.PacketLines.{max_type_and_why_members_len, max_packet_line};
 ghost use Rattle.json_lines.specs.PacketLines.{max_reception_and_sender_members_len};
 
 use crate::limits::MAX_PACKET_LINE;
@@ -17,8 +16,8 @@ use crate::text_parts::{
 };
 use arrayvec::ArrayVec;
 use erp1_telegrams::{Eep, Telegram};
+use gateway_state::HandlingReason;
 use std::marker::Model;
-use teach_in::HandlingReason;
 
 /// A telegram, and the profile and manufacturer ID that its line shows. In contracts its value is what the line shows
 /// of it, the record `ShownTelegram` of `specs/ShownTelegram.antt`.

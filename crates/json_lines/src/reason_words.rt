@@ -4,7 +4,7 @@ ghost use Rattle.json_lines.specs.PacketLines.{reason_word};
 
 use crate::teach::outcome_word;
 use erp1_telegrams::FilterReason;
-use teach_in::HandlingReason;
+use gateway_state::HandlingReason;
 
 /// The word of a reason, at most 14 bytes.
 pub fn reason_word(why: HandlingReason) -> &'static str
@@ -12,7 +12,7 @@ pub fn reason_word(why: HandlingReason) -> &'static str
     ensures short { length result.now ≤ 14 }
 {
     match why {
-        HandlingReason::Refused => "refused",
+        HandlingReason::Failed => "refused",
         HandlingReason::Response => "response",
         HandlingReason::EmptyResponse => "empty_response",
         HandlingReason::OtherType => "other_type",

@@ -6,9 +6,9 @@ ghost use Rattle.serde_json.specs.Events.{SendsValue};
 ghost use Rattle.json_lines.specs.Lines.{StatusLine, mode_word, text};
 ghost use Rattle.json_lines.specs.private.LineData.{object_of, status_members};
 
-use crate::counts::Counts;
 use crate::digits::{ascii_str, learn_as_text};
 use crate::line::{Line, line_of};
+use gateway_state::Counts;
 use serde::{Described, Serialize, Serializer};
 use std::alloc::{AllocError, Global};
 use teach_in::Mode;

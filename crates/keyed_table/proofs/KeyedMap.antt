@@ -22,7 +22,7 @@ use Rattle.sqlite_rules.specs.Action.{works, work_for, work_by, deed_for, pairs,
 use Rattle.sqlite_rules.specs.declared.action.Deed.{Deed}
 use Rattle.keyed_table.proofs.ListedTables.{same_name_symmetric, same_as_third}
 use Rattle.sqlite.specs.Source.{Source}
-use Rattle.sqlite.specs.Command.TheVariants.{InsertOr}
+use Rattle.sqlite.specs.Command.TheVariants.{InsertOr, Select as Selects}
 use Rattle.sqlite_rules.proofs.PlaceLemmas.{named_parent}
 use Rattle.sqlite_rules.specs.declared.error.Rowids.{Rowids}
 use Rattle.sqlite_rules.specs.declared.error.Rowids.TheVariants.{Above}
@@ -44,7 +44,6 @@ use Rattle.keyed_table.proofs.RowsAsMap.{key_is, put_alike, insert_without, keye
 use Rattle.keyed_table.proofs.RowsAsMap.{map_without, ranked, apart_from, differ_from, entries_ranked}
 use Rattle.sqlite_trees.proofs.TreeLemmas.{all-put_row}
 use Rattle.keyed_table.proofs.Statements.{turned, CommitsWithRoom, AlwaysCommits}
-use Rattle.sqlite.specs.Command.TheVariants.{Select as Selects}
 use Rattle.keyed_table.proofs.RowsAsMap as answers
 
 module _ (schema : Schema) (name : List ℕ) (tree : ℕ) (keeps : AllByRecursion (TreeHasName name tree) schema.tables)

@@ -33,7 +33,7 @@ use Rattle.keyed_table.specs.Tables.{HasCatalogText, catalog_rows}
 use Rattle.sqlite_resolve.specs.Select.{named}
 use Rattle.sqlite_tied.specs.Compute.{everything}
 use Rattle.keyed_table.proofs.TextMeaning.{by_column, column_read, IsPlainSelect, plain_select, select_misses}
-use Rattle.keyed_table.specs.Objects.{list_objects_sql, has_text, is_catalog_row}
+use Rattle.keyed_table.specs.Objects.{list_objects_sql, is_text, is_catalog_row}
 use Rattle.sqlite.specs.State.{Shown}
 use Rattle.keyed_table.proofs.RowsAsMap.{shows_all}
 use Rattle.std.proofs.lemmas.Slice.Eq.{bytes_eq-Decides}
@@ -259,7 +259,7 @@ list_means : (command_of (if_select (compiled listing_schema list_objects_sql))
 unfolding everything listing_schema
 list_means = (refl, (refl, refl))
 
-text_is : (v : Value) (text : List ℕ) → has_text v text ≡ true → v ≡ Text text
+text_is : (v : Value) (text : List ℕ) → is_text v text ≡ true → v ≡ Text text
 text_is (Text t) text h = ap Text ((bytes_eq-Decides t text).0 h)
 text_is _ text h = absurd cc
 

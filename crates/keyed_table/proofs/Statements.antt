@@ -322,7 +322,7 @@ module _ {M : Type 0} {Holds : Database → M → Type 0} (sql : List ℕ) (para
             (sym (rw shows.idle at w.shown.committed_is)) refl w.sound
             (does old new.now _ w.tally m shows.holds shows.sound (room (early clean) m shows) w.changed))
             (executed_ok sql params old new r (runs clean));
-        refused = λ clean. on_err_weaker r (spared old new) (spared_if sql params old new r (runs clean));
+        failed = λ clean. on_err_weaker r (spared old new) (spared_if sql params old new r (runs clean));
       }
 
 -- ---- a transaction

@@ -9,11 +9,10 @@ use Rattle.keyed_table.proofs.Common.{view_named, all_weaker, all-filter, codes,
 use Rattle.keyed_table.proofs.Common.{refl, sym, ap, ◌∙◌, is_some, false, None, Some, Ok, not, ◌&&◌, ◌≡◌, ℕ, ◌==◌, inl}
 use Rattle.keyed_table.proofs.Common.{inr, Bool, if◌then◌else◌, subst, ◌≢◌, nat_le, ◌^◌, option_map, Err, Result, OnOk}
 use Rattle.keyed_table.proofs.Common.{nat_cmp, nat_tests, row_classes, Index, AllByRecursion, position_from, list_any}
-use Rattle.keyed_table.proofs.Common.{HasNoReferenceTo, TreeHasName, AdmitsTable, Keys, any_from_none, Has, IsLone}
-use Rattle.keyed_table.proofs.Common.{Row, State, Executes, mode_of, Error, FinMap, empty, Codec, table_of, AreMap}
-use Rattle.keyed_table.proofs.Common.{HoldsMap}
+use Rattle.keyed_table.proofs.Common.{HasNoReferenceTo, TreeHasName, AdmitsTable, Keys, any_from_none, Has, IsLone, Row}
+use Rattle.keyed_table.proofs.Common.{State, Executes, mode_of, Error, FinMap, empty, Codec, table_of, AreMap, HoldsMap}
 use Rattle.std.proofs.lemmas.Bool.{MatchBool-at_false, and_cases, not-false, not_from_true, eq-eqb, eqb-true}
-use Rattle.sqlite_catalog.proofs.StepLemmas.{no_table, table_below}
+use Rattle.sqlite_catalog.proofs.StepLemmas.{no_table, table_below, no_index as no_index_of, no_view as no_view_of}
 use Rattle.keyed_table.proofs.KeyedMap.{went, same_value, task_of, table_low, SparesOthers}
 use Rattle.keyed_table.proofs.Statements.{ready_with}
 use Rattle.keyed_table.proofs.TextMeaning.{means, understood_as}
@@ -34,7 +33,6 @@ use Rattle.std.proofs.Common.{slice_range}
 use Rattle.std.proofs.lemmas.List.Folds.{list_any-append}
 use Rattle.keyed_table.specs.Tables.{keyed_table, IsTableAt, HasCatalogText}
 use Rattle.keyed_table.specs.Stores.{IsReadyWith}
-use Rattle.sqlite_catalog.proofs.StepLemmas.{no_index as no_index_of, no_view as no_view_of}
 use Rattle.sqlite_ast.specs.declared.CreateTable.{CreateTable as Defined}
 use Rattle.sqlite_ast.specs.declared.Statement.TheVariants as written
 use Rattle.sqlite_resolve.specs.Define as define

@@ -1,9 +1,8 @@
 -- A text means the command of its statement, and a plain SELECT from one table its query.
-use Rattle.keyed_table.proofs.Common.{Err, ◌≡◌, ℕ, ◌&&◌, List, [], ◌∷◌, true, None, Some, Ok, refl, Option, pos}
-use Rattle.keyed_table.proofs.Common.{negsuc, not, ◌==◌, length, map, false, Schema, Table, Query, Delete, Update}
-use Rattle.keyed_table.proofs.Common.{Null, Int, Command, table_named, view_named, Draft, row_classes, ParsesAs}
-use Rattle.keyed_table.proofs.Common.{CompilesTo, program_of, count_others_query, Expr, Term, lit, Collation, One}
-use Rattle.keyed_table.proofs.Common.{Binary}
+use Rattle.keyed_table.proofs.Common.{Err, ◌≡◌, ℕ, ◌&&◌, List, [], ◌∷◌, true, None, Some, Ok, refl, Option, pos, negsuc}
+use Rattle.keyed_table.proofs.Common.{not, ◌==◌, length, map, false, Schema, Table, Query, Delete, Update, Null, Int}
+use Rattle.keyed_table.proofs.Common.{Command, table_named, view_named, Draft, row_classes, ParsesAs, CompilesTo}
+use Rattle.keyed_table.proofs.Common.{program_of, count_others_query, Expr, Term, lit, Collation, One, Binary}
 use Rattle.sqlite.specs.Query.{inner, end}
 use Rattle.sqlite.specs.Listing.{understood}
 use Rattle.sqlite_resolve.specs.declared.error.CompileError.TheVariants.{NoSuchTable}

@@ -9,12 +9,12 @@ use Rattle.sqlite.specs.Order.{Row, column}
 abbrev pub list_objects_sql : List ℕ
 list_objects_sql = codes "SELECT name, type, sql FROM sqlite_schema ORDER BY rowid"
 
-abbrev pub has_text : Value → (text : List ℕ) → Bool
-has_text (Text t) text = bytes_eq t text
-has_text (Int n) text = false
-has_text Null text = false
-has_text (Real x) text = false
-has_text (Blob b) text = false
+abbrev pub is_text : Value → (text : List ℕ) → Bool
+is_text (Text t) text = bytes_eq t text
+is_text (Int n) text = false
+is_text Null text = false
+is_text (Real x) text = false
+is_text (Blob b) text = false
 
 abbrev pub is_catalog_row : (name text : List ℕ) → Row → Bool
-is_catalog_row name text row = has_text (column row 0) name && has_text (column row 2) text
+is_catalog_row name text row = is_text (column row 0) name && is_text (column row 2) text

@@ -57,4 +57,4 @@ module _ {M : Type 0} (Holds : Database → M → Type 0) where
     pub crash : HasCleanDisk new → (trees : Trees) → new.may_leave trees → old.may_leave trees
         ⊎ (IsTrue old.is_open × ((m : M) → IsReadyWith old m → HoldsIn trees (update m)))
     pub made : HasCleanDisk new → OnOk result ((m : M) → IsReadyWith old m → IsReadyWith new (update m))
-    pub refused : HasCleanDisk new → OnErr result (KeepsValueIfStillOpen old new)
+    pub failed : HasCleanDisk new → OnErr result (KeepsValueIfStillOpen old new)

@@ -6,8 +6,8 @@ use byte_io::{OverRead, OverWrite, Sink, Source};
 use std::io;
 use std::io::{Read, Write};
 
-/// A reader and a writer that counts its calls, fails only at the first one, and otherwise takes or returns everything
-/// that is asked for.
+// A reader and a writer that counts its calls, fails only at the first one, and otherwise takes or returns everything
+// that is asked for.
 #[derive(Drop)]
 struct FailsOnce {
     calls: usize,
@@ -42,7 +42,7 @@ impl Write for FailsOnce {
 }
 
 #[test]
-fn one_read_for_one(rt: HostRuntime) {
+fn one_call_for_each_read(rt: HostRuntime) {
     let mut reader = FailsOnce { calls: 0 };
     let mut source = OverRead::new(&mut reader);
     let mut buffer = [0u8; 256];
@@ -53,7 +53,7 @@ fn one_read_for_one(rt: HostRuntime) {
 }
 
 #[test]
-fn one_write_for_one(rt: HostRuntime) {
+fn one_call_for_each_write(rt: HostRuntime) {
     let mut writer = FailsOnce { calls: 0 };
     let mut sink = OverWrite::new(&mut writer);
     assert!(rt; sink.write(b"a line of text\n").is_err());

@@ -55,7 +55,7 @@ fn a_contact(rt: HostRuntime) -> Result<(), Fail> {
     Ok(())
 }
 
-/// The type and the data of packets that are no telegram.
+// The type and the data of packets that are no telegram.
 const FAULTY: [(u8, &[u8], TelegramFault); 4] = [
     (2, &[0x00], TelegramFault::NotRadio),
     (1, &[], TelegramFault::BadLength),
@@ -77,7 +77,7 @@ fn faults(rt: HostRuntime) {
     assert_eq!(rt; other_kind, Some(TelegramFault::OtherKind));
 }
 
-/// The RORG of a telegram, and its shortest and its longest payload.
+// The RORG of a telegram, and its shortest and its longest payload.
 const LENGTHS: [(u8, usize, usize); 5] = [
     (0xF6, 1, 1),
     (0xD5, 1, 1),
@@ -150,7 +150,7 @@ fn base_ids(rt: HostRuntime) {
     }
 }
 
-/// Base IDs, other IDs, and whether these are IDs of the gateway.
+// Base IDs, other IDs, and whether these are IDs of the gateway.
 const GATEWAY_IDS: [(u32, u32, bool); 7] = [
     (0xFF80_0000, 0xFF80_0000, true),
     (0xFF80_0000, 0xFF80_007F, true),
@@ -168,7 +168,7 @@ fn gateway_ids(rt: HostRuntime) {
     }
 }
 
-/// The sender and the destination of telegrams, and why the gateway with the base ID FF800000 filters them out.
+// The sender and the destination of telegrams, and why the gateway with the base ID FF800000 filters them out.
 const FILTERED: [(u32, u32, Option<FilterReason>); 4] = [
     (SENDER, BROADCAST, None),
     (SENDER, 0xFF80_007F, None),

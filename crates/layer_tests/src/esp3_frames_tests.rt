@@ -12,13 +12,13 @@ const CONTACT: [u8; 21] = [
     0xFF, 0xFF, 0x2D, 0x00, 0x1F,
 ];
 
-/// The packet, and three more bytes.
+// The packet, and three more bytes.
 const CONTACT_AND_MORE: [u8; 24] = [
     0x55, 0x00, 0x07, 0x07, 0x01, 0x7A, 0xD5, 0x09, 0x01, 0x80, 0x0A, 0xBC, 0x00, 0x01, 0xFF, 0xFF,
     0xFF, 0xFF, 0x2D, 0x00, 0x1F, 0x55, 0x55, 0x55,
 ];
 
-/// The packet with one wrong CRC, though the other is correct.
+// The packet with one wrong CRC, though the other is correct.
 const WRONG_HEADER: [u8; 21] = [
     0x55, 0x00, 0x07, 0x07, 0x01, 0x7B, 0xD5, 0x09, 0x01, 0x80, 0x0A, 0xBC, 0x00, 0x01, 0xFF, 0xFF,
     0xFF, 0xFF, 0x2D, 0x00, 0x1F,
@@ -29,7 +29,7 @@ const WRONG_DATA: [u8; 21] = [
     0xFF, 0xFF, 0x2D, 0x00, 0x1E,
 ];
 
-/// Bytes and their CRC. For the digits, 0xF4 is the check value that catalogues of CRCs give for CRC-8/SMBUS.
+// Bytes and their CRC. For the digits, 0xF4 is the check value that catalogues of CRCs give for CRC-8/SMBUS.
 const CHECKS: [(&[u8], u8); 4] = [
     (&[0x00, 0x07, 0x07, 0x01], 0x7A),
     (&[0x08], 0x38),
@@ -45,9 +45,9 @@ fn check_bytes(rt: HostRuntime) {
     assert_eq!(rt; check8_next(0x00, 0x08), 0x38);
 }
 
-/// The CRCs before the last bytes of a message and of the whole message, the number of these bytes, and their CRC:
-/// first of the header and of the data of the packet above; and then of rows of the bytes 3, 10, 17, .. (each 7 more
-/// than the last, modulo 256) after "123456789". Another program computed them.
+// The CRCs before the last bytes of a message and of the whole message, the number of these bytes, and their CRC:
+// first of the header and of the data of the packet above; and then of rows of the bytes 3, 10, 17, .. (each 7 more
+// than the last, modulo 256) after "123456789". Another program computed them.
 const CHECKS_BETWEEN: [(u8, u8, usize, u8); 10] = [
     (0xAC, 0x6D, 4, 0x7A),
     (0x65, 0x7C, 14, 0x1F),
@@ -68,10 +68,10 @@ fn check_bytes_between(rt: HostRuntime) {
     }
 }
 
-/// The lengths of data and optional data and the type in a header, or why it is none.
+// The lengths of data and optional data and the type in a header, or why it is none.
 type Fields = Result<(u16, u8, u8), HeaderFault>;
 
-/// The last three have two faults each, and the first of the two is reported.
+// The last three have two faults each, and the first of the two is reported.
 const HEADERS: [([u8; 6], Fields); 9] = [
     ([0x55, 0x00, 0x07, 0x07, 0x01, 0x7A], Ok((7, 7, 1))),
     ([0x55, 0xFF, 0xFF, 0xFF, 0x09, 0x12], Ok((65_535, 255, 9))),
@@ -125,7 +125,7 @@ fn a_packet_written(rt: HostRuntime) {
     assert_eq!(rt; (again, empty), wanted);
 }
 
-/// Bytes, whether they are the packet, and whether they begin with it.
+// Bytes, whether they are the packet, and whether they begin with it.
 struct Part {
     bytes: &'static [u8],
     is_packet: bool,
@@ -181,8 +181,8 @@ fn text_of(alloc: Global, header: [u8; 6], zeros: usize) -> Result<Vec<u8>, Allo
     Ok(text)
 }
 
-/// A header, the number of bytes 00 after it (data, optional data and their CRC, which is 00 for such data), and the
-/// lengths of data and optional data of the packet, if it is one.
+// A header, the number of bytes 00 after it (data, optional data and their CRC, which is 00 for such data), and the
+// lengths of data and optional data of the packet, if it is one.
 const ZEROS: [([u8; 6], usize, Option<(usize, usize)>); 3] = [
     (
         [0x55, 0xFF, 0xFF, 0xFF, 0x09, 0x12],
@@ -203,8 +203,8 @@ fn long_packets_of_zeros(rt: HostRuntime) -> Result<(), Fail> {
     Ok(())
 }
 
-/// The lengths of data and optional data, the result of writing them into a buffer of 262 bytes, and its length then.
-/// The length is checked before the capacity: what is not too long does not fit here.
+// The lengths of data and optional data, the result of writing them into a buffer of 262 bytes, and its length then.
+// The length is checked before the capacity: what is not too long does not fit here.
 const WRITTEN: [(usize, usize, Result<(), PacketFault>, usize); 4] = [
     (65_536, 0, Err(PacketFault::TooLong), 0),
     (0, 256, Err(PacketFault::TooLong), 0),

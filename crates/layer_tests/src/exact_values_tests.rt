@@ -1,16 +1,16 @@
 //! Known values: inside the bounds, at them and one past them, with the bounds in either order.
 use exact_values::{Fraction, over, scale};
 
-/// The numerator and the denominator.
+// The numerator and the denominator.
 fn parts(fraction: Fraction) -> (i64, i64) {
     (fraction.num(), fraction.den())
 }
 
-/// A number, the numbers `first` and `last`, the tenths that they mean, and the number's value as a numerator
-/// and a denominator.
+// A number, the numbers `first` and `last`, the tenths that they mean, and the number's value as a numerator
+// and a denominator.
 type ScaleCase = (u32, u32, u32, i32, i32, Option<(i64, i64)>);
 
-/// Numbers between the bounds, at the bounds and past them, and the widest bounds.
+// Numbers between the bounds, at the bounds and past them, and the widest bounds.
 const SCALED: [ScaleCase; 13] = [
     (127, 255, 0, 0, 400, Some((1024, 51))),
     (0, 1023, 0, -100, 412, Some((206, 5))),

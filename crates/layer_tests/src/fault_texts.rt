@@ -1,6 +1,6 @@
 //! The texts of the faults below the registry.
-use actuator_commands::OrderFault;
 use byte_io::Failed;
+use desk_orders::OrderFault;
 use erp1_telegrams::TelegramFault;
 use esp3_frames::{HeaderFault, PacketFault};
 use gateway_cli::CommandLineFault;
@@ -52,8 +52,8 @@ const OF_ORDERS: [(OrderFault, &str); 4] = [
     ),
 ];
 
-/// The faults have these texts.
-fn say<E: Error>(rt: &HostRuntime, cases: &[(E, &str)]) -> Result<(), Fail> {
+// The faults have these texts.
+fn have_texts<E: Error>(rt: &HostRuntime, cases: &[(E, &str)]) -> Result<(), Fail> {
     for (fault, wanted) in cases {
         if fault.to_string(rt.alloc())?.as_str() != *wanted {
             return Err(Fail::from(*wanted));
@@ -63,12 +63,12 @@ fn say<E: Error>(rt: &HostRuntime, cases: &[(E, &str)]) -> Result<(), Fail> {
 }
 
 #[test]
-fn texts(rt: HostRuntime) -> Result<(), Fail> {
-    say(&rt, &OF_HEADERS)?;
-    say(&rt, &OF_PACKETS)?;
-    say(&rt, &OF_TELEGRAMS)?;
-    say(&rt, &OF_READINGS)?;
-    say(&rt, &OF_ORDERS)?;
-    say(&rt, &[(Failed, "a read or a write failed")])?;
-    say(&rt, &[(CommandLineFault::BadBase, "not a base ID")])
+fn fault_texts(rt: HostRuntime) -> Result<(), Fail> {
+    have_texts(&rt, &OF_HEADERS)?;
+    have_texts(&rt, &OF_PACKETS)?;
+    have_texts(&rt, &OF_TELEGRAMS)?;
+    have_texts(&rt, &OF_READINGS)?;
+    have_texts(&rt, &OF_ORDERS)?;
+    have_texts(&rt, &[(Failed, "a read or a write failed")])?;
+    have_texts(&rt, &[(CommandLineFault::BadBase, "not a base ID")])
 }

@@ -11,8 +11,8 @@ fn words_of(rt: &HostRuntime, line: &str) -> Result<Vec<String>, Fail> {
     Ok(words)
 }
 
-/// `clap` rejects the line in this way.
-fn refused(rt: &HostRuntime, line: &str, wanted: ErrorKind) -> Result<(), Fail> {
+// `clap` rejects the line in this way.
+fn is_rejected(rt: &HostRuntime, line: &str, wanted: ErrorKind) -> Result<(), Fail> {
     let words = words_of(rt, line)?;
     match read(rt.alloc(), words.as_slice()) {
         Err(CommandLineFault::ClapError(error)) if error.kind() == wanted => Ok(()),
@@ -41,10 +41,10 @@ const OUT: FileToOpen<'static> = FileToOpen {
     access: Access::WriteAnew,
 };
 
-/// The base ID, the database, whether packets are explained, and the turns if the service is `live`.
-type Values = (u32, Option<&'static str>, bool, Option<u64>);
+// The base ID, the database, whether packets are explained, and the turns if the service is `live`.
+type OptionValues = (u32, Option<&'static str>, bool, Option<u64>);
 
-fn options_of((base, db, explain_packets, turns): Values) -> Options<'static> {
+fn options_of((base, db, explain_packets, turns): OptionValues) -> Options<'static> {
     let service = match turns {
         None => REPLAY,
         Some(turns) => Service::Live {
@@ -62,10 +62,10 @@ fn options_of((base, db, explain_packets, turns): Values) -> Options<'static> {
     }
 }
 
-/// The start of lines of `live`, without its turns.
+// The start of lines of `live`, without its turns.
 const LIVE: &str = "enogate live --base FF800000 --serial /dev/s --desk in/d --out o ";
 
-const ACCEPTED: [(&str, Values); 5] = [
+const ACCEPTED: [(&str, OptionValues); 5] = [
     (
         "enogate replay --base FF800000",
         (0xFF80_0000, None, false, None),
@@ -88,7 +88,7 @@ const ACCEPTED: [(&str, Values); 5] = [
     ),
 ];
 
-const LIVE_ACCEPTED: [(&str, Values); 5] = [
+const LIVE_ACCEPTED: [(&str, OptionValues); 5] = [
     ("--turns 20", (0xFF80_0000, None, false, Some(20))),
     ("--turns +0020", (0xFF80_0000, None, false, Some(20))),
     ("--turns 1 --explain", (0xFF80_0000, None, true, Some(1))),
@@ -102,7 +102,7 @@ const LIVE_ACCEPTED: [(&str, Values); 5] = [
     ),
 ];
 
-fn is_accepted(rt: &HostRuntime, line: &str, wanted: Values) -> Result<(), Fail> {
+fn is_accepted(rt: &HostRuntime, line: &str, wanted: OptionValues) -> Result<(), Fail> {
     let words = words_of(rt, line)?;
     match read(rt.alloc(), words.as_slice()) {
         Ok(options) if options == options_of(wanted) => Ok(()),
@@ -136,8 +136,8 @@ fn bad_bases(rt: HostRuntime) -> Result<(), Fail> {
     Ok(())
 }
 
-/// Command lines with the same start, their different ends, separated by `|`, and the kind of clap's error.
-const REFUSALS: [(&str, &str, ErrorKind); 13] = [
+// Command lines with the same start, their different ends, separated by `|`, and the kind of clap's error.
+const REJECTED: [(&str, &str, ErrorKind); 13] = [
     ("enogate replay", " --help", ErrorKind::DisplayHelp),
     ("enogate", " --version", ErrorKind::DisplayVersion),
     (
@@ -184,11 +184,11 @@ const REFUSALS: [(&str, &str, ErrorKind); 13] = [
 ];
 
 #[test]
-fn refused_lines(rt: HostRuntime) -> Result<(), Fail> {
-    for (start, ends, kind) in REFUSALS {
+fn rejected_command_lines(rt: HostRuntime) -> Result<(), Fail> {
+    for (start, ends, kind) in REJECTED {
         for end in ends.split('|') {
             let line = format!(in rt.alloc(); "{start}{end}")?;
-            refused(&rt, line.as_str(), kind)?;
+            is_rejected(&rt, line.as_str(), kind)?;
         }
     }
     Ok(())
@@ -211,10 +211,10 @@ fn options_of_live(rt: HostRuntime) -> Result<(), Fail> {
                 line.push_str(option)?;
             }
         }
-        refused(&rt, line.as_str(), ErrorKind::MissingRequiredArgument)?;
+        is_rejected(&rt, line.as_str(), ErrorKind::MissingRequiredArgument)?;
         line.push_str(left_out)?;
         line.push_str(left_out)?;
-        refused(&rt, line.as_str(), ErrorKind::ArgumentConflict)?;
+        is_rejected(&rt, line.as_str(), ErrorKind::ArgumentConflict)?;
     }
     Ok(())
 }

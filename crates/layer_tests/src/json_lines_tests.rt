@@ -1,26 +1,27 @@
 //! Lines with known bytes, and the counters. The golden sessions have lines of all kinds, and each word in them.
-use actuator_commands::OrderFault;
+use desk_orders::OrderFault;
 use erp1_telegrams::{BROADCAST, Eep, Telegram};
 use exact_values::over;
+use gateway_state::{Counter, Counts, ErrorReason, HandlingReason};
 use json_lines::{
-    Counter, Counts, ErrorName, MAX_PACKET_LINE, PacketLine, ShownPacket, ShownTelegram,
-    device_lines, done_line, packet_line, reading_line, response_line, status_line, teach_line,
+    MAX_PACKET_LINE, PacketLine, ShownPacket, ShownTelegram, device_lines, done_line, error_line,
+    packet_line, reading_line, response_line, status_line, teach_line,
 };
 use learned_devices::{Device, Label, StoreFault};
 use profile_rows::{Reading, Readings, What};
 use std::alloc::AllocError;
 use std::process::Abort;
 use std::test::Fail;
-use teach_in::{HandlingReason, Mode, Outcome, Verdict};
+use teach_in::{Mode, Outcome, Verdict};
 
-/// A window contact.
+// A window contact.
 const CONTACT: Eep = Eep {
     rorg: 0xD5,
     func: 0x00,
     typ: 0x01,
 };
 
-/// An actuator with a meter.
+// An actuator with a meter.
 const ACTUATOR: Eep = Eep {
     rorg: 0xD2,
     func: 0x01,
@@ -49,7 +50,7 @@ fn nothing_read(rt: HostRuntime) -> Result<(), Fail> {
     Ok(())
 }
 
-/// Readings without a value. No profile has such a word.
+// Readings without a value. No profile has such a word.
 const WITHOUT_VALUE: [Reading; 3] = [
     Reading {
         name: "a \"b\"!",
@@ -77,7 +78,7 @@ fn each_kind_read(rt: HostRuntime) -> Result<(), Fail> {
     Ok(())
 }
 
-const LISTED: &str =
+const LISTED_DEVICES: &str =
     "{\"eep\":\"D5-00-01\",\"id\":\"00000001\",\"label\":\"Door \\\"A\\\" \\\\ ~\",\"maker\":null,\
     \"type\":\"device\"}\n\
     {\"eep\":\"D2-01-12\",\"id\":\"FFFFFFFE\",\"label\":\"\",\"maker\":2047,\"type\":\"device\"}\n\
@@ -98,11 +99,11 @@ fn listings(rt: HostRuntime) -> Result<(), Fail> {
         label: Label::empty(),
     };
     let lines = device_lines(rt.alloc(), &[contact, actuator])?;
-    is_line(&rt, lines.as_bytes(), LISTED);
+    is_line(&rt, lines.as_bytes(), LISTED_DEVICES);
     Ok(())
 }
 
-const GREATEST: Counts = Counts {
+const GREATEST_COUNTS: Counts = Counts {
     ignored: 18_446_744_073_709_551_615,
     readings: 18_446_744_073_709_551_615,
     refused: 18_446_744_073_709_551_615,
@@ -110,7 +111,7 @@ const GREATEST: Counts = Counts {
     teach: 18_446_744_073_709_551_615,
 };
 
-const EACH_INCREMENTED: Counts = Counts {
+const COUNTS_OF_ONE: Counts = Counts {
     ignored: 1,
     readings: 1,
     refused: 1,
@@ -122,54 +123,55 @@ const EACH_INCREMENTED: Counts = Counts {
 #[test]
 fn counts(rt: HostRuntime) {
     let mut counts = Counts::none();
-    let mut greatest = GREATEST;
+    let mut greatest = GREATEST_COUNTS;
     for counter in [
         Counter::Ignored,
         Counter::Reading,
-        Counter::Refused,
+        Counter::Failed,
         Counter::Response,
         Counter::TeachLine,
     ] {
         counts.increment(counter);
         greatest.increment(counter);
     }
-    assert_eq!(rt; (counts, greatest), (EACH_INCREMENTED, GREATEST));
+    assert_eq!(rt; (counts, greatest), (COUNTS_OF_ONE, GREATEST_COUNTS));
 }
 
-const GREATEST_STATUS: &str =
+const GREATEST_STATUS_LINE: &str =
     "{\"ignored\":18446744073709551615,\"mode\":\"as D2-01-12\",\"readings\":18446744073709551615,\
     \"refused\":18446744073709551615,\"responses\":18446744073709551615,\"teach\":18446744073709551615,\
     \"type\":\"status\"}\n";
 
 #[test]
 fn a_status(rt: HostRuntime) -> Result<(), Fail> {
-    let line = status_line(rt.alloc(), &GREATEST, Mode::LearnAs(ACTUATOR))?;
-    is_line(&rt, line.as_bytes(), GREATEST_STATUS);
+    let line = status_line(rt.alloc(), &GREATEST_COUNTS, Mode::LearnAs(ACTUATOR))?;
+    is_line(&rt, line.as_bytes(), GREATEST_STATUS_LINE);
     Ok(())
 }
 
-const RESPONSE: &str = "{\"code\":0,\"data\":\"FF80000A\",\"name\":\"OK\",\"type\":\"response\"}\n";
+const RESPONSE_LINE: &str =
+    "{\"code\":0,\"data\":\"FF80000A\",\"name\":\"OK\",\"type\":\"response\"}\n";
 
 #[test]
 fn a_response(rt: HostRuntime) -> Result<(), Fail> {
     let line = response_line(rt.alloc(), 0, &[0xFF, 0x80, 0x00, 0x0A])?;
-    is_line(&rt, line.as_bytes(), RESPONSE);
+    is_line(&rt, line.as_bytes(), RESPONSE_LINE);
     Ok(())
 }
 
 #[test]
 fn fixed_lines(rt: HostRuntime) {
     is_line(&rt, done_line(), "{\"type\":\"ok\"}\n");
-    let syntax = ErrorName::Order(OrderFault::Syntax);
+    let syntax = ErrorReason::Order(OrderFault::Syntax);
     is_line(
         &rt,
-        syntax.line(),
+        error_line(syntax),
         "{\"error\":\"syntax\",\"type\":\"error\"}\n",
     );
-    let memory = ErrorName::Failed(StoreFault::from(AllocError));
+    let memory = ErrorReason::Failed(StoreFault::from(AllocError));
     is_line(
         &rt,
-        memory.line(),
+        error_line(memory),
         "{\"error\":\"memory\",\"type\":\"error\"}\n",
     );
 }
@@ -188,7 +190,7 @@ fn a_teach_in(rt: HostRuntime) -> Result<(), Fail> {
     Ok(())
 }
 
-/// Each number, the payload and the word have as many characters as they can have.
+// Each number, the payload and the word have as many characters as they can have.
 const LONGEST: &str =
     "{\"dbm\":-255,\"dest\":\"FFABCDEF\",\"eep\":\"D2-3F-7F\",\"id\":\"12345678\",\"maker\":65535,\
     \"payload\":\"000102030405060708090A0B0CFF\",\"rorg\":\"D2\",\"status\":\"8F\",\"type\":\"packet\",\

@@ -9,6 +9,8 @@ mod bit_fields_tests;
 #[cfg(test)]
 mod byte_io_tests;
 #[cfg(test)]
+mod desk_orders_tests;
+#[cfg(test)]
 mod erp1_telegrams_tests;
 #[cfg(test)]
 mod esp3_frames_tests;

@@ -1,6 +1,6 @@
 //! A number for each kind of row, with its meaning; the rows whose conditions hold; and which profiles an arm reads.
 use crate::readings::Content::{OutOfRange, Raw, Value, Word};
-use crate::readings::is_said;
+use crate::readings::has_content;
 use profile_rows::rows::{
     number, over, over_power, percent_or_word_127, range, reserved, threshold, words,
 };
@@ -36,7 +36,7 @@ fn numbers(rt: HostRuntime) {
     .into_iter()
     .enumerate()
     {
-        assert!(rt; is_said(found, wanted), "row {row}: {found:?}");
+        assert!(rt; has_content(found, wanted), "row {row}: {found:?}");
     }
 }
 

@@ -1,15 +1,15 @@
 //! 4BS telegrams with known readings, errors, and the profiles.
 use crate::readings::Content::{OutOfRange, Value};
-use crate::readings::{Profile, ReadingCase, Refusal, Types};
+use crate::readings::{Profile, ReadingCase, Types, UnreadableCase};
 use profile_rows::{Reading, Unreadable, What};
 
-/// A temperature sensor of 0 to 40 C.
+// A temperature sensor of 0 to 40 C.
 const TEMPERATURE: Profile = (0xA5, 0x02, 0x05);
 
-/// A humidity and temperature sensor.
+// A humidity and temperature sensor.
 const HUMIDITY: Profile = (0xA5, 0x04, 0x01);
 
-/// A central command, which no sensor sends.
+// A central command, which no sensor sends.
 const OTHER: Profile = (0xA5, 0x38, 0x08);
 
 pub const READ: [ReadingCase; 2] = [
@@ -34,7 +34,7 @@ pub const BEFORE: Reading = Reading {
 };
 
 /// Telegrams that are not read: the last one is a query.
-pub const REFUSED: [Refusal; 4] = [
+pub const UNREADABLE: [UnreadableCase; 4] = [
     (OTHER, 0xD5, &[0x00], Unreadable::NotSupported),
     (
         OTHER,

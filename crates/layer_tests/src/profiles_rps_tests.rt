@@ -1,6 +1,6 @@
 //! RPS and 1BS telegrams with known readings, errors, and the profiles.
 use crate::readings::Content::{Raw, Word};
-use crate::readings::{Profile, ReadingCase, Refusal, Types};
+use crate::readings::{Profile, ReadingCase, Types, UnreadableCase};
 use profile_rows::{Reading, Unreadable, What};
 
 const TWO_ROCKERS: Profile = (0xF6, 0x02, 0x01);
@@ -38,7 +38,7 @@ pub const BEFORE: Reading = Reading {
     what: What::Word("open"),
 };
 
-pub const REFUSED: [Refusal; 4] = [
+pub const UNREADABLE: [UnreadableCase; 4] = [
     (OTHER, 0xD5, &[0x00], Unreadable::NotSupported),
     (TWO_ROCKERS, 0xD5, &[0x00], Unreadable::WrongKind),
     (CONTACT, 0xF6, &[0x09], Unreadable::WrongKind),

@@ -1,12 +1,12 @@
 //! VLD telegrams with known readings, errors, and the profiles.
 use crate::readings::Content::{OutOfRange, Raw, Value, Word};
-use crate::readings::{Profile, ReadingCase, Refusal, Types};
+use crate::readings::{Profile, ReadingCase, Types, UnreadableCase};
 use profile_rows::{Reading, Unreadable, What};
 
-/// An electronic switch.
+// An electronic switch.
 const SWITCH: Profile = (0xD2, 0x01, 0x12);
 
-/// A type of the same FUNC that is not supported.
+// A type of the same FUNC that is not supported.
 const OTHER: Profile = (0xD2, 0x01, 0x13);
 
 const BLINDS: Profile = (0xD2, 0x05, 0x00);
@@ -51,7 +51,7 @@ pub const BEFORE: Reading = Reading {
     what: What::Raw(1),
 };
 
-pub const REFUSED: [Refusal; 8] = [
+pub const UNREADABLE: [UnreadableCase; 8] = [
     (OTHER, 0xD2, &[0x04, 0x60, 0xE4], Unreadable::NotSupported),
     (OTHER, 0xF6, &[0x04], Unreadable::NotSupported),
     (

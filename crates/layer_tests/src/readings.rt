@@ -27,7 +27,7 @@ pub struct ReadingCase {
 }
 
 /// A profile, the RORG and the payload of a telegram that is not read for it, and the reason.
-pub type Refusal = (Profile, u8, &'static [u8], Unreadable);
+pub type UnreadableCase = (Profile, u8, &'static [u8], Unreadable);
 
 /// The RORG, a FUNC, and its types that are supported.
 pub type Types = (u8, u8, &'static [u8]);
@@ -58,8 +58,8 @@ fn telegram(rorg: u8, payload: &[u8], status: u8) -> Result<Telegram, Fail> {
     Ok(Telegram::new(rorg, payload, 0x0180_0ABC, status, BROADCAST, None)?)
 }
 
-/// Whether a reading has the expected content.
-pub(crate) fn is_said(what: What, wanted: Content) -> bool {
+// Whether a reading has the expected content.
+pub(crate) fn has_content(what: What, wanted: Content) -> bool {
     match (what, wanted) {
         (What::Value(value, unit), Content::Value(num, den, wanted)) => {
             value.num() == num && value.den() == den && unit == wanted
@@ -72,9 +72,9 @@ pub(crate) fn is_said(what: What, wanted: Content) -> bool {
 }
 
 // Whether these are the readings, in this order.
-fn are_said(readings: &[Reading], wanted: &[(&'static str, Content)]) -> bool {
+fn have_contents(readings: &[Reading], wanted: &[(&'static str, Content)]) -> bool {
     for (reading, (name, wanted)) in readings.iter().zip(wanted) {
-        if reading.name != *name || !is_said(reading.what, *wanted) {
+        if reading.name != *name || !has_content(reading.what, *wanted) {
             return false;
         }
     }
@@ -87,7 +87,7 @@ fn are_read(rt: &impl Abort, by: Crate, cases: &[ReadingCase]) -> Result<(), Fai
         let (rorg, func, typ) = case.profile;
         let telegram = telegram(rorg, case.payload, case.status)?;
         let result = by.read(Eep::new(rorg, func, typ), &telegram, &mut readings);
-        let is_well = result == Ok(()) && are_said(&readings, case.readings);
+        let is_well = result == Ok(()) && have_contents(&readings, case.readings);
         assert!(rt; is_well, "row {row}: {result:?}, {readings:?}");
     }
     Ok(())
@@ -101,7 +101,12 @@ fn worked_readings(rt: HostRuntime) -> Result<(), Fail> {
 }
 
 // An error leaves the readings that were there before.
-fn are_refused(rt: &impl Abort, by: Crate, before: Reading, cases: &[Refusal]) -> Result<(), Fail> {
+fn are_unreadable(
+    rt: &impl Abort,
+    by: Crate,
+    before: Reading,
+    cases: &[UnreadableCase],
+) -> Result<(), Fail> {
     let mut readings = Readings::new();
     readings.push(before);
     for (row, (profile, rorg, payload, wanted)) in cases.iter().enumerate() {
@@ -118,15 +123,18 @@ fn are_refused(rt: &impl Abort, by: Crate, before: Reading, cases: &[Refusal]) -
 }
 
 #[test]
-fn refusals(rt: HostRuntime) -> Result<(), Fail> {
-    let (switches, four_bytes) = (&profiles_rps_tests::REFUSED, &profiles_4bs_tests::REFUSED);
-    are_refused(&rt, Crate::Rps, profiles_rps_tests::BEFORE, switches)?;
-    are_refused(&rt, Crate::FourByte, profiles_4bs_tests::BEFORE, four_bytes)?;
+fn unreadable_telegrams(rt: HostRuntime) -> Result<(), Fail> {
+    let (switches, four_bytes) = (
+        &profiles_rps_tests::UNREADABLE,
+        &profiles_4bs_tests::UNREADABLE,
+    );
+    are_unreadable(&rt, Crate::Rps, profiles_rps_tests::BEFORE, switches)?;
+    are_unreadable(&rt, Crate::FourByte, profiles_4bs_tests::BEFORE, four_bytes)?;
     let before = profiles_vld_tests::BEFORE;
-    are_refused(&rt, Crate::Vld, before, &profiles_vld_tests::REFUSED)
+    are_unreadable(&rt, Crate::Vld, before, &profiles_vld_tests::UNREADABLE)
 }
 
-fn is_listed(eep: Eep, table: &[Types]) -> bool {
+fn is_in_table(eep: Eep, table: &[Types]) -> bool {
     for (rorg, func, types) in table {
         if *rorg == eep.rorg && *func == eep.func {
             return types.contains(&eep.typ);
@@ -148,9 +156,9 @@ fn supported_profiles(rt: HostRuntime) {
                     profiles_vld::supports(eep),
                 );
                 let wanted = (
-                    is_listed(eep, &profiles_rps_tests::SUPPORTED),
-                    is_listed(eep, &profiles_4bs_tests::SUPPORTED),
-                    is_listed(eep, &profiles_vld_tests::SUPPORTED),
+                    is_in_table(eep, &profiles_rps_tests::SUPPORTED),
+                    is_in_table(eep, &profiles_4bs_tests::SUPPORTED),
+                    is_in_table(eep, &profiles_vld_tests::SUPPORTED),
                 );
                 assert_eq!(rt; found, wanted, "{rorg} {func} {typ}");
             }
@@ -164,7 +172,7 @@ fn data_of_a_contact(rt: HostRuntime) -> Result<(), Fail> {
     let telegram = Telegram::new(0xD5, &[0x09], 0x0180_0ABC, 0, BROADCAST, None)?;
     let mut readings = Readings::new();
     let result = profiles_rps::read_1bs_data(0x00, 0x01, &telegram, &mut readings);
-    let is_well = are_said(&readings, &[("CO", Content::Word("closed"))]);
+    let is_well = have_contents(&readings, &[("CO", Content::Word("closed"))]);
     assert!(rt; result == Ok(()) && is_well, "{readings:?}");
     Ok(())
 }
@@ -182,7 +190,7 @@ fn data_of_a_temperature_sensor(rt: HostRuntime) -> Result<(), Fail> {
     )?;
     let mut readings = Readings::new();
     let result = profiles_4bs::read_4bs_data(0x02, 0x05, &telegram, &mut readings);
-    let is_well = are_said(&readings, &[("TMP", Content::Value(1024, 51, "C"))]);
+    let is_well = have_contents(&readings, &[("TMP", Content::Value(1024, 51, "C"))]);
     assert!(rt; result == Ok(()) && is_well, "{readings:?}");
     Ok(())
 }

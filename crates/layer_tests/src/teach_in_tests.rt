@@ -35,17 +35,17 @@ const LAMP_PROFILE: Eep = Eep {
     typ: 0x12,
 };
 
-/// A profile of the RORG of UTE, which cannot be learned.
+// A profile of the RORG of UTE, which cannot be learned.
 const UTE_PROFILE: Eep = Eep {
     rorg: 0xD4,
     func: 0x01,
     typ: 0x12,
 };
 
-/// A 4BS query of A5-02-05, maker 70.
+// A 4BS query of A5-02-05, maker 70.
 const THERMOMETER: [u8; 4] = [0x08, 0x28, 0x46, 0x80];
 
-/// UTE queries of D2-01-12, maker 70: teach-in and deletion.
+// UTE queries of D2-01-12, maker 70: teach-in and deletion.
 const LAMP: [u8; 7] = [0xA0, 0x01, 0x46, 0x00, 0x12, 0x01, 0xD2];
 
 const LAMP_DELETION: [u8; 7] = [0x90, 0x01, 0x46, 0x00, 0x12, 0x01, 0xD2];
@@ -107,11 +107,11 @@ fn a_ute_query(rt: HostRuntime) -> Result<(), Fail> {
     Ok(())
 }
 
-/// The plan for the sender.
+// The plan for the sender.
 #[derive(Clone, Copy)]
 enum ExpectedPlan {
     Silent,
-    /// It is learned with this profile and this maker, and the empty label.
+    // It is learned with this profile and this maker, and the empty label.
     Add(Eep, Option<u16>),
     Forget,
     Refuse(Outcome),
@@ -132,7 +132,7 @@ fn is_wanted(plan: &Plan, wanted: ExpectedPlan) -> bool {
     }
 }
 
-/// A telegram, a mode, whether the sender is known, and the plan.
+// A telegram, a mode, whether the sender is known, and the plan.
 struct PlanCase {
     telegram: (u8, &'static [u8]),
     mode: Mode,
@@ -202,7 +202,7 @@ fn plans(rt: HostRuntime) -> Result<(), Fail> {
     Ok(())
 }
 
-/// A profile of each crate of profiles, and one that cannot be learned.
+// A profile of each crate of profiles, and one that cannot be learned.
 const PROFILES: [(Eep, bool); 4] = [
     (ROCKER_PROFILE, true),
     (THERMOMETER_PROFILE, true),
@@ -217,7 +217,7 @@ fn profiles(rt: HostRuntime) {
     }
 }
 
-/// The RORG, the payload, the sender and the destination of a telegram.
+// The RORG, the payload, the sender and the destination of a telegram.
 fn parts(telegram: &Telegram) -> (u8, &[u8], u32, u32) {
     (
         telegram.rorg(),

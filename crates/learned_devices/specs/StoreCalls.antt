@@ -7,8 +7,7 @@ use Rattle.learned_devices.specs.declared.Device.{Device}
 use Rattle.learned_devices.specs.declared.fault.LearnFault.{LearnFault}
 use Rattle.learned_devices.specs.declared.fault.LearnFault.TheVariants.{Full, Failed}
 use Rattle.learned_devices.specs.Devices.{Devices, DeviceUpdate, device_of, devices_by_ascending_id, is_full_for}
-use Rattle.learned_devices.specs.Devices.{learn_update}
-use Rattle.learned_devices.specs.Devices.{forget_update, relabel_update}
+use Rattle.learned_devices.specs.Devices.{learn_update, forget_update, relabel_update}
 use Rattle.learned_devices.specs.DeviceStoreState.{DeviceStoreState, Keeps, Commits, LeavesPending}
 use Rattle.learned_devices.specs.CommitCounts.{AtMostMoreCommits}
 
@@ -31,9 +30,9 @@ pub record Updates {A E : Type 0} (old new : DeviceStoreState) (update : DeviceU
       → MatchResult result (λ _. Commits new update devices) (λ _. LeavesPending old new update devices)
 
 -- A device is not learned. If 1,000 others are, nothing is written; otherwise the call failed, at its commit or before.
-abbrev pub RefusesToLearn : (old new : DeviceStoreState) → Device → Devices → LearnFault → Type 0
-RefusesToLearn old new it devices Full = IsTrue (is_full_for devices it.id) × Keeps old new devices
-RefusesToLearn old new it devices (Failed fault) =
+abbrev pub FailsToLearn : (old new : DeviceStoreState) → Device → Devices → LearnFault → Type 0
+FailsToLearn old new it devices Full = IsTrue (is_full_for devices it.id) × Keeps old new devices
+FailsToLearn old new it devices (Failed fault) =
     MatchBool (is_full_for devices it.id) (Keeps old new devices) (LeavesPending old new (learn_update it) devices)
 
 -- a device that is not learned because the registry is full makes no commit
@@ -48,7 +47,7 @@ pub record Learns {A : Type 0} (old new : DeviceStoreState) (it : Device) (resul
   pub commits : new.honest → AtMostMoreCommits (most_commits_of_learn result) old.commits new.commits
   pub devices : new.honest → (devices : Devices) → old.holds devices
       → MatchResult result (λ _. (is_full_for devices it.id ≡ false) × Commits new (learn_update it) devices)
-      (RefusesToLearn old new it devices)
+      (FailsToLearn old new it devices)
 
 -- a sender is forgotten, even if it was not learned
 abbrev pub Forgets : {A E : Type 0} → (old new : DeviceStoreState) (id : ℕ) → Result A E → Type 0

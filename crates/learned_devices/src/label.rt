@@ -68,11 +68,11 @@ impl Label {
         if !is_label_of_any_length(text.as_bytes()) {
             return None;
         }
-        Label::of_name(text)
+        Label::of_text(text)
     }
 
     /// The label with this name, which `is_label_of_any_length` accepts, or `None` if it is longer than `MAX_LABEL`.
-    pub fn of_name(name: &str) -> Option<Label>
+    pub fn of_text(name: &str) -> Option<Label>
         requires { is_label_of_any_length name.now ≡ true }
         ensures some { IfSome result (λ label. label ≡ name.now) }
         ensures variant { IsSome result ↔ (is_label name.now ≡ true) }

@@ -6,7 +6,7 @@ use erp1_telegrams::Eep;
 use std::alloc::AllocError;
 use std::test::Fail;
 
-/// The text of the label made from a text, if it is one.
+// The text of the label made from a text, if it is one.
 fn text_of(label: &Option<Label>) -> Option<&str> {
     label.as_ref().map(Label::as_str)
 }

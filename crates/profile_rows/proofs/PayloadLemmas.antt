@@ -5,7 +5,7 @@ use Rattle.erp1_telegrams.specs.Telegram.{Telegram}
 use Rattle.erp1_telegrams.specs.Contents.{rorg_in, payload_in}
 use Rattle.erp1_telegrams.specs.declared.contents.Contents.{Contents}
 use Rattle.profile_rows.specs.Payload.{is_data, checked_data_payload}
-use Rattle.profile_rows.specs.declared.unreadable.Unreadable.TheVariants as refusals
+use Rattle.profile_rows.specs.declared.unreadable.Unreadable.TheVariants as unreadable
 
 module _ (t : Telegram) (held : Contents) (rorg : rorg_in held ≡ t.rorg) (payload : payload_in held ≡ t.payload) where
   module _ (shown : Contents) (is : held ≡ shown) (n : ℕ) (len : length (payload_in shown) ≡ n) where
@@ -28,7 +28,7 @@ module _ (t : Telegram) (held : Contents) (rorg : rorg_in held ≡ t.rorg) (payl
 
     -- and those that are not
     pub of-teach-in : (r : ℕ) → r ≡ rorg_in shown → is_data r (payload_in shown) ≡ false
-        → Err refusals.OtherMessage ≡ checked_data_payload r n t
+        → Err unreadable.OtherMessage ≡ checked_data_payload r n t
     of-teach-in r kind holds =
         rw (
           eq-eqb t.rorg r (same-rorg ∙ sym kind),
@@ -38,5 +38,5 @@ module _ (t : Telegram) (held : Contents) (rorg : rorg_in held ≡ t.rorg) (payl
         refl
 
   -- contents of another RORG
-  pub of-other : (r n : ℕ) → (rorg_in held ≡ r → ⊥) → Err refusals.WrongKind ≡ checked_data_payload r n t
+  pub of-other : (r n : ℕ) → (rorg_in held ≡ r → ⊥) → Err unreadable.WrongKind ≡ checked_data_payload r n t
   of-other r n other = rw (ne_eqb t.rorg r (λ e. other (rorg ∙ e))) refl

@@ -10,10 +10,10 @@ ghost use Rattle.profiles_4bs.specs.LightTemperatureOccupancy.{light_temperature
 use crate::occupancy_button::PRESSED_OR_RELEASED;
 use profile_rows::{Readings, read_profiles};
 
-/// The words of the motion sensor.
+// The words of the motion sensor.
 const ON_OR_OFF: [(u32, &str); 2] = [(0, "on"), (1, "off")];
 
-/// Sets `readings` to what the rows of a profile A5-08 read in a payload, and returns whether the profile has rows.
+// Sets `readings` to what the rows of a profile A5-08 read in a payload, and returns whether the profile has rows.
 pub(crate) fn read_if_supported(typ: u8, bytes: &[u8; 4], readings: &mut Readings) -> bool
     ensures exact { entries_if result readings.new.items ≡ option_map (entries_of bytes.now)
         (rows_in light_temperature_occupancy_profiles (record { rorg = 0xA5; func = 0x08; typ = typ })) }

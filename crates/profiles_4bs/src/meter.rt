@@ -10,7 +10,7 @@ ghost use Rattle.profiles_4bs.specs.Meter.{meter_profiles};
 use bit_fields::get;
 use profile_rows::{Readings, read_profiles};
 
-/// Sets `readings` to what the rows of a profile A5-12 read in a payload, and returns whether the profile has rows.
+// Sets `readings` to what the rows of a profile A5-12 read in a payload, and returns whether the profile has rows.
 pub(crate) fn read_if_supported(typ: u8, bytes: &[u8; 4], readings: &mut Readings) -> bool
     ensures exact { entries_if result readings.new.items ≡ option_map (entries_of bytes.now)
         (rows_in meter_profiles (record { rorg = 0xA5; func = 0x12; typ = typ })) }

@@ -15,8 +15,8 @@ use bit_fields::get;
 use erp1_telegrams::{Contents, Eep, Telegram, lrn_bit, rorg};
 use profile_rows::{Readings, Unreadable};
 
-/// Sets `readings` to what the rows of the profile A5-FUNC-TYPE read in a payload, and returns whether it has rows.
-/// Each function called here has the profiles of one FUNC.
+// Sets `readings` to what the rows of the profile A5-FUNC-TYPE read in a payload, and returns whether it has rows.
+// Each function called here has the profiles of one FUNC.
 #[tactic(auto, unfolding(crate::specs::Profiles::rows_of))]
 fn read_if_supported(func: u8, typ: u8, bytes: &[u8; 4], readings: &mut Readings) -> bool
     ensures exact { entries_if result readings.new.items
@@ -69,7 +69,7 @@ fn read_bytes(func: u8, typ: u8, bytes: &[u8; 4], readings: &mut Readings) -> Re
 }
 
 // The error for a telegram that the profile A5-FUNC-TYPE cannot read for this reason.
-fn refusal_of(func: u8, typ: u8, reason: Unreadable) -> Unreadable
+fn reason_if_supported(func: u8, typ: u8, reason: Unreadable) -> Unreadable
     ensures { Err result ≡ readings_by entries_of (rows_of (four_bs_profile func typ)) (Err reason) }
 {
     if supports_4bs(func, typ) {
@@ -106,9 +106,9 @@ fn read_4bs(
     match telegram.contents() {
         Contents::FourBs(bytes) => match get::<4, { lrn_bit::FOUR_BS_OFFSET }, 1>(bytes) {
             1 => read_bytes(func, typ, bytes, readings),
-            _ => Err(refusal_of(func, typ, Unreadable::OtherMessage)),
+            _ => Err(reason_if_supported(func, typ, Unreadable::OtherMessage)),
         },
-        _ => Err(refusal_of(func, typ, Unreadable::WrongKind)),
+        _ => Err(reason_if_supported(func, typ, Unreadable::WrongKind)),
     }
 }
 
@@ -126,6 +126,6 @@ pub fn read_4bs_data(
 {
     match telegram.contents() {
         Contents::FourBs(bytes) => read_bytes(func, typ, bytes, readings),
-        _ => Err(refusal_of(func, typ, Unreadable::WrongKind)),
+        _ => Err(reason_if_supported(func, typ, Unreadable::WrongKind)),
     }
 }

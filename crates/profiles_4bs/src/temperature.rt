@@ -9,7 +9,7 @@ ghost use Rattle.profiles_4bs.specs.Temperature.{temperature_profiles};
 
 use profile_rows::{Readings, read_profiles};
 
-/// Sets `readings` to what the rows of a profile A5-02 read in a payload, and returns whether the profile has rows.
+// Sets `readings` to what the rows of a profile A5-02 read in a payload, and returns whether the profile has rows.
 pub(crate) fn read_if_supported(typ: u8, bytes: &[u8; 4], readings: &mut Readings) -> bool
     ensures exact { entries_if result readings.new.items ≡ option_map (entries_of bytes.now)
         (rows_in temperature_profiles (record { rorg = 0xA5; func = 0x02; typ = typ })) }

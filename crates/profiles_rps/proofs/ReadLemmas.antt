@@ -9,7 +9,7 @@ use Rattle.erp1_telegrams.specs.declared.contents.Contents.{Contents}
 use Rattle.erp1_telegrams.specs.declared.contents.Contents.TheVariants.{Rps, OneBs, FourBs, Vld, Ute}
 use Rattle.erp1_telegrams.specs.declared.eep.Eep.{Eep}
 use Rattle.profile_rows.specs.Payload.{is_data, readings_by}
-use Rattle.profile_rows.specs.declared.unreadable.Unreadable.TheVariants as refusals
+use Rattle.profile_rows.specs.declared.unreadable.Unreadable.TheVariants as unreadable
 use Rattle.profile_rows.proofs.ForCallers.{of-data, of-teach-in, of-other}
 use Rattle.profile_rows.specs.ReadResult.{entries_if}
 use Rattle.profile_rows.specs.Reading.{Entry, entries}
@@ -29,11 +29,11 @@ module _ (readings : List Reading) (reads : List ℕ → List Row → List Entry
   -- and then it reads what the rows read
   pub of-found : (rows : Option (List Row)) → entries_if true readings ≡ option_map (reads bytes) rows
       → Ok (entries readings) ≡ readings_by reads rows (Ok bytes)
-  of-found (Some rows) e = ap (λ (o : Option (List Entry)). ok_or o refusals.NotSupported) e
+  of-found (Some rows) e = ap (λ (o : Option (List Entry)). ok_or o unreadable.NotSupported) e
   of-found None e = cc
 
   pub of-not-found : (rows : Option (List Row)) → entries_if false readings ≡ option_map (reads bytes) rows
-      → Err refusals.NotSupported ≡ readings_by reads rows (Ok bytes)
+      → Err unreadable.NotSupported ≡ readings_by reads rows (Ok bytes)
   of-not-found (Some rows) e = cc
   of-not-found None e = refl
 
@@ -64,7 +64,7 @@ not-supported eep rps one = rw (no-rows eep rps one) refl
 
 -- a profile without rows reads nothing
 pub of-no-rows : (eep : Eep) (t : Telegram) → (eep.rorg ≡ 0xF6 → ⊥) → (eep.rorg ≡ 0xD5 → ⊥)
-    → Err refusals.NotSupported ≡ readings_of eep t
+    → Err unreadable.NotSupported ≡ readings_of eep t
 of-no-rows eep t rps one = rw (no-rows eep rps one) refl
 
 -- a profile of the RORG F6 or D5 is that of its FUNC and TYPE
@@ -108,7 +108,7 @@ module _ (eep : Eep) (t : Telegram) (held : Contents) (rorg : rorg_in held ≡ t
 
   -- 1BS teach-in
   pub of-one-teach-in : (bytes : List ℕ) → eep.rorg ≡ 0xD5 → held ≡ OneBs bytes → (field bytes 4 1 ≡ 1 → ⊥)
-      → readings_by (rows_entries t.status) (rows_of eep) (Err refusals.OtherMessage) ≡ readings_of eep t
+      → readings_by (rows_entries t.status) (rows_of eep) (Err unreadable.OtherMessage) ≡ readings_of eep t
   of-one-teach-in bytes kind is lrn =
       ap (readings_by (rows_entries t.status) (rows_of eep))
       (of-teach-in t held rorg payload (OneBs bytes) is 1 (eqb-true (length bytes) 1
@@ -117,13 +117,13 @@ module _ (eep : Eep) (t : Telegram) (held : Contents) (rorg : rorg_in held ≡ t
 
   -- telegrams of another RORG than the profile
   pub of-not-rps : eep.rorg ≡ 0xF6 → ((bytes : List ℕ) → held ≡ Rps bytes → ⊥)
-      → readings_by (rows_entries t.status) (rows_of eep) (Err refusals.WrongKind) ≡ readings_of eep t
+      → readings_by (rows_entries t.status) (rows_of eep) (Err unreadable.WrongKind) ≡ readings_of eep t
   of-not-rps kind other =
       ap (readings_by (rows_entries t.status) (rows_of eep))
       (of-other t held rorg payload eep.rorg 1 (λ e. not-rps held other (e ∙ kind)))
 
   pub of-not-one : eep.rorg ≡ 0xD5 → ((bytes : List ℕ) → held ≡ OneBs bytes → ⊥)
-      → readings_by (rows_entries t.status) (rows_of eep) (Err refusals.WrongKind) ≡ readings_of eep t
+      → readings_by (rows_entries t.status) (rows_of eep) (Err unreadable.WrongKind) ≡ readings_of eep t
   of-not-one kind other =
       ap (readings_by (rows_entries t.status) (rows_of eep))
       (of-other t held rorg payload eep.rorg 1 (λ e. not-one held other (e ∙ kind)))

@@ -1,3 +1,3 @@
 pub mod Rps
-pub mod OneByte
+pub mod OneBs
 pub mod Profiles

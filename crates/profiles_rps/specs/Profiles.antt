@@ -8,7 +8,7 @@ use Rattle.profile_rows.specs.Profile.{ProfileGroup, rows_in}
 use Rattle.profile_rows.specs.Payload.{checked_data_payload, readings_by}
 use Rattle.profile_rows.specs.declared.unreadable.Unreadable.{Unreadable}
 use Rattle.profiles_rps.specs.Rps.{push_button, two_rockers, four_rockers}
-use Rattle.profiles_rps.specs.OneByte.{single_contact}
+use Rattle.profiles_rps.specs.OneBs.{single_contact}
 
 -- the supported profiles (own choice), and their rows
 abbrev pub all_profiles : List ProfileGroup

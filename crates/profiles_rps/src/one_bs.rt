@@ -12,8 +12,8 @@ use bit_fields::get;
 use erp1_telegrams::{Contents, Telegram, lrn_bit};
 use profile_rows::{Readings, Unreadable, read_profiles};
 
-/// Sets `readings` to what the rows of the profile D5-FUNC-TYPE read in a payload, and returns whether it has rows. The
-/// payload is data: its LRN bit, the condition of the rows, is 1 and is not read here.
+// Sets `readings` to what the rows of the profile D5-FUNC-TYPE read in a payload, and returns whether it has rows. The
+// payload is data: its LRN bit, the condition of the rows, is 1 and is not read here.
 #[tactic(auto, unfolding(crate::specs::Profiles::rows_of))]
 fn read_if_supported(func: u8, typ: u8, bytes: &[u8; 1], readings: &mut Readings) -> bool
     requires { field bytes.now 4 1 ≡ 1 }
@@ -37,7 +37,7 @@ pub fn supports_1bs(func: u8, typ: u8) -> bool
 }
 
 // The error for a telegram that the profile D5-FUNC-TYPE cannot read for this reason.
-fn refusal_of(func: u8, typ: u8, reason: Unreadable) -> Unreadable
+fn reason_if_supported(func: u8, typ: u8, reason: Unreadable) -> Unreadable
     ensures { (status : ℕ) → Err result
         ≡ readings_by (rows_entries status) (rows_of (one_bs_profile func typ)) (Err reason) }
 {
@@ -62,7 +62,7 @@ fn read_byte(func: u8, typ: u8, bytes: &[u8; 1], readings: &mut Readings) -> Res
     }
 }
 
-/// Decodes a telegram by the profile D5-FUNC-TYPE, as `read` does.
+// Decodes a telegram by the profile D5-FUNC-TYPE, as `read` does.
 pub(crate) fn read_1bs(
     func: u8,
     typ: u8,
@@ -75,9 +75,9 @@ pub(crate) fn read_1bs(
     match telegram.contents() {
         Contents::OneBs(bytes) => match get::<1, { lrn_bit::ONE_BS_OFFSET }, 1>(bytes) {
             1 => read_byte(func, typ, bytes, readings),
-            _ => Err(refusal_of(func, typ, Unreadable::OtherMessage)),
+            _ => Err(reason_if_supported(func, typ, Unreadable::OtherMessage)),
         },
-        _ => Err(refusal_of(func, typ, Unreadable::WrongKind)),
+        _ => Err(reason_if_supported(func, typ, Unreadable::WrongKind)),
     }
 }
 
@@ -95,6 +95,6 @@ pub fn read_1bs_data(
 {
     match telegram.contents() {
         Contents::OneBs(bytes) => read_byte(func, typ, bytes, readings),
-        _ => Err(refusal_of(func, typ, Unreadable::WrongKind)),
+        _ => Err(reason_if_supported(func, typ, Unreadable::WrongKind)),
     }
 }

@@ -26,7 +26,7 @@ const ROCKERS_ABCD: [(u32, &str); 8] = [
     (7, "D0"),
 ];
 
-/// Sets `readings` to what the rows of the profile F6-FUNC-TYPE read in a payload, and returns whether it has rows.
+// Sets `readings` to what the rows of the profile F6-FUNC-TYPE read in a payload, and returns whether it has rows.
 #[tactic(auto, unfolding(crate::specs::Profiles::rows_of))]
 fn read_if_supported(
     func: u8,
@@ -68,7 +68,7 @@ pub fn supports_rps(func: u8, typ: u8) -> bool
 }
 
 // The error for a telegram that the profile F6-FUNC-TYPE cannot read for this reason.
-fn refusal_of(func: u8, typ: u8, reason: Unreadable) -> Unreadable
+fn reason_if_supported(func: u8, typ: u8, reason: Unreadable) -> Unreadable
     ensures { (status : ℕ) → Err result ≡ readings_by (rows_entries status) (rows_of (rps_profile func typ))
         (Err reason) }
 {
@@ -110,6 +110,6 @@ pub fn read_rps(
 {
     match telegram.contents() {
         Contents::Rps(bytes) => read_byte(func, typ, telegram.status(), bytes, readings),
-        _ => Err(refusal_of(func, typ, Unreadable::WrongKind)),
+        _ => Err(reason_if_supported(func, typ, Unreadable::WrongKind)),
     }
 }

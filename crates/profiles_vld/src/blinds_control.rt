@@ -7,8 +7,8 @@ ghost use Rattle.profiles_vld.specs.Profiles.{blinds_control_readings};
 use bit_fields::get;
 use profile_rows::{Readings, Unreadable, read_rows};
 
-/// Sets `readings` to the readings of a payload, or returns the first error: `WrongLength` if it does not have four
-/// bytes, and `OtherMessage` if its command is not 4.
+// Sets `readings` to the readings of a payload, or returns the first error: `WrongLength` if it does not have four
+// bytes, and `OtherMessage` if its command is not 4.
 pub(crate) fn read_if_supported(payload: &[u8], readings: &mut Readings) -> Result<(), Unreadable>
     ensures exact { read_result result readings.new.items ≡ blinds_control_readings payload.now }
     ensures err { OnErr result (readings.new ≡ readings.old) }

@@ -10,8 +10,8 @@ ghost use Rattle.profiles_vld.specs.Profiles.{electronic_switch_readings};
 use bit_fields::get;
 use profile_rows::{Readings, Unreadable, read_rows};
 
-/// Sets `readings` to the readings of a payload, or returns the first error: `OtherMessage` if its command is neither 4
-/// nor 7, and `WrongLength` if it does not have the length of its command's message.
+// Sets `readings` to the readings of a payload, or returns the first error: `OtherMessage` if its command is neither 4
+// nor 7, and `WrongLength` if it does not have the length of its command's message.
 pub(crate) fn read_if_supported(payload: &[u8], readings: &mut Readings) -> Result<(), Unreadable>
     ensures exact { read_result result readings.new.items ≡ electronic_switch_readings payload.now }
     ensures err { OnErr result (readings.new ≡ readings.old) }
@@ -23,7 +23,7 @@ pub(crate) fn read_if_supported(payload: &[u8], readings: &mut Readings) -> Resu
     }
 }
 
-/// The command of a message, or 0 if the payload is empty.
+// The command of a message, or 0 if the payload is empty.
 fn command(payload: &[u8]) -> u32
     ensures { result ≡ field payload.now 4 4 }
 {
@@ -33,8 +33,8 @@ fn command(payload: &[u8]) -> u32
     }
 }
 
-/// Sets `readings` to those of a status, which is the command 4. `WrongLength` if the payload does not have three
-/// bytes.
+// Sets `readings` to those of a status, which is the command 4. `WrongLength` if the payload does not have three
+// bytes.
 fn status_response(payload: &[u8], readings: &mut Readings) -> Result<(), Unreadable>
     ensures exact { read_result result readings.new.items ≡ entries_if_length 3 payload.now status_response }
     ensures err { OnErr result (readings.new ≡ readings.old) }
@@ -54,8 +54,8 @@ fn status_response(payload: &[u8], readings: &mut Readings) -> Result<(), Unread
     Ok(())
 }
 
-/// Sets `readings` to those of a measurement, which is the command 7. `WrongLength` if the payload does not have six
-/// bytes.
+// Sets `readings` to those of a measurement, which is the command 7. `WrongLength` if the payload does not have six
+// bytes.
 fn measurement_response(payload: &[u8], readings: &mut Readings) -> Result<(), Unreadable>
     ensures exact { read_result result readings.new.items ≡ entries_if_length 6 payload.now measurement_response }
     ensures err { OnErr result (readings.new ≡ readings.old) }

@@ -8,8 +8,8 @@ use crate::{blinds_control, electronic_switches};
 use erp1_telegrams::{Contents, Eep, Telegram, rorg};
 use profile_rows::{Readings, Unreadable};
 
-/// Sets `readings` to the readings of a payload by the profile D2-FUNC-TYPE, or returns the first error; `None` if the
-/// profile is not supported.
+// Sets `readings` to the readings of a payload by the profile D2-FUNC-TYPE, or returns the first error; `None` if the
+// profile is not supported.
 fn read_if_supported(
     func: u8,
     typ: u8,

@@ -2,7 +2,7 @@
 ghost use Rattle.std.specs.Prelude.{◌≤◌};
 
 use crate::report::Report;
-use crate::scripts::row;
+use crate::scripts::read_session;
 use anyhow::Result;
 use device_registry::Registry;
 use gateway_core::{DeviceStore, GatewayOver};
@@ -11,34 +11,34 @@ use gateway_main::{OverRead, OverWrite};
 use sqlite::Connection;
 use std::alloc::Global;
 
-/// More reads than these sessions need.
+// More reads than these sessions need.
 const TURNS: u64 = 1000;
 
 pub(crate) fn run_cases(rt: &HostRuntime, report: &mut Report) -> Result<()> {
     for name in ["two-hundred-contacts", "contact-learned-and-forgotten"] {
-        run_of(rt, report, name, 1)?;
-        run_of(rt, report, name, 64)?;
-        run_of(rt, report, name, 1024)?;
+        run_session(rt, report, name, 1)?;
+        run_session(rt, report, name, 64)?;
+        run_session(rt, report, name, 1024)?;
     }
     Ok(())
 }
 
-fn run_of(rt: &HostRuntime, report: &mut Report, name: &str, cache: usize) -> Result<()>
+fn run_session(rt: &HostRuntime, report: &mut Report, name: &str, cache: usize) -> Result<()>
     requires { (1 ≤ cache) × (cache ≤ 1024) }
 {
     let alloc = rt.alloc();
-    let (script, wanted) = row(rt, name, false)?;
+    let (script, wanted) = read_session(rt, name, false)?;
     let conn = Connection::open_in_memory(alloc)?;
     let Ok(registry) = Registry::open_with(alloc, conn, cache) else {
         return report.add_case(rt, name, false);
     };
-    let is_well = is_written(alloc, registry, script.as_slice(), wanted.as_slice());
+    let is_well = writes_wanted(alloc, registry, script.as_slice(), wanted.as_slice());
     let title = format!(in alloc; "{name} with a cache of {cache}")?;
     report.add_case(rt, title.as_str(), is_well)
 }
 
-/// Whether this is written for a script over this registry.
-fn is_written<S: DeviceStore + Drop>(
+// Whether this is written for a script over this registry.
+fn writes_wanted<S: DeviceStore + Drop>(
     alloc: Global,
     registry: S,
     script: &[u8],

@@ -1,5 +1,5 @@
 //! Generated streams, each split in three ways: the output does not depend on the chunk boundaries.
-use crate::gateways::replay_new;
+use crate::gateways::replay_by_new_gateway;
 use crate::report::Report;
 use anyhow::Result;
 use gateway_main::{OverRead, OverWrite};
@@ -11,28 +11,28 @@ pub const CONTACT: [u8; 21] = [
     0xFF, 0xFF, 0x2D, 0x00, 0x1F,
 ];
 
-/// A response with four bytes after its return code.
-const RESPONSE: [u8; 12] = [
+// A response with four bytes after its return code.
+const RESPONSE_PACKET: [u8; 12] = [
     0x55, 0x00, 0x05, 0x00, 0x02, 0xCE, 0x00, 0xFF, 0x80, 0x00, 0x00, 0xDA,
 ];
 
-/// A header with a correct CRC that announces 63 bytes.
+// A header with a correct CRC that announces 63 bytes.
 const FALSE_HEADER: [u8; 6] = [0x55, 0x00, 0x3F, 0x00, 0x01, 0xA1];
 
-const FIRST: &[u8] = b"add 01800ABC D5-00-01\n";
+const LEARN_CONTACT: &[u8] = b"add 01800ABC D5-00-01\n";
 
-/// More reads than any script needs.
+// More reads than any script needs.
 const TURNS: u64 = 1000;
 
-const STREAMS: u32 = 1000;
+const STREAM_COUNT: u32 = 1000;
 
-/// Pseudo-random numbers: a linear congruential generator.
+// Pseudo-random numbers: a linear congruential generator.
 #[derive(Drop)]
-struct Chance {
+struct RandomNumbers {
     state: u32,
 }
 
-impl Chance {
+impl RandomNumbers {
     fn next(&mut self) -> usize {
         self.state = self
             .state
@@ -43,12 +43,12 @@ impl Chance {
 }
 
 // Eight parts, each a packet, a false header, a prefix of a packet, or noise.
-fn stream(alloc: Global, chance: &mut Chance) -> Result<Vec<u8>> {
+fn random_stream(alloc: Global, chance: &mut RandomNumbers) -> Result<Vec<u8>> {
     let mut bytes = Vec::new(alloc);
     for _ in 0..8 {
         match chance.next() % 6 {
             0 | 1 => bytes.extend_from_slice(&CONTACT)?,
-            2 => bytes.extend_from_slice(&RESPONSE)?,
+            2 => bytes.extend_from_slice(&RESPONSE_PACKET)?,
             3 => bytes.extend_from_slice(&CONTACT[..chance.next() % 21])?,
             4 => bytes.extend_from_slice(&FALSE_HEADER)?,
             _ => {
@@ -62,7 +62,7 @@ fn stream(alloc: Global, chance: &mut Chance) -> Result<Vec<u8>> {
 }
 
 // Appends a chunk of serial bytes to a script.
-pub(crate) fn add_piece(script: &mut Vec<u8>, piece: &[u8]) -> Result<()> {
+pub(crate) fn add_chunk(script: &mut Vec<u8>, piece: &[u8]) -> Result<()> {
     const DIGITS: &[u8; 16] = b"0123456789ABCDEF";
     script.extend_from_slice(b"S ")?;
     for byte in piece {
@@ -75,9 +75,14 @@ pub(crate) fn add_piece(script: &mut Vec<u8>, piece: &[u8]) -> Result<()> {
 
 // The script of a stream: one device is learned, then the chunks follow, and then the counters are reported. If
 // `longest` is 0, the lengths are random.
-fn script(alloc: Global, bytes: &[u8], longest: usize, chance: &mut Chance) -> Result<Vec<u8>> {
+fn script_of_stream(
+    alloc: Global,
+    bytes: &[u8],
+    longest: usize,
+    chance: &mut RandomNumbers,
+) -> Result<Vec<u8>> {
     let mut script = Vec::new(alloc);
-    script.extend_from_slice(FIRST)?;
+    script.extend_from_slice(LEARN_CONTACT)?;
     let mut rest = bytes;
     for _ in 0..bytes.len() {
         let len = if longest == 0 {
@@ -86,44 +91,49 @@ fn script(alloc: Global, bytes: &[u8], longest: usize, chance: &mut Chance) -> R
             longest
         };
         let (piece, behind) = rest.split_at(len.min(rest.len()));
-        add_piece(&mut script, piece)?;
+        add_chunk(&mut script, piece)?;
         rest = behind;
     }
-    add_piece(&mut script, rest)?;
+    add_chunk(&mut script, rest)?;
     script.extend_from_slice(b"status\n")?;
     Ok(script)
 }
 
-/// The output for a stream that is split in this way, or nothing if the replay ends with an error.
-fn written(alloc: Global, bytes: &[u8], longest: usize, chance: &mut Chance) -> Result<Vec<u8>> {
-    let script = script(alloc, bytes, longest, chance)?;
+// The output for a stream that is split in this way, or nothing if the replay ends with an error.
+fn written_for_stream(
+    alloc: Global,
+    bytes: &[u8],
+    longest: usize,
+    chance: &mut RandomNumbers,
+) -> Result<Vec<u8>> {
+    let script = script_of_stream(alloc, bytes, longest, chance)?;
     let mut out = Vec::new(alloc);
     let mut reader = OverRead::new(script.as_slice());
     let mut writer = OverWrite::new(&mut out);
-    let done = replay_new(alloc, &mut reader, &mut writer, false, TURNS)?;
+    let done = replay_by_new_gateway(alloc, &mut reader, &mut writer, false, TURNS)?;
     if done.is_err() {
         out.clear();
     }
     Ok(out)
 }
 
-/// The output for the next stream, unsplit. `None`: other chunk boundaries change it.
-fn written_for_any_cut(alloc: Global, chance: &mut Chance) -> Result<Option<Vec<u8>>> {
-    let bytes = stream(alloc, chance)?;
-    let whole = written(alloc, bytes.as_slice(), 99, chance)?;
-    let single = written(alloc, bytes.as_slice(), 1, chance)?;
-    let mixed = written(alloc, bytes.as_slice(), 0, chance)?;
+// The output for the next stream, unsplit. `None`: other chunk boundaries change it.
+fn written_for_all_cuts(alloc: Global, chance: &mut RandomNumbers) -> Result<Option<Vec<u8>>> {
+    let bytes = random_stream(alloc, chance)?;
+    let whole = written_for_stream(alloc, bytes.as_slice(), 99, chance)?;
+    let single = written_for_stream(alloc, bytes.as_slice(), 1, chance)?;
+    let mixed = written_for_stream(alloc, bytes.as_slice(), 0, chance)?;
     let is_same = single.as_slice() == whole.as_slice() && mixed.as_slice() == whole.as_slice();
     Ok(is_same.then_some(whole))
 }
 
-/// In more than a hundred streams, a packet is read.
+// In more than a hundred streams, a packet is read.
 pub(crate) fn run_cases(rt: &HostRuntime, report: &mut Report) -> Result<()> {
-    let mut chance = Chance { state: 2026 };
+    let mut chance = RandomNumbers { state: 2026 };
     let mut same = 0u32;
     let mut stated = 0u32;
-    for _ in 0..STREAMS {
-        if let Some(text) = written_for_any_cut(rt.alloc(), &mut chance)? {
+    for _ in 0..STREAM_COUNT {
+        if let Some(text) = written_for_all_cuts(rt.alloc(), &mut chance)? {
             same = same.saturating_add(1);
             if text.len() > 300 {
                 stated = stated.saturating_add(1);
@@ -133,6 +143,6 @@ pub(crate) fn run_cases(rt: &HostRuntime, report: &mut Report) -> Result<()> {
     report.add_case(
         rt,
         "a thousand streams, each cut in three ways",
-        same == STREAMS && stated > 100,
+        same == STREAM_COUNT && stated > 100,
     )
 }

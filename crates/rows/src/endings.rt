@@ -87,8 +87,8 @@ fn run_statuses(rt: &HostRuntime, report: &mut Report) -> Result<()> {
     Ok(())
 }
 
-/// Command lines that are not run, and the status of each.
-const LINES: &str = "\
+// Command lines that are not run, and the status of each.
+const COMMAND_LINES: &str = "\
 0 enogate --help
 0 enogate replay -h
 0 enogate help replay
@@ -107,7 +107,7 @@ const LINES: &str = "\
 2 enogate live --base FF800000 --serial s --desk d --out o --turns 0";
 
 fn run_command_lines(rt: &HostRuntime, report: &mut Report) -> Result<()> {
-    for case in LINES.lines() {
+    for case in COMMAND_LINES.lines() {
         let is_well = match case.split_once(' ') {
             Some((wanted, line)) => status_of_line(rt.alloc(), line)? == wanted.parse().ok(),
             None => false,
@@ -117,7 +117,7 @@ fn run_command_lines(rt: &HostRuntime, report: &mut Report) -> Result<()> {
     Ok(())
 }
 
-/// The status for a command line that is not run.
+// The status for a command line that is not run.
 fn status_of_line(alloc: Global, line: &str) -> Result<Option<u8>> {
     let mut words = Vec::new(alloc);
     for word in line.split(' ') {
@@ -132,7 +132,7 @@ fn status_of_line(alloc: Global, line: &str) -> Result<Option<u8>> {
 // A path that cannot be opened is reported before the close, and so is the result of a run.
 fn run_closes(rt: &HostRuntime, report: &mut Report) -> Result<()> {
     let summary = Summary { items: 2 };
-    let refused = sqlite::Error::SqliteFailure(sqlite::ErrorCode::TransactionState);
+    let error = sqlite::Error::SqliteFailure(sqlite::ErrorCode::TransactionState);
     let out_of_memory = sqlite::Error::SqliteFailure(sqlite::ErrorCode::OutOfMemory);
     for (name, served, closed, wanted) in [
         ("all well", Ok(Ok(summary)), Ok(()), Ok(())),
@@ -149,9 +149,9 @@ fn run_closes(rt: &HostRuntime, report: &mut Report) -> Result<()> {
             Err(Fault::CannotOpenFile),
         ),
         (
-            "a close that is refused",
+            "a close that fails",
             Ok(Ok(summary)),
-            Err(refused),
+            Err(error),
             Err(database_fault(StoreFault::store_failed())),
         ),
         (
@@ -163,13 +163,13 @@ fn run_closes(rt: &HostRuntime, report: &mut Report) -> Result<()> {
         (
             "a run's fault and a close",
             Ok(Err(RunFault::Read)),
-            Err(refused),
+            Err(error),
             Err(Fault::Run(RunFault::Read)),
         ),
         (
             "no path and a close",
             Err(Fault::CannotOpenFile),
-            Err(refused),
+            Err(error),
             Err(Fault::CannotOpenFile),
         ),
     ] {

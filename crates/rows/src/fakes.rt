@@ -9,15 +9,15 @@ fn failed() -> io::Error {
 /// A reader that returns one part at each read, then nothing. Fails if the buffer does not have exactly 256 bytes, or
 /// at the read with this number, the first being 1.
 #[derive(Drop)]
-pub struct Parts<'a> {
+pub struct PartReader<'a> {
     parts: &'a [&'a [u8]],
     reads: usize,
     fails_at: usize,
 }
 
-impl<'a> Parts<'a> {
-    pub(crate) fn new(parts: &'a [&'a [u8]], fails_at: usize) -> Parts<'a> {
-        Parts {
+impl<'a> PartReader<'a> {
+    pub(crate) fn new(parts: &'a [&'a [u8]], fails_at: usize) -> PartReader<'a> {
+        PartReader {
             parts,
             reads: 0,
             fails_at,
@@ -25,7 +25,7 @@ impl<'a> Parts<'a> {
     }
 }
 
-impl<'a> Read for Parts<'a> {
+impl<'a> Read for PartReader<'a> {
     fn read(&mut self, buffer: &mut [u8]) -> io::Result<usize> {
         self.reads = self.reads.saturating_add(1);
         if self.reads == self.fails_at || buffer.len() != 256 {
@@ -43,16 +43,16 @@ impl<'a> Read for Parts<'a> {
 /// A writer that takes at most this many bytes at a call, and fails only at the call with this number, the first being
 /// 1: so a second try is detected.
 #[derive(Drop)]
-pub struct Sips<'a> {
+pub struct LimitedWriter<'a> {
     taken: &'a mut Vec<u8>,
     most: usize,
     writes: usize,
     fails_at: usize,
 }
 
-impl<'a> Sips<'a> {
-    pub(crate) fn new(taken: &'a mut Vec<u8>, most: usize, fails_at: usize) -> Sips<'a> {
-        Sips {
+impl<'a> LimitedWriter<'a> {
+    pub(crate) fn new(taken: &'a mut Vec<u8>, most: usize, fails_at: usize) -> LimitedWriter<'a> {
+        LimitedWriter {
             taken,
             most,
             writes: 0,
@@ -61,7 +61,7 @@ impl<'a> Sips<'a> {
     }
 }
 
-impl<'a> Write for Sips<'a> {
+impl<'a> Write for LimitedWriter<'a> {
     fn write(&mut self, text: &[u8]) -> io::Result<usize> {
         self.writes = self.writes.saturating_add(1);
         if self.writes == self.fails_at {
@@ -77,9 +77,9 @@ impl<'a> Write for Sips<'a> {
 
 /// A writer that takes nothing.
 #[derive(Drop)]
-pub struct TakesNothing;
+pub struct WriterOfNothing;
 
-impl Write for TakesNothing {
+impl Write for WriterOfNothing {
     fn write(&mut self, _text: &[u8]) -> io::Result<usize> {
         Ok(0)
     }

@@ -12,16 +12,16 @@ use std::alloc::Global;
 /// The base ID of the radio module in every case.
 pub const BASE: u32 = 0xFF80_0000;
 
-/// A new gateway, over a new database.
-pub(crate) fn fresh(
+// A new gateway, over a new database.
+pub(crate) fn new_gateway(
     alloc: Global,
 ) -> Result<GatewayOver<RegistryOver<Connection<MemStore>>>, Fault> {
     let conn = Connection::open_in_memory(alloc)?;
     start(alloc, conn, BASE, MAX_CACHED).map_err(|(fault, _)| fault)
 }
 
-/// Replays a script by a new gateway, with explanations or without.
-pub(crate) fn replay_new<R: Source, W: Sink>(
+// Replays a script by a new gateway, with explanations or without.
+pub(crate) fn replay_by_new_gateway<R: Source, W: Sink>(
     alloc: Global,
     reader: &mut R,
     writer: &mut W,
@@ -36,10 +36,10 @@ pub(crate) fn replay_new<R: Source, W: Sink>(
     Ok(replay(reader, writer, &mut gateway, explains, turns))
 }
 
-/// More reads than a script needs that is replayed by a gateway after others.
+// More reads than a script needs that is replayed by a gateway after others.
 const TURNS: u64 = 100;
 
-/// The output for a script that this gateway replays to its end.
+// The output for a script that this gateway replays to its end.
 pub(crate) fn written_by<S: DeviceStore>(
     alloc: Global,
     gateway: &mut GatewayOver<S>,
@@ -57,8 +57,8 @@ pub(crate) fn written_by<S: DeviceStore>(
     Ok(written)
 }
 
-/// Serves a serial line and a desk by a new gateway.
-pub(crate) fn serve_new<P: Source, Q: Source, R: Sink, D: Sink>(
+// Serves a serial line and a desk by a new gateway.
+pub(crate) fn serve_by_new_gateway<P: Source, Q: Source, R: Sink, D: Sink>(
     alloc: Global,
     serial: (&mut P, &mut R),
     desk: (&mut Q, &mut D),
@@ -83,18 +83,22 @@ pub(crate) fn serve_new<P: Source, Q: Source, R: Sink, D: Sink>(
 }
 
 pub(crate) fn run_cases(rt: &HostRuntime, report: &mut Report) -> Result<()> {
-    report.add_case(rt, "a base ID that is none", is_no_base(rt.alloc())?)?;
+    report.add_case(
+        rt,
+        "a base ID that is none",
+        rejects_invalid_base(rt.alloc())?,
+    )?;
     let is_found = finds_what_was_learned_before(rt.alloc())?;
     report.add_case(rt, "what was learned before", is_found)?;
-    let is_read = by_bytes(&mut with_contact(rt.alloc())?);
+    let is_read = reads_packet_by_bytes(&mut with_contact(rt.alloc())?);
     report.add_case(rt, "a packet byte by byte", is_read)?;
-    let is_read = in_a_run(&mut with_contact(rt.alloc())?);
+    let is_read = reads_both_in_a_run(&mut with_contact(rt.alloc())?);
     report.add_case(rt, "a packet in a run of bytes", is_read)?;
-    let is_read = at_the_front(&mut with_contact(rt.alloc())?);
+    let is_read = reads_packet_at_front(&mut with_contact(rt.alloc())?);
     report.add_case(rt, "a packet at the front of some bytes", is_read)
 }
 
-fn is_no_base(alloc: Global) -> Result<bool> {
+fn rejects_invalid_base(alloc: Global) -> Result<bool> {
     let Ok(registry) = Registry::open(alloc, Connection::open_in_memory(alloc)?) else {
         return Ok(false);
     };
@@ -112,9 +116,9 @@ const BOTH_LISTED: &[u8] =
     {\"eep\":\"D5-00-01\",\"id\":\"01800ABC\",\"label\":\"\",\"maker\":null,\"type\":\"device\"}\n\
     {\"count\":2,\"type\":\"list\"}\n";
 
-/// Whether a gateway lists what another learned over the same database.
+// Whether a gateway lists what another learned over the same database.
 fn finds_what_was_learned_before(alloc: Global) -> Result<bool> {
-    Ok(lists_what_it_learned(alloc, fresh(alloc)?))
+    Ok(lists_what_it_learned(alloc, new_gateway(alloc)?))
 }
 
 fn lists_what_it_learned<C: SqlConnection + Drop>(
@@ -122,8 +126,8 @@ fn lists_what_it_learned<C: SqlConnection + Drop>(
     first: GatewayOver<RegistryOver<C>>,
 ) -> bool {
     let mut first = first;
-    let is_learned = reports(&first.order(b"add 01800ABC D5-00-01"), ACCEPTED)
-        && reports(&first.order(b"add 00000001 D5-00-01"), SECOND_ACCEPTED);
+    let is_learned = reply_has_text(&first.order(b"add 01800ABC D5-00-01"), ACCEPTED)
+        && reply_has_text(&first.order(b"add 00000001 D5-00-01"), SECOND_ACCEPTED);
     let conn = first.close();
     if !conn.is_autocommit() {
         return false;
@@ -132,19 +136,19 @@ fn lists_what_it_learned<C: SqlConnection + Drop>(
         return false;
     };
     match GatewayOver::new(alloc, registry, BASE) {
-        Ok(mut second) => is_learned && reports(&second.order(b"list"), BOTH_LISTED),
+        Ok(mut second) => is_learned && reply_has_text(&second.order(b"list"), BOTH_LISTED),
         Err(_) => false,
     }
 }
 
-fn reports(reply: &Reply, text: &[u8]) -> bool {
+fn reply_has_text(reply: &Reply, text: &[u8]) -> bool {
     reply.radio.is_none() && reply.desk.as_bytes() == text
 }
 
-const READ: &[u8] = b"{\"dbm\":-45,\"eep\":\"D5-00-01\",\"id\":\"01800ABC\",\
+const CONTACT_READING: &[u8] = b"{\"dbm\":-45,\"eep\":\"D5-00-01\",\"id\":\"01800ABC\",\
     \"readings\":[{\"name\":\"CO\",\"word\":\"closed\"}],\"type\":\"reading\"}\n";
 
-/// Noise, in which a sync byte begins no header, and then two packets of a contact.
+// Noise, in which a sync byte begins no header, and then two packets of a contact.
 const STREAM: [u8; 51] = [
     0x00, 0x55, 0x01, 0x02, 0x03, 0x04, 0x05, 0x06, 0x07, 0x55, 0x00, 0x07, 0x07, 0x01, 0x7A, 0xD5,
     0x09, 0x01, 0x80, 0x0A, 0xBC, 0x00, 0x01, 0xFF, 0xFF, 0xFF, 0xFF, 0x2D, 0x00, 0x1F, 0x55, 0x00,
@@ -152,60 +156,63 @@ const STREAM: [u8; 51] = [
     0x2D, 0x00, 0x1F,
 ];
 
-/// A new gateway that knows the contact.
+// A new gateway that knows the contact.
 fn with_contact(alloc: Global) -> Result<GatewayOver<RegistryOver<Connection<MemStore>>>> {
-    let mut gateway = fresh(alloc)?;
-    if !reports(&gateway.order(b"add 01800ABC D5-00-01"), ACCEPTED) {
+    let mut gateway = new_gateway(alloc)?;
+    if !reply_has_text(&gateway.order(b"add 01800ABC D5-00-01"), ACCEPTED) {
         bail!("the contact is not learned");
     }
     Ok(gateway)
 }
 
-/// Whether the next packet is the contact's, which is read.
-fn reads_next<S: DeviceStore>(gateway: &mut GatewayOver<S>) -> bool {
+// Whether the next packet is the contact's, which is read.
+fn next_is_contact_reading<S: DeviceStore>(gateway: &mut GatewayOver<S>) -> bool {
     match gateway.next() {
-        Some(reply) => reports(&reply, READ),
+        Some(reply) => reply_has_text(&reply, CONTACT_READING),
         None => false,
     }
 }
 
-/// Whether the next packet is the contact's, which is read, as `handle_next` returns it.
-fn handles_next<S: DeviceStore>(gateway: &mut GatewayOver<S>) -> bool {
+// Whether the next packet is the contact's, which is read, as `handle_next` returns it.
+fn handle_next_is_contact_reading<S: DeviceStore>(gateway: &mut GatewayOver<S>) -> bool {
     match gateway.handle_next() {
-        Some(handled) => reports(&handled.reply, READ),
+        Some(handled) => reply_has_text(&handled.reply, CONTACT_READING),
         None => false,
     }
 }
 
-/// Whether the packet is read that is whole after the first 30 bytes of the stream, and not before.
-fn by_bytes<S: DeviceStore>(gateway: &mut GatewayOver<S>) -> bool {
+// Whether the packet is read that is whole after the first 30 bytes of the stream, and not before.
+fn reads_packet_by_bytes<S: DeviceStore>(gateway: &mut GatewayOver<S>) -> bool {
     for byte in &STREAM[..30] {
         if gateway.is_ready() {
             return false;
         }
         gateway.byte(*byte);
     }
-    reads_next(gateway) && !gateway.is_ready()
+    next_is_contact_reading(gateway) && !gateway.is_ready()
 }
 
-/// Whether a run ends with each of the two packets, both are read, and then none is left.
-fn in_a_run<S: DeviceStore>(gateway: &mut GatewayOver<S>) -> bool {
-    if gateway.is_ready() || gateway.bytes(&STREAM) != 30 || !reads_next(gateway) {
+// Whether a run ends with each of the two packets, both are read, and then none is left.
+fn reads_both_in_a_run<S: DeviceStore>(gateway: &mut GatewayOver<S>) -> bool {
+    if gateway.is_ready() || gateway.bytes(&STREAM) != 30 || !next_is_contact_reading(gateway) {
         return false;
     }
-    if gateway.is_ready() || gateway.bytes(&STREAM[30..]) != 21 || !handles_next(gateway) {
+    if gateway.is_ready()
+        || gateway.bytes(&STREAM[30..]) != 21
+        || !handle_next_is_contact_reading(gateway)
+    {
         return false;
     }
     gateway.next().is_none() && gateway.handle_next().is_none()
 }
 
-/// Whether the packet at the front of some bytes is read, and no packet if noise is at the front or a byte is held.
-fn at_the_front<S: DeviceStore>(gateway: &mut GatewayOver<S>) -> bool {
+// Whether the packet at the front of some bytes is read, and no packet if noise is at the front or a byte is held.
+fn reads_packet_at_front<S: DeviceStore>(gateway: &mut GatewayOver<S>) -> bool {
     if gateway.is_ready() || gateway.handle_front_packet(&STREAM).is_some() {
         return false;
     }
     let is_read = match gateway.handle_front_packet(&STREAM[9..]) {
-        Some((handled, count)) => count == 21 && reports(&handled.reply, READ),
+        Some((handled, count)) => count == 21 && reply_has_text(&handled.reply, CONTACT_READING),
         None => false,
     };
     if gateway.is_ready() {

@@ -1,6 +1,6 @@
 //! Serial lines and desks that are served in turns: which output gets what, and what it holds after each fault.
-use crate::fakes::{Parts, Sips, TakesNothing};
-use crate::gateways::{fresh, serve_new};
+use crate::fakes::{LimitedWriter, PartReader, WriterOfNothing};
+use crate::gateways::{new_gateway, serve_by_new_gateway};
 use crate::report::Report;
 use anyhow::{Result, bail};
 use gateway_core::{DeviceStore, GatewayOver};
@@ -18,7 +18,7 @@ const STATUS: &[u8] =
     b"{\"ignored\":1,\"mode\":\"closed\",\"readings\":0,\"refused\":0,\"responses\":0,\"teach\":0,\
     \"type\":\"status\"}\n";
 
-/// A contact telegram, its explanation if it is not learned, its teach line when it is, and its reading.
+// A contact telegram, its explanation if it is not learned, its teach line when it is, and its reading.
 const CONTACT: &[u8] =
     b"\x55\x00\x07\x07\x01\x7A\xD5\x09\x01\x80\x0A\xBC\x00\x01\xFF\xFF\xFF\xFF\x2D\x00\x1F";
 
@@ -26,18 +26,18 @@ const CONTACT_EXPLAINED: &[u8] =
     b"{\"dbm\":-45,\"dest\":null,\"eep\":null,\"id\":\"01800ABC\",\"maker\":null,\
     \"payload\":\"09\",\"rorg\":\"D5\",\"status\":\"00\",\"type\":\"packet\",\"why\":\"unknown_sender\"}\n";
 
-const KNOWN: &[u8] =
+const CONTACT_LEARNED: &[u8] =
     b"{\"eep\":\"D5-00-01\",\"id\":\"01800ABC\",\"maker\":null,\"result\":\"accepted\",\"type\":\"teach\"}\n";
 
 const READING: &[u8] = b"{\"dbm\":-45,\"eep\":\"D5-00-01\",\"id\":\"01800ABC\",\
     \"readings\":[{\"name\":\"CO\",\"word\":\"closed\"}],\"type\":\"reading\"}\n";
 
-/// A UTE query, the reply to it, its explanation, and its teach line.
+// A UTE query, the reply to it, its explanation, and its teach line.
 const QUERY: &[u8] =
     b"\x55\x00\x0D\x07\x01\xFD\xD4\xA0\x01\x46\x00\x12\x01\xD2\x01\x80\x0A\xBC\x00\x01\
     \xFF\xFF\xFF\xFF\x2D\x00\x8A";
 
-const REPLY: &[u8] =
+const QUERY_REPLY: &[u8] =
     b"\x55\x00\x0D\x07\x01\xFD\xD4\x91\x01\x46\x00\x12\x01\xD2\xFF\x80\x00\x00\x00\x03\
     \x01\x80\x0A\xBC\xFF\x00\xF3";
 
@@ -45,13 +45,13 @@ const QUERY_EXPLAINED: &[u8] =
     b"{\"dbm\":-45,\"dest\":null,\"eep\":\"D2-01-12\",\"id\":\"01800ABC\",\"maker\":70,\
     \"payload\":\"A00146001201D2\",\"rorg\":\"D4\",\"status\":\"00\",\"type\":\"packet\",\"why\":\"accepted\"}\n";
 
-const TAUGHT: &[u8] =
+const QUERY_LEARNED: &[u8] =
     b"{\"eep\":\"D2-01-12\",\"id\":\"01800ABC\",\"maker\":70,\"result\":\"accepted\",\"type\":\"teach\"}\n";
 
-const BASE_QUESTION: &[u8] = b"\x55\x00\x01\x00\x05\x70\x08\x38";
+const BASE_ID_REQUEST: &[u8] = b"\x55\x00\x01\x00\x05\x70\x08\x38";
 
 /// No call of a writer fails.
-pub const NEVER: usize = usize::MAX;
+pub const NEVER_FAILS: usize = usize::MAX;
 
 pub(crate) fn run_cases(rt: &HostRuntime, report: &mut Report) -> Result<()> {
     run_order_of_sides(rt, report)?;
@@ -74,13 +74,13 @@ pub struct Served {
 }
 
 impl Served {
-    /// Whether it ended with this result, with these bytes on each side.
+    // Whether it ended with this result, with these bytes on each side.
     fn is(&self, ended: Result<Summary, RunFault>, radio: &[&[u8]], desk: &[&[u8]]) -> bool {
         self.ended == ended && is_all(&self.radio, radio) && is_all(&self.desk, desk)
     }
 }
 
-/// Whether the bytes are these parts, one after the other.
+// Whether the bytes are these parts, one after the other.
 fn is_all(bytes: &Vec<u8>, parts: &[&[u8]]) -> bool {
     let mut rest = bytes.as_slice();
     for part in parts {
@@ -92,36 +92,36 @@ fn is_all(bytes: &Vec<u8>, parts: &[&[u8]]) -> bool {
     rest.is_empty()
 }
 
-/// Serves turns by a new gateway, with writers that take seven bytes at a call and fail at these calls.
+// Serves turns by a new gateway, with writers that take seven bytes at a call and fail at these calls.
 fn serve(
     alloc: Global,
-    serial: Parts<'_>,
-    desk: Parts<'_>,
+    serial: PartReader<'_>,
+    desk: PartReader<'_>,
     turns: u64,
     fails_at: (usize, usize),
 ) -> Result<Served> {
-    let mut gateway = fresh(alloc)?;
+    let mut gateway = new_gateway(alloc)?;
     let inputs = (serial, desk);
     serve_by(alloc, &mut gateway, inputs, false, turns, 7, fails_at)
 }
 
-/// Serves two turns with explanations: a packet and two orders, and then a query. The writers take at most this many
-/// bytes at a call, and that of the desk fails at this call.
+// Serves two turns with explanations: a packet and two orders, and then a query. The writers take at most this many
+// bytes at a call, and that of the desk fails at this call.
 fn serve_explained(alloc: Global, most: usize, desk_fails_at: usize) -> Result<Served> {
-    let mut gateway = fresh(alloc)?;
+    let mut gateway = new_gateway(alloc)?;
     let serial = [CONTACT, QUERY];
     let desk = [b"learn on\nbase\n".as_slice()];
-    let inputs = (Parts::new(&serial, 0), Parts::new(&desk, 0));
-    let fails_at = (NEVER, desk_fails_at);
+    let inputs = (PartReader::new(&serial, 0), PartReader::new(&desk, 0));
+    let fails_at = (NEVER_FAILS, desk_fails_at);
     serve_by(alloc, &mut gateway, inputs, true, 2, most, fails_at)
 }
 
-/// Serves turns by this gateway, with explanations or without, and with writers that take at most this many bytes at a
-/// call and fail at these calls.
+// Serves turns by this gateway, with explanations or without, and with writers that take at most this many bytes at a
+// call and fail at these calls.
 pub(crate) fn serve_by<S: DeviceStore>(
     alloc: Global,
     gateway: &mut GatewayOver<S>,
-    inputs: (Parts<'_>, Parts<'_>),
+    inputs: (PartReader<'_>, PartReader<'_>),
     explains: bool,
     turns: u64,
     most: usize,
@@ -137,8 +137,8 @@ pub(crate) fn serve_by<S: DeviceStore>(
     let ended = live(
         &mut OverRead::new(serial),
         &mut OverRead::new(desk),
-        &mut OverWrite::new(Sips::new(&mut radio, most, radio_fails_at)),
-        &mut OverWrite::new(Sips::new(&mut printed, most, desk_fails_at)),
+        &mut OverWrite::new(LimitedWriter::new(&mut radio, most, radio_fails_at)),
+        &mut OverWrite::new(LimitedWriter::new(&mut printed, most, desk_fails_at)),
         gateway,
         explains,
         turns,
@@ -150,18 +150,18 @@ pub(crate) fn serve_by<S: DeviceStore>(
     })
 }
 
-/// Serves turns that read these parts, with writers that do not fail.
+// Serves turns that read these parts, with writers that do not fail.
 fn serve_parts(alloc: Global, serial: &[&[u8]], desk: &[&[u8]], turns: u64) -> Result<Served> {
     serve(
         alloc,
-        Parts::new(serial, 0),
-        Parts::new(desk, 0),
+        PartReader::new(serial, 0),
+        PartReader::new(desk, 0),
         turns,
-        (NEVER, NEVER),
+        (NEVER_FAILS, NEVER_FAILS),
     )
 }
 
-fn items(items: u64) -> Result<Summary, RunFault> {
+fn summary_of(items: u64) -> Result<Summary, RunFault> {
     Ok(Summary { items })
 }
 
@@ -172,13 +172,13 @@ fn run_order_of_sides(rt: &HostRuntime, report: &mut Report) -> Result<()> {
     report.add_case(
         rt,
         "a packet before an order",
-        served.is(items(2), &[], &[STATUS]),
+        served.is(summary_of(2), &[], &[STATUS]),
     )?;
     let served = serve_parts(rt.alloc(), &[QUERY], &[b"learn on\n".as_slice()], 1)?;
     report.add_case(
         rt,
         "a query before its window",
-        served.is(items(2), &[], &[OK]),
+        served.is(summary_of(2), &[], &[OK]),
     )
 }
 
@@ -188,17 +188,27 @@ fn run_both_outputs(rt: &HostRuntime, report: &mut Report) -> Result<()> {
     let alloc = rt.alloc();
     let desk = [b"learn on\r\nba".as_slice(), b"se\n"];
     let served = serve_parts(alloc, &[b"".as_slice(), QUERY], &desk, 2)?;
-    let is_well = served.is(items(3), &[REPLY, BASE_QUESTION], &[OK, TAUGHT, OK]);
+    let is_well = served.is(
+        summary_of(3),
+        &[QUERY_REPLY, BASE_ID_REQUEST],
+        &[OK, QUERY_LEARNED, OK],
+    );
     report.add_case(rt, "a query answered by radio", is_well)?;
-    let served = serve(alloc, Parts::new(&[], 1), Parts::new(&[], 1), 0, (1, 1))?;
-    report.add_case(rt, "no turns", served.is(items(0), &[], &[]))
+    let served = serve(
+        alloc,
+        PartReader::new(&[], 1),
+        PartReader::new(&[], 1),
+        0,
+        (1, 1),
+    )?;
+    report.add_case(rt, "no turns", served.is(summary_of(0), &[], &[]))
 }
 
 // A packet is explained before its own line. Explanations change neither the radio bytes nor the answers to orders.
 fn run_explanations(rt: &HostRuntime, report: &mut Report) -> Result<()> {
-    let served = serve_explained(rt.alloc(), 7, NEVER)?;
-    let printed = [CONTACT_EXPLAINED, OK, OK, QUERY_EXPLAINED, TAUGHT];
-    let is_well = served.is(items(4), &[BASE_QUESTION, REPLY], &printed);
+    let served = serve_explained(rt.alloc(), 7, NEVER_FAILS)?;
+    let printed = [CONTACT_EXPLAINED, OK, OK, QUERY_EXPLAINED, QUERY_LEARNED];
+    let is_well = served.is(summary_of(4), &[BASE_ID_REQUEST, QUERY_REPLY], &printed);
     report.add_case(rt, "packets that are explained", is_well)
 }
 
@@ -209,20 +219,24 @@ fn run_lines(rt: &HostRuntime, report: &mut Report) -> Result<()> {
     let serial = [b"S \n".as_slice(), &CONTACT[..10], &CONTACT[10..]];
     let desk = [b"add 01800ABC D5-00-01\n".as_slice(), b"S 00\nS", b"\n"];
     let served = serve_parts(rt.alloc(), &serial, &desk, 3)?;
-    let is_well = served.is(items(4), &[], &[KNOWN, SYNTAX, READING, SYNTAX]);
+    let is_well = served.is(
+        summary_of(4),
+        &[],
+        &[CONTACT_LEARNED, SYNTAX, READING, SYNTAX],
+    );
     report.add_case(rt, "pieces and lines", is_well)?;
-    let is_dropped = drops_what_is_not_ended(rt.alloc())?;
+    let is_dropped = drops_partial_line(rt.alloc())?;
     report.add_case(rt, "a line that is not ended", is_dropped)
 }
 
-fn drops_what_is_not_ended(alloc: Global) -> Result<bool> {
-    let mut gateway = fresh(alloc)?;
+fn drops_partial_line(alloc: Global) -> Result<bool> {
+    let mut gateway = new_gateway(alloc)?;
     let first = desk_after(alloc, &mut gateway, b"lea")?;
     let second = desk_after(alloc, &mut gateway, b"rn on\n")?;
     Ok(first.is_empty() && second.as_slice() == SYNTAX)
 }
 
-/// What the desk receives in one more turn, in which it sends these bytes and the serial line none.
+// What the desk receives in one more turn, in which it sends these bytes and the serial line none.
 fn desk_after<S: DeviceStore>(
     alloc: Global,
     gateway: &mut GatewayOver<S>,
@@ -247,12 +261,12 @@ fn desk_after<S: DeviceStore>(
     Ok(printed)
 }
 
-/// Whether the desk receives this for 100 letters, this many more, and this end, across three reads.
-fn is_reported(alloc: Global, length: usize, end: &[u8], wanted: &[u8]) -> Result<bool> {
+// Whether the desk receives this for 100 letters, this many more, and this end, across three reads.
+fn desk_receives(alloc: Global, length: usize, end: &[u8], wanted: &[u8]) -> Result<bool> {
     let line = [b'x'; 201];
     let (front, back) = line.split_at(100);
     let served = serve_parts(alloc, &[], &[front, &back[..length.min(101)], end], 3)?;
-    Ok(served.is(items(1), &[], &[wanted]))
+    Ok(served.is(summary_of(1), &[], &[wanted]))
 }
 
 // A line's end does not count towards its 200 bytes.
@@ -264,13 +278,13 @@ fn run_lengths(rt: &HostRuntime, report: &mut Report) -> Result<()> {
         ("201 bytes of the desk, CR and LF", 101, b"\r\n", TOO_LONG),
     ];
     for (name, length, end, wanted) in cases {
-        report.add_case(rt, name, is_reported(rt.alloc(), length, end, wanted)?)?;
+        report.add_case(rt, name, desk_receives(rt.alloc(), length, end, wanted)?)?;
     }
     Ok(())
 }
 
-/// Serves two turns, in which a query and the order `base` are answered, with readers and writers that fail at these
-/// calls.
+// Serves two turns, in which a query and the order `base` are answered, with readers and writers that fail at these
+// calls.
 fn serve_query(
     alloc: Global,
     read_fails_at: (usize, usize),
@@ -279,11 +293,11 @@ fn serve_query(
     let (serial_fails_at, desk_fails_at) = read_fails_at;
     let serial = [b"".as_slice(), QUERY];
     let desk = [b"learn on\n".as_slice(), b"base\n"];
-    let serial = Parts::new(&serial, serial_fails_at);
+    let serial = PartReader::new(&serial, serial_fails_at);
     serve(
         alloc,
         serial,
-        Parts::new(&desk, desk_fails_at),
+        PartReader::new(&desk, desk_fails_at),
         2,
         write_fails_at,
     )
@@ -298,30 +312,33 @@ fn run_reads_that_fail(rt: &HostRuntime, report: &mut Report) -> Result<()> {
         (
             "the second read of the desk",
             (0, 2),
-            &[REPLY],
-            &[OK, TAUGHT],
+            &[QUERY_REPLY],
+            &[OK, QUERY_LEARNED],
         ),
     ];
     for (name, fails_at, radio, desk) in cases {
-        let served = serve_query(rt.alloc(), fails_at, (NEVER, NEVER))?;
+        let served = serve_query(rt.alloc(), fails_at, (NEVER_FAILS, NEVER_FAILS))?;
         report.add_case(rt, name, served.is(Err(RunFault::Read), radio, desk))?;
     }
     Ok(())
 }
 
-/// Whether the gateway ends with `Write`, and each writer has exactly this many first bytes, if its writers fail from
-/// these calls on.
-fn breaks_off(
+// Whether the gateway ends with `Write`, and each writer has exactly this many first bytes, if its writers fail from
+// these calls on.
+fn breaks_off_at(
     alloc: Global,
     fails_at: (usize, usize),
     sent: usize,
     printed: usize,
 ) -> Result<bool> {
-    let all = serve_query(alloc, (0, 0), (NEVER, NEVER))?;
+    let all = serve_query(alloc, (0, 0), (NEVER_FAILS, NEVER_FAILS))?;
     let done = serve_query(alloc, (0, 0), fails_at)?;
     Ok(
-        all.is(items(3), &[REPLY, BASE_QUESTION], &[OK, TAUGHT, OK])
-            && done.ended == Err(RunFault::Write)
+        all.is(
+            summary_of(3),
+            &[QUERY_REPLY, BASE_ID_REQUEST],
+            &[OK, QUERY_LEARNED, OK],
+        ) && done.ended == Err(RunFault::Write)
             && Some(done.radio.as_slice()) == all.radio.as_slice().get(..sent)
             && Some(done.desk.as_slice()) == all.desk.as_slice().get(..printed),
     )
@@ -342,7 +359,7 @@ fn run_writes_that_fail(rt: &HostRuntime, report: &mut Report) -> Result<()> {
         (6, 34, 95),
     ] {
         let name = format!(in alloc; "write {fails_at} to the serial line")?;
-        let is_well = breaks_off(alloc, (fails_at, NEVER), sent, printed)?;
+        let is_well = breaks_off_at(alloc, (fails_at, NEVER_FAILS), sent, printed)?;
         report.add_case(rt, name.as_str(), is_well)?;
     }
     for fails_at in 1..=16 {
@@ -352,7 +369,7 @@ fn run_writes_that_fail(rt: &HostRuntime, report: &mut Report) -> Result<()> {
             _ => (35, 95 + 7 * (fails_at - 15)),
         };
         let name = format!(in alloc; "write {fails_at} to the desk")?;
-        let is_well = breaks_off(alloc, (NEVER, fails_at), sent, printed)?;
+        let is_well = breaks_off_at(alloc, (NEVER_FAILS, fails_at), sent, printed)?;
         report.add_case(rt, name.as_str(), is_well)?;
     }
     Ok(())
@@ -368,16 +385,16 @@ fn run_explained_writes_that_fail(rt: &HostRuntime, report: &mut Report) -> Resu
     )
 }
 
-/// Returns the first number of bytes written to the desk before a failure for which its text does not break off there,
-/// or the radio bytes are not exactly those up to there.
+// Returns the first number of bytes written to the desk before a failure for which its text does not break off there,
+// or the radio bytes are not exactly those up to there.
 fn first_wrong_explained(alloc: Global) -> Result<Option<usize>> {
     // the radio bytes, and the lines for the desk after them
     let parts: [(&[u8], &[u8]); 5] = [
         (b"", CONTACT_EXPLAINED),
         (b"", OK),
-        (BASE_QUESTION, OK),
-        (REPLY, QUERY_EXPLAINED),
-        (b"", TAUGHT),
+        (BASE_ID_REQUEST, OK),
+        (QUERY_REPLY, QUERY_EXPLAINED),
+        (b"", QUERY_LEARNED),
     ];
     let mut radio = Vec::new(alloc);
     let mut desk = Vec::new(alloc);
@@ -404,13 +421,13 @@ fn run_writers_that_take_nothing(rt: &HostRuntime, report: &mut Report) -> Resul
     let mut desk = Vec::new(alloc);
     let serial = (
         &mut OverRead::new(b"".as_slice()),
-        &mut OverWrite::new(TakesNothing),
+        &mut OverWrite::new(WriterOfNothing),
     );
     let orders = (
         &mut OverRead::new(b"base\n".as_slice()),
         &mut OverWrite::new(&mut desk),
     );
-    let ended = serve_new(alloc, serial, orders, 1)?;
+    let ended = serve_by_new_gateway(alloc, serial, orders, 1)?;
     let is_well = ended == Err(RunFault::Write) && desk.is_empty();
     report.add_case(rt, "a serial line that takes nothing", is_well)?;
     let mut radio = Vec::new(alloc);
@@ -420,9 +437,9 @@ fn run_writers_that_take_nothing(rt: &HostRuntime, report: &mut Report) -> Resul
     );
     let orders = (
         &mut OverRead::new(b"base\n".as_slice()),
-        &mut OverWrite::new(TakesNothing),
+        &mut OverWrite::new(WriterOfNothing),
     );
-    let ended = serve_new(alloc, serial, orders, 1)?;
-    let is_well = ended == Err(RunFault::Write) && radio.as_slice() == BASE_QUESTION;
+    let ended = serve_by_new_gateway(alloc, serial, orders, 1)?;
+    let is_well = ended == Err(RunFault::Write) && radio.as_slice() == BASE_ID_REQUEST;
     report.add_case(rt, "a desk that takes nothing", is_well)
 }

@@ -8,8 +8,8 @@ use gateway_core::GatewayOver;
 use learned_devices::{Device, DeviceStore, Label, LearnFault, StoreFault};
 use std::alloc::{AllocError, Global};
 
-/// A device store for one device, which is lost when the program ends. It guarantees nothing: the premise of its
-/// contracts (`honest`) never holds.
+// A device store for one device, which is lost when the program ends. It guarantees nothing: the premise of its
+// contracts (`honest`) never holds.
 #[derive(Drop)]
 struct OneDevice {
     alloc: Global,

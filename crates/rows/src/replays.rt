@@ -1,8 +1,8 @@
 //! Replays of short scripts, with readers and writers that fail, and with lines of maximum length.
-use crate::fakes::{Parts, Sips, TakesNothing};
-use crate::gateways::replay_new;
+use crate::fakes::{LimitedWriter, PartReader, WriterOfNothing};
+use crate::gateways::replay_by_new_gateway;
 use crate::report::Report;
-use crate::scripts::row;
+use crate::scripts::read_session;
 use anyhow::Result;
 use gateway_main::{OverRead, OverWrite, RunFault, Source, Summary};
 use std::alloc::Global;
@@ -23,8 +23,8 @@ pub(crate) fn run_cases(rt: &HostRuntime, report: &mut Report) -> Result<()> {
     run_explained_writes(rt, report)
 }
 
-/// Whether a replay has this result, and this is written.
-fn comes_to<R: Source>(
+// Whether a replay has this result, and this is written.
+fn replay_has_result<R: Source>(
     alloc: Global,
     reader: &mut R,
     turns: u64,
@@ -33,16 +33,16 @@ fn comes_to<R: Source>(
 ) -> Result<bool> {
     let mut out = Vec::new(alloc);
     let mut writer = OverWrite::new(&mut out);
-    let done = replay_new(alloc, reader, &mut writer, false, turns)?;
+    let done = replay_by_new_gateway(alloc, reader, &mut writer, false, turns)?;
     Ok(done == wanted && out.as_slice() == text)
 }
 
-/// Whether this is written for a script that is replayed to its end.
+// Whether this is written for a script that is replayed to its end.
 pub(crate) fn is_written(alloc: Global, script: &[u8], text: &[u8]) -> Result<bool> {
     let mut out = Vec::new(alloc);
     let mut reader = OverRead::new(script);
     let mut writer = OverWrite::new(&mut out);
-    let done = replay_new(alloc, &mut reader, &mut writer, false, 9)?;
+    let done = replay_by_new_gateway(alloc, &mut reader, &mut writer, false, 9)?;
     Ok(done.is_ok() && out.as_slice() == text)
 }
 
@@ -50,14 +50,14 @@ pub(crate) fn is_written(alloc: Global, script: &[u8], text: &[u8]) -> Result<bo
 fn run_turns(rt: &HostRuntime, report: &mut Report) -> Result<()> {
     let script = b"\n".as_slice();
     let too_many = Err(RunFault::TooManyTurns);
-    let is_well = comes_to(rt.alloc(), &mut OverRead::new(script), 1, too_many, SYNTAX)?;
+    let is_well = replay_has_result(rt.alloc(), &mut OverRead::new(script), 1, too_many, SYNTAX)?;
     report.add_case(rt, "a turn too few", is_well)?;
     let one = Ok(Summary { items: 1 });
-    let is_well = comes_to(rt.alloc(), &mut OverRead::new(script), 2, one, SYNTAX)?;
+    let is_well = replay_has_result(rt.alloc(), &mut OverRead::new(script), 2, one, SYNTAX)?;
     report.add_case(rt, "just enough turns", is_well)
 }
 
-const CONTACT_READ: &[u8] =
+const CONTACT_READING: &[u8] =
     b"{\"eep\":\"D5-00-01\",\"id\":\"01800ABC\",\"maker\":null,\"result\":\"accepted\",\"type\":\"teach\"}\n\
     {\"dbm\":-45,\"eep\":\"D5-00-01\",\"id\":\"01800ABC\",\
     \"readings\":[{\"name\":\"CO\",\"word\":\"closed\"}],\"type\":\"reading\"}\n";
@@ -67,15 +67,27 @@ fn run_items(rt: &HostRuntime, report: &mut Report) -> Result<()> {
     let script =
         b"add 01800ABC D5-00-01\nS 55000707017AD50901800ABC0001FFFFFFFF2D001F\n".as_slice();
     let two = Ok(Summary { items: 2 });
-    let is_well = comes_to(rt.alloc(), &mut OverRead::new(script), 2, two, CONTACT_READ)?;
+    let is_well = replay_has_result(
+        rt.alloc(),
+        &mut OverRead::new(script),
+        2,
+        two,
+        CONTACT_READING,
+    )?;
     report.add_case(rt, "two items", is_well)?;
     let script =
         b"add 01800abc d5-00-01\r\nS 55000707017ad50901800A\nS BC0001ffffffff2d001f".as_slice();
-    let is_well = comes_to(rt.alloc(), &mut OverRead::new(script), 2, two, CONTACT_READ)?;
+    let is_well = replay_has_result(
+        rt.alloc(),
+        &mut OverRead::new(script),
+        2,
+        two,
+        CONTACT_READING,
+    )?;
     report.add_case(rt, "two items in three lines", is_well)
 }
 
-/// A line of this many letters with this end. With 100 bytes of a chunk before it, it is split between two reads.
+// A line of this many letters with this end. With 100 bytes of a chunk before it, it is split between two reads.
 fn line_of(alloc: Global, length: usize, end: &[u8]) -> Result<Vec<u8>> {
     let mut script = Vec::new(alloc);
     script.extend_from_slice(b"S ")?;
@@ -124,12 +136,12 @@ fn run_reads(rt: &HostRuntime, report: &mut Report) -> Result<()> {
     let alloc = rt.alloc();
     let one = Ok(Summary { items: 1 });
     let script = [b"\n".as_slice()];
-    let mut reader = OverRead::new(Parts::new(&script, 0));
-    let is_well = comes_to(alloc, &mut reader, 2, one, SYNTAX)?;
+    let mut reader = OverRead::new(PartReader::new(&script, 0));
+    let is_well = replay_has_result(alloc, &mut reader, 2, one, SYNTAX)?;
     report.add_case(rt, "a read of 256 bytes", is_well)?;
     let script = [b"\nadd 01800ABC D5".as_slice()];
-    let mut reader = OverRead::new(Parts::new(&script, 2));
-    let is_well = comes_to(alloc, &mut reader, 9, Err(RunFault::Read), SYNTAX)?;
+    let mut reader = OverRead::new(PartReader::new(&script, 2));
+    let is_well = replay_has_result(alloc, &mut reader, 9, Err(RunFault::Read), SYNTAX)?;
     report.add_case(rt, "a read that fails", is_well)
 }
 
@@ -137,13 +149,13 @@ fn run_writes(rt: &HostRuntime, report: &mut Report) -> Result<()> {
     let alloc = rt.alloc();
     let script = b"\n\n".as_slice();
     let mut taken = Vec::new(alloc);
-    let mut writer = OverWrite::new(Sips::new(&mut taken, 1, 16));
-    let done = replay_new(alloc, &mut OverRead::new(script), &mut writer, false, 9)?;
+    let mut writer = OverWrite::new(LimitedWriter::new(&mut taken, 1, 16));
+    let done = replay_by_new_gateway(alloc, &mut OverRead::new(script), &mut writer, false, 9)?;
     let is_well = done == Err(RunFault::Write)
         && taken.as_slice() == b"{\"error\":\"synta".as_slice();
     report.add_case(rt, "a write that fails", is_well)?;
-    let mut writer = OverWrite::new(TakesNothing);
-    let done = replay_new(alloc, &mut OverRead::new(script), &mut writer, false, 9)?;
+    let mut writer = OverWrite::new(WriterOfNothing);
+    let done = replay_by_new_gateway(alloc, &mut OverRead::new(script), &mut writer, false, 9)?;
     report.add_case(
         rt,
         "a writer that takes nothing",
@@ -154,7 +166,7 @@ fn run_writes(rt: &HostRuntime, report: &mut Report) -> Result<()> {
 // With explanations, each write fails in turn. Mutant: an output that continues after a failed write of the line that
 // explains a packet. It prints `at 83, differs`.
 fn run_explained_writes(rt: &HostRuntime, report: &mut Report) -> Result<()> {
-    let (script, text) = row(rt, "every-kind-of-item", true)?;
+    let (script, text) = read_session(rt, "every-kind-of-item", true)?;
     let wrong = first_wrong_explained(rt.alloc(), script.as_slice(), text.as_slice())?;
     report.add_first_wrong(
         rt,
@@ -163,13 +175,13 @@ fn run_explained_writes(rt: &HostRuntime, report: &mut Report) -> Result<()> {
     )
 }
 
-/// Returns the first number of bytes written before a failure for which the script's text with explanations does not
-/// break off there.
+// Returns the first number of bytes written before a failure for which the script's text with explanations does not
+// break off there.
 fn first_wrong_explained(alloc: Global, script: &[u8], text: &[u8]) -> Result<Option<usize>> {
     for out in 0..text.len() {
         let mut taken = Vec::new(alloc);
-        let mut writer = OverWrite::new(Sips::new(&mut taken, 1, out.saturating_add(1)));
-        let done = replay_new(alloc, &mut OverRead::new(script), &mut writer, true, 99)?;
+        let mut writer = OverWrite::new(LimitedWriter::new(&mut taken, 1, out.saturating_add(1)));
+        let done = replay_by_new_gateway(alloc, &mut OverRead::new(script), &mut writer, true, 99)?;
         if done != Err(RunFault::Write) || Some(taken.as_slice()) != text.get(..out) {
             return Ok(Some(out));
         }

@@ -12,7 +12,7 @@ impl Report {
         Report { all_well: true }
     }
 
-    /// Reports whether the case of this name is correct.
+    // Reports whether the case of this name is correct.
     pub(crate) fn add_case(&mut self, rt: &HostRuntime, name: &str, is_well: bool) -> Result<()> {
         let verdict = if is_well { "ok" } else { "differs" };
         println!(rt; "{name} {verdict}")?;
@@ -20,7 +20,7 @@ impl Report {
         Ok(())
     }
 
-    /// Reports whether all cases of this name are correct. The first that is not is given by its number.
+    // Reports whether all cases of this name are correct. The first that is not is given by its number.
     pub(crate) fn add_first_wrong(
         &mut self,
         rt: &HostRuntime,

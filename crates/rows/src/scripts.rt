@@ -3,13 +3,13 @@
 //! - `> TEXT` is a line of the script. If `\ no LF` follows, it has no LF.
 //! - `+ TEXT` is a line that is written only with explanations.
 //! - Any other line is written with explanations and without.
-use crate::gateways::replay_new;
+use crate::gateways::replay_by_new_gateway;
 use crate::report::Report;
 use anyhow::Result;
 use gateway_main::{OverRead, OverWrite};
 use std::fs;
 
-/// More reads than any session needs.
+// More reads than any session needs.
 const TURNS: u64 = 100_000;
 
 const NO_LF: &[u8] = b"\\ no LF\n";
@@ -25,20 +25,24 @@ pub(crate) fn run_cases(rt: &HostRuntime, report: &mut Report) -> Result<()> {
     Ok(())
 }
 
-/// Whether the session's script is replayed to its end, with explanations or without, and its output is the expected
-/// one.
+// Whether the session's script is replayed to its end, with explanations or without, and its output is the expected
+// one.
 fn is_replayed(rt: &HostRuntime, name: &str, explains: bool) -> Result<bool> {
     let alloc = rt.alloc();
-    let (script, wanted) = row(rt, name, explains)?;
+    let (script, wanted) = read_session(rt, name, explains)?;
     let mut written = Vec::new(alloc);
     let mut reader = OverRead::new(script.as_slice());
     let mut writer = OverWrite::new(&mut written);
-    let done = replay_new(alloc, &mut reader, &mut writer, explains, TURNS)?;
+    let done = replay_by_new_gateway(alloc, &mut reader, &mut writer, explains, TURNS)?;
     Ok(done.is_ok() && written.as_slice() == wanted.as_slice())
 }
 
-/// A session's script, and the expected output for it, with explanations or without.
-pub(crate) fn row(rt: &HostRuntime, name: &str, explains: bool) -> Result<(Vec<u8>, Vec<u8>)> {
+// A session's script, and the expected output for it, with explanations or without.
+pub(crate) fn read_session(
+    rt: &HostRuntime,
+    name: &str,
+    explains: bool,
+) -> Result<(Vec<u8>, Vec<u8>)> {
     let alloc = rt.alloc();
     let session = fs::read(rt, format!(in alloc; "{name}.session")?)?;
     let mut script = Vec::new(alloc);

@@ -44,12 +44,12 @@ IsOpen Closed = ⊥
 IsOpen mode = Unit {0}
 
 -- it learns by a telegram's own profile
-abbrev pub LearnsByTold : Mode → Type 0
-LearnsByTold mode = (mode ≡ Learn) ⊎ (mode ≡ LearnAnswer)
+abbrev pub LearnsByTeachIn : Mode → Type 0
+LearnsByTeachIn mode = (mode ≡ Learn) ⊎ (mode ≡ LearnAnswer)
 
 -- a telegram with this role may have an effect
 abbrev pub Hears : Mode → Teach → Type 0
-Hears mode (Ute query) = LearnsByTold mode
+Hears mode (Ute query) = LearnsByTeachIn mode
 Hears mode kind = IsOpen mode
 
 pub hears-open : (mode : Mode) (kind : Teach) → Hears mode kind → IsOpen mode
@@ -68,11 +68,11 @@ AsksDeletion kind = (query : UteQuery) × (kind ≡ Ute query) × (request_in qu
 pub record OfPlans (P : Plan → Type 0) (t : Telegram) (kind : Teach) (mode : Mode) : Type 0 where
   pub silent : P Silent
   pub adds : Hears mode kind → (eep : Eep) (maker : Option ℕ) → P (add t eep maker)
-  pub forgets : LearnsByTold mode → AsksDeletion kind → P (Forget t.sender)
+  pub forgets : LearnsByTeachIn mode → AsksDeletion kind → P (Forget t.sender)
   pub refuses : Hears mode kind → (outcome : Outcome) → Refuses kind outcome → P (Refuse outcome)
 
 module _ (P : Plan → Type 0) (t : Telegram) where
-  of-asked : (query : UteQuery) (mode : Mode) → LearnsByTold mode → OfPlans P t (Ute query) mode
+  of-asked : (query : UteQuery) (mode : Mode) → LearnsByTeachIn mode → OfPlans P t (Ute query) mode
       → P (ute_plan t query)
   of-asked query mode reported each =
       by_request P (request_in query == deletion_request) _ _

@@ -3,7 +3,6 @@
 #![tactic(auto)]
 
 mod four_byte;
-mod handling_reason;
 mod mode;
 mod outcome;
 mod planning;
@@ -15,7 +14,6 @@ mod ute;
 mod verdict;
 
 pub use four_byte::{FourByteQuery, four_byte_reply};
-pub use handling_reason::HandlingReason;
 pub use mode::Mode;
 pub use outcome::Outcome;
 pub use planning::{plan, plan_for};

@@ -13,8 +13,8 @@ use bit_fields::get;
 use erp1_telegrams::{Contents, Eep, Telegram, rorg};
 use learned_devices::{Device, Label};
 
-/// The profile of a contact, which its teach-in telegram does not contain (EnOcean Equipment Profiles 2.6, "1BS
-/// Telegram").
+// The profile of a contact, which its teach-in telegram does not contain (EnOcean Equipment Profiles 2.6, "1BS
+// Telegram").
 const CONTACT_EEP: Eep = Eep {
     rorg: rorg::ONE_BS,
     func: 0x00,

@@ -20,10 +20,10 @@ pub struct UteQuery {
     pub(crate) payload: [u8; 7],
 }
 
-/// The request to forget the sender.
+// The request to forget the sender.
 pub(crate) const DELETION_REQUEST: u32 = 1;
 
-/// The request that is not in use.
+// The request that is not in use.
 pub(crate) const UNUSED_REQUEST: u32 = 3;
 
 impl UteQuery {

@@ -1,7 +1,6 @@
 -- The rows of the two tables, and the rows that the queries on them show.
-use Rattle.std.specs.Prelude.{◌≡◌, ◌≤◌, ◌≤ℤ◌, ◌==◌, ◌&&◌, nat_le}
-use Rattle.std.specs.Prelude.{◌*◌, ◌+◌, ◌/◌, ◌%◌, ℕ, ℤ, pos, negsuc}
-use Rattle.std.specs.Prelude.{Bool, true, false, List, [], ◌∷◌, map, Option, Some, None}
+use Rattle.std.specs.Prelude.{◌≡◌, ◌≤◌, ◌≤ℤ◌, ◌==◌, ◌&&◌, nat_le, ◌*◌, ◌+◌, ◌/◌, ◌%◌, ℕ, ℤ, pos, negsuc, Bool, true}
+use Rattle.std.specs.Prelude.{false, List, [], ◌∷◌, map, Option, Some, None}
 use Rattle.std.specs.FinMap.{from_entries}
 use Rattle.erp1_telegrams.specs.declared.eep.Eep.{Eep}
 use Rattle.sqlite.specs.declared.types.Value.{Value}

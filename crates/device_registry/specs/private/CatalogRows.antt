@@ -2,7 +2,7 @@
 use Rattle.std.specs.Prelude.{List, Bool, ◌&&◌}
 use Rattle.std.specs.List.{list_any}
 use Rattle.sqlite.specs.Order.{Row}
-pub use Rattle.keyed_table.specs.Objects.{has_text, is_catalog_row}
+pub use Rattle.keyed_table.specs.Objects.{is_text, is_catalog_row}
 use Rattle.device_registry.specs.declared.table.Version.{Version}
 use Rattle.device_registry.specs.Table.{meta_name, device_table_name, create_meta_sql, create_device_sql}
 

@@ -9,11 +9,8 @@ ghost use Rattle.learned_devices.specs.Devices.{device_data};
 ghost use Rattle.device_registry.specs.Faults.{IsOutOfMemoryIf};
 ghost use Rattle.device_registry.specs.Table.{version_number};
 ghost use Rattle.device_registry.specs.Table.Rows.{IsDeviceOrNone, ShowsVersion, shown_device, is_natural_up_to};
-ghost use Rattle.device_registry.specs.Table.Rows.{is_maker};
-ghost use Rattle.device_registry.specs.Table.Rows.{is_label_text};
-ghost use Rattle.device_registry.specs.Table.Rows.{shows_device, are_ascending_devices, eep_number, eep_of};
-ghost use Rattle.device_registry.specs.Table.Rows.{maker_number, upsert_params};
-ghost use Rattle.device_registry.specs.Table.Rows.{maker_in, label_in};
+ghost use Rattle.device_registry.specs.Table.Rows.{is_maker, is_label_text, shows_device, are_ascending_devices};
+ghost use Rattle.device_registry.specs.Table.Rows.{eep_number, eep_of, maker_number, upsert_params, maker_in, label_in};
 
 use super::{NO_MAKER, VERSION_ROW_KEY, Version};
 use crate::ranges::{MAX_MAKER, MAX_PROFILE, MAX_SENDER};
@@ -23,7 +20,7 @@ use sqlite::types::ValueRef;
 use sqlite::{Error, ErrorCode, Row};
 use std::alloc::Global;
 
-/// The number at this index of the row, if there is one and it is not above `last`.
+// The number at this index of the row, if there is one and it is not above `last`.
 fn number_in(row: &Row, at: usize, last: u32) -> Option<u32>
     ensures { MatchOption result (is_natural_up_to last (column row.now at) ≡ false)
         (λ n. (column row.now at ≡ Int (pos n)) × (n ≤ last)) }
@@ -34,7 +31,7 @@ fn number_in(row: &Row, at: usize, last: u32) -> Option<u32>
     }
 }
 
-/// The manufacturer ID at this index of the row, if there is a valid number or that of none.
+// The manufacturer ID at this index of the row, if there is a valid number or that of none.
 fn read_maker(row: &Row, at: usize) -> Option<Option<u16>>
     ensures { MatchOption result (is_maker (column row.now at) ≡ false)
         (λ maker. (maker ≡ maker_in (column row.now at)) × IsTrue (is_maker (column row.now at))) }
@@ -48,7 +45,7 @@ fn read_maker(row: &Row, at: usize) -> Option<Option<u16>>
     }
 }
 
-/// The label at this index of the row, if there is one.
+// The label at this index of the row, if there is one.
 fn read_label(row: &Row, at: usize) -> Option<Label>
     ensures { MatchOption result (is_label_text (column row.now at) ≡ false)
         (λ label. (label ≡ label_in (column row.now at)) × IsTrue (is_label_text (column row.now at))) }
@@ -69,7 +66,7 @@ fn eep_of_number(number: u32) -> Eep
     )
 }
 
-/// The device that a row shows, if each number is in its range and its label is valid.
+// The device that a row shows, if each number is in its range and its label is valid.
 fn device_in(row: &Row) -> Option<Device>
     ensures { MatchOption result (shows_device row.now ≡ false)
         (λ it. (it ≡ shown_device row.now) × IsTrue (shows_device row.now)) }
@@ -100,7 +97,7 @@ pub fn are_ascending_devices(rows: &[Row]) -> bool
     true
 }
 
-fn has_number(row: &Row, at: usize, number: i64) -> bool
+fn column_is(row: &Row, at: usize, number: i64) -> bool
     ensures sound { IsTrue result → column row.now at ≡ Int number }
     ensures complete { column row.now at ≡ Int number → IsTrue result }
 {
@@ -116,14 +113,14 @@ pub fn shows_version(rows: &[Row], version: Version) -> bool
     ensures complete { rows.now ≡ (Int (pos 1) ∷ Int (pos (version_number version)) ∷ []) ∷ [] → IsTrue result }
 {
     rows.len() == 1
-        && has_number(&rows[0], 0, VERSION_ROW_KEY)
-        && has_number(&rows[0], 1, version.number())
+        && column_is(&rows[0], 0, VERSION_ROW_KEY)
+        && column_is(&rows[0], 1, version.number())
 }
 
-/// The device that a row shows. No row of a registry gives an error.
+// The device that a row shows. No row of a registry gives an error.
 fn decode_device(row: &Row) -> Result<Device, Error>
     ensures shown { IfOk result (λ it. it ≡ shown_device row.now) }
-    ensures refused { IfErr result (IsOutOfMemoryIf (IsTrue (shows_device row.now))) }
+    ensures failed { IfErr result (IsOutOfMemoryIf (IsTrue (shows_device row.now))) }
 {
     device_in(row).ok_or(Error::SqliteFailure(ErrorCode::DatabaseCorrupt))
 }
@@ -131,7 +128,7 @@ fn decode_device(row: &Row) -> Result<Device, Error>
 /// The device of a sender, from the rows of its look-up.
 pub fn decode_found(rows: &[Row]) -> Result<Option<Device>, Error>
     ensures found { (known : Option Device) → IsDeviceOrNone known rows.now → IfOk result (λ found. found ≡ known) }
-    ensures refused { IfErr result (IsOutOfMemoryIf (All (λ row. IsTrue (shows_device row)) rows.now)) }
+    ensures failed { IfErr result (IsOutOfMemoryIf (All (λ row. IsTrue (shows_device row)) rows.now)) }
 {
     match rows.first() {
         Some(row) => Ok(Some(decode_device(row)?)),
@@ -142,7 +139,7 @@ pub fn decode_found(rows: &[Row]) -> Result<Option<Device>, Error>
 /// The devices that the rows list.
 pub fn decode_all(alloc: Global, rows: &[Row]) -> Result<Vec<Device>, Error>
     ensures listed { IfOk result (λ all. all.items ≡ map shown_device rows.now) }
-    ensures refused { IfErr result (IsOutOfMemoryIf (All (λ row. IsTrue (shows_device row)) rows.now)) }
+    ensures failed { IfErr result (IsOutOfMemoryIf (All (λ row. IsTrue (shows_device row)) rows.now)) }
 {
     let mut all = Vec::with_capacity(alloc, rows.len())?;
     for row in rows {
@@ -155,21 +152,21 @@ pub fn decode_all(alloc: Global, rows: &[Row]) -> Result<Vec<Device>, Error>
 pub fn shown_count(rows: &[Row]) -> Result<u64, Error>
     ensures number { IfOk result (λ n. (row : SqlRow) × (more : _) × (rows.now ≡ row ∷ more)
         × (column row 0 ≡ Int (pos n))) }
-    ensures refused { IfErr result (IsOutOfMemoryIf ((row : SqlRow) × (more : _) × (rows.now ≡ row ∷ more)
+    ensures failed { IfErr result (IsOutOfMemoryIf ((row : SqlRow) × (more : _) × (rows.now ≡ row ∷ more)
         × (0 < length row) × ((n : ℕ) × (column row 0 ≡ Int (pos n))))) }
 {
     let row = rows.first().ok_or(Error::QueryReturnedNoRows)?;
     row.get(0)
 }
 
-/// The number of a profile.
+// The number of a profile.
 fn eep_number(eep: Eep) -> i64
     ensures { result ≡ pos (eep_number eep) }
 {
     i64::from(eep.rorg) * 65536 + i64::from(eep.func) * 256 + i64::from(eep.typ)
 }
 
-/// The number of a manufacturer ID, or that of none.
+// The number of a manufacturer ID, or that of none.
 fn maker_number(maker: Option<u16>) -> i64
     ensures { result ≡ maker_number maker }
 {

@@ -3,7 +3,8 @@ ghost use Rattle.std.specs.Prelude.{◌≤◌};
 ghost use Rattle.device_registry.specs.Opening.{max_cached};
 
 use super::given::{
-    Fresh, Known, contact, either, fresh_registry, is_full, open_idle, relabel, varied,
+    Known, NewConnection, contact, contact_or_sensor, is_full, new_registry, open_idle, relabel,
+    varied,
 };
 use super::remembering::Remembering;
 use std::alloc::Global;
@@ -54,7 +55,7 @@ pub enum Many {
 
 /// Performs the acts in turn, over a new registry with a cache of this size, and the later acts after its database is
 /// opened again.
-pub fn play<S: Fresh>(
+pub fn perform_and_reopen<S: NewConnection>(
     alloc: Global,
     rt: &impl Abort,
     cache: usize,
@@ -63,56 +64,56 @@ pub fn play<S: Fresh>(
 ) -> Result<(), Fail>
     requires { (1 ≤ cache) × (cache ≤ max_cached) }
 {
-    let mut registry = fresh_registry::<S>(alloc, cache)?;
-    take_all(rt, &mut registry, acts)?;
+    let mut registry = new_registry::<S>(alloc, cache)?;
+    perform_all(rt, &mut registry, acts)?;
     let mut registry = open_idle(alloc, registry.close())??;
-    take_all(rt, &mut registry, behind)
+    perform_all(rt, &mut registry, behind)
 }
 
 /// Performs the acts in turn.
-pub fn take_all<R: Remembering>(
+pub fn perform_all<R: Remembering>(
     rt: &impl Abort,
     registry: &mut R,
     acts: &[Act],
 ) -> Result<(), Fail> {
     for act in acts {
-        take(rt, registry, *act)?;
+        perform(rt, registry, *act)?;
     }
     Ok(())
 }
 
-fn take<R: Remembering>(rt: &impl Abort, registry: &mut R, act: Act) -> Result<(), Fail> {
+fn perform<R: Remembering>(rt: &impl Abort, registry: &mut R, act: Act) -> Result<(), Fail> {
     match act {
-        Act::Finds(id, wanted) => find(rt, registry, id, wanted),
+        Act::Finds(id, wanted) => expect_found(rt, registry, id, wanted),
         Act::Learns(known) => learn(rt, registry, known),
-        Act::IsFullFor(known) => be_full_for(rt, registry, known),
-        Act::Relabels(id, label, wanted) => give_label(rt, registry, id, label, wanted),
-        Act::Forgets(id) => forget(rt, registry, id),
-        Act::Counts(wanted) => count(rt, registry, wanted),
-        Act::Lists(at, wanted) => list(rt, registry, at, wanted),
-        Act::Remembers(id, wanted) => insert_entry(rt, registry, id, wanted),
-        Act::RemembersSoMany(wanted) => remember_so_many(rt, registry, wanted),
-        Act::Many(act, count) => take_many(rt, registry, act, count),
+        Act::IsFullFor(known) => expect_full_for(rt, registry, known),
+        Act::Relabels(id, label, wanted) => expect_relabel(rt, registry, id, label, wanted),
+        Act::Forgets(id) => expect_forgotten(rt, registry, id),
+        Act::Counts(wanted) => expect_count(rt, registry, wanted),
+        Act::Lists(at, wanted) => expect_listed_at(rt, registry, at, wanted),
+        Act::Remembers(id, wanted) => expect_cached(rt, registry, id, wanted),
+        Act::RemembersSoMany(wanted) => expect_cached_count(rt, registry, wanted),
+        Act::Many(act, count) => perform_many(rt, registry, act, count),
     }
 }
 
-fn take_many<R: Remembering>(
+fn perform_many<R: Remembering>(
     rt: &impl Abort,
     registry: &mut R,
     act: Many,
     count: u32,
 ) -> Result<(), Fail> {
     match act {
-        Many::FindsNone => find_none(rt, registry, count),
+        Many::FindsNone => expect_none_found(rt, registry, count),
         Many::LearnsContacts => learn_contacts(rt, registry, count),
-        Many::LearnsInTurn => learn_in_turn(rt, registry, count),
-        Many::FindsInTurn => find_in_turn(rt, registry, count),
-        Many::RemembersContacts => remember_contacts(rt, registry, count),
-        Many::ListsVaried => list_varied(rt, registry, count),
+        Many::LearnsInTurn => learn_varied(rt, registry, count),
+        Many::FindsInTurn => find_varied(rt, registry, count),
+        Many::RemembersContacts => expect_cached_contacts(rt, registry, count),
+        Many::ListsVaried => expect_varied_listed(rt, registry, count),
     }
 }
 
-fn find<R: Remembering>(
+fn expect_found<R: Remembering>(
     rt: &impl Abort,
     registry: &mut R,
     id: u32,
@@ -122,9 +123,13 @@ fn find<R: Remembering>(
     Ok(())
 }
 
-fn find_none<R: Remembering>(rt: &impl Abort, registry: &mut R, count: u32) -> Result<(), Fail> {
+fn expect_none_found<R: Remembering>(
+    rt: &impl Abort,
+    registry: &mut R,
+    count: u32,
+) -> Result<(), Fail> {
     for id in 0..count {
-        find(rt, registry, id, None)?;
+        expect_found(rt, registry, id, None)?;
     }
     Ok(())
 }
@@ -146,27 +151,23 @@ fn learn_contacts<R: Remembering>(
     Ok(())
 }
 
-fn learn_in_turn<R: Remembering>(
-    rt: &impl Abort,
-    registry: &mut R,
-    count: u32,
-) -> Result<(), Fail> {
+fn learn_varied<R: Remembering>(rt: &impl Abort, registry: &mut R, count: u32) -> Result<(), Fail> {
     for id in 0..count {
-        learn(rt, registry, either(id))?;
+        learn(rt, registry, contact_or_sensor(id))?;
     }
     Ok(())
 }
 
-fn find_in_turn<R: Remembering>(rt: &impl Abort, registry: &mut R, count: u32) -> Result<(), Fail> {
+fn find_varied<R: Remembering>(rt: &impl Abort, registry: &mut R, count: u32) -> Result<(), Fail> {
     for id in 0..count {
-        find(rt, registry, id, Some(either(id)))?;
-        find(rt, registry, id, Some(either(id)))?;
-        find(rt, registry, id.saturating_add(count), None)?;
+        expect_found(rt, registry, id, Some(contact_or_sensor(id)))?;
+        expect_found(rt, registry, id, Some(contact_or_sensor(id)))?;
+        expect_found(rt, registry, id.saturating_add(count), None)?;
     }
     Ok(())
 }
 
-fn be_full_for<R: Remembering>(
+fn expect_full_for<R: Remembering>(
     rt: &impl Abort,
     registry: &mut R,
     known: Known,
@@ -183,7 +184,7 @@ fn be_full_for<R: Remembering>(
     }
 }
 
-fn give_label<R: Remembering>(
+fn expect_relabel<R: Remembering>(
     rt: &impl Abort,
     registry: &mut R,
     id: u32,
@@ -194,18 +195,26 @@ fn give_label<R: Remembering>(
     Ok(())
 }
 
-fn forget<R: Remembering>(rt: &impl Abort, registry: &mut R, id: u32) -> Result<(), Fail> {
+fn expect_forgotten<R: Remembering>(
+    rt: &impl Abort,
+    registry: &mut R,
+    id: u32,
+) -> Result<(), Fail> {
     let receipt = registry.forget(id)?;
     assert_eq!(rt; receipt.spend(), (id, false));
     Ok(())
 }
 
-fn count<R: Remembering>(rt: &impl Abort, registry: &mut R, wanted: usize) -> Result<(), Fail> {
+fn expect_count<R: Remembering>(
+    rt: &impl Abort,
+    registry: &mut R,
+    wanted: usize,
+) -> Result<(), Fail> {
     assert_eq!(rt; registry.all()?.len(), wanted);
     Ok(())
 }
 
-fn list<R: Remembering>(
+fn expect_listed_at<R: Remembering>(
     rt: &impl Abort,
     registry: &mut R,
     at: usize,
@@ -215,7 +224,11 @@ fn list<R: Remembering>(
     Ok(())
 }
 
-fn list_varied<R: Remembering>(rt: &impl Abort, registry: &mut R, count: u32) -> Result<(), Fail> {
+fn expect_varied_listed<R: Remembering>(
+    rt: &impl Abort,
+    registry: &mut R,
+    count: u32,
+) -> Result<(), Fail> {
     let mut ids = 0..count;
     for found in &registry.all()? {
         assert_eq!(rt;
@@ -227,7 +240,7 @@ fn list_varied<R: Remembering>(rt: &impl Abort, registry: &mut R, count: u32) ->
     Ok(())
 }
 
-fn insert_entry<R: Remembering>(
+fn expect_cached<R: Remembering>(
     rt: &impl Abort,
     registry: &R,
     id: u32,
@@ -241,18 +254,18 @@ fn insert_entry<R: Remembering>(
     Ok(())
 }
 
-fn remember_contacts<R: Remembering>(
+fn expect_cached_contacts<R: Remembering>(
     rt: &impl Abort,
     registry: &R,
     count: u32,
 ) -> Result<(), Fail> {
     for id in 0..count {
-        insert_entry(rt, registry, id, Some(Some(contact(id))))?;
+        expect_cached(rt, registry, id, Some(Some(contact(id))))?;
     }
     Ok(())
 }
 
-fn remember_so_many<R: Remembering>(
+fn expect_cached_count<R: Remembering>(
     rt: &impl Abort,
     registry: &R,
     wanted: usize,

@@ -2,14 +2,14 @@
 ghost use Rattle.std.specs.Prelude.{◌≤◌};
 ghost use Rattle.device_registry.specs.Opening.{max_cached};
 
-use super::acts::{Act, Many, play};
+use super::acts::{Act, Many, perform_and_reopen};
 use super::given::{Known, contact, sensor};
 use sqlite::MemStore;
 use std::alloc::Global;
 use std::process::Abort;
 use std::test::Fail;
 
-/// A sender that is cached as not learned.
+// A sender that is cached as not learned.
 const NOT_LEARNED: Option<Option<Known>> = Some(None);
 
 #[test]
@@ -28,7 +28,7 @@ fn a_look_up_is_remembered(rt: HostRuntime) -> Result<(), Fail> {
         Act::Lists(0, contact(5)),
         Act::RemembersSoMany(2),
     ];
-    play::<MemStore>(rt.alloc(), &rt, 64, &before, &behind)
+    perform_and_reopen::<MemStore>(rt.alloc(), &rt, 64, &before, &behind)
 }
 
 #[test]
@@ -48,7 +48,7 @@ fn a_change_is_remembered(rt: HostRuntime) -> Result<(), Fail> {
         Act::Learns(contact(9)),
         Act::Finds(9, Some(contact(9))),
     ];
-    play::<MemStore>(rt.alloc(), &rt, 64, &acts, &[])
+    perform_and_reopen::<MemStore>(rt.alloc(), &rt, 64, &acts, &[])
 }
 
 #[test]
@@ -70,11 +70,11 @@ fn a_label_is_remembered(rt: HostRuntime) -> Result<(), Fail> {
         Act::Remembers(5, Some(Some(sensor(5)))),
         Act::Finds(5, Some(sensor(5))),
     ];
-    play::<MemStore>(rt.alloc(), &rt, 64, &before, &behind)
+    perform_and_reopen::<MemStore>(rt.alloc(), &rt, 64, &before, &behind)
 }
 
 #[test]
-fn one_place_is_for_the_last_sender(rt: HostRuntime) -> Result<(), Fail> {
+fn a_cache_of_one_keeps_the_last_sender(rt: HostRuntime) -> Result<(), Fail> {
     let acts = [
         Act::Learns(contact(5)),
         Act::Finds(6, None),
@@ -96,7 +96,7 @@ fn one_place_is_for_the_last_sender(rt: HostRuntime) -> Result<(), Fail> {
         Act::Finds(6, Some(sensor(6).labelled("Hall"))),
         Act::RemembersSoMany(1),
     ];
-    play::<MemStore>(rt.alloc(), &rt, 1, &acts, &[])
+    perform_and_reopen::<MemStore>(rt.alloc(), &rt, 1, &acts, &[])
 }
 
 #[test]
@@ -107,11 +107,11 @@ fn an_open_remembers_64(rt: HostRuntime) -> Result<(), Fail> {
         Act::Remembers(0, None),
         Act::Remembers(1, NOT_LEARNED),
     ];
-    play::<MemStore>(rt.alloc(), &rt, 1, &[], &behind)
+    perform_and_reopen::<MemStore>(rt.alloc(), &rt, 1, &[], &behind)
 }
 
 #[test]
-fn the_sender_of_long_ago_goes_first(rt: HostRuntime) -> Result<(), Fail> {
+fn the_least_recent_sender_is_dropped_first(rt: HostRuntime) -> Result<(), Fail> {
     let acts = [
         Act::Finds(1, None),
         Act::Finds(2, None),
@@ -121,11 +121,11 @@ fn the_sender_of_long_ago_goes_first(rt: HostRuntime) -> Result<(), Fail> {
         Act::Remembers(2, None),
         Act::Remembers(3, NOT_LEARNED),
     ];
-    play::<MemStore>(rt.alloc(), &rt, 2, &acts, &[])
+    perform_and_reopen::<MemStore>(rt.alloc(), &rt, 2, &acts, &[])
 }
 
 #[test]
-fn a_full_registry_goes_on_remembering(rt: HostRuntime) -> Result<(), Fail> {
+fn a_full_registry_still_caches(rt: HostRuntime) -> Result<(), Fail> {
     let acts = [
         Act::Many(Many::LearnsContacts, 1000),
         Act::Finds(2000, None),
@@ -135,11 +135,11 @@ fn a_full_registry_goes_on_remembering(rt: HostRuntime) -> Result<(), Fail> {
         Act::Remembers(2000, NOT_LEARNED),
         Act::Finds(1000, None),
     ];
-    play::<MemStore>(rt.alloc(), &rt, 1024, &acts, &[])
+    perform_and_reopen::<MemStore>(rt.alloc(), &rt, 1024, &acts, &[])
 }
 
 // A cache of this size gives the same answers as any other, and holds this many senders afterwards.
-fn answers_the_same(
+fn gives_the_same_answers(
     alloc: Global,
     rt: &impl Abort,
     cache: usize,
@@ -152,12 +152,12 @@ fn answers_the_same(
         Act::Many(Many::FindsInTurn, 200),
         Act::RemembersSoMany(remembered),
     ];
-    play::<MemStore>(alloc, rt, cache, &acts, &[])
+    perform_and_reopen::<MemStore>(alloc, rt, cache, &acts, &[])
 }
 
 #[test]
-fn caches_of_each_size_answer_the_same(rt: HostRuntime) -> Result<(), Fail> {
-    answers_the_same(rt.alloc(), &rt, 1, 1)?;
-    answers_the_same(rt.alloc(), &rt, 64, 64)?;
-    answers_the_same(rt.alloc(), &rt, 1024, 400)
+fn caches_of_each_size_give_the_same_answers(rt: HostRuntime) -> Result<(), Fail> {
+    gives_the_same_answers(rt.alloc(), &rt, 1, 1)?;
+    gives_the_same_answers(rt.alloc(), &rt, 64, 64)?;
+    gives_the_same_answers(rt.alloc(), &rt, 1024, 400)
 }

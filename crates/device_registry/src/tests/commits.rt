@@ -1,6 +1,6 @@
 //! A connection that counts its commits, and a registry over it.
-use super::acts::{Act, Many, take_all};
-use super::given::{Fresh, contact, sensor};
+use super::acts::{Act, Many, perform_all};
+use super::given::{NewConnection, contact, sensor};
 use crate::{RegistryOver, SqlConnection};
 use sqlite::types::ValueRef;
 use sqlite::{Connection, Error, MemStore, Row, Statement};
@@ -9,15 +9,15 @@ use std::alloc::Global;
 use std::process::Abort;
 use std::test::Fail;
 
-/// A connection, and how many of its calls may have committed. It does not count queries: each that the registry makes
-/// is a SELECT.
+// A connection, and how many of its calls may have committed. It does not count queries: each that the registry makes_commits
+// is a SELECT.
 #[derive(Drop)]
-struct Counting<C> {
+struct CountingConnection<C> {
     conn: C,
     commits: u64,
 }
 
-impl<C: SqlConnection> SqlConnection for Counting<C> {
+impl<C: SqlConnection> SqlConnection for CountingConnection<C> {
     ghost use Rattle.std.specs.Prelude.{Some};
 
     ghost state = { λ counting. C.state counting.conn };
@@ -66,27 +66,29 @@ impl<C: SqlConnection> SqlConnection for Counting<C> {
     ghost settled = { λ counting. C.settled counting.conn };
 }
 
-/// A new registry over a connection that counts.
-fn counted_registry(alloc: Global) -> Result<RegistryOver<Counting<Connection<MemStore>>>, Fail> {
-    let conn = MemStore::fresh(alloc)?;
+// A new registry over a connection that counts.
+fn counted_registry(
+    alloc: Global,
+) -> Result<RegistryOver<CountingConnection<Connection<MemStore>>>, Fail> {
+    let conn = MemStore::new_connection(alloc)?;
     if !conn.is_autocommit() {
         return Err(Fail::from("a transaction is open"));
     }
-    match RegistryOver::open_with(alloc, Counting { conn, commits: 0 }, 4) {
+    match RegistryOver::open_with(alloc, CountingConnection { conn, commits: 0 }, 4) {
         Ok(registry) => Ok(registry),
         Err((fault, _)) => Err(fault.into()),
     }
 }
 
-/// Whether exactly this many commits were made by these calls.
-fn makes(
+// Whether exactly this many commits were made by these calls.
+fn makes_commits(
     rt: &impl Abort,
-    registry: &mut RegistryOver<Counting<Connection<MemStore>>>,
+    registry: &mut RegistryOver<CountingConnection<Connection<MemStore>>>,
     acts: &[Act],
     commits: u64,
 ) -> Result<(), Fail> {
     let before = registry.table.conn.commits;
-    take_all(rt, registry, acts)?;
+    perform_all(rt, registry, acts)?;
     if registry.table.conn.commits != before.saturating_add(commits) {
         return Err(Fail::from("another number of commits"));
     }
@@ -96,16 +98,16 @@ fn makes(
 #[test]
 fn calls_commit_at_most_once(rt: HostRuntime) -> Result<(), Fail> {
     let mut registry = counted_registry(rt.alloc())?;
-    makes(&rt, &mut registry, &[Act::Finds(5, None)], 0)?;
-    makes(&rt, &mut registry, &[Act::Learns(contact(5))], 1)?;
-    makes(&rt, &mut registry, &[Act::Learns(sensor(5))], 1)?;
-    makes(&rt, &mut registry, &[Act::Relabels(5, "Door", true)], 1)?;
-    makes(&rt, &mut registry, &[Act::Relabels(6, "Hall", false)], 0)?;
-    makes(&rt, &mut registry, &[Act::Counts(1)], 0)?;
-    makes(&rt, &mut registry, &[Act::Forgets(5)], 1)?;
-    makes(&rt, &mut registry, &[Act::Forgets(6)], 1)?;
+    makes_commits(&rt, &mut registry, &[Act::Finds(5, None)], 0)?;
+    makes_commits(&rt, &mut registry, &[Act::Learns(contact(5))], 1)?;
+    makes_commits(&rt, &mut registry, &[Act::Learns(sensor(5))], 1)?;
+    makes_commits(&rt, &mut registry, &[Act::Relabels(5, "Door", true)], 1)?;
+    makes_commits(&rt, &mut registry, &[Act::Relabels(6, "Hall", false)], 0)?;
+    makes_commits(&rt, &mut registry, &[Act::Counts(1)], 0)?;
+    makes_commits(&rt, &mut registry, &[Act::Forgets(5)], 1)?;
+    makes_commits(&rt, &mut registry, &[Act::Forgets(6)], 1)?;
     let many = [Act::Many(Many::LearnsContacts, 1000)];
-    makes(&rt, &mut registry, &many, 1000)?;
-    makes(&rt, &mut registry, &[Act::IsFullFor(contact(1000))], 0)?;
-    makes(&rt, &mut registry, &[Act::Learns(sensor(999))], 1)
+    makes_commits(&rt, &mut registry, &many, 1000)?;
+    makes_commits(&rt, &mut registry, &[Act::IsFullFor(contact(1000))], 0)?;
+    makes_commits(&rt, &mut registry, &[Act::Learns(sensor(999))], 1)
 }

@@ -1,33 +1,35 @@
 //! The states of the registry after a failure of the disk, and of its files after a crash that follows.
-use super::acts::{Act, take_all};
+use super::acts::{Act, perform_all};
 use super::disks::{
-    Disks, Refusal, Stop, Which, closed, connected, empty_files, refusing, stopped,
-    surely_connected,
+    CrashKind, DiskFault, Disks, FileOfDatabase, after_crash, closed, connected, connected_or_fail,
+    empty_files, with_fault,
 };
-use super::given::{be_first_version, open_idle};
-use super::steps::{CALLS, Call, End, Trial, before_stop, behind_stop, filled, pages};
+use super::given::{make_version_1, open_idle};
+use super::steps::{
+    CALLS, Call, Trial, TrialEnd, filled_registry, pages, run_after_crash, run_before_crash,
+};
 use std::alloc::Global;
 use std::process::Abort;
 use std::test::Fail;
 
-/// A number of devices whose table has more than one page, and one whose table has a single page.
-const MANY: i64 = 350;
+// A number of devices whose table has more than one page, and one whose table has a single page.
+const MANY_DEVICES: i64 = 350;
 
-const FEW: i64 = 10;
+const FEW_DEVICES: i64 = 10;
 
-/// The crash of trials that do not choose one.
-const DEATH: Stop = Stop::OfProcess;
+// The crash of trials that do not choose one.
+const DEFAULT_CRASH: CrashKind = CrashKind::OfProcess;
 
 // The files of a closed registry of this many contacts, with the IDs from 0 on.
-fn made(alloc: Global, devices: i64) -> Result<Disks, Fail> {
-    let conn = surely_connected(alloc, empty_files(alloc), 9)?;
-    closed(filled(alloc, conn, devices)?)
+fn registry_files(alloc: Global, devices: i64) -> Result<Disks, Fail> {
+    let conn = connected_or_fail(alloc, empty_files(alloc), 9)?;
+    closed(filled_registry(alloc, conn, devices)?)
 }
 
 // The files of a closed database that is a registry of version 1 with this many devices.
-fn made_first(alloc: Global, devices: u32) -> Result<Disks, Fail> {
-    let mut conn = surely_connected(alloc, empty_files(alloc), 9)?;
-    be_first_version(&mut conn, i64::from(devices))?;
+fn version_1_files(alloc: Global, devices: u32) -> Result<Disks, Fail> {
+    let mut conn = connected_or_fail(alloc, empty_files(alloc), 9)?;
+    make_version_1(&mut conn, i64::from(devices))?;
     closed(conn)
 }
 
@@ -37,184 +39,218 @@ fn end_of(
     rt: &impl Abort,
     files: Disks,
     trial: Trial,
-    crash: Stop,
-) -> Result<End, Fail> {
+    crash: CrashKind,
+) -> Result<TrialEnd, Fail> {
     let Some(conn) = connected(alloc, files, pages(trial))? else {
-        return Ok(End::Early);
+        return Ok(TrialEnd::Early);
     };
-    let mut end = End::Early;
-    match before_stop(alloc, rt, conn, trial, &mut end)? {
+    let mut end = TrialEnd::Early;
+    match run_before_crash(alloc, rt, conn, trial, &mut end)? {
         Some(conn) => {
-            let files = stopped(alloc, conn, crash)?.files;
-            end_behind(alloc, rt, files, trial, end)
+            let files = after_crash(alloc, conn, crash)?.files;
+            end_after_crash(alloc, rt, files, trial, end)
         }
         None => Ok(end),
     }
 }
 
 // The end of a trial over the files that its crash left.
-fn end_behind(
+fn end_after_crash(
     alloc: Global,
     rt: &impl Abort,
     files: Disks,
     trial: Trial,
-    end: End,
-) -> Result<End, Fail> {
-    let conn = surely_connected(alloc, files, pages(trial))?;
-    behind_stop(alloc, rt, conn, trial, end)
+    end: TrialEnd,
+) -> Result<TrialEnd, Fail> {
+    let conn = connected_or_fail(alloc, files, pages(trial))?;
+    run_after_crash(alloc, rt, conn, trial, end)
 }
 
 // The failures of a turn: one write is reported as failed, or each call from one on fails.
-fn refusal(trial: Trial, turn: u64) -> Refusal {
+fn fault_of_turn(trial: Trial, turn: u64) -> DiskFault {
     match trial {
-        Trial::Learning(_) => Refusal::Write(turn.saturating_add(1)),
+        Trial::Learning(_) => DiskFault::Write(turn.saturating_add(1)),
         Trial::Calls(_)
         | Trial::LookUps
         | Trial::Preparing
         | Trial::Migrating(_)
-        | Trial::Changing => Refusal::From(turn),
+        | Trial::Changing => DiskFault::From(turn),
     }
 }
 
 // The ends of a trial over copies of these files: each call or write fails in turn, until none does.
-fn each_refused(
+fn ends_with_each_call_failing(
     alloc: Global,
     rt: &impl Abort,
     files: &Disks,
-    which: Which,
+    which: FileOfDatabase,
     trial: Trial,
-    crash: Stop,
-) -> Result<Vec<End>, Fail> {
+    crash: CrashKind,
+) -> Result<Vec<TrialEnd>, Fail> {
     let mut ends = Vec::new(alloc);
     for turn in 0..5000 {
-        let refusing = refusing(alloc, files, which, refusal(trial, turn))?;
-        match end_of(alloc, rt, refusing, trial, crash)? {
-            End::NoRefusal => return Ok(ends),
+        let files = with_fault(alloc, files, which, fault_of_turn(trial, turn))?;
+        match end_of(alloc, rt, files, trial, crash)? {
+            TrialEnd::NoFault => return Ok(ends),
             end => ends.push(end)?,
         }
     }
-    Err(Fail::from("refusals without end"))
+    Err(Fail::from("faults without end"))
 }
 
 // The number of syncs of the log that a connection over these files makes, with a registry that performs the acts, or
 // without one.
-fn syncs(alloc: Global, rt: &impl Abort, files: &Disks, acts: Option<&[Act]>) -> Result<u64, Fail> {
-    let files = refusing(alloc, files, Which::Log, Refusal::Nothing)?;
-    let conn = surely_connected(alloc, files, 9)?;
+fn count_syncs(
+    alloc: Global,
+    rt: &impl Abort,
+    files: &Disks,
+    acts: Option<&[Act]>,
+) -> Result<u64, Fail> {
+    let files = with_fault(alloc, files, FileOfDatabase::Log, DiskFault::Never)?;
+    let conn = connected_or_fail(alloc, files, 9)?;
     let Some(acts) = acts else {
-        return Ok(stopped(alloc, conn, DEATH)?.syncs);
+        return Ok(after_crash(alloc, conn, DEFAULT_CRASH)?.syncs);
     };
     let mut registry = open_idle(alloc, conn)??;
-    take_all(rt, &mut registry, acts)?;
-    Ok(stopped(alloc, registry.close(), DEATH)?.syncs)
+    perform_all(rt, &mut registry, acts)?;
+    Ok(after_crash(alloc, registry.close(), DEFAULT_CRASH)?.syncs)
 }
 
 #[test]
-fn each_call_meets_a_refusal(rt: HostRuntime) -> Result<(), Fail> {
-    let files = made(rt.alloc(), MANY)?;
-    let ends = each_refused(
+fn each_call_fails_once(rt: HostRuntime) -> Result<(), Fail> {
+    let files = registry_files(rt.alloc(), MANY_DEVICES)?;
+    let ends = ends_with_each_call_failing(
         rt.alloc(),
         &rt,
         &files,
-        Which::Database,
+        FileOfDatabase::Database,
         Trial::Calls(1),
-        DEATH,
+        DEFAULT_CRASH,
     )?;
     for call in CALLS {
-        let is_met = ends.contains(&End::At(call, true)) || ends.contains(&End::At(call, false));
+        let is_met = ends.contains(&TrialEnd::At(call, true))
+            || ends.contains(&TrialEnd::At(call, false));
         assert!(rt; is_met, "{call:?}");
     }
     Ok(())
 }
 
 #[test]
-fn a_refused_change_is_not_remembered(rt: HostRuntime) -> Result<(), Fail> {
-    let files = made(rt.alloc(), FEW)?;
-    let ends = each_refused(rt.alloc(), &rt, &files, Which::Log, Trial::Calls(20), DEATH)?;
+fn a_failed_change_is_not_cached(rt: HostRuntime) -> Result<(), Fail> {
+    let files = registry_files(rt.alloc(), FEW_DEVICES)?;
+    let ends = ends_with_each_call_failing(
+        rt.alloc(),
+        &rt,
+        &files,
+        FileOfDatabase::Log,
+        Trial::Calls(20),
+        DEFAULT_CRASH,
+    )?;
     for call in [Call::Learn, Call::Relabel, Call::Forget] {
-        assert!(rt; ends.contains(&End::At(call, true)), "{call:?}");
+        assert!(rt; ends.contains(&TrialEnd::At(call, true)), "{call:?}");
     }
     Ok(())
 }
 
 #[test]
-fn what_is_remembered_asks_nothing_of_the_disk(rt: HostRuntime) -> Result<(), Fail> {
-    let files = made(rt.alloc(), MANY)?;
-    let ends = each_refused(
+fn a_cached_sender_needs_no_disk(rt: HostRuntime) -> Result<(), Fail> {
+    let files = registry_files(rt.alloc(), MANY_DEVICES)?;
+    let ends = ends_with_each_call_failing(
         rt.alloc(),
         &rt,
         &files,
-        Which::Database,
+        FileOfDatabase::Database,
         Trial::LookUps,
-        DEATH,
+        DEFAULT_CRASH,
     )?;
-    assert!(rt; ends.contains(&End::ToldApart));
+    assert!(rt; ends.contains(&TrialEnd::ToldApart));
     Ok(())
 }
 
 #[test]
-fn what_was_reported_is_found_behind_a_stop(rt: HostRuntime) -> Result<(), Fail> {
-    let files = made(rt.alloc(), FEW)?;
-    for crash in [Stop::OfProcess, Stop::OfMachine] {
-        let files = refusing(rt.alloc(), &files, Which::Log, Refusal::Nothing)?;
+fn what_was_reported_is_found_after_a_crash(rt: HostRuntime) -> Result<(), Fail> {
+    let files = registry_files(rt.alloc(), FEW_DEVICES)?;
+    for crash in [CrashKind::OfProcess, CrashKind::OfMachine] {
+        let files = with_fault(rt.alloc(), &files, FileOfDatabase::Log, DiskFault::Never)?;
         assert_eq!(rt;
             end_of(rt.alloc(), &rt, files, Trial::Changing, crash)?,
-            End::Kept
+            TrialEnd::Kept
         );
     }
     Ok(())
 }
 
 #[test]
-fn an_open_answers_behind_a_sync(rt: HostRuntime) -> Result<(), Fail> {
-    let files = made(rt.alloc(), FEW)?;
-    let before = syncs(rt.alloc(), &rt, &files, None)?;
-    assert!(rt; syncs(rt.alloc(), &rt, &files, Some(&[]))? > before);
+fn an_open_returns_after_a_sync(rt: HostRuntime) -> Result<(), Fail> {
+    let files = registry_files(rt.alloc(), FEW_DEVICES)?;
+    let before = count_syncs(rt.alloc(), &rt, &files, None)?;
+    assert!(rt; count_syncs(rt.alloc(), &rt, &files, Some(&[]))? > before);
     Ok(())
 }
 
 // No contract can state this: a crash leaves the same devices.
 #[test]
-fn a_label_that_is_there_is_answered_behind_a_sync(rt: HostRuntime) -> Result<(), Fail> {
-    let files = made(rt.alloc(), FEW)?;
+fn an_unchanged_label_is_answered_after_a_sync(rt: HostRuntime) -> Result<(), Fail> {
+    let files = registry_files(rt.alloc(), FEW_DEVICES)?;
     let labels = [
         Act::Relabels(5, "Door", true),
         Act::Relabels(5, "Door", true),
     ];
-    let before = syncs(rt.alloc(), &rt, &files, Some(&labels[..1]))?;
-    assert!(rt; syncs(rt.alloc(), &rt, &files, Some(&labels))? > before);
+    let before = count_syncs(rt.alloc(), &rt, &files, Some(&labels[..1]))?;
+    assert!(rt; count_syncs(rt.alloc(), &rt, &files, Some(&labels))? > before);
     Ok(())
 }
 
 #[test]
-fn an_open_ends_what_a_refused_write_left(rt: HostRuntime) -> Result<(), Fail> {
-    let files = made(rt.alloc(), FEW)?;
+fn an_open_ends_what_a_failed_write_left(rt: HostRuntime) -> Result<(), Fail> {
+    let files = registry_files(rt.alloc(), FEW_DEVICES)?;
     // Without an open after it, a failed update may be found later. In that case the database has closed the
     // connection, so no open on it returns Ok.
     let trial = Trial::Learning(false);
-    let ends = each_refused(rt.alloc(), &rt, &files, Which::Log, trial, DEATH)?;
-    assert!(rt; ends.contains(&End::Found));
-    assert!(rt; ends.contains(&End::NotFound));
-    for crash in [Stop::OfProcess, Stop::OfMachine] {
+    let ends = ends_with_each_call_failing(
+        rt.alloc(),
+        &rt,
+        &files,
+        FileOfDatabase::Log,
+        trial,
+        DEFAULT_CRASH,
+    )?;
+    assert!(rt; ends.contains(&TrialEnd::Found));
+    assert!(rt; ends.contains(&TrialEnd::NotFound));
+    for crash in [CrashKind::OfProcess, CrashKind::OfMachine] {
         let trial = Trial::Learning(true);
-        let ends = each_refused(rt.alloc(), &rt, &files, Which::Log, trial, crash)?;
-        assert!(rt; ends.contains(&End::NotFound));
-        assert!(rt; ends.contains(&End::Shut));
-        assert!(rt; !ends.contains(&End::Found));
+        let ends = ends_with_each_call_failing(
+            rt.alloc(),
+            &rt,
+            &files,
+            FileOfDatabase::Log,
+            trial,
+            crash,
+        )?;
+        assert!(rt; ends.contains(&TrialEnd::NotFound));
+        assert!(rt; ends.contains(&TrialEnd::Shut));
+        assert!(rt; !ends.contains(&TrialEnd::Found));
     }
     Ok(())
 }
 
 #[test]
-fn an_empty_database_is_prepared_behind_each_stop(rt: HostRuntime) -> Result<(), Fail> {
+fn an_empty_database_is_prepared_after_each_crash(rt: HostRuntime) -> Result<(), Fail> {
     let files = empty_files(rt.alloc());
-    for which in [Which::Log, Which::Database] {
-        for crash in [Stop::OfProcess, Stop::OfMachine] {
-            let ends = each_refused(rt.alloc(), &rt, &files, which, Trial::Preparing, crash)?;
+    for which in [FileOfDatabase::Log, FileOfDatabase::Database] {
+        for crash in [CrashKind::OfProcess, CrashKind::OfMachine] {
+            let ends = ends_with_each_call_failing(
+                rt.alloc(),
+                &rt,
+                &files,
+                which,
+                Trial::Preparing,
+                crash,
+            )?;
             assert!(rt; !ends.is_empty(), "{which:?}, {crash:?}");
             // `prepare` does not use the database file: its pages stay in the log.
             assert!(rt;
-                which == Which::Database || ends.contains(&End::MadeBehind),
+                which == FileOfDatabase::Database || ends.contains(&TrialEnd::MadeBehind),
                 "{crash:?}"
             );
         }
@@ -223,27 +259,27 @@ fn an_empty_database_is_prepared_behind_each_stop(rt: HostRuntime) -> Result<(),
 }
 
 // Registries of version 1: `prepare` fails from each call of a file on, and then there is a crash.
-fn migrates_behind_each_stop(
+fn migrates_after_each_crash(
     alloc: Global,
     rt: &impl Abort,
     devices: u32,
-    which: Which,
-    crash: Stop,
-) -> Result<Vec<End>, Fail> {
-    let files = made_first(alloc, devices)?;
-    each_refused(alloc, rt, &files, which, Trial::Migrating(devices), crash)
+    which: FileOfDatabase,
+    crash: CrashKind,
+) -> Result<Vec<TrialEnd>, Fail> {
+    let files = version_1_files(alloc, devices)?;
+    ends_with_each_call_failing(alloc, rt, &files, which, Trial::Migrating(devices), crash)
 }
 
 #[test]
-fn a_thousand_devices_are_migrated_behind_each_stop(rt: HostRuntime) -> Result<(), Fail> {
-    for which in [Which::Log, Which::Database] {
-        for crash in [Stop::OfProcess, Stop::OfMachine] {
-            let ends = migrates_behind_each_stop(rt.alloc(), &rt, 1000, which, crash)?;
-            assert!(rt; ends.contains(&End::Was(1)), "{which:?}, {crash:?}");
+fn a_thousand_devices_are_migrated_after_each_crash(rt: HostRuntime) -> Result<(), Fail> {
+    for which in [FileOfDatabase::Log, FileOfDatabase::Database] {
+        for crash in [CrashKind::OfProcess, CrashKind::OfMachine] {
+            let ends = migrates_after_each_crash(rt.alloc(), &rt, 1000, which, crash)?;
+            assert!(rt; ends.contains(&TrialEnd::Was(1)), "{which:?}, {crash:?}");
             // A write that was reported as failed is in the log, and only the process has died.
-            let is_migrated = which == Which::Log && crash == Stop::OfProcess;
+            let is_migrated = which == FileOfDatabase::Log && crash == CrashKind::OfProcess;
             assert_eq!(rt;
-                ends.contains(&End::Was(2)),
+                ends.contains(&TrialEnd::Was(2)),
                 is_migrated,
                 "{which:?}, {crash:?}"
             );

@@ -1,6 +1,6 @@
 //! Rejected databases, which are left as they were, and the rows that the tables accept.
-use super::given::{Fresh, open_idle, prepare_idle, run};
-use super::looking::{has_objects, in_version, objects, prepares, run_lines, show};
+use super::given::{NewConnection, open_idle, prepare_idle, run_statements};
+use super::looking::{expect_number, expect_prepared, has_objects, in_version, objects, run_lines};
 use crate::OpenFault;
 use crate::table::Version;
 use crate::table::row_codec::{are_ascending_devices, shows_version};
@@ -11,9 +11,9 @@ use std::test::Fail;
 
 const VERSIONS: [Version; 2] = [Version::First, Version::Second];
 
-/// Databases that do not have both tables as they should be, in either version. For each: its statements, a query that
-/// shows a number, and that number. Marks stand for what differs between the versions.
-const WITHOUT_OURS: &str = "\
+// Databases that do not have both tables as they should be, in either version. For each: its statements, a query that
+// shows a number, and that number. Marks are replaced by what differs between the versions.
+const WITHOUT_OUR_TABLES: &str = "\
 <META>
 ? SELECT count(*) FROM enogate_meta
 = 0
@@ -99,8 +99,8 @@ INSERT INTO <device> VALUES (5, 13959169, -1<empty>)
 ? SELECT maker FROM <device>
 = -1";
 
-/// Databases with our two tables that are no registry, in the same form.
-const BESIDE_OURS: &str = "\
+// Databases with our two tables that are no registry, in the same form.
+const WITH_A_WRONG_TABLE: &str = "\
 <META>
 <DEVICE>
 ? SELECT count(*) FROM enogate_meta
@@ -130,65 +130,65 @@ INSERT INTO enogate_meta VALUES (1, -1)
 ? SELECT version + <n> FROM enogate_meta
 = 3
 
-<OURS>
+<OUR_TABLES>
 <OTHER DEVICE>
 INSERT INTO <device> VALUES (5, 1, -1<empty>)
 ? SELECT count(*) FROM <other>
 = 0
 
-<OURS>
+<OUR_TABLES>
 CREATE VIEW <Other> AS SELECT version FROM enogate_meta
 ? SELECT version FROM <other>
 = <n>
 
-<OURS>
+<OUR_TABLES>
 CREATE TABLE room (id INTEGER PRIMARY KEY, name TEXT) STRICT; INSERT INTO room VALUES (3, 'hall')
 CREATE INDEX <Other> ON room (name)
 ? SELECT id FROM room WHERE name = 'hall'
 = 3
 
-<OURS>
+<OUR_TABLES>
 INSERT INTO <device> VALUES (5, 1, -1<empty>)
 CREATE TABLE room (id INTEGER PRIMARY KEY, device INTEGER REFERENCES <Device> (id)) STRICT
 INSERT INTO room VALUES (1, 5)
 ? SELECT device FROM room
 = 5
 
-<OURS>
+<OUR_TABLES>
 CREATE TABLE room (id INTEGER PRIMARY KEY, device INTEGER REFERENCES <Other> (id)) STRICT
 ? SELECT version FROM enogate_meta
 = <n>
 
-<OURS>
+<OUR_TABLES>
 CREATE TABLE note (id INTEGER PRIMARY KEY, meta INTEGER REFERENCES enogate_meta) STRICT
 ? SELECT version FROM enogate_meta
 = <n>
 
-<OURS>
+<OUR_TABLES>
 CREATE UNIQUE INDEX by_eep ON <device> (eep)
 ? SELECT version FROM enogate_meta
 = <n>
 
-<OURS>
+<OUR_TABLES>
 CREATE INDEX by_version ON enogate_meta (version)
 ? SELECT version FROM enogate_meta
 = <n>
 
-<OURS>
+<OUR_TABLES>
 INSERT INTO <device> WITH RECURSIVE n (i) AS (SELECT 0 UNION ALL SELECT i + 1 FROM n) \
 SELECT i, 13959169, -1<empty> FROM n LIMIT 1001
 ? SELECT count(*) FROM <device>
 = 1001";
 
-/// A database of version 2 with a device whose label is this text, in the same form.
+// A database of version 2 with a device whose label is this text, in the same form.
 const WITH_LABEL: &str = "\
-<OURS>
+<OUR_TABLES>
 INSERT INTO enogate_device_v2 VALUES (5, 13959169, -1, ''), (6, 13959169, -1, <text>)
 ? SELECT count(*) FROM enogate_device_v2 WHERE label = <text>
 = 1";
 
-/// Texts that are no labels, as written in SQL.
-const NO_LABELS: &str = "\
+// Texts that are no labels, as written in SQL.
+const INVALID_LABELS: &str = "\
 'abcdefghijklmnopqrstuvwxyz0123456'
 ' '
 ' Door'
@@ -199,10 +199,10 @@ const NO_LABELS: &str = "\
 'Door\u{7F}'
 'T\u{FC}r'";
 
-/// More databases of version 2, in the same form: with a label that is not UTF-8, and with a table that would accept no
-/// label.
-const BESIDE_SECOND: &str = "\
-<OURS>
+// More databases of version 2, in the same form: with a label that is not UTF-8, and with a table that would accept no
+// label.
+const INVALID_VERSION_2: &str = "\
+<OUR_TABLES>
 INSERT INTO enogate_device_v2 SELECT 5, 13959169, -1, CAST(x'80' AS TEXT)
 ? SELECT count(*) FROM enogate_device_v2 WHERE hex(label) = '80'
 = 1
@@ -216,12 +216,12 @@ INSERT INTO enogate_device_v2 VALUES (5, 13959169, -1, 'Door')
 ? SELECT count(*) FROM enogate_device_v2 WHERE label = 'Door'
 = 1";
 
-fn is_refused_to_prepare<S: Alter>(rt: &impl Abort, conn: &mut Connection<S>) -> Result<(), Fail> {
+fn is_rejected_by_prepare<S: Alter>(rt: &impl Abort, conn: &mut Connection<S>) -> Result<(), Fail> {
     assert_eq!(rt; prepare_idle(conn)?, Err(OpenFault::NotARegistry));
     Ok(())
 }
 
-fn is_refused_to_open<S: Alter + Drop>(
+fn is_rejected_by_open<S: Alter + Drop>(
     alloc: Global,
     rt: &impl Abort,
     conn: Connection<S>,
@@ -234,19 +234,19 @@ fn is_refused_to_open<S: Alter + Drop>(
 }
 
 // `prepare` rejects a database, whose query shows the same before and after it.
-fn is_refused_showing<S: Alter>(
+fn is_rejected_and_unchanged<S: Alter>(
     rt: &impl Abort,
     conn: &mut Connection<S>,
     query: &str,
     shown: i64,
 ) -> Result<(), Fail> {
-    show(rt, conn, query, shown)?;
-    is_refused_to_prepare(rt, conn)?;
-    show(rt, conn, query, shown)
+    expect_number(rt, conn, query, shown)?;
+    is_rejected_by_prepare(rt, conn)?;
+    expect_number(rt, conn, query, shown)
 }
 
 // `prepare` rejects a database, which has the same objects before and after it.
-fn is_left_by_prepare<S: Alter>(
+fn is_unchanged_by_prepare<S: Alter>(
     alloc: Global,
     rt: &impl Abort,
     conn: &mut Connection<S>,
@@ -255,11 +255,11 @@ fn is_left_by_prepare<S: Alter>(
 ) -> Result<(), Fail> {
     let before = objects(alloc, conn)?;
     assert!(rt; before.contains("CREATE "));
-    is_refused_showing(rt, conn, query, shown)?;
+    is_rejected_and_unchanged(rt, conn, query, shown)?;
     has_objects(alloc, rt, conn, before.as_str())
 }
 
-fn are_refused<S: Fresh>(
+fn are_rejected<S: NewConnection>(
     alloc: Global,
     rt: &impl Abort,
     cases: &str,
@@ -269,10 +269,10 @@ fn are_refused<S: Fresh>(
     for case in cases.split("\n\n") {
         let (statements, shows) = case.split_once("\n? ").ok_or("no query")?;
         let (query, shown) = shows.split_once("\n= ").ok_or("no number")?;
-        let mut conn = S::fresh(alloc)?;
+        let mut conn = S::new_connection(alloc)?;
         run_lines(&mut conn, statements)?;
-        is_left_by_prepare(alloc, rt, &mut conn, query, shown.parse()?)?;
-        is_refused_to_open(alloc, rt, conn)?;
+        is_unchanged_by_prepare(alloc, rt, &mut conn, query, shown.parse()?)?;
+        is_rejected_by_open(alloc, rt, conn)?;
     }
     Ok(())
 }
@@ -280,30 +280,30 @@ fn are_refused<S: Fresh>(
 #[test]
 fn databases_without_our_tables(rt: HostRuntime) -> Result<(), Fail> {
     for version in VERSIONS {
-        are_refused::<MemStore>(rt.alloc(), &rt, WITHOUT_OURS, version)?;
+        are_rejected::<MemStore>(rt.alloc(), &rt, WITHOUT_OUR_TABLES, version)?;
     }
     Ok(())
 }
 
 #[test]
-fn our_tables_with_something_wrong(rt: HostRuntime) -> Result<(), Fail> {
+fn databases_with_a_wrong_table(rt: HostRuntime) -> Result<(), Fail> {
     for version in VERSIONS {
-        are_refused::<MemStore>(rt.alloc(), &rt, BESIDE_OURS, version)?;
+        are_rejected::<MemStore>(rt.alloc(), &rt, WITH_A_WRONG_TABLE, version)?;
     }
     Ok(())
 }
 
 #[test]
-fn labels_that_are_none(rt: HostRuntime) -> Result<(), Fail> {
-    for text in NO_LABELS.lines() {
+fn invalid_labels(rt: HostRuntime) -> Result<(), Fail> {
+    for text in INVALID_LABELS.lines() {
         let cases = WITH_LABEL.replace(rt.alloc(), "<text>", text)?;
-        are_refused::<MemStore>(rt.alloc(), &rt, cases.as_str(), Version::Second)?;
+        are_rejected::<MemStore>(rt.alloc(), &rt, cases.as_str(), Version::Second)?;
     }
-    are_refused::<MemStore>(rt.alloc(), &rt, BESIDE_SECOND, Version::Second)
+    are_rejected::<MemStore>(rt.alloc(), &rt, INVALID_VERSION_2, Version::Second)
 }
 
-/// Rows that our tables themselves do not accept.
-const NOT_TAKEN: &str = "\
+// Rows that our tables themselves do not accept.
+const REJECTED_ROWS: &str = "\
 INSERT INTO enogate_meta VALUES (2, 2)
 INSERT INTO enogate_meta VALUES (1, NULL)
 INSERT INTO enogate_device_v2 VALUES (-1, 1, 1, '')
@@ -315,28 +315,28 @@ INSERT INTO enogate_device_v2 VALUES (5, 1, 1, NULL)
 INSERT INTO enogate_device_v2 VALUES (5, 1, 1, x'41')
 INSERT INTO enogate_device_v2 (id, eep, maker) VALUES (5, 1, 1)";
 
-fn are_not_taken<S: Fresh>(alloc: Global, rt: &impl Abort) -> Result<(), Fail> {
-    let mut conn = S::fresh(alloc)?;
-    prepares(rt, &mut conn)?;
-    for sql in NOT_TAKEN.lines() {
+fn are_rejected_by_tables<S: NewConnection>(alloc: Global, rt: &impl Abort) -> Result<(), Fail> {
+    let mut conn = S::new_connection(alloc)?;
+    expect_prepared(rt, &mut conn)?;
+    for sql in REJECTED_ROWS.lines() {
         assert!(rt; conn.execute_batch(sql).is_err(), "{sql}");
     }
-    show(rt, &mut conn, "SELECT count(*) FROM enogate_device_v2", 0)
+    expect_number(rt, &mut conn, "SELECT count(*) FROM enogate_device_v2", 0)
 }
 
 #[test]
-fn rows_that_the_tables_refuse(rt: HostRuntime) -> Result<(), Fail> {
-    are_not_taken::<MemStore>(rt.alloc(), &rt)
+fn rows_that_the_tables_reject(rt: HostRuntime) -> Result<(), Fail> {
+    are_rejected_by_tables::<MemStore>(rt.alloc(), &rt)
 }
 
 // Whether the device table may have each of these rows.
-fn are_devices<S: Fresh>(
+fn accepts_device_rows<S: NewConnection>(
     alloc: Global,
     rt: &impl Abort,
     wanted: bool,
     selects: &str,
 ) -> Result<(), Fail> {
-    let mut conn = S::fresh(alloc)?;
+    let mut conn = S::new_connection(alloc)?;
     for sql in selects.lines() {
         let rows = conn.query_all(sql, &[])?;
         assert_eq!(rt; are_ascending_devices(rows.as_slice()), wanted, "{sql}");
@@ -344,8 +344,8 @@ fn are_devices<S: Fresh>(
     Ok(())
 }
 
-// Whether the version table of this version may have each of these rows. Marks stand for what differs.
-fn are_version<S: Fresh>(
+// Whether the version table of this version may have each of these rows. Marks are replaced by what differs.
+fn accepts_version_rows<S: NewConnection>(
     alloc: Global,
     rt: &impl Abort,
     version: Version,
@@ -353,7 +353,7 @@ fn are_version<S: Fresh>(
     selects: &str,
 ) -> Result<(), Fail> {
     let selects = in_version(alloc, selects, version)?;
-    let mut conn = S::fresh(alloc)?;
+    let mut conn = S::new_connection(alloc)?;
     for sql in selects.lines() {
         let rows = conn.query_all(sql, &[])?;
         assert_eq!(rt; shows_version(rows.as_slice(), version), wanted, "{sql}");
@@ -361,13 +361,13 @@ fn are_version<S: Fresh>(
     Ok(())
 }
 
-const DEVICES: &str = "\
+const DEVICE_ROWS: &str = "\
 SELECT 1, 1, -1, '' LIMIT 0
 SELECT 0, 0, -1, ''
 SELECT 4294967294, 16777215, 2047, '~ abcdefghijklmnopqrstuvwxyz 012'
 SELECT 0, 5, 0, '' UNION ALL SELECT 1, 5, 0, 'a' UNION ALL SELECT 4294967294, 0, -1, 'a'";
 
-const NO_DEVICES: &str = "\
+const INVALID_DEVICE_ROWS: &str = "\
 SELECT -1, 1, -1, ''
 SELECT '5', 1, -1, ''
 SELECT NULL, 1, -1, ''
@@ -387,7 +387,7 @@ SELECT 5, 1, -1, 'abcdefghijklmnopqrstuvwxyz0123456'
 SELECT 5, 1, -1, '' UNION ALL SELECT 5, 2, -1, ''
 SELECT 5, 1, -1, '' UNION ALL SELECT 4, 1, -1, ''";
 
-const NO_VERSION: &str = "\
+const INVALID_VERSION_ROWS: &str = "\
 SELECT 1, <n> LIMIT 0
 SELECT 1, 3 - <n>
 SELECT 1, 3
@@ -402,15 +402,15 @@ SELECT 1, <n> UNION ALL SELECT 1, <n>";
 
 #[test]
 fn rows_of_devices(rt: HostRuntime) -> Result<(), Fail> {
-    are_devices::<MemStore>(rt.alloc(), &rt, true, DEVICES)?;
-    are_devices::<MemStore>(rt.alloc(), &rt, false, NO_DEVICES)
+    accepts_device_rows::<MemStore>(rt.alloc(), &rt, true, DEVICE_ROWS)?;
+    accepts_device_rows::<MemStore>(rt.alloc(), &rt, false, INVALID_DEVICE_ROWS)
 }
 
 #[test]
 fn rows_of_the_version(rt: HostRuntime) -> Result<(), Fail> {
     for version in VERSIONS {
-        are_version::<MemStore>(rt.alloc(), &rt, version, true, "SELECT 1, <n>")?;
-        are_version::<MemStore>(rt.alloc(), &rt, version, false, NO_VERSION)?;
+        accepts_version_rows::<MemStore>(rt.alloc(), &rt, version, true, "SELECT 1, <n>")?;
+        accepts_version_rows::<MemStore>(rt.alloc(), &rt, version, false, INVALID_VERSION_ROWS)?;
     }
     Ok(())
 }

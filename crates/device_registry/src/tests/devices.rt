@@ -1,6 +1,8 @@
 //! Learned devices are found, listed and forgotten, also after the next open.
-use super::acts::{Act, Many, play, take_all};
-use super::given::{Fresh, Known, contact, fresh_registry, open_idle, run, sensor};
+use super::acts::{Act, Many, perform_all, perform_and_reopen};
+use super::given::{
+    Known, NewConnection, contact, new_registry, open_idle, run_statements, sensor,
+};
 use erp1_telegrams::Eep;
 use sqlite::{Alter, Connection, MemStore};
 use std::alloc::Global;
@@ -20,7 +22,7 @@ fn learns_finds_and_forgets(rt: HostRuntime) -> Result<(), Fail> {
         Act::Finds(0x0180_0ABC, None),
         Act::Forgets(0x0180_0ABC),
     ];
-    play::<MemStore>(rt.alloc(), &rt, 64, &acts, &[])
+    perform_and_reopen::<MemStore>(rt.alloc(), &rt, 64, &acts, &[])
 }
 
 const LONGEST: &str = "~ abcdefghijklmnopqrstuvwxyz 012";
@@ -49,11 +51,11 @@ fn labels_are_kept(rt: HostRuntime) -> Result<(), Fail> {
         Act::Lists(0, sensor(5)),
         Act::Counts(2),
     ];
-    play::<MemStore>(rt.alloc(), &rt, 64, &before, &behind)
+    perform_and_reopen::<MemStore>(rt.alloc(), &rt, 64, &before, &behind)
 }
 
 #[test]
-fn a_label_goes_with_its_sender(rt: HostRuntime) -> Result<(), Fail> {
+fn forgetting_removes_the_label(rt: HostRuntime) -> Result<(), Fail> {
     let before = [
         Act::Relabels(5, "Door", false),
         Act::Finds(5, None),
@@ -70,11 +72,11 @@ fn a_label_goes_with_its_sender(rt: HostRuntime) -> Result<(), Fail> {
         Act::Finds(5, Some(contact(5))),
     ];
     let behind = [Act::Counts(1), Act::Lists(0, contact(5))];
-    play::<MemStore>(rt.alloc(), &rt, 64, &before, &behind)
+    perform_and_reopen::<MemStore>(rt.alloc(), &rt, 64, &before, &behind)
 }
 
 #[test]
-fn numbers_at_their_ends(rt: HostRuntime) -> Result<(), Fail> {
+fn smallest_and_largest_numbers(rt: HostRuntime) -> Result<(), Fail> {
     let least = Known {
         id: 0,
         eep: Eep::new(0, 0, 0),
@@ -95,7 +97,7 @@ fn numbers_at_their_ends(rt: HostRuntime) -> Result<(), Fail> {
         Act::Lists(0, least),
         Act::Lists(1, greatest),
     ];
-    play::<MemStore>(rt.alloc(), &rt, 64, &before, &behind)
+    perform_and_reopen::<MemStore>(rt.alloc(), &rt, 64, &before, &behind)
 }
 
 #[test]
@@ -115,23 +117,27 @@ fn the_next_open_finds_all(rt: HostRuntime) -> Result<(), Fail> {
         Act::Finds(3, None),
         Act::Finds(0xFFFF_FFFE, Some(sensor(0xFFFF_FFFE))),
     ];
-    play::<MemStore>(rt.alloc(), &rt, 64, &before, &behind)
+    perform_and_reopen::<MemStore>(rt.alloc(), &rt, 64, &before, &behind)
 }
 
 // Checks how many rows the last statement changed.
-fn has_changed<S: Alter>(rt: &impl Abort, conn: &Connection<S>, wanted: usize) -> Result<(), Fail> {
+fn has_changed_rows<S: Alter>(
+    rt: &impl Abort,
+    conn: &Connection<S>,
+    wanted: usize,
+) -> Result<(), Fail> {
     assert_eq!(rt; conn.changes(), wanted);
     Ok(())
 }
 
 // A statement changes no row, and then an open changes the version row.
-fn open_writes_one_row<S: Fresh>(alloc: Global, rt: &impl Abort) -> Result<(), Fail> {
-    let mut registry = fresh_registry::<S>(alloc, 64)?;
-    take_all(rt, &mut registry, &[Act::Learns(contact(1))])?;
+fn open_writes_one_row<S: NewConnection>(alloc: Global, rt: &impl Abort) -> Result<(), Fail> {
+    let mut registry = new_registry::<S>(alloc, 64)?;
+    perform_all(rt, &mut registry, &[Act::Learns(contact(1))])?;
     let mut conn = registry.close();
-    run(&mut conn, "DELETE FROM enogate_device_v2 WHERE id > 1")?;
-    has_changed(rt, &conn, 0)?;
-    has_changed(rt, &open_idle(alloc, conn)??.close(), 1)
+    run_statements(&mut conn, "DELETE FROM enogate_device_v2 WHERE id > 1")?;
+    has_changed_rows(rt, &conn, 0)?;
+    has_changed_rows(rt, &open_idle(alloc, conn)??.close(), 1)
 }
 
 #[test]
@@ -156,5 +162,5 @@ fn a_thousand_devices_and_no_more(rt: HostRuntime) -> Result<(), Fail> {
         Act::Finds(1000, Some(sensor(1000))),
         Act::Finds(8, None),
     ];
-    play::<MemStore>(rt.alloc(), &rt, 64, &before, &behind)
+    perform_and_reopen::<MemStore>(rt.alloc(), &rt, 64, &before, &behind)
 }

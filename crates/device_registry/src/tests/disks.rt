@@ -9,17 +9,17 @@ use std::test::Fail;
 
 /// A disk that reports one write as failed although its bytes are in the file. All other calls go to the disk below.
 #[derive(Drop)]
-pub struct Stumbling<D: Disk> {
+pub struct MisreportingDisk<D: Disk> {
     inner: D,
-    /// The write that is reported as failed: 1 is the next one, and 0 no write.
+    // The write that is reported as failed: 1 is the next one, and 0 no write.
     write: u64,
     stated: u64,
     syncs: u64,
 }
 
-impl<D: Disk> Stumbling<D> {
-    pub fn new(inner: D, write: u64) -> Stumbling<D> {
-        Stumbling {
+impl<D: Disk> MisreportingDisk<D> {
+    pub fn new(inner: D, write: u64) -> MisreportingDisk<D> {
+        MisreportingDisk {
             inner,
             write,
             stated: 0,
@@ -37,7 +37,7 @@ impl<D: Disk> Stumbling<D> {
     }
 
     pub fn into_inner(self) -> D {
-        let Stumbling {
+        let MisreportingDisk {
             inner,
             write: _,
             stated: _,
@@ -47,7 +47,7 @@ impl<D: Disk> Stumbling<D> {
     }
 }
 
-impl<D: Disk> Disk for Stumbling<D> {
+impl<D: Disk> Disk for MisreportingDisk<D> {
     ghost seen = { λ s. D.Disk.seen s.inner };
 
     ghost may_leave = { λ s. D.Disk.may_leave s.inner };
@@ -122,19 +122,19 @@ impl<D: Disk> Disk for Stumbling<D> {
 }
 
 /// The files of all tests over disks: one type, so that the database code is compiled for only one.
-pub type Disks = Files<Stumbling<Fuse<Memory>>>;
+pub type Disks = Files<MisreportingDisk<Fuse<Memory>>>;
 
 /// The log, or the database file.
 #[derive(Clone, Copy, Debug, PartialEq, Eq)]
-pub enum Which {
+pub enum FileOfDatabase {
     Log,
     Database,
 }
 
 /// How a file fails.
 #[derive(Clone, Copy)]
-pub enum Refusal {
-    Nothing,
+pub enum DiskFault {
+    Never,
     /// All calls fail except this many at the beginning.
     From(u64),
     /// The write with this number is reported as failed, although its bytes are in the file.
@@ -143,30 +143,30 @@ pub enum Refusal {
 
 /// How much of the unsynced data a crash leaves.
 #[derive(Clone, Copy, Debug, PartialEq, Eq)]
-pub enum Stop {
+pub enum CrashKind {
     /// The process dies: all of it.
     OfProcess,
     /// The machine crashes: nothing.
     OfMachine,
 }
 
-fn disk(file: Memory, refusal: Refusal) -> Stumbling<Fuse<Memory>> {
-    match refusal {
-        Refusal::Nothing => Stumbling::new(Fuse::new(file, u64::MAX), 0),
-        Refusal::From(calls) => Stumbling::new(Fuse::new(file, calls), 0),
-        Refusal::Write(write) => Stumbling::new(Fuse::new(file, u64::MAX), write),
+fn disk(file: Memory, fault: DiskFault) -> MisreportingDisk<Fuse<Memory>> {
+    match fault {
+        DiskFault::Never => MisreportingDisk::new(Fuse::new(file, u64::MAX), 0),
+        DiskFault::From(calls) => MisreportingDisk::new(Fuse::new(file, calls), 0),
+        DiskFault::Write(write) => MisreportingDisk::new(Fuse::new(file, u64::MAX), write),
     }
 }
 
 /// New files.
 pub fn empty_files(alloc: Global) -> Disks {
     Files {
-        log: disk(Memory::new(alloc), Refusal::Nothing),
-        db: disk(Memory::new(alloc), Refusal::Nothing),
+        log: disk(Memory::new(alloc), DiskFault::Never),
+        db: disk(Memory::new(alloc), DiskFault::Never),
     }
 }
 
-fn copied(alloc: Global, file: &Stumbling<Fuse<Memory>>) -> Result<Memory, Fail> {
+fn copied(alloc: Global, file: &MisreportingDisk<Fuse<Memory>>) -> Result<Memory, Fail> {
     let mut copy = Memory::new(alloc);
     copy.write_at(0, file.inner().inner().bytes())?;
     copy.sync()?;
@@ -174,29 +174,29 @@ fn copied(alloc: Global, file: &Stumbling<Fuse<Memory>>) -> Result<Memory, Fail>
 }
 
 /// New files with the bytes of these; one of them fails.
-pub fn refusing(
+pub fn with_fault(
     alloc: Global,
     files: &Disks,
-    which: Which,
-    refusal: Refusal,
+    which: FileOfDatabase,
+    fault: DiskFault,
 ) -> Result<Disks, Fail> {
     let log = copied(alloc, &files.log)?;
     let db = copied(alloc, &files.db)?;
     Ok(match which {
-        Which::Log => Files {
-            log: disk(log, refusal),
-            db: disk(db, Refusal::Nothing),
+        FileOfDatabase::Log => Files {
+            log: disk(log, fault),
+            db: disk(db, DiskFault::Never),
         },
-        Which::Database => Files {
-            log: disk(log, Refusal::Nothing),
-            db: disk(db, refusal),
+        FileOfDatabase::Database => Files {
+            log: disk(log, DiskFault::Never),
+            db: disk(db, fault),
         },
     })
 }
 
 /// The state that a crash leaves.
 #[derive(Drop)]
-pub struct Left {
+pub struct AfterCrash {
     /// Copies of the files, which no longer fail.
     pub files: Disks,
     /// The number of syncs of the log.
@@ -208,7 +208,7 @@ pub fn connected(
     alloc: Global,
     files: Disks,
     pages: usize,
-) -> Result<Option<Connection<FileStore<Stumbling<Fuse<Memory>>>>>, Fail> {
+) -> Result<Option<Connection<FileStore<MisreportingDisk<Fuse<Memory>>>>>, Fail> {
     if !files.may_be_used() {
         return Err(Fail::from("a sync has failed"));
     }
@@ -218,11 +218,11 @@ pub fn connected(
 }
 
 /// A connection over a disk that must not fail.
-pub fn surely_connected(
+pub fn connected_or_fail(
     alloc: Global,
     files: Disks,
     pages: usize,
-) -> Result<Connection<FileStore<Stumbling<Fuse<Memory>>>>, Fail> {
+) -> Result<Connection<FileStore<MisreportingDisk<Fuse<Memory>>>>, Fail> {
     match connected(alloc, files, pages)? {
         Some(conn) => Ok(conn),
         None => Err(Fail::from("no connection")),
@@ -230,17 +230,17 @@ pub fn surely_connected(
 }
 
 /// The files of a closed connection.
-pub fn closed(conn: Connection<FileStore<Stumbling<Fuse<Memory>>>>) -> Result<Disks, Fail> {
+pub fn closed(conn: Connection<FileStore<MisreportingDisk<Fuse<Memory>>>>) -> Result<Disks, Fail> {
     Ok(conn.close_files().ok().ok_or("not closed")?)
 }
 
 /// The state that a crash at this moment leaves of a connection.
-pub fn stopped(
+pub fn after_crash(
     alloc: Global,
-    conn: Connection<FileStore<Stumbling<Fuse<Memory>>>>,
-    crash: Stop,
-) -> Result<Left, Fail> {
-    left_by(alloc, files_of(store_of(conn)), crash)
+    conn: Connection<FileStore<MisreportingDisk<Fuse<Memory>>>>,
+    crash: CrashKind,
+) -> Result<AfterCrash, Fail> {
+    files_after_crash(alloc, files_of(store_of(conn)), crash)
 }
 
 // The store of a connection that nothing uses any more.
@@ -254,22 +254,25 @@ fn files_of<D: Disk + Drop>(store: FileStore<D>) -> Files<D> {
 }
 
 // The disk that a crash leaves; it no longer fails.
-fn left_of(disk: Stumbling<Fuse<Memory>>, crash: Stop) -> Stumbling<Fuse<Memory>> {
+fn disk_after_crash(
+    disk: MisreportingDisk<Fuse<Memory>>,
+    crash: CrashKind,
+) -> MisreportingDisk<Fuse<Memory>> {
     let mut file = disk.into_inner();
-    if crash == Stop::OfMachine {
+    if crash == CrashKind::OfMachine {
         file.crash();
     }
-    Stumbling::new(file, 0)
+    MisreportingDisk::new(file, 0)
 }
 
 // The state that a crash leaves of these files.
-fn left_by(alloc: Global, files: Disks, crash: Stop) -> Result<Left, Fail> {
+fn files_after_crash(alloc: Global, files: Disks, crash: CrashKind) -> Result<AfterCrash, Fail> {
     let syncs = files.log.syncs();
     let Files { log, db } = files;
     let left = Files {
-        log: left_of(log, crash),
-        db: left_of(db, crash),
+        log: disk_after_crash(log, crash),
+        db: disk_after_crash(db, crash),
     };
-    let files = refusing(alloc, &left, Which::Log, Refusal::Nothing)?;
-    Ok(Left { files, syncs })
+    let files = with_fault(alloc, &left, FileOfDatabase::Log, DiskFault::Never)?;
+    Ok(AfterCrash { files, syncs })
 }

@@ -5,7 +5,7 @@ use std::alloc::{AllocError, Global};
 use std::process::Abort;
 use std::test::Fail;
 
-fn says(alloc: Global, rt: &impl Abort, fault: &OpenFault, text: &str) -> Result<(), Fail> {
+fn has_text(alloc: Global, rt: &impl Abort, fault: &OpenFault, text: &str) -> Result<(), Fail> {
     let said = format!(in alloc; "{fault}")?;
     assert_eq!(rt; said.as_str(), text);
     Ok(())
@@ -29,7 +29,7 @@ fn each_fault_says_why(rt: HostRuntime) -> Result<(), Fail> {
         ),
         (OpenFault::from(Error::QueryReturnedNoRows), store_failed),
     ] {
-        says(rt.alloc(), &rt, &fault, text)?;
+        has_text(rt.alloc(), &rt, &fault, text)?;
     }
     Ok(())
 }

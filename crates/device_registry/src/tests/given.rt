@@ -100,7 +100,7 @@ pub fn sensor(id: u32) -> Known {
 }
 
 /// A contact or a sensor, alternately.
-pub fn either(id: u32) -> Known {
+pub fn contact_or_sensor(id: u32) -> Known {
     if id % 2 == 0 { contact(id) } else { sensor(id) }
 }
 
@@ -116,10 +116,10 @@ pub fn varied(id: u32) -> Known {
 }
 
 /// Makes the database a registry of version 1 with this many of those devices, with the IDs from 0 on.
-pub fn be_first_version<S: Alter>(conn: &mut Connection<S>, devices: i64) -> Result<(), Fail> {
-    run(conn, META_TABLE)?;
-    run(conn, FIRST_DEVICE_TABLE)?;
-    run(conn, FIRST_VERSION_ROW)?;
+pub fn make_version_1<S: Alter>(conn: &mut Connection<S>, devices: i64) -> Result<(), Fail> {
+    run_statements(conn, META_TABLE)?;
+    run_statements(conn, FIRST_DEVICE_TABLE)?;
+    run_statements(conn, FIRST_VERSION_ROW)?;
     conn.execute(
         "INSERT INTO enogate_device WITH RECURSIVE n (i) AS (SELECT 0 UNION ALL SELECT i + 1 FROM n) \
         SELECT i, 13959168 + i, i - (i = 0) FROM n LIMIT ?1",
@@ -132,14 +132,14 @@ pub fn is_store(fault: &StoreFault) -> bool {
     !fault.is_memory()
 }
 
-pub fn is_learn_store(fault: &LearnFault) -> bool {
+pub fn is_store_in_learn(fault: &LearnFault) -> bool {
     match fault {
         LearnFault::Full => false,
         LearnFault::Failed(fault) => is_store(fault),
     }
 }
 
-pub fn is_open_store(fault: &OpenFault) -> bool {
+pub fn is_store_in_open(fault: &OpenFault) -> bool {
     match fault {
         OpenFault::NotARegistry => false,
         OpenFault::Failed(fault) => is_store(fault),
@@ -171,21 +171,21 @@ pub fn forget<R: Remembering>(registry: &mut R, id: u32) -> Result<(), StoreFaul
 }
 
 /// A store that gives a test a new database; the rest of a test is generic in the store.
-pub trait Fresh: Alter + Drop + Sized {
-    fn fresh(alloc: Global) -> Result<Connection<Self>, Fail>;
+pub trait NewConnection: Alter + Drop + Sized {
+    fn new_connection(alloc: Global) -> Result<Connection<Self>, Fail>;
 }
 
-impl Fresh for MemStore {
-    fn fresh(alloc: Global) -> Result<Connection<MemStore>, Fail> {
+impl NewConnection for MemStore {
+    fn new_connection(alloc: Global) -> Result<Connection<MemStore>, Fail> {
         Ok(Connection::open_in_memory(alloc)?)
     }
 }
 
 /// A new registry with a cache of this many senders.
-pub fn fresh_registry<S: Fresh>(alloc: Global, cache: usize) -> Result<Registry<S>, Fail>
+pub fn new_registry<S: NewConnection>(alloc: Global, cache: usize) -> Result<Registry<S>, Fail>
     requires { (1 ≤ cache) × (cache ≤ max_cached) }
 {
-    let conn = S::fresh(alloc)?;
+    let conn = S::new_connection(alloc)?;
     if !conn.is_autocommit() {
         return Err(Fail::from("a transaction is open"));
     }
@@ -214,11 +214,11 @@ pub fn prepare_idle<S: Alter>(conn: &mut Connection<S>) -> Result<Result<(), Ope
     Ok(prepare(conn))
 }
 
-pub fn run<S: Alter>(conn: &mut Connection<S>, statements: &str) -> Result<(), Fail> {
+pub fn run_statements<S: Alter>(conn: &mut Connection<S>, statements: &str) -> Result<(), Fail> {
     conn.execute_batch(statements)?;
     Ok(())
 }
 
-pub fn number<S: Alter>(conn: &mut Connection<S>, sql: &str) -> Result<i64, Fail> {
+pub fn query_number<S: Alter>(conn: &mut Connection<S>, sql: &str) -> Result<i64, Fail> {
     Ok(conn.query_row(sql, &[])?.get(0)?)
 }

@@ -1,7 +1,7 @@
 //! Creating databases from texts, and inspecting them.
 use super::given::{
-    DEVICE_TABLE, FIRST_DEVICE_TABLE, FIRST_VERSION_ROW, META_TABLE, VERSION_ROW, number,
-    prepare_idle, run,
+    DEVICE_TABLE, FIRST_DEVICE_TABLE, FIRST_VERSION_ROW, META_TABLE, VERSION_ROW, prepare_idle,
+    query_number, run_statements,
 };
 use crate::table::Version;
 use sqlite::{Alter, Connection, Row};
@@ -9,12 +9,12 @@ use std::alloc::Global;
 use std::process::Abort;
 use std::test::Fail;
 
-/// The statements that create a registry, by their marks.
-const OURS: &str = "<META>\n<DEVICE>\n<VERSION>";
+// The statements that create a registry, by their marks.
+const OUR_TABLES: &str = "<META>\n<DEVICE>\n<VERSION>";
 
-/// The marks of a text for both versions, each with its meaning in version 1 and in version 2.
+// The marks of a text for both versions, each with its meaning in version 1 and in version 2.
 const MARKS: [(&str, &str, &str); 13] = [
-    ("<OURS>", OURS, OURS),
+    ("<OUR_TABLES>", OUR_TABLES, OUR_TABLES),
     ("<META>", META_TABLE, META_TABLE),
     ("<DEVICE>", FIRST_DEVICE_TABLE, DEVICE_TABLE),
     ("<OTHER DEVICE>", DEVICE_TABLE, FIRST_DEVICE_TABLE),
@@ -44,7 +44,7 @@ pub fn in_version(alloc: Global, text: &str, version: Version) -> Result<String,
 /// Runs the statements, one in each line.
 pub fn run_lines<S: Alter>(conn: &mut Connection<S>, lines: &str) -> Result<(), Fail> {
     for line in lines.lines() {
-        run(conn, line)?;
+        run_statements(conn, line)?;
     }
     Ok(())
 }
@@ -56,12 +56,12 @@ pub fn objects<S: Alter>(alloc: Global, conn: &mut Connection<S>) -> Result<Stri
         "SELECT type, name, sql FROM sqlite_schema ORDER BY rowid",
         &[],
     )? {
-        tell_object(row, &mut reported)?;
+        append_object(row, &mut reported)?;
     }
     Ok(reported)
 }
 
-fn tell_object(row: &Row, reported: &mut String) -> Result<(), Fail> {
+fn append_object(row: &Row, reported: &mut String) -> Result<(), Fail> {
     for at in 0..3 {
         let text: Option<String> = row.get(at)?;
         reported.push_str(text.as_deref().unwrap_or("no text"))?;
@@ -80,30 +80,30 @@ pub fn has_objects<S: Alter>(
     Ok(())
 }
 
-pub fn show<S: Alter>(
+pub fn expect_number<S: Alter>(
     rt: &impl Abort,
     conn: &mut Connection<S>,
     query: &str,
     shown: i64,
 ) -> Result<(), Fail> {
-    assert_eq!(rt; number(conn, query)?, shown, "{query}");
+    assert_eq!(rt; query_number(conn, query)?, shown, "{query}");
     Ok(())
 }
 
-pub fn prepares<S: Alter>(rt: &impl Abort, conn: &mut Connection<S>) -> Result<(), Fail> {
+pub fn expect_prepared<S: Alter>(rt: &impl Abort, conn: &mut Connection<S>) -> Result<(), Fail> {
     assert_eq!(rt; prepare_idle(conn)?, Ok(()));
     Ok(())
 }
 
 /// Checks, for each line of the table, that its query shows its number.
-pub fn show_each<S: Alter>(
+pub fn expect_numbers<S: Alter>(
     rt: &impl Abort,
     conn: &mut Connection<S>,
     table: &str,
 ) -> Result<(), Fail> {
     for line in table.lines() {
         let (query, shown) = line.rsplit_once(" = ").ok_or("no number")?;
-        show(rt, conn, query, shown.parse()?)?;
+        expect_number(rt, conn, query, shown.parse()?)?;
     }
     Ok(())
 }

@@ -1,8 +1,8 @@
 //! A registry over a disk that fails, one step each.
-use super::acts::{Act, Many, take_all};
+use super::acts::{Act, Many, perform_all};
 use super::given::{
-    Known, contact, forget, is_learn_store, is_open_store, is_store, learn, number, open_idle,
-    prepare_idle, relabel, run, sensor,
+    Known, contact, forget, is_store, is_store_in_learn, is_store_in_open, learn, open_idle,
+    prepare_idle, query_number, relabel, run_statements, sensor,
 };
 use super::remembering::Remembering;
 use crate::Registry;
@@ -31,9 +31,9 @@ pub const CALLS: [Call; 5] = [
 
 /// The result of calls over a disk that fails.
 #[derive(Clone, Copy, Debug, PartialEq, Eq)]
-pub enum End {
+pub enum TrialEnd {
     /// Nothing failed.
-    NoRefusal,
+    NoFault,
     /// No registry was opened, or the first call failed.
     Early,
     /// The first call that failed; and whether the sender of its update was found afterwards.
@@ -54,8 +54,8 @@ pub enum End {
     Kept,
 }
 
-/// The data of a sender in a filled registry: one has a label.
-fn known(id: u32) -> Known {
+// The data of a sender in a filled registry: one has a label.
+fn data_in_filled_registry(id: u32) -> Known {
     if id == 9 {
         contact(9).labelled("Room")
     } else {
@@ -64,7 +64,7 @@ fn known(id: u32) -> Known {
 }
 
 /// The connection of a closed registry with this many contacts, with the IDs from 0 on.
-pub fn filled<S: Alter + Drop>(
+pub fn filled_registry<S: Alter + Drop>(
     alloc: Global,
     conn: Connection<S>,
     devices: i64,
@@ -75,7 +75,7 @@ pub fn filled<S: Alter + Drop>(
         SELECT i, 13959169, -1, '' FROM n LIMIT ?1",
         params![devices],
     )?;
-    run(
+    run_statements(
         &mut conn,
         "UPDATE enogate_device_v2 SET label = 'Room' WHERE id = 9",
     )?;
@@ -83,14 +83,10 @@ pub fn filled<S: Alter + Drop>(
 }
 
 // Whether the database fails in `find`. If not, it finds what a filled registry holds.
-fn is_find_refused<R: Remembering>(
-    rt: &impl Abort,
-    registry: &mut R,
-    id: u32,
-) -> Result<bool, Fail> {
+fn fails_to_find<R: Remembering>(rt: &impl Abort, registry: &mut R, id: u32) -> Result<bool, Fail> {
     match registry.find(id) {
         Ok(found) => {
-            assert_eq!(rt; found, Some(known(id).device()));
+            assert_eq!(rt; found, Some(data_in_filled_registry(id).device()));
             Ok(false)
         }
         Err(fault) => {
@@ -100,20 +96,20 @@ fn is_find_refused<R: Remembering>(
     }
 }
 
-fn is_learn_refused<R: Remembering>(
+fn fails_to_learn<R: Remembering>(
     rt: &impl Abort,
     registry: &mut R,
     id: u32,
 ) -> Result<bool, Fail> {
     if let Err(fault) = learn(registry, sensor(id)) {
-        assert!(rt; is_learn_store(&fault));
+        assert!(rt; is_store_in_learn(&fault));
         return Ok(true);
     }
     Ok(false)
 }
 
 // Whether the database fails in `relabel`. If not, the sender is known.
-fn is_relabel_refused<R: Remembering>(
+fn fails_to_relabel<R: Remembering>(
     rt: &impl Abort,
     registry: &mut R,
     id: u32,
@@ -130,7 +126,7 @@ fn is_relabel_refused<R: Remembering>(
     }
 }
 
-fn is_forget_refused<R: Remembering>(
+fn fails_to_forget<R: Remembering>(
     rt: &impl Abort,
     registry: &mut R,
     id: u32,
@@ -143,7 +139,7 @@ fn is_forget_refused<R: Remembering>(
 }
 
 // Whether the database fails in `all`. If not, the list shows the update.
-fn is_all_refused<R: Remembering>(rt: &impl Abort, registry: &mut R) -> Result<bool, Fail> {
+fn fails_to_list<R: Remembering>(rt: &impl Abort, registry: &mut R) -> Result<bool, Fail> {
     match registry.all() {
         Ok(all) => {
             assert!(rt; all.contains(&sensor(3).device()) && !all.contains(&contact(5).device()));
@@ -157,18 +153,18 @@ fn is_all_refused<R: Remembering>(rt: &impl Abort, registry: &mut R) -> Result<b
     }
 }
 
-fn is_refused<R: Remembering>(rt: &impl Abort, registry: &mut R, call: Call) -> Result<bool, Fail> {
+fn has_failed<R: Remembering>(rt: &impl Abort, registry: &mut R, call: Call) -> Result<bool, Fail> {
     match call {
-        Call::Find => is_find_refused(rt, registry, 7),
-        Call::Learn => is_learn_refused(rt, registry, 3),
-        Call::Relabel => is_relabel_refused(rt, registry, 9),
-        Call::Forget => is_forget_refused(rt, registry, 5),
-        Call::All => is_all_refused(rt, registry),
+        Call::Find => fails_to_find(rt, registry, 7),
+        Call::Learn => fails_to_learn(rt, registry, 3),
+        Call::Relabel => fails_to_relabel(rt, registry, 9),
+        Call::Forget => fails_to_forget(rt, registry, 5),
+        Call::All => fails_to_list(rt, registry),
     }
 }
 
 // Whether a sender is found after its update failed. If so, it is as it was before.
-fn is_found_behind<R: Remembering>(
+fn is_found_after_failure<R: Remembering>(
     rt: &impl Abort,
     registry: &mut R,
     call: Call,
@@ -179,59 +175,65 @@ fn is_found_behind<R: Remembering>(
         Call::Forget => 5,
         Call::Find | Call::All => return Ok(false),
     };
-    Ok(!is_find_refused(rt, registry, id)?)
+    Ok(!fails_to_find(rt, registry, id)?)
 }
 
 // The first call that fails. After it the cache is empty.
-fn first_refusal<R: Remembering>(rt: &impl Abort, registry: &mut R) -> Result<End, Fail> {
+fn first_failure<R: Remembering>(rt: &impl Abort, registry: &mut R) -> Result<TrialEnd, Fail> {
     for call in CALLS {
-        if is_refused(rt, registry, call)? {
-            take_all(rt, registry, &[Act::RemembersSoMany(0)])?;
-            return Ok(End::At(call, is_found_behind(rt, registry, call)?));
+        if has_failed(rt, registry, call)? {
+            perform_all(rt, registry, &[Act::RemembersSoMany(0)])?;
+            return Ok(TrialEnd::At(call, is_found_after_failure(rt, registry, call)?));
         }
     }
-    Ok(End::NoRefusal)
+    Ok(TrialEnd::NoFault)
 }
 
 // Whether the look-up of an uncached sender fails, and a cached sender is answered. Afterwards the cache is empty.
-fn look_ups<R: Remembering>(rt: &impl Abort, registry: &mut R) -> Result<End, Fail> {
-    if is_find_refused(rt, registry, 7)? {
-        return Ok(End::Early);
+fn look_up_uncached_and_cached<R: Remembering>(
+    rt: &impl Abort,
+    registry: &mut R,
+) -> Result<TrialEnd, Fail> {
+    if fails_to_find(rt, registry, 7)? {
+        return Ok(TrialEnd::Early);
     }
-    if is_find_refused(rt, registry, 7)? {
-        return Err(Fail::from("a remembered sender is refused"));
+    if fails_to_find(rt, registry, 7)? {
+        return Err(Fail::from("a remembered sender needs the database"));
     }
-    if is_find_refused(rt, registry, 340)? {
-        take_all(rt, registry, &[Act::RemembersSoMany(0)])?;
-        return Ok(End::ToldApart);
+    if fails_to_find(rt, registry, 340)? {
+        perform_all(rt, registry, &[Act::RemembersSoMany(0)])?;
+        return Ok(TrialEnd::ToldApart);
     }
-    Ok(End::NoRefusal)
+    Ok(TrialEnd::NoFault)
 }
 
 // The connection of a closed registry that has learned a sender, labelled another and forgotten a third.
-fn changed<S: Alter + Drop>(rt: &impl Abort, registry: Registry<S>) -> Result<Connection<S>, Fail> {
+fn change_registry<S: Alter + Drop>(
+    rt: &impl Abort,
+    registry: Registry<S>,
+) -> Result<Connection<S>, Fail> {
     let mut registry = registry;
     let acts = [
         Act::Learns(sensor(600)),
         Act::Relabels(9, "Hall", true),
         Act::Forgets(7),
     ];
-    take_all(rt, &mut registry, &acts)?;
+    perform_all(rt, &mut registry, &acts)?;
     Ok(registry.close())
 }
 
 // The connection of a closed registry that failed to learn a sender, or none if it has learned it.
-fn refused_to_learn<S: Alter + Drop>(
+fn after_failing_to_learn<S: Alter + Drop>(
     rt: &impl Abort,
     registry: Registry<S>,
 ) -> Result<Option<Connection<S>>, Fail> {
     let mut registry = registry;
-    let is_refused = is_learn_refused(rt, &mut registry, 600)?;
-    Ok(is_refused.then_some(registry.close()))
+    let has_failed = fails_to_learn(rt, &mut registry, 600)?;
+    Ok(has_failed.then_some(registry.close()))
 }
 
-/// The connection, opened and closed once more, or none if the disk fails meanwhile.
-fn opened_and_closed<S: Alter + Drop>(
+// The connection, opened and closed once more, or none if the disk fails meanwhile.
+fn reopened<S: Alter + Drop>(
     alloc: Global,
     rt: &impl Abort,
     conn: Connection<S>,
@@ -239,31 +241,31 @@ fn opened_and_closed<S: Alter + Drop>(
     match open_idle(alloc, conn)? {
         Ok(again) => Ok(Some(again.close())),
         Err(fault) => {
-            assert!(rt; is_open_store(&fault));
+            assert!(rt; is_store_in_open(&fault));
             Ok(None)
         }
     }
 }
 
 // Whether the sender that was to be learned is found.
-fn found<R: Remembering>(rt: &impl Abort, registry: &mut R) -> Result<End, Fail> {
-    take_all(rt, registry, &[Act::Finds(7, Some(contact(7)))])?;
+fn find_learned<R: Remembering>(rt: &impl Abort, registry: &mut R) -> Result<TrialEnd, Fail> {
+    perform_all(rt, registry, &[Act::Finds(7, Some(contact(7)))])?;
     match registry.find(600)? {
         Some(found) => {
             assert_eq!(rt; found, sensor(600).device());
-            Ok(End::Found)
+            Ok(TrialEnd::Found)
         }
-        None => Ok(End::NotFound),
+        None => Ok(TrialEnd::NotFound),
     }
 }
 
 // `prepare` of a database that is not yet a registry of version 2.
-fn prepared<S: Alter>(rt: &impl Abort, conn: &mut Connection<S>) -> Result<End, Fail> {
+fn prepare_new<S: Alter>(rt: &impl Abort, conn: &mut Connection<S>) -> Result<TrialEnd, Fail> {
     match prepare_idle(conn)? {
-        Ok(()) => Ok(End::NoRefusal),
+        Ok(()) => Ok(TrialEnd::NoFault),
         Err(fault) => {
-            assert!(rt; is_open_store(&fault));
-            Ok(End::MadeBehind)
+            assert!(rt; is_store_in_open(&fault));
+            Ok(TrialEnd::MadeBehind)
         }
     }
 }
@@ -297,99 +299,99 @@ pub fn pages(trial: Trial) -> usize {
 
 /// The part of a trial before its crash. It returns the connection if the trial continues after the crash. The end
 /// stays as it is if the disk fails while a registry is opened.
-pub fn before_stop<S: Alter + Drop>(
+pub fn run_before_crash<S: Alter + Drop>(
     alloc: Global,
     rt: &impl Abort,
     conn: Connection<S>,
     trial: Trial,
-    end: &mut End,
+    end: &mut TrialEnd,
 ) -> Result<Option<Connection<S>>, Fail> {
     match trial {
-        Trial::Calls(_) => calling(alloc, rt, conn, end),
-        Trial::LookUps => looking_up(alloc, rt, conn, end),
-        Trial::Learning(opens_again) => learning(alloc, rt, conn, opens_again, end),
-        Trial::Preparing | Trial::Migrating(_) => preparing(rt, conn, end),
-        Trial::Changing => changing(alloc, rt, conn),
+        Trial::Calls(_) => run_calls(alloc, rt, conn, end),
+        Trial::LookUps => run_look_ups(alloc, rt, conn, end),
+        Trial::Learning(opens_again) => run_learning(alloc, rt, conn, opens_again, end),
+        Trial::Preparing | Trial::Migrating(_) => run_preparing(rt, conn, end),
+        Trial::Changing => run_changing(alloc, rt, conn),
     }
 }
 
-fn calling<S: Alter + Drop>(
+fn run_calls<S: Alter + Drop>(
     alloc: Global,
     rt: &impl Abort,
     conn: Connection<S>,
-    end: &mut End,
+    end: &mut TrialEnd,
 ) -> Result<Option<Connection<S>>, Fail> {
     if let Ok(mut registry) = open_idle(alloc, conn)? {
-        *end = first_refusal(rt, &mut registry)?;
+        *end = first_failure(rt, &mut registry)?;
     }
     Ok(None)
 }
 
-fn looking_up<S: Alter + Drop>(
+fn run_look_ups<S: Alter + Drop>(
     alloc: Global,
     rt: &impl Abort,
     conn: Connection<S>,
-    end: &mut End,
+    end: &mut TrialEnd,
 ) -> Result<Option<Connection<S>>, Fail> {
     if let Ok(mut registry) = open_idle(alloc, conn)? {
-        *end = look_ups(rt, &mut registry)?;
+        *end = look_up_uncached_and_cached(rt, &mut registry)?;
     }
     Ok(None)
 }
 
-fn learning<S: Alter + Drop>(
+fn run_learning<S: Alter + Drop>(
     alloc: Global,
     rt: &impl Abort,
     conn: Connection<S>,
     opens_again: bool,
-    end: &mut End,
+    end: &mut TrialEnd,
 ) -> Result<Option<Connection<S>>, Fail> {
     let Ok(registry) = open_idle(alloc, conn)? else {
         return Ok(None);
     };
-    *end = End::NoRefusal;
-    let Some(conn) = refused_to_learn(rt, registry)? else {
+    *end = TrialEnd::NoFault;
+    let Some(conn) = after_failing_to_learn(rt, registry)? else {
         return Ok(None);
     };
     if !opens_again {
         return Ok(Some(conn));
     }
-    *end = End::Shut;
-    opened_and_closed(alloc, rt, conn)
+    *end = TrialEnd::Shut;
+    reopened(alloc, rt, conn)
 }
 
-fn preparing<S: Alter + Drop>(
+fn run_preparing<S: Alter + Drop>(
     rt: &impl Abort,
     conn: Connection<S>,
-    end: &mut End,
+    end: &mut TrialEnd,
 ) -> Result<Option<Connection<S>>, Fail> {
     let mut conn = conn;
-    *end = prepared(rt, &mut conn)?;
+    *end = prepare_new(rt, &mut conn)?;
     Ok(Some(conn))
 }
 
-fn changing<S: Alter + Drop>(
+fn run_changing<S: Alter + Drop>(
     alloc: Global,
     rt: &impl Abort,
     conn: Connection<S>,
 ) -> Result<Option<Connection<S>>, Fail> {
     let registry = open_idle(alloc, conn)??;
-    Ok(Some(changed(rt, registry)?))
+    Ok(Some(change_registry(rt, registry)?))
 }
 
 /// The part of a trial after its crash, over a new connection, and its end.
-pub fn behind_stop<S: Alter + Drop>(
+pub fn run_after_crash<S: Alter + Drop>(
     alloc: Global,
     rt: &impl Abort,
     conn: Connection<S>,
     trial: Trial,
-    end: End,
-) -> Result<End, Fail> {
+    end: TrialEnd,
+) -> Result<TrialEnd, Fail> {
     let mut conn = conn;
     let end = reported_by_version(&mut conn, trial, end)?;
     let mut registry = open_idle(alloc, conn)??;
     match trial {
-        Trial::Learning(_) => found(rt, &mut registry),
+        Trial::Learning(_) => find_learned(rt, &mut registry),
         Trial::Preparing => is_empty_and_learns(rt, &mut registry, end),
         Trial::Migrating(devices) => has_all_and_learns(rt, &mut registry, devices, end),
         Trial::Changing => keeps_changes(rt, &mut registry),
@@ -401,11 +403,11 @@ pub fn behind_stop<S: Alter + Drop>(
 fn reported_by_version<S: Alter>(
     conn: &mut Connection<S>,
     trial: Trial,
-    end: End,
-) -> Result<End, Fail> {
+    end: TrialEnd,
+) -> Result<TrialEnd, Fail> {
     match (trial, end) {
-        (Trial::Migrating(_), End::MadeBehind) => {
-            Ok(End::Was(number(conn, "SELECT version FROM enogate_meta")?))
+        (Trial::Migrating(_), TrialEnd::MadeBehind) => {
+            Ok(TrialEnd::Was(query_number(conn, "SELECT version FROM enogate_meta")?))
         }
         _ => Ok(end),
     }
@@ -414,14 +416,14 @@ fn reported_by_version<S: Alter>(
 fn is_empty_and_learns<R: Remembering>(
     rt: &impl Abort,
     registry: &mut R,
-    end: End,
-) -> Result<End, Fail> {
+    end: TrialEnd,
+) -> Result<TrialEnd, Fail> {
     let acts = [
         Act::Counts(0),
         Act::Learns(sensor(600)),
         Act::Finds(600, Some(sensor(600))),
     ];
-    take_all(rt, registry, &acts)?;
+    perform_all(rt, registry, &acts)?;
     Ok(end)
 }
 
@@ -429,24 +431,24 @@ fn has_all_and_learns<R: Remembering>(
     rt: &impl Abort,
     registry: &mut R,
     devices: u32,
-    end: End,
-) -> Result<End, Fail> {
+    end: TrialEnd,
+) -> Result<TrialEnd, Fail> {
     let acts = [
         Act::Many(Many::ListsVaried, devices),
         Act::Learns(sensor(7)),
         Act::Finds(7, Some(sensor(7))),
     ];
-    take_all(rt, registry, &acts)?;
+    perform_all(rt, registry, &acts)?;
     Ok(end)
 }
 
-fn keeps_changes<R: Remembering>(rt: &impl Abort, registry: &mut R) -> Result<End, Fail> {
+fn keeps_changes<R: Remembering>(rt: &impl Abort, registry: &mut R) -> Result<TrialEnd, Fail> {
     let acts = [
         Act::Finds(600, Some(sensor(600))),
         Act::Finds(9, Some(contact(9).labelled("Hall"))),
         Act::Finds(7, None),
         Act::Counts(10),
     ];
-    take_all(rt, registry, &acts)?;
-    Ok(End::Kept)
+    perform_all(rt, registry, &acts)?;
+    Ok(TrialEnd::Kept)
 }

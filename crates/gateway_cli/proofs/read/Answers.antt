@@ -5,7 +5,7 @@ use Rattle.std.proofs.lemmas.Result.{err_from_is_err_and}
 use Rattle.clap.specs.Words.{App, takes}
 use Rattle.gateway_cli.specs.Bases.{base_in}
 use Rattle.gateway_cli.specs.CommandLine.{SubcommandAsksFor, option_flag, option_text}
-use Rattle.gateway_cli.proofs.CommandLemmas.{complete_so, found_so, refused_so, taken_so}
+use Rattle.gateway_cli.proofs.CommandLemmas.{complete_so, found_so, rejected_so, taken_so}
 use Rattle.gateway_cli.proofs.read.Goals as goal
 
 -- what holds of each option that is found
@@ -24,11 +24,11 @@ returns-in_err-matches-clause-passes c =
     (λ taken. inr (c.in_err-matches.ensures.passes
     (ap (λ (app : App). takes app (map string_bytes c.args.words.now)) c.in_ok-command.ensures ∙ taken)))
 
-pub returns-in_err-matches-clause-refused : goal.returns-in_err-matches-clause-refused
-returns-in_err-matches-clause-refused c =
+pub returns-in_err-matches-clause-rejected : goal.returns-in_err-matches-clause-rejected
+returns-in_err-matches-clause-rejected c =
     let exit = err_from_is_err_and c.from_residual-in_err-matches.result c.from_residual-in_err-matches.ensures.1 in
     rw (exit.1, exit.2)
-    (refused_so (map string_bytes c.args.words.now) c.in_ok-command.field-0 c.in_err-matches.field-0.0
+    (rejected_so (map string_bytes c.args.words.now) c.in_ok-command.field-0 c.in_err-matches.field-0.0
     c.in_ok-command.ensures c.in_err-matches.ensures.kinds)
 
 pub returns-in-Some-clause-taken : goal.returns-in-Some-clause-taken
@@ -64,8 +64,8 @@ returns-in-Some-clause-service c =
     c.in_ok-command.ensures c.in_ok-matches.ensures.matches)
     (at_some _ c.options_of.result c.in-Some.options c.in-Some.is c.options_of.ensures.service)
 
-pub returns-clause-refused : goal.returns-clause-refused
-returns-clause-refused c =
+pub returns-clause-rejected : goal.returns-clause-rejected
+returns-clause-rejected c =
     let words = map string_bytes c.args.words.now in
     let found = found_so words c.in_ok-command.field-0 c.in_ok-matches.matches c.in_ok-command.ensures
     c.in_ok-matches.ensures.matches in (

@@ -11,13 +11,13 @@ use Rattle.teach_in.specs.declared.telegrams.Teach.{Teach}
 use Rattle.teach_in.specs.declared.telegrams.Teach.TheVariants.{FourByte, Ute}
 use Rattle.teach_in.specs.FourByte.{four_byte_reply_code}
 use Rattle.teach_in.specs.Ute.{ute_reply_code}
-use Rattle.json_lines.specs.declared.counts.Counter.TheVariants as count
-use Rattle.json_lines.specs.declared.counts.Counts.{Counts}
-use Rattle.teach_in.specs.declared.handling_reason.HandlingReason.TheVariants as why
+use Rattle.gateway_state.specs.declared.counts.Counter.TheVariants as count
+use Rattle.gateway_state.specs.declared.counts.Counts.{Counts}
+use Rattle.gateway_state.specs.declared.handling_reason.HandlingReason.TheVariants as why
 use Rattle.teach_in.specs.declared.verdict.Verdict.{Verdict}
 use Rattle.gateway_core.specs.declared.failure.Failure.{Failure}
 use Rattle.gateway_core.specs.declared.failure.Failure.TheVariants.{BeforeCommit, AtCommit}
-use Rattle.json_lines.specs.Counts.{increment, increment_if_any}
+use Rattle.gateway_state.specs.Counts.{increment, increment_if_any}
 use Rattle.json_lines.specs.Lines.{Teach as TeachOf, TeachLine, text}
 use Rattle.gateway_core.specs.declared.disposition.Disposition.{Disposition}
 use Rattle.gateway_core.specs.Dispositions.{without_device}
@@ -25,7 +25,7 @@ use Rattle.gateway_core.specs.Step.{State, Input, Answer, with_packet_line, pack
 use Rattle.gateway_core.specs.Step.{unexplained_answer, counter_in}
 use Rattle.gateway_core.specs.Step.{device_teach_line, with_mode, Cause, Need, MayFailFor}
 use Rattle.gateway_core.specs.private.Failures.{cause_in, cause_of}
-use Rattle.gateway_core.specs.Run.{cause_text}
+use Rattle.gateway_core.specs.Run.{failure_text}
 use Rattle.gateway_core.specs.Handling.{HandlerValue}
 
 -- the effect of an input in the code: the answer, without the explanation, the disposition of a packet, and the mode
@@ -150,12 +150,12 @@ pub record TriesToForget {S : Type 0} (stored : S → DeviceStoreState) (old : H
 -- the answer to a result or a failure, before its packet is explained
 abbrev pub unexplained_answer_from : Result HandlerEffect Failure → Answer
 unexplained_answer_from (Ok done) = done.answer
-unexplained_answer_from (Err failure) = text_answer (cause_text (cause_in failure))
+unexplained_answer_from (Err failure) = text_answer (failure_text (cause_in failure))
 
 -- the disposition of a result or a failure
 abbrev pub disposition_or_failed : Result HandlerEffect Failure → Option Disposition
 disposition_or_failed (Ok done) = done.disposition
-disposition_or_failed (Err failure) = Some (without_device why.Refused)
+disposition_or_failed (Err failure) = Some (without_device why.Failed)
 
 -- the answer to an input, with the line that explains it
 abbrev pub explained_answer_to : Input → Result HandlerEffect Failure → Answer
@@ -165,7 +165,7 @@ explained_answer_to input tried =
 -- the counters after a result or a failure
 abbrev pub counts_from : Counts → Result HandlerEffect Failure → Counts
 counts_from counts (Ok done) = increment_if_any counts (counter_in done.disposition)
-counts_from counts (Err failure) = increment counts count.Refused
+counts_from counts (Err failure) = increment counts count.Failed
 
 -- the mode after a result or a failure
 abbrev pub mode_from : Mode → Result HandlerEffect Failure → Mode

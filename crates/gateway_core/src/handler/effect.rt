@@ -4,7 +4,7 @@ ghost use Rattle.gateway_core.specs.Dispositions.{without_device};
 ghost use Rattle.gateway_core.specs.Desks.{desk_bytes};
 ghost use Rattle.gateway_core.specs.private.Failures.{cause_in};
 ghost use Rattle.gateway_core.specs.Replies.{answer_of};
-ghost use Rattle.gateway_core.specs.Run.{cause_text};
+ghost use Rattle.gateway_core.specs.Run.{failure_text};
 ghost use Rattle.gateway_core.specs.Step;
 ghost use Rattle.gateway_core.specs.Step.{text_answer};
 ghost use Rattle.gateway_core.specs.private.Attempts.{MatchesEffect};
@@ -13,9 +13,10 @@ use crate::disposition::Disposition;
 use crate::failure::Failure;
 use crate::reply::{DeskText, Reply};
 use arrayvec::ArrayVec;
-use json_lines::{ErrorName, done_line};
+use gateway_state::{ErrorReason, HandlingReason};
+use json_lines::{done_line, error_line};
 use std::marker::Model;
-use teach_in::{HandlingReason, Mode};
+use teach_in::Mode;
 
 // The result of a packet: its disposition, and the rest.
 #[derive(Drop)]
@@ -91,10 +92,10 @@ pub(crate) fn ignored_effect(why: HandlingReason) -> PacketEffect
     packet_desk_effect(Disposition::without_device(why), DeskText::Nothing)
 }
 
-pub(crate) fn error_effect(name: ErrorName) -> ReplyAndMode
-    ensures { MatchesEffect result (Step.error_effect name) }
+pub(crate) fn error_effect(reason: ErrorReason) -> ReplyAndMode
+    ensures { MatchesEffect result (Step.error_effect reason) }
 {
-    desk_effect(DeskText::Fixed(name.line()))
+    desk_effect(DeskText::Fixed(error_line(reason)))
 }
 
 pub(crate) fn mode_effect(mode: Mode) -> ReplyAndMode
@@ -127,8 +128,8 @@ pub(crate) fn send_effect(packet: ArrayVec<u8, 64>) -> ReplyAndMode
 
 // The answer to a failed input.
 pub(crate) fn error_reply(failure: Failure) -> Reply
-    ensures { answer_of result ≡ text_answer (cause_text (cause_in failure)) }
+    ensures { answer_of result ≡ text_answer (failure_text (cause_in failure)) }
 {
     let (Failure::BeforeCommit(fault) | Failure::AtCommit(fault)) = failure;
-    reply_with(DeskText::Fixed(ErrorName::Failed(fault).line()))
+    reply_with(DeskText::Fixed(error_line(ErrorReason::Failed(fault))))
 }

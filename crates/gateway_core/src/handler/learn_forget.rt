@@ -1,10 +1,9 @@
 //! Learning and forgetting a device. The line that reports it is built before the write, so nothing can fail after it.
 ghost use Rattle.std.specs.Prelude.{◌≡◌, [], ◌∷◌};
 ghost use Rattle.json_lines.specs.Lines.{Error};
-ghost use Rattle.json_lines.specs.declared.error_lines.ErrorName.{ErrorName};
+ghost use Rattle.gateway_state.specs.declared.error_reason.ErrorReason.{ErrorReason};
 ghost use Rattle.gateway_core.specs.Step.{NeedsStore, if_full_of_others_else, ordered_forget_effect};
-ghost use Rattle.gateway_core.specs.Step.{ordered_learn_effect};
-ghost use Rattle.gateway_core.specs.Step.{lines_effect};
+ghost use Rattle.gateway_core.specs.Step.{ordered_learn_effect, lines_effect};
 ghost use Rattle.gateway_core.specs.private.Attempts.{TriesToLearn, TriesToForget, Attempts};
 
 use crate::failure::Failure;
@@ -12,7 +11,8 @@ use crate::handler::Handler;
 use crate::handler::effect::{ReplyAndMode, desk_effect, error_effect};
 use crate::reply::DeskText;
 use erp1_telegrams::Eep;
-use json_lines::{ErrorName, Line, teach_line};
+use gateway_state::ErrorReason;
+use json_lines::{Line, teach_line};
 use learned_devices::{Device, DeviceStore, LearnFault};
 use teach_in::{Outcome, Verdict};
 
@@ -65,11 +65,11 @@ impl<S: DeviceStore> Handler<S> {
     pub(crate) fn learn_by_order(&mut self, device: Device) -> Result<ReplyAndMode, Failure>
         requires { device.label ≡ [] }
         ensures { Attempts S.store_state self.old (λ state. if_full_of_others_else state.devices device
-            (lines_effect NeedsStore (Error ErrorName.Full ∷ [])) (ordered_learn_effect device)) result self.new }
+            (lines_effect NeedsStore (Error ErrorReason.Full ∷ [])) (ordered_learn_effect device)) result self.new }
     {
         match self.learn(device)? {
             Some((_, line)) => Ok(desk_effect(DeskText::Owned(line))),
-            None => Ok(error_effect(ErrorName::Full)),
+            None => Ok(error_effect(ErrorReason::Full)),
         }
     }
 

@@ -1,7 +1,7 @@
 //! Handling a line of the desk.
 ghost use Rattle.std.specs.Prelude.{Ok};
 ghost use Rattle.teach_in.specs.declared.mode.Mode.TheVariants.{LearnAs};
-ghost use Rattle.actuator_commands.specs.Orders.{IsInRange};
+ghost use Rattle.desk_orders.specs.Orders.{IsInRange};
 ghost use Rattle.gateway_core.specs.Step.{if_supported_else_error, line_effect, order_effect, mode_effect};
 ghost use Rattle.gateway_core.specs.private.Attempts.{MatchesEffect, Attempts};
 
@@ -12,9 +12,10 @@ use crate::handler::effect::{
 };
 use crate::handler::send::base_id_request_effect;
 use crate::reply::DeskText;
-use actuator_commands::{MAX_LINE, Order, OrderFault, parse};
+use desk_orders::{MAX_LINE, Order, OrderFault, parse};
 use erp1_telegrams::Eep;
-use json_lines::{ErrorName, device_lines, status_line};
+use gateway_state::ErrorReason;
+use json_lines::{device_lines, status_line};
 use learned_devices::{Device, DeviceStore, Label};
 use teach_in::{Mode, supported};
 
@@ -25,7 +26,7 @@ fn learn_as_if_supported(eep: Eep) -> ReplyAndMode
     if supported(eep) {
         mode_effect(Mode::LearnAs(eep))
     } else {
-        error_effect(ErrorName::UnsupportedProfile)
+        error_effect(ErrorReason::UnsupportedProfile)
     }
 }
 
@@ -35,7 +36,7 @@ impl<S: DeviceStore> Handler<S> {
             self.new }
     {
         if !supported(eep) {
-            return Ok(error_effect(ErrorName::UnsupportedProfile));
+            return Ok(error_effect(ErrorReason::UnsupportedProfile));
         }
         self.learn_by_order(Device {
             id,
@@ -50,7 +51,7 @@ impl<S: DeviceStore> Handler<S> {
     {
         match self.registry.find(id)? {
             Some(device) => self.forget_by_order(device),
-            None => Ok(error_effect(ErrorName::Order(OrderFault::UnknownDevice))),
+            None => Ok(error_effect(ErrorReason::Order(OrderFault::UnknownDevice))),
         }
     }
 
@@ -62,7 +63,7 @@ impl<S: DeviceStore> Handler<S> {
     {
         match self.registry.relabel(id, label) {
             Ok(true) => Ok(relabel_effect()),
-            Ok(false) => Ok(error_effect(ErrorName::Order(OrderFault::UnknownDevice))),
+            Ok(false) => Ok(error_effect(ErrorReason::Order(OrderFault::UnknownDevice))),
             Err(fault) => Err(Failure::AtCommit(fault)),
         }
     }
@@ -107,11 +108,11 @@ impl<S: DeviceStore> Handler<S> {
         ensures { Attempts S.store_state self.old (λ state. line_effect state line.now) result self.new }
     {
         if line.len() > MAX_LINE {
-            return Ok(error_effect(ErrorName::TooLong));
+            return Ok(error_effect(ErrorReason::TooLong));
         }
         match parse(line) {
             Ok(order) => self.try_order(order),
-            Err(fault) => Ok(error_effect(ErrorName::Order(fault))),
+            Err(fault) => Ok(error_effect(ErrorReason::Order(fault))),
         }
     }
 }

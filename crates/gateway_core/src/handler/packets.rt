@@ -20,11 +20,12 @@ use crate::reply::DeskText;
 use crate::response::response_in;
 use erp1_telegrams::{Telegram, TelegramFault, filter_reason};
 use esp3_frames::PacketRef;
+use gateway_state::HandlingReason;
 use json_lines::{reading_line, response_line};
 use learned_devices::{Device, DeviceStore};
 use profile_rows::Readings;
 use std::alloc::{AllocError, Global};
-use teach_in::{HandlingReason, Teach};
+use teach_in::Teach;
 
 // The reading line for a telegram of this device, if its profile can read the telegram.
 fn reading(alloc: Global, telegram: &Telegram, device: &Device) -> Result<PacketEffect, AllocError>

@@ -4,8 +4,9 @@ ghost use Rattle.std.specs.Option.{option_copied};
 ghost use Rattle.esp3_frames.specs.Packet.{spelling};
 ghost use Rattle.erp1_telegrams.specs.Address.{is_base_id};
 ghost use Rattle.erp1_telegrams.specs.Telegram.{radio_packet};
-ghost use Rattle.actuator_commands.specs.Orders.{IsInRange};
-ghost use Rattle.actuator_commands.specs.Packets.{order_telegram, sends};
+ghost use Rattle.desk_orders.specs.Orders.{IsInRange};
+ghost use Rattle.desk_orders.specs.Recipients.{sends};
+ghost use Rattle.actuator_commands.specs.Packets.{order_telegram};
 ghost use Rattle.gateway_core.specs.Step;
 ghost use Rattle.gateway_core.specs.Step.{order_effect, send_result_effect};
 ghost use Rattle.gateway_core.specs.private.Attempts.{MatchesEffect, Attempts};
@@ -13,15 +14,16 @@ ghost use Rattle.gateway_core.specs.private.Attempts.{MatchesEffect, Attempts};
 use crate::failure::Failure;
 use crate::handler::Handler;
 use crate::handler::effect::{ReplyAndMode, error_effect, send_effect};
-use actuator_commands::{Order, packet_of};
+use actuator_commands::packet_of;
 use arrayvec::ArrayVec;
+use desk_orders::Order;
 use erp1_telegrams::{Telegram, write};
 use esp3_frames::packet_type::COMMON_COMMAND;
 use esp3_frames::write_packet;
-use json_lines::ErrorName;
+use gateway_state::ErrorReason;
 use learned_devices::{Device, DeviceStore};
 
-/// The command CO_RD_IDBASE (EnOcean Serial Protocol 3, "CO_RD_IDBASE").
+// The command CO_RD_IDBASE (EnOcean Serial Protocol 3, "CO_RD_IDBASE").
 const READ_BASE_ID: u8 = 8;
 
 // The packet in which a telegram is sent. The buffer has capacity for every telegram.
@@ -56,7 +58,7 @@ fn send(order: &Order, device: Option<&Device>, base: u32) -> ReplyAndMode
 {
     match packet_of(order, device, base) {
         Ok(telegram) => send_effect(packet_with(&telegram)),
-        Err(fault) => error_effect(ErrorName::Order(fault)),
+        Err(fault) => error_effect(ErrorReason::Order(fault)),
     }
 }
 

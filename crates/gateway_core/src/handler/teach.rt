@@ -7,8 +7,7 @@ ghost use Rattle.teach_in.specs.Telegrams.{teach_in_of};
 ghost use Rattle.gateway_core.specs.Replies.{answer_of};
 ghost use Rattle.gateway_core.specs.Step;
 ghost use Rattle.gateway_core.specs.Step.{accept_effect, if_full_of_others_else, delete_effect, plan_effect};
-ghost use Rattle.gateway_core.specs.Step.{radio_bytes_of};
-ghost use Rattle.gateway_core.specs.Step.{reply_telegram_of, device_teach_line};
+ghost use Rattle.gateway_core.specs.Step.{radio_bytes_of, reply_telegram_of, device_teach_line};
 ghost use Rattle.gateway_core.specs.private.Attempts.{MatchesEffect, HasReplyCodeIfQuery, Attempts, state_of};
 
 use crate::disposition::{Disposition, eep_and_maker_in_query, why_nothing_done};
@@ -19,12 +18,11 @@ use crate::handler::send::packet_with;
 use crate::reply::{DeskText, Reply};
 use arrayvec::ArrayVec;
 use erp1_telegrams::{Eep, Telegram};
+use gateway_state::HandlingReason;
 use json_lines::{Line, teach_line};
 use learned_devices::{Device, DeviceStore};
 use std::alloc::AllocError;
-use teach_in::{
-    HandlingReason, Mode, Outcome, Plan, Teach, Verdict, four_byte_reply, plan_for, ute_reply,
-};
+use teach_in::{Mode, Outcome, Plan, Teach, Verdict, four_byte_reply, plan_for, ute_reply};
 
 // The mode that is set when a sender is learned: the mode that learns with the desk's profile is for one sender, and
 // closes.
@@ -148,15 +146,15 @@ impl<S: DeviceStore> Handler<S> {
         &mut self,
         telegram: &Telegram,
         teach: &Teach,
-        asked: bool,
+        is_data: bool,
     ) -> Result<PacketEffect, Failure>
         requires { teach.now ≡ teach_in_of telegram.now }
-        ensures { Attempts S.store_state self.old (λ state. plan_effect state telegram.now asked
+        ensures { Attempts S.store_state self.old (λ state. plan_effect state telegram.now is_data
             (plan_of telegram.now state.mode false)) result self.new }
     {
         // only the sender of data is looked up, and data of a known sender never gets here
         match plan_for(telegram, teach, self.mode, false) {
-            Plan::Silent => Ok(ignored_effect(why_nothing_done(asked, self.mode))),
+            Plan::Silent => Ok(ignored_effect(why_nothing_done(is_data, self.mode))),
             Plan::Add(device) => self.try_accept(teach, device),
             Plan::Forget(id) => self.try_forget(teach, id),
             Plan::Refuse(outcome) => {

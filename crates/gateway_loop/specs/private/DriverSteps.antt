@@ -2,7 +2,7 @@
 use Rattle.std.specs.Prelude.{◌≡◌, ◌<◌, ℕ, List, [], ◌∷◌, ◌++◌, length, map, Result, MatchResult}
 use Rattle.learned_devices.specs.DeviceStoreState.{DeviceStoreState}
 use Rattle.esp3_frames.specs.Packet.{Packet}
-use Rattle.json_lines.specs.Counts.{saturated_sum}
+use Rattle.gateway_state.specs.Counts.{saturated_sum}
 use Rattle.gateway_core.specs.Step.{Received, Answer}
 use Rattle.gateway_core.specs.Calls.{GatewayValue}
 use Rattle.gateway_core.specs.Events.{InputEvent, inputs_of}

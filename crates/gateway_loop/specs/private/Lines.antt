@@ -1,7 +1,7 @@
 -- Lines as bytes, and their events. Own choice.
 use Rattle.std.specs.Prelude.{◌≡◌, ◌+◌, ℕ, List, take, map}
 use Rattle.std.specs.Str.Lines.{strip_carriage_return}
-use Rattle.actuator_commands.specs.Limits.{max_line}
+use Rattle.desk_orders.specs.Limits.{max_line}
 use Rattle.gateway_core.specs.Events.{InputEvent, Line}
 use Rattle.gateway_loop.specs.declared.line_splitter.LineSource.{LineSource}
 use Rattle.gateway_loop.specs.declared.line_splitter.LineSource.TheVariants.{ScriptLines, DeskLines}

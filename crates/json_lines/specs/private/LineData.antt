@@ -11,7 +11,7 @@ use Rattle.erp1_telegrams.specs.declared.eep.Eep.{Eep}
 use Rattle.profile_rows.specs.Reading.{Meaning, value, word, raw, out_of_range, Entry}
 use Rattle.learned_devices.specs.declared.Device.{Device}
 use Rattle.teach_in.specs.declared.mode.Mode.{Mode}
-use Rattle.json_lines.specs.declared.counts.Counts.{Counts}
+use Rattle.gateway_state.specs.declared.counts.Counts.{Counts}
 use Rattle.json_lines.specs.Lines.{ReadingLine, TeachLine, id_text, eep_text, outcome_word, mode_word}
 use Rattle.json_lines.specs.Lines.{return_code_names}
 

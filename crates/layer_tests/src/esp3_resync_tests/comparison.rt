@@ -71,7 +71,7 @@ fn push_packet(
 
 // One part of a stream: noise, a sync byte, a header with nothing after it, a packet, one with a wrong CRC, or a part
 // of one.
-fn push_piece(
+fn push_part(
     bytes: &mut Vec<u8>,
     draws: &mut Draws,
     data_len: u64,
@@ -100,7 +100,7 @@ fn push_piece(
 fn short_stream(bytes: &mut Vec<u8>, draws: &mut Draws) -> Result<(), AllocError> {
     for _ in 0..draws.draw(12) {
         let (data_len, opt_len) = (draws.draw(9), draws.draw(3));
-        push_piece(bytes, draws, data_len, opt_len)?;
+        push_part(bytes, draws, data_len, opt_len)?;
     }
     Ok(())
 }
@@ -113,7 +113,7 @@ fn long_stream(bytes: &mut Vec<u8>, draws: &mut Draws, most_data: u64) -> Result
             1 => (draws.draw(most_data), draws.draw(256)),
             _ => (draws.draw(200), draws.draw(8)),
         };
-        push_piece(bytes, draws, data_len, opt_len)?;
+        push_part(bytes, draws, data_len, opt_len)?;
         for _ in 0..draws.draw(4) {
             push_packet(bytes, draws, 7, 7, 0)?;
         }
@@ -170,14 +170,14 @@ fn push_stream(bytes: &mut Vec<u8>, draws: &mut Draws, number: u64) -> Result<()
 }
 
 #[derive(Drop)]
-struct Counts {
+struct FoundPackets {
     packets: u32,
     longest: u32,
 }
 
 // Passes the bytes to both framers, one after another: whether one is ready exactly when the other is, with the same
 // packets.
-fn compare(alloc: Global, bytes: &[u8], counts: &mut Counts) -> Result<bool, AllocError> {
+fn compare(alloc: Global, bytes: &[u8], counts: &mut FoundPackets) -> Result<bool, AllocError> {
     let mut framer = Framer::new(alloc)?;
     let mut plain = PlainFramer::new(alloc);
     let mut buffer = PacketBuf::new(alloc)?;
@@ -210,10 +210,10 @@ fn compare(alloc: Global, bytes: &[u8], counts: &mut Counts) -> Result<bool, All
 }
 
 #[test]
-fn as_a_plain_framer(rt: HostRuntime) -> Result<(), Fail> {
+fn finds_packets_like_the_plain_framer(rt: HostRuntime) -> Result<(), Fail> {
     let alloc = rt.alloc();
     let mut draws = Draws { state: 1 };
-    let mut counts = Counts {
+    let mut counts = FoundPackets {
         packets: 0,
         longest: 0,
     };

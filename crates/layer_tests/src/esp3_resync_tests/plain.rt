@@ -72,7 +72,7 @@ impl PlainFramer {
         }
     }
 
-    fn settle(&mut self) {
+    fn resynchronize(&mut self) {
         let n = skipped(&self.bytes);
         drop_head(&mut self.bytes, n);
     }
@@ -86,11 +86,11 @@ impl PlainFramer {
 
     pub(crate) fn push(&mut self, b: u8) -> Result<(), AllocError> {
         self.bytes.push(b)?;
-        self.settle();
+        self.resynchronize();
         Ok(())
     }
 
-    /// Moves the whole packet into `out`, and returns whether there was one.
+    // Moves the whole packet into `out`, and returns whether there was one.
     pub(crate) fn take(&mut self, out: &mut Vec<u8>) -> Result<bool, AllocError> {
         let Head::Whole(n) = head_of(&self.bytes) else {
             return Ok(false);
@@ -98,7 +98,7 @@ impl PlainFramer {
         out.clear();
         out.extend_from_slice(&self.bytes[..n.min(self.bytes.len())])?;
         drop_head(&mut self.bytes, n);
-        self.settle();
+        self.resynchronize();
         Ok(true)
     }
 }

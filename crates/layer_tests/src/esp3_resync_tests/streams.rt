@@ -11,7 +11,7 @@ const CONTACT: [u8; 21] = [
     0xFF, 0xFF, 0x2D, 0x00, 0x1F,
 ];
 
-/// Its data and its optional data.
+// Its data and its optional data.
 const CONTENT: [u8; 14] = [
     0xD5, 0x09, 0x01, 0x80, 0x0A, 0xBC, 0x00, 0x01, 0xFF, 0xFF, 0xFF, 0xFF, 0x2D, 0x00,
 ];
@@ -30,7 +30,7 @@ const TYPES_AND_DATA: [u8; 17] = [
     0x08,
 ];
 
-/// More runs and packets than a chunk has.
+// More runs and packets than a chunk has.
 const MAX_TURNS: u32 = 1_000_000;
 
 // Pushes the bytes in runs, appends the type and the data of each packet, and returns the number of packets.
@@ -59,7 +59,7 @@ fn feed_runs(
     Ok(packets)
 }
 
-/// The same with a new framer, which gets the bytes in chunks of this length.
+// The same with a new framer, which gets the bytes in chunks of this length.
 pub(crate) fn feed_pieces(
     alloc: Global,
     bytes: &[u8],
@@ -94,7 +94,7 @@ fn packets_in_runs(rt: HostRuntime) -> Result<(), Fail> {
     Ok(())
 }
 
-/// Parts of the two packets, one after another, and the type and the data of the packet that the buffer then holds.
+// Parts of the two packets, one after another, and the type and the data of the packet that the buffer then holds.
 const HELD: [(usize, usize, u8, &[u8]); 3] = [
     (0, 29, 1, &[0xD5, 0x09, 0x01, 0x80, 0x0A, 0xBC, 0x00]),
     (29, 38, 1, &[0xD5, 0x09, 0x01, 0x80, 0x0A, 0xBC, 0x00]),
@@ -117,7 +117,7 @@ fn a_packet_held(rt: HostRuntime) -> Result<(), Fail> {
     Ok(())
 }
 
-/// A part of the two packets, and the type and the length of the packet that `borrow_packet` returns for it, if any.
+// A part of the two packets, and the type and the length of the packet that `borrow_packet` returns for it, if any.
 const LENT: [(usize, usize, Option<(u8, usize)>); 4] = [
     (8, 39, Some((1, 21))),
     (31, 39, Some((5, 8))),

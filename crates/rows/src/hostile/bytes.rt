@@ -3,8 +3,8 @@
 //! A wrong byte in a header or in data is always detected by its CRC, and no header that begins at a sync byte in place
 //! of another byte has a correct CRC. Another program also found that no case holds the whole telegram back.
 use super::script::{Item, Known, State};
-use crate::chunks::{CONTACT, add_piece};
-use crate::gateways::{fresh, written_by};
+use crate::chunks::{CONTACT, add_chunk};
+use crate::gateways::{new_gateway, written_by};
 use crate::report::Report;
 use anyhow::Result;
 use gateway_core::{DeviceStore, GatewayOver};
@@ -13,24 +13,26 @@ use std::alloc::Global;
 // Mutant: a framer that does not compare the highest bit of the CRC of the data. It prints `at 1935, differs`.
 pub(crate) fn run_cases(rt: &HostRuntime, report: &mut Report) -> Result<()> {
     let alloc = rt.alloc();
-    let mut gateway = fresh(alloc)?;
-    let wrong = first_wrong(alloc, &mut gateway)?;
+    let mut gateway = new_gateway(alloc)?;
+    let wrong = first_wrong_replacement(alloc, &mut gateway)?;
     report.add_first_wrong(rt, "each byte of a packet replaced by each other", wrong)
 }
 
-/// The number of the first case that is wrong, if any: 256 times the index of the byte, plus the replacement. The last
-/// number is that of the counters after all cases.
-fn first_wrong<S: DeviceStore>(
+// The number of the first case that is wrong, if any: 256 times the index of the byte, plus the replacement. The last
+// number is that of the counters after all cases.
+fn first_wrong_replacement<S: DeviceStore>(
     alloc: Global,
     gateway: &mut GatewayOver<S>,
 ) -> Result<Option<usize>> {
     let mut state = State::new(Known::Nothing, 0);
     let mut number = 0;
     let _accepted = written_by(alloc, gateway, Item::Add.line())?;
-    let _known = state.take(alloc, Item::Add)?;
+    let _known = state.apply(alloc, Item::Add)?;
     for at in 0..CONTACT.len() {
         for byte in 0..=255 {
-            if CONTACT[at] != byte && !is_read_behind(alloc, gateway, &mut state, (at, byte))? {
+            if CONTACT[at] != byte
+                && !reads_only_next_packet(alloc, gateway, &mut state, (at, byte))?
+            {
                 return Ok(Some(number));
             }
             number = number.saturating_add(1);
@@ -41,8 +43,8 @@ fn first_wrong<S: DeviceStore>(
     Ok((!is_counted).then_some(number))
 }
 
-/// Whether only the whole packet is read after one with a replaced byte.
-fn is_read_behind<S: DeviceStore>(
+// Whether only the whole packet is read after one with a replaced byte.
+fn reads_only_next_packet<S: DeviceStore>(
     alloc: Global,
     gateway: &mut GatewayOver<S>,
     state: &mut State,
@@ -54,8 +56,8 @@ fn is_read_behind<S: DeviceStore>(
         *it = byte;
     }
     let mut script = Vec::new(alloc);
-    add_piece(&mut script, &damaged)?;
-    add_piece(&mut script, &CONTACT)?;
+    add_chunk(&mut script, &damaged)?;
+    add_chunk(&mut script, &CONTACT)?;
     let text = written_by(alloc, gateway, script.as_slice())?;
-    Ok(state.take(alloc, Item::Contact)?.desk.as_bytes() == text.as_slice())
+    Ok(state.apply(alloc, Item::Contact)?.desk.as_bytes() == text.as_slice())
 }

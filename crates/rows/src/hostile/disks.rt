@@ -10,7 +10,7 @@ pub type Store = FileStore<Fuse<Memory>>;
 
 /// The log, or the database file.
 #[derive(Clone, Copy)]
-pub enum Which {
+pub enum FileOfDatabase {
     Log,
     Database,
 }
@@ -38,11 +38,16 @@ fn copied(alloc: Global, file: &Fuse<Memory>, calls: u64) -> Result<Fuse<Memory>
     Ok(Fuse::new(copy, calls))
 }
 
-/// Copies of the files, one of which allows this many calls, and then fails each.
-pub(crate) fn fused(alloc: Global, files: &Disks, which: Which, calls: u64) -> Result<Disks> {
+// Copies of the files. One of them allows this many calls, and then fails each.
+pub(crate) fn with_call_limit(
+    alloc: Global,
+    files: &Disks,
+    which: FileOfDatabase,
+    calls: u64,
+) -> Result<Disks> {
     let (log, db) = match which {
-        Which::Log => (calls, u64::MAX),
-        Which::Database => (u64::MAX, calls),
+        FileOfDatabase::Log => (calls, u64::MAX),
+        FileOfDatabase::Database => (u64::MAX, calls),
     };
     Ok(Files {
         log: copied(alloc, &files.log, log)?,
@@ -50,16 +55,16 @@ pub(crate) fn fused(alloc: Global, files: &Disks, which: Which, calls: u64) -> R
     })
 }
 
-/// Whether the file does not allow any more calls.
-pub(crate) fn is_blown(files: &mut Disks, which: Which) -> bool {
+// Whether the file does not allow any more calls.
+pub(crate) fn is_limit_reached(files: &mut Disks, which: FileOfDatabase) -> bool {
     match which {
-        Which::Log => !files.log.may_be_used() || files.log.len().is_err(),
-        Which::Database => !files.db.may_be_used() || files.db.len().is_err(),
+        FileOfDatabase::Log => !files.log.may_be_used() || files.log.len().is_err(),
+        FileOfDatabase::Database => !files.db.may_be_used() || files.db.len().is_err(),
     }
 }
 
-/// Copies of what a crash leaves of the files. They allow each call.
-pub(crate) fn left_by(alloc: Global, files: &mut Disks, stop: Stop) -> Result<Disks> {
+// Copies of what a crash leaves of the files. They allow each call.
+pub(crate) fn after_crash(alloc: Global, files: &mut Disks, stop: Stop) -> Result<Disks> {
     if let Stop::OfMachine = stop {
         files.log.crash();
         files.db.crash();
@@ -70,7 +75,7 @@ pub(crate) fn left_by(alloc: Global, files: &mut Disks, stop: Stop) -> Result<Di
     })
 }
 
-/// A connection over the files that keeps this many pages in memory, or the files again.
+// A connection over the files that keeps this many pages in memory, or the files again.
 pub(crate) fn connected(
     alloc: Global,
     files: Disks,
@@ -87,7 +92,7 @@ pub(crate) fn connected(
     }
 }
 
-/// The files of a connection that is closed.
+// The files of a connection that is closed.
 pub(crate) fn closed(conn: Connection<Store>) -> Result<Disks> {
     match conn.close_files() {
         Ok(files) => Ok(files),
@@ -95,8 +100,8 @@ pub(crate) fn closed(conn: Connection<Store>) -> Result<Disks> {
     }
 }
 
-/// The files of a connection that is left unchanged.
-pub(crate) fn files_under(conn: Connection<Store>) -> Disks {
+// The files of a connection that is left unchanged.
+pub(crate) fn files_of(conn: Connection<Store>) -> Disks {
     store_of(conn).close()
 }
 

@@ -1,9 +1,9 @@
 //! Replays of the script in which one read or one write fails, at each position in turn: what is then written, and what
 //! the gateway knows.
 use super::script::{ITEMS, Known, Outcome, State, outcome_of, outcome_of_first};
-use crate::fakes::{Parts, Sips};
-use crate::gateways::{BASE, fresh, written_by};
-use crate::live_turns::NEVER;
+use crate::fakes::{LimitedWriter, PartReader};
+use crate::gateways::{BASE, new_gateway, written_by};
+use crate::live_turns::NEVER_FAILS;
 use crate::report::Report;
 use anyhow::{Result, bail};
 use device_registry::{MAX_CACHED, RegistryOver, SqlConnection};
@@ -12,7 +12,7 @@ use gateway_loop::replay;
 use gateway_main::{OverRead, OverWrite, RunFault, Summary, start};
 use std::alloc::Global;
 
-/// More reads than these scripts need.
+// More reads than these scripts need.
 const TURNS: u64 = 1000;
 
 // Two mutants: event loops that close the window at a read that fails, and at a write that fails. They print `at 83,
@@ -23,18 +23,18 @@ pub(crate) fn run_cases(rt: &HostRuntime, report: &mut Report) -> Result<()> {
     report.add_first_wrong(rt, "each read of a replay fails in turn", wrong)?;
     let wrong = first_wrong_write(alloc)?;
     report.add_first_wrong(rt, "each write of a replay fails in turn", wrong)?;
-    let is_well = is_kept_unreported(alloc)?;
+    let is_well = keeps_unreported_device(alloc)?;
     report.add_case(rt, "a device that could not be reported is kept", is_well)
 }
 
-/// How a replay ended, and what was written.
+// How a replay ended, and what was written.
 #[derive(Drop)]
 struct Replayed {
     ended: Result<Summary, RunFault>,
     written: Vec<u8>,
 }
 
-/// Replays by a reader that returns these parts and a writer that takes one byte at a call, which fail at these calls.
+// Replays by a reader that returns these parts and a writer that takes one byte at a call, which fail at these calls.
 fn replay_parts<S: DeviceStore>(
     alloc: Global,
     gateway: &mut GatewayOver<S>,
@@ -46,14 +46,14 @@ fn replay_parts<S: DeviceStore>(
         bail!("a packet waits");
     }
     let mut written = Vec::new(alloc);
-    let mut reader = OverRead::new(Parts::new(parts, read_fails_at));
-    let mut writer = OverWrite::new(Sips::new(&mut written, 1, write_fails_at));
+    let mut reader = OverRead::new(PartReader::new(parts, read_fails_at));
+    let mut writer = OverWrite::new(LimitedWriter::new(&mut written, 1, write_fails_at));
     let ended = replay(&mut reader, &mut writer, gateway, false, TURNS);
     Ok(Replayed { ended, written })
 }
 
-/// Whether this is what the gateway knows.
-pub(crate) fn knows<S: DeviceStore>(
+// Whether this is what the gateway knows.
+pub(crate) fn has_state<S: DeviceStore>(
     alloc: Global,
     gateway: &mut GatewayOver<S>,
     state: &State,
@@ -65,7 +65,7 @@ pub(crate) fn knows<S: DeviceStore>(
     Ok(behind == Some(counts.as_bytes()))
 }
 
-fn script(alloc: Global) -> Result<Vec<u8>> {
+fn whole_script(alloc: Global) -> Result<Vec<u8>> {
     let mut script = Vec::new(alloc);
     for item in ITEMS {
         script.extend_from_slice(item.line())?;
@@ -74,40 +74,46 @@ fn script(alloc: Global) -> Result<Vec<u8>> {
     Ok(script)
 }
 
-/// The first number of bytes, read one by one before a read failed, for which not exactly the ended lines were
-/// answered, or the lines after them are answered otherwise when they are sent again.
+// The first number of bytes, read one by one before a read failed, for which not exactly the ended lines were
+// answered, or the lines after them are answered otherwise when they are sent again.
 fn first_wrong_read(alloc: Global) -> Result<Option<usize>> {
-    let script = script(alloc)?;
+    let script = whole_script(alloc)?;
     let mut ended = 0usize;
     for (came, byte) in script.iter().enumerate() {
-        if !is_read_fault_well(alloc, &script, came, ended)? {
+        if !handles_read_fault(alloc, &script, came, ended)? {
             return Ok(Some(came));
         }
         if *byte == b'\n' {
             ended = ended.saturating_add(1);
         }
     }
-    let is_well = is_read_fault_well(alloc, &script, script.len(), ended)?;
+    let is_well = handles_read_fault(alloc, &script, script.len(), ended)?;
     Ok((!is_well).then_some(script.len()))
 }
 
-fn is_read_fault_well(alloc: Global, script: &[u8], came: usize, ended: usize) -> Result<bool> {
+fn handles_read_fault(alloc: Global, script: &[u8], came: usize, ended: usize) -> Result<bool> {
     let before = outcome_of_first(alloc, ended)?;
     let mut singles = Vec::new(alloc);
     for single in script.chunks(1) {
         singles.push(single)?;
     }
-    let mut gateway = fresh(alloc)?;
-    let done = replay_parts(alloc, &mut gateway, &singles, came.saturating_add(1), NEVER)?;
+    let mut gateway = new_gateway(alloc)?;
+    let done = replay_parts(
+        alloc,
+        &mut gateway,
+        &singles,
+        came.saturating_add(1),
+        NEVER_FAILS,
+    )?;
     Ok(
         done.ended == Err(RunFault::Read)
             && done.written.as_slice() == before.written.as_slice()
-            && goes_on(alloc, &mut gateway, ended, &before)?,
+            && continues(alloc, &mut gateway, ended, &before)?,
     )
 }
 
-/// Whether the inputs from this one on are answered as if nothing had failed.
-fn goes_on<S: DeviceStore>(
+// Whether the inputs from this one on are answered as if nothing had failed.
+fn continues<S: DeviceStore>(
     alloc: Global,
     gateway: &mut GatewayOver<S>,
     ended: usize,
@@ -127,13 +133,13 @@ fn goes_on<S: DeviceStore>(
     Ok(behind == Some(written.as_slice()))
 }
 
-/// The first number of bytes that were written before a write failed, if anything is wrong then.
+// The first number of bytes that were written before a write failed, if anything is wrong then.
 fn first_wrong_write(alloc: Global) -> Result<Option<usize>> {
     for done in 0..ITEMS.len() {
         let before = outcome_of_first(alloc, done)?;
         let item = outcome_of_first(alloc, done.saturating_add(1))?;
         for out in before.written.len()..item.written.len() {
-            if !is_write_fault_well(alloc, out, &item)? {
+            if !handles_write_fault(alloc, out, &item)? {
                 return Ok(Some(out));
             }
         }
@@ -141,10 +147,10 @@ fn first_wrong_write(alloc: Global) -> Result<Option<usize>> {
     Ok(None)
 }
 
-/// Whether the text breaks off after this many bytes, and the input in it is done.
-fn is_write_fault_well(alloc: Global, out: usize, item: &Outcome) -> Result<bool> {
-    let script = script(alloc)?;
-    let mut gateway = fresh(alloc)?;
+// Whether the text breaks off after this many bytes, and the input in it is done.
+fn handles_write_fault(alloc: Global, out: usize, item: &Outcome) -> Result<bool> {
+    let script = whole_script(alloc)?;
+    let mut gateway = new_gateway(alloc)?;
     let done = replay_parts(
         alloc,
         &mut gateway,
@@ -155,25 +161,25 @@ fn is_write_fault_well(alloc: Global, out: usize, item: &Outcome) -> Result<bool
     Ok(
         done.ended == Err(RunFault::Write)
             && Some(done.written.as_slice()) == item.written.as_slice().get(..out)
-            && knows(alloc, &mut gateway, &item.state)?,
+            && has_state(alloc, &mut gateway, &item.state)?,
     )
 }
 
 // Mutant, tried in a run of its own without the sessions, the caches, the endings and the generated streams: an event
 // loop that removes the sender if a write fails. This case differed, and so did each write of a replay and of a live
 // gateway, both at 0.
-/// Whether a device is found again whose teach-in was done, and could not be reported.
-fn is_kept_unreported(alloc: Global) -> Result<bool> {
-    let mut gateway = fresh(alloc)?;
+// Whether a device is found again whose teach-in was done, and could not be reported.
+fn keeps_unreported_device(alloc: Global) -> Result<bool> {
+    let mut gateway = new_gateway(alloc)?;
     let script = b"learn on\nS 55000D0701FDD4A00146001201D201800ABC0001FFFFFFFF2D008A\n".as_slice();
     let done = replay_parts(alloc, &mut gateway, &[script], 0, 16)?;
     let is_broken = done.ended == Err(RunFault::Write)
         && done.written.as_slice() == b"{\"type\":\"ok\"}\nS".as_slice();
-    Ok(is_broken && is_found_again(alloc, gateway)?)
+    Ok(is_broken && finds_actuator_again(alloc, gateway)?)
 }
 
-/// Whether the actuator is listed when the gateway's database is opened again.
-fn is_found_again<C: SqlConnection + Drop>(
+// Whether the actuator is listed when the gateway's database is opened again.
+fn finds_actuator_again<C: SqlConnection + Drop>(
     alloc: Global,
     gateway: GatewayOver<RegistryOver<C>>,
 ) -> Result<bool> {

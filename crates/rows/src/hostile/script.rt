@@ -83,17 +83,17 @@ pub const STORE: &[u8] = b"{\"error\":\"store\",\"type\":\"error\"}\n";
 const READING: &str = "{\"dbm\":-45,\"eep\":\"D5-00-01\",\"id\":\"01800ABC\",\
     \"readings\":[{\"name\":\"CO\",\"word\":\"closed\"}],\"type\":\"reading\"}\n";
 
-const RESPONSE: &str = "{\"code\":0,\"data\":\"\",\"name\":\"OK\",\"type\":\"response\"}\n";
+const RESPONSE_LINE: &str = "{\"code\":0,\"data\":\"\",\"name\":\"OK\",\"type\":\"response\"}\n";
 
 const UNKNOWN: &str = "{\"error\":\"unknown_device\",\"type\":\"error\"}\n";
 
-/// What is sent by radio for the two queries.
+// What is sent by radio for the two queries.
 const ACTUATOR_REPLY: &str = "55000d0701fdd4910146001201d2ff800000000301800abcff00f3";
 
 const SENSOR_REPLY: &str = "55000a0701eba5082846f0ff800000000301800abcff00d8";
 
 impl Item {
-    /// Its line in a script, without an end.
+    // Its line in a script, without an end.
     pub(crate) fn line(self) -> &'static [u8] {
         match self {
             Item::Add => b"add 01800ABC D5-00-01",
@@ -109,12 +109,12 @@ impl Item {
         }
     }
 
-    /// The digits of a packet. `None`: it is an order.
+    // The digits of a packet. `None`: it is an order.
     pub(crate) fn digits(self) -> Option<&'static [u8]> {
         self.line().strip_prefix(b"S ".as_slice())
     }
 
-    /// Whether its answer may need the database.
+    // Whether its answer may need the database.
     pub(crate) fn asks_store(self) -> bool {
         match self {
             Item::Open | Item::Response | Item::Status => false,
@@ -122,8 +122,8 @@ impl Item {
         }
     }
 
-    /// What is known about the sender once an acknowledgement says that this input learned, forgot or labelled it, if
-    /// it does.
+    // What is known about the sender once an acknowledgement says that this input learned, forgot or labelled it, if
+    // it does.
     pub(crate) fn change(self, known: Known) -> Option<Known> {
         match self {
             Item::Add if known == Known::Labelled => Some(known),
@@ -147,7 +147,7 @@ pub struct Answer {
 }
 
 impl Answer {
-    /// Appends what a replay writes to this text.
+    // Appends what a replay writes to this text.
     pub(crate) fn add_to(&self, text: &mut Vec<u8>) -> Result<()> {
         if !self.radio.is_empty() {
             text.extend_from_slice(b"S ")?;
@@ -175,7 +175,7 @@ pub struct State {
 }
 
 impl State {
-    /// The state of a new gateway that finds this about the sender.
+    // The state of a new gateway that finds this about the sender.
     pub(crate) fn new(known: Known, others: u32) -> State {
         State {
             known,
@@ -189,30 +189,30 @@ impl State {
         }
     }
 
-    /// An input failed.
-    pub(crate) fn refuse(&mut self) {
+    // An input failed.
+    pub(crate) fn fail(&mut self) {
         self.refused = self.refused.saturating_add(1);
     }
 
-    /// Applies an input, and returns its answer.
-    pub(crate) fn take(&mut self, alloc: Global, item: Item) -> Result<Answer> {
+    // Applies an input, and returns its answer.
+    pub(crate) fn apply(&mut self, alloc: Global, item: Item) -> Result<Answer> {
         match item {
             Item::Contact => self.hear_contact(alloc),
             Item::Actuator => self.learn(alloc, Known::Actuator, ACTUATOR_REPLY),
             Item::Sensor => self.learn(alloc, Known::Sensor, SENSOR_REPLY),
             _ => Ok(Answer {
                 radio: "",
-                desk: self.take_quietly(alloc, item)?,
+                desk: self.apply_without_radio(alloc, item)?,
             }),
         }
     }
 
     // Applies an input without radio bytes, and returns the text for the desk.
-    fn take_quietly(&mut self, alloc: Global, item: Item) -> Result<String> {
+    fn apply_without_radio(&mut self, alloc: Global, item: Item) -> Result<String> {
         match item {
             Item::Add => {
                 self.known = item.change(self.known).unwrap_or(Known::Contact);
-                taught(alloc, Known::Contact, "accepted")
+                teach_line(alloc, Known::Contact, "accepted")
             }
             Item::Label => self.label(alloc),
             Item::Open => {
@@ -221,7 +221,7 @@ impl State {
             }
             Item::Response => {
                 self.responses = self.responses.saturating_add(1);
-                Ok(RESPONSE.to_string(alloc)?)
+                Ok(RESPONSE_LINE.to_string(alloc)?)
             }
             Item::List => self.listed(alloc),
             Item::Remove => self.remove(alloc),
@@ -246,7 +246,7 @@ impl State {
     fn learn(&mut self, alloc: Global, known: Known, radio: &'static str) -> Result<Answer> {
         self.teach = self.teach.saturating_add(1);
         self.known = known;
-        let desk = taught(alloc, known, "accepted")?;
+        let desk = teach_line(alloc, known, "accepted")?;
         Ok(Answer { radio, desk })
     }
 
@@ -256,7 +256,7 @@ impl State {
             return Ok(UNKNOWN.to_string(alloc)?);
         }
         self.known = Known::Nothing;
-        taught(alloc, known, "deleted")
+        teach_line(alloc, known, "deleted")
     }
 
     fn label(&mut self, alloc: Global) -> Result<String> {
@@ -321,8 +321,8 @@ fn label_of(known: Known) -> &'static str {
     }
 }
 
-/// The line with the outcome for the sender.
-fn taught(alloc: Global, known: Known, outcome: &str) -> Result<String> {
+// The line with the outcome for the sender.
+fn teach_line(alloc: Global, known: Known, outcome: &str) -> Result<String> {
     let (eep, maker) = eep_and_maker(known);
     Ok(format!(in alloc;
         "{{\"eep\":\"{eep}\",\"id\":\"01800ABC\",\"maker\":{maker},\"result\":\"{outcome}\",\"type\":\"teach\"}}\n"
@@ -341,7 +341,7 @@ pub struct Outcome {
     pub desk: Vec<u8>,
 }
 
-/// The outcome for a new gateway with these inputs.
+// The outcome for a new gateway with these inputs.
 pub(crate) fn outcome_of(alloc: Global, items: &[Item]) -> Result<Outcome> {
     let mut it = Outcome {
         state: State::new(Known::Nothing, 0),
@@ -350,7 +350,7 @@ pub(crate) fn outcome_of(alloc: Global, items: &[Item]) -> Result<Outcome> {
         desk: Vec::new(alloc),
     };
     for item in items {
-        let answer = it.state.take(alloc, *item)?;
+        let answer = it.state.apply(alloc, *item)?;
         answer.add_to(&mut it.written)?;
         it.radio
             .extend_from_slice(&hex::decode(alloc, answer.radio)?)?;
@@ -359,7 +359,7 @@ pub(crate) fn outcome_of(alloc: Global, items: &[Item]) -> Result<Outcome> {
     Ok(it)
 }
 
-/// The outcome for a new gateway with this many first inputs of the script.
+// The outcome for a new gateway with this many first inputs of the script.
 pub(crate) fn outcome_of_first(alloc: Global, items: usize) -> Result<Outcome> {
     outcome_of(alloc, &ITEMS[..items.min(ITEMS.len())])
 }

@@ -1,15 +1,15 @@
 //! Scripts that end after each of their bytes, and serial lines that end, or pause, after each of theirs.
 use super::script::{ITEMS, Item, Known, OK, SYNTAX, State, outcome_of};
-use super::turns::{ended, paused, serve_new};
+use super::turns::{serve_by_new_gateway, turns_with_end, turns_with_pause};
 use crate::replays::is_written;
 use crate::report::Report;
 use anyhow::Result;
 use std::alloc::Global;
 
-/// A contact telegram with a wrong last byte.
+// A contact telegram with a wrong last byte.
 const WRONG_LAST_BYTE: &[u8] = b"S 55000707017AD50901800ABC0001FFFFFFFF2D001E";
 
-/// A line of a script, and its output.
+// A line of a script, and its output.
 #[derive(Drop)]
 struct Line {
     line: &'static [u8],
@@ -20,10 +20,10 @@ struct Line {
 // three cases print `at 1, differs`, the first two for the replay.
 pub(crate) fn run_cases(rt: &HostRuntime, report: &mut Report) -> Result<()> {
     let alloc = rt.alloc();
-    let script = lines_of(alloc, &ITEMS, &[])?;
+    let script = lines_of_items(alloc, &ITEMS, &[])?;
     let wrong = first_wrong_end(alloc, script.as_slice())?;
     report.add_first_wrong(rt, "a script that ends behind each byte", wrong)?;
-    let script = lines_of(alloc, &[Item::Add], &[Item::Contact])?;
+    let script = lines_of_items(alloc, &[Item::Add], &[Item::Contact])?;
     let wrong = first_wrong_end(alloc, script.as_slice())?;
     report.add_first_wrong(rt, "a wrong last byte and an end behind each byte", wrong)?;
     let wrong = first_wrong_line(alloc)?;
@@ -42,7 +42,7 @@ fn add_lines(
 ) -> Result<()> {
     for item in items {
         let mut text = Vec::new(alloc);
-        state.take(alloc, *item)?.add_to(&mut text)?;
+        state.apply(alloc, *item)?.add_to(&mut text)?;
         lines.push(Line {
             line: item.line(),
             text,
@@ -51,8 +51,8 @@ fn add_lines(
     Ok(())
 }
 
-/// The lines of these inputs, and, if there are any, those of others after a packet with a wrong last byte.
-fn lines_of(alloc: Global, items: &[Item], behind: &[Item]) -> Result<Vec<Line>> {
+// The lines of these inputs, and, if there are any, those of others after a packet with a wrong last byte.
+fn lines_of_items(alloc: Global, items: &[Item], behind: &[Item]) -> Result<Vec<Line>> {
     let mut lines = Vec::new(alloc);
     let mut state = State::new(Known::Nothing, 0);
     add_lines(alloc, &mut lines, &mut state, items)?;
@@ -66,30 +66,34 @@ fn lines_of(alloc: Global, items: &[Item], behind: &[Item]) -> Result<Vec<Line>>
     Ok(lines)
 }
 
-/// The first number of bytes after which the script ends and the output is wrong, if any.
+// The first number of bytes after which the script ends and the output is wrong, if any.
 fn first_wrong_end(alloc: Global, lines: &[Line]) -> Result<Option<usize>> {
     let mut script = Vec::new(alloc);
     let mut text = Vec::new(alloc);
     for line in lines {
         for len in 0..line.line.len() {
             let part = &line.line[..len];
-            if !is_end_well(alloc, (&script, part), (&text, text_of_part(part)))? {
+            if !handles_end(
+                alloc,
+                (&script, part),
+                (&text, output_for_partial_line(part)),
+            )? {
                 return Ok(Some(script.len().saturating_add(len)));
             }
         }
-        if !is_end_well(alloc, (&script, line.line), (&text, &line.text))? {
+        if !handles_end(alloc, (&script, line.line), (&text, &line.text))? {
             return Ok(Some(script.len().saturating_add(line.line.len())));
         }
         script.extend_from_slice(line.line)?;
         script.push(b'\n')?;
         text.extend_from_slice(&line.text)?;
     }
-    let is_well = is_end_well(alloc, (&script, b""), (&text, b""))?;
+    let is_well = handles_end(alloc, (&script, b""), (&text, b""))?;
     Ok((!is_well).then_some(script.len()))
 }
 
-/// Whether this is written for a script that ends within a line.
-fn is_end_well(alloc: Global, script: (&[u8], &[u8]), text: (&[u8], &[u8])) -> Result<bool> {
+// Whether this is written for a script that ends within a line.
+fn handles_end(alloc: Global, script: (&[u8], &[u8]), text: (&[u8], &[u8])) -> Result<bool> {
     is_written(alloc, &joined(alloc, script)?, &joined(alloc, text)?)
 }
 
@@ -100,9 +104,9 @@ fn joined(alloc: Global, parts: (&[u8], &[u8])) -> Result<Vec<u8>> {
     Ok(bytes)
 }
 
-/// The output for a prefix of a line, whose rest does not arrive. It is a line itself, if it is not empty: a chunk
-/// without a whole packet, or an order, of which only `learn on` is valid.
-fn text_of_part(part: &[u8]) -> &'static [u8] {
+// The output for a prefix of a line, whose rest does not arrive. It is a line itself, if it is not empty: a chunk
+// without a whole packet, or an order. Of such orders only `learn on` is valid.
+fn output_for_partial_line(part: &[u8]) -> &'static [u8] {
     match part.strip_prefix(b"S ".as_slice()) {
         Some(digits) if digits.len() % 2 == 0 => b"",
         _ if part.is_empty() => b"",
@@ -111,7 +115,7 @@ fn text_of_part(part: &[u8]) -> &'static [u8] {
     }
 }
 
-/// The first number of serial bytes after which the line ends or pauses and the output is wrong, if any.
+// The first number of serial bytes after which the line ends or pauses and the output is wrong, if any.
 fn first_wrong_line(alloc: Global) -> Result<Option<usize>> {
     let mut number = 0usize;
     for (at, item) in ITEMS.iter().enumerate() {
@@ -119,7 +123,7 @@ fn first_wrong_line(alloc: Global) -> Result<Option<usize>> {
             continue;
         };
         for len in 0..=digits.len() / 2 {
-            if !is_pause_well(alloc, at, len)? || !is_line_end_well(alloc, at, len)? {
+            if !handles_pause(alloc, at, len)? || !handles_line_end(alloc, at, len)? {
                 return Ok(Some(number.saturating_add(len)));
             }
         }
@@ -128,9 +132,9 @@ fn first_wrong_line(alloc: Global) -> Result<Option<usize>> {
     Ok(None)
 }
 
-/// Whether everything is written if this many bytes of a packet arrive in one turn, and the others in the next.
-fn is_pause_well(alloc: Global, at: usize, len: usize) -> Result<bool> {
-    let served = serve_new(alloc, &paused(alloc, at, len)?)?;
+// Whether everything is written if this many bytes of a packet arrive in one turn, and the others in the next.
+fn handles_pause(alloc: Global, at: usize, len: usize) -> Result<bool> {
+    let served = serve_by_new_gateway(alloc, &turns_with_pause(alloc, at, len)?)?;
     let wanted = outcome_of(alloc, &ITEMS)?;
     Ok(
         served.ended.is_ok()
@@ -139,8 +143,8 @@ fn is_pause_well(alloc: Global, at: usize, len: usize) -> Result<bool> {
     )
 }
 
-/// Whether the packets before it and all orders are answered if the line ends after this many bytes of a packet.
-fn is_line_end_well(alloc: Global, at: usize, len: usize) -> Result<bool> {
+// Whether the packets before it and all orders are answered if the line ends after this many bytes of a packet.
+fn handles_line_end(alloc: Global, at: usize, len: usize) -> Result<bool> {
     let mut items = Vec::new(alloc);
     for (turn, item) in ITEMS.iter().enumerate() {
         let is_whole = match item.digits() {
@@ -151,7 +155,7 @@ fn is_line_end_well(alloc: Global, at: usize, len: usize) -> Result<bool> {
             items.push(*item)?;
         }
     }
-    let served = serve_new(alloc, &ended(alloc, at, len)?)?;
+    let served = serve_by_new_gateway(alloc, &turns_with_end(alloc, at, len)?)?;
     let wanted = outcome_of(alloc, items.as_slice())?;
     Ok(
         served.ended.is_ok()

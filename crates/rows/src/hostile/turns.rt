@@ -1,8 +1,8 @@
 //! The script as the turns of a live gateway: one input arrives in each turn.
 use super::script::{ITEMS, Item};
-use crate::fakes::Parts;
-use crate::gateways::fresh;
-use crate::live_turns::{NEVER, Served, serve_by};
+use crate::fakes::PartReader;
+use crate::gateways::new_gateway;
+use crate::live_turns::{NEVER_FAILS, Served, serve_by};
 use anyhow::Result;
 use gateway_core::{DeviceStore, GatewayOver};
 use std::alloc::Global;
@@ -46,8 +46,8 @@ fn bytes_of(alloc: Global, digits: &[u8]) -> Result<Vec<u8>> {
     Ok(hex::decode(alloc, digits)?)
 }
 
-/// The turns of the script.
-pub(crate) fn whole(alloc: Global) -> Result<Turns> {
+// The turns of the script.
+pub(crate) fn turns_of_script(alloc: Global) -> Result<Turns> {
     let mut turns = Turns::new(alloc);
     for item in ITEMS {
         turns.push_item(alloc, item)?;
@@ -55,9 +55,9 @@ pub(crate) fn whole(alloc: Global) -> Result<Turns> {
     Ok(turns)
 }
 
-/// The turns of the script, except that the packet with this number arrives in two turns, this many bytes of it in the
-/// first.
-pub(crate) fn paused(alloc: Global, at: usize, len: usize) -> Result<Turns> {
+// The turns of the script, except that the packet with this number arrives in two turns, this many bytes of it in the
+// first.
+pub(crate) fn turns_with_pause(alloc: Global, at: usize, len: usize) -> Result<Turns> {
     let mut turns = Turns::new(alloc);
     for (number, item) in ITEMS.iter().enumerate() {
         match item.digits() {
@@ -73,8 +73,8 @@ pub(crate) fn paused(alloc: Global, at: usize, len: usize) -> Result<Turns> {
     Ok(turns)
 }
 
-/// The turns of the script, except that no serial bytes follow this many of the packet with this number.
-pub(crate) fn ended(alloc: Global, at: usize, len: usize) -> Result<Turns> {
+// The turns of the script, except that no serial bytes follow this many of the packet with this number.
+pub(crate) fn turns_with_end(alloc: Global, at: usize, len: usize) -> Result<Turns> {
     let mut turns = Turns::new(alloc);
     for (number, item) in ITEMS.iter().enumerate() {
         match item.digits() {
@@ -90,13 +90,19 @@ pub(crate) fn ended(alloc: Global, at: usize, len: usize) -> Result<Turns> {
     Ok(turns)
 }
 
-/// Serves the turns by a new gateway.
-pub(crate) fn serve_new(alloc: Global, turns: &Turns) -> Result<Served> {
-    let mut gateway = fresh(alloc)?;
-    serve(alloc, &mut gateway, turns, (0, 0), (NEVER, NEVER))
+// Serves the turns by a new gateway.
+pub(crate) fn serve_by_new_gateway(alloc: Global, turns: &Turns) -> Result<Served> {
+    let mut gateway = new_gateway(alloc)?;
+    serve(
+        alloc,
+        &mut gateway,
+        turns,
+        (0, 0),
+        (NEVER_FAILS, NEVER_FAILS),
+    )
 }
 
-/// Serves the turns, with readers and writers that fail at these calls. A writer takes one byte at a call.
+// Serves the turns, with readers and writers that fail at these calls. A writer takes one byte at a call.
 pub(crate) fn serve<S: DeviceStore>(
     alloc: Global,
     gateway: &mut GatewayOver<S>,
@@ -104,18 +110,18 @@ pub(crate) fn serve<S: DeviceStore>(
     read_fails_at: (usize, usize),
     write_fails_at: (usize, usize),
 ) -> Result<Served> {
-    let serial = views(alloc, &turns.serial)?;
-    let desk = views(alloc, &turns.desk)?;
+    let serial = slices_of(alloc, &turns.serial)?;
+    let desk = slices_of(alloc, &turns.desk)?;
     let (serial_fails_at, desk_fails_at) = read_fails_at;
     let inputs = (
-        Parts::new(serial.as_slice(), serial_fails_at),
-        Parts::new(desk.as_slice(), desk_fails_at),
+        PartReader::new(serial.as_slice(), serial_fails_at),
+        PartReader::new(desk.as_slice(), desk_fails_at),
     );
     let count = turns.serial.len() as u64;
     serve_by(alloc, gateway, inputs, false, count, 1, write_fails_at)
 }
 
-fn views(alloc: Global, parts: &[Vec<u8>]) -> Result<Vec<&[u8]>> {
+fn slices_of(alloc: Global, parts: &[Vec<u8>]) -> Result<Vec<&[u8]>> {
     let mut views = Vec::new(alloc);
     for part in parts {
         views.push(part.as_slice())?;

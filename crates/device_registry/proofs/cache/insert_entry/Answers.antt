@@ -1,5 +1,4 @@
-use Rattle.keyed_table.proofs.Common.{eqb-true, ◌≡◌, ◌⊎◌, inl, inr, ℕ, Result, Ok, Err, OnOk, OnErr, Contains, sym}
-use Rattle.keyed_table.proofs.Common.{eqb}
+use Rattle.keyed_table.proofs.Common.{eqb-true, ◌≡◌, ◌⊎◌, inl, inr, ℕ, Result, Ok, Err, OnOk, OnErr, Contains, sym, eqb}
 use Rattle.device_registry.proofs.Common.{LruCache, lru_cache}
 use Rattle.lru.specs.LruCache.{put_entries}
 use Rattle.lru.proofs.CallerLemmas.{Contains-put_entries}

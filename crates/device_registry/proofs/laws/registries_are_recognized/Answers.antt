@@ -5,5 +5,5 @@ use Rattle.device_registry.proofs.laws.registries_are_recognized.Goals as goal
 pub returns : goal.returns
 returns g c = (
   λ trees it. (it.devices, inl (Second, it.holds)),
-  λ old new fault devices clean refused finds is. (refused.not_a_registry clean is).0 devices finds,
+  λ old new fault devices clean failed finds is. (failed.not_a_registry clean is).0 devices finds,
 )

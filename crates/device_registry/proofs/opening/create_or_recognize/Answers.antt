@@ -30,14 +30,14 @@ returns-in_ok-create_tables-in-Absent g c =
 
 -- ---- the database is foreign
 
-pub returns-then-not-branch-clause-refused : goal.returns-then-not-branch-clause-refused
-returns-then-not-branch-clause-refused g c clean why =
+pub returns-then-not-branch-clause-rejected : goal.returns-then-not-branch-clause-rejected
+returns-then-not-branch-clause-rejected g c clean why =
     foreign _ {status = Present c.in-Present.version} (c.requires.rest (before c.is_registry.ensures.crash clean))
     (search rules) (λ is. let e = is in cc) (λ version is. let same : c.in-Present.version ≡ version = cc in
     rw same at (c.is_registry.ensures.other clean (search rules)))
 
-pub returns-in-Unusable-clause-refused : goal.returns-in-Unusable-clause-refused
-returns-in-Unusable-clause-refused g c clean why =
+pub returns-in-Unusable-clause-rejected : goal.returns-in-Unusable-clause-rejected
+returns-in-Unusable-clause-rejected g c clean why =
     foreign _ {status = Unusable} (c.requires.rest clean) (search rules) (λ is. let e = is in cc)
     (λ _ is. let e = is in cc)
 

@@ -1,14 +1,14 @@
 use Rattle.keyed_table.proofs.Common.{rules, sym, ◌∙◌, on_ok_weaker, HasCleanDisk}
 use Rattle.std.proofs.lemmas.Result.{err_from_is_err_and}
 use Rattle.sqlite_rules.proofs.ViewLemmas.{on_ok_both}
-use Rattle.device_registry.proofs.OpenCalls.{last, opened, refused_first, refused_then, rows_from}
+use Rattle.device_registry.proofs.OpenCalls.{last, opened, failed_first, failed_then, rows_from}
 use Rattle.device_registry.proofs.TablesRecognized.{before}
 use Rattle.device_registry.proofs.opening.prepare.Goals as goal
 
-pub returns-in_err-check_open-clause-refused : goal.returns-in_err-check_open-clause-refused
-returns-in_err-check_open-clause-refused g c =
+pub returns-in_err-check_open-clause-failed : goal.returns-in_err-check_open-clause-failed
+returns-in_err-check_open-clause-failed g c =
     let why = err_from_is_err_and c.from_residual.result c.from_residual.ensures.1 in
-    rw why.1 (refused_first _ _ why.0 (λ is. let e = sym why.2 ∙ is in cc) c.check_open.ensures.crash)
+    rw why.1 (failed_first _ _ why.0 (λ is. let e = sym why.2 ∙ is in cc) c.check_open.ensures.crash)
 
 pub returns : goal.returns
 returns g c =
@@ -25,6 +25,6 @@ returns g c =
       others = λ clean. on_ok_weaker c.create_or_recognize.result (λ kept. rw (was clean).0.0.now_is at kept)
           (it.others clean);
       kept = search rules;
-      refused = refused_then c.create_or_recognize.result _ _ _ c.in_ok-check_open.ensures.same
-          c.check_open.ensures.crash it.crash it.refused it.unchanged;
+      failed = failed_then c.create_or_recognize.result _ _ _ c.in_ok-check_open.ensures.same
+          c.check_open.ensures.crash it.crash it.rejected it.unchanged;
     }

@@ -1,6 +1,5 @@
-use Rattle.std.proofs.Common.{rules}
+use Rattle.std.proofs.Common.{rules, ◌-◌, length, drop, length-drop, arith}
 use Rattle.std.proofs.lemmas.List.{take_all}
-use Rattle.std.proofs.Common.{◌-◌, length, drop, length-drop, arith}
 use Rattle.esp3_frames.specs.Outcome.{packet_of}
 use Rattle.erp1_telegrams.proofs.TelegramLemmas.{Taken, taken_is}
 use Rattle.erp1_telegrams.proofs.serial.read.Goals as goal

@@ -1,5 +1,4 @@
-use Rattle.std.proofs.Common.{rules, ℕ, List, [], ◌∷◌, ◌++◌, ◌+◌, ◌∙◌, refl, take, ap, arith, inl, inr}
-use Rattle.std.proofs.Common.{length-append}
+use Rattle.std.proofs.Common.{rules, ℕ, List, [], ◌∷◌, ◌++◌, ◌+◌, ◌∙◌, refl, take, ap, arith, inl, inr, length-append}
 use Rattle.std.specs.Prelude.{◌≢◌}
 use Rattle.std.specs.List.{concat}
 use Rattle.std.proofs.lemmas.List.Elements.{All-nil, All-push}
@@ -17,8 +16,7 @@ use Rattle.gateway_loop.proofs.LineSplitterLemmas.{bytes_none, bytes_behind, fir
 use Rattle.gateway_loop.proofs.ReadLemmas.{concat-and_empty, makes_read_more, makes_reads, reads_end, reads_fail}
 use Rattle.gateway_loop.proofs.ReadLemmas.{reads_more, reads_none, some_taken}
 use Rattle.gateway_loop.proofs.ScriptReplayLemmas.{part_at_end, part_at_line, plays_ended, plays_written}
-use Rattle.gateway_loop.proofs.ScriptReplayLemmas.{script_of_bytes}
-use Rattle.gateway_loop.proofs.ScriptReplayLemmas.{script_taken}
+use Rattle.gateway_loop.proofs.ScriptReplayLemmas.{script_of_bytes, script_taken}
 use Rattle.gateway_loop.proofs.script_replay.replay.Goals as goal
 
 pub loop-turn-init : goal.loop-turn-init

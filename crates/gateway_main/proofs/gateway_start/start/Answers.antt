@@ -8,7 +8,7 @@ use Rattle.gateway_main.proofs.gateway_start.start.Goals as goal
 pub returns-in-Err-clause-kept : goal.returns-in-Err-clause-kept
 returns-in-Err-clause-kept g c =
     keeps_committed _ _ (Database c.in-Err.why) (g.met.C.SqlConnection.settled c.args.conn)
-    (inl c.in-Err.ensures.refused)
+    (inl c.in-Err.ensures.failed)
 
 pub returns-in-Ok-with_base_id-clause-begins : goal.returns-in-Ok-with_base_id-clause-begins
 returns-in-Ok-with_base_id-clause-begins g c =

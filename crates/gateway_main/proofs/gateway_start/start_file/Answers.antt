@@ -26,7 +26,7 @@ returns-in-Ok-start-clause-begins g c clean =
 
 pub returns-in-Err-start-clause-holds : goal.returns-in-Err-start-clause-holds
 returns-in-Err-start-clause-holds g c devices held clean =
-    let failed = c.in-Err-start.ensures.refused in
+    let failed = c.in-Err-start.ensures.failed in
     let finds = c.in-Ok.ensures.found (was_clean _ _ c.in-Err-start.fault failed clean) in
     let found = held_in_files _ _ devices finds held in (
       λ is. rejects_foreign _ _ c.in-Err-start.fault failed is clean devices found,

@@ -14,13 +14,13 @@ pub returns-in_default-get-clause-exact : goal.returns-in_default-get-clause-exa
 returns-in_default-get-clause-exact c =
     let h = c.contents.ensures in
     let other : c.get.result ≡ 1 → ⊥ = search rules in
-    c.refusal_of.ensures
+    c.reason_if_supported.ensures
     ∙ of-four-teach-in (four_bs_profile c.args.func c.args.typ) c.args.telegram.now c.contents.result.now h.rorg
     h.payload h.fits refl c.in-FourBs.bytes c.in-FourBs.is (λ e. other (c.get.ensures.value ∙ e))
 
 pub returns-in_default-clause-exact : goal.returns-in_default-clause-exact
 returns-in_default-clause-exact c =
     let h = c.contents.ensures in
-    c.refusal_of-in_default.ensures
+    c.reason_if_supported-in_default.ensures
     ∙ of-another (four_bs_profile c.args.func c.args.typ) c.args.telegram.now c.contents.result.now h.rorg h.payload
     h.fits refl c.in_default.not-FourBs

@@ -16,6 +16,6 @@ returns-in-OneBs-clause-exact c =
 pub returns-in_default-clause-exact : goal.returns-in_default-clause-exact
 returns-in_default-clause-exact c =
     let h = c.contents.ensures in
-    c.refusal_of.ensures c.args.telegram.now.status
+    c.reason_if_supported.ensures c.args.telegram.now.status
     ∙ of-not-one (one_bs_profile c.args.func c.args.typ) c.args.telegram.now c.contents.result.now h.rorg h.payload
     h.fits refl c.in_default.not-OneBs

@@ -1,8 +1,7 @@
 use Rattle.keyed_table.proofs.Common.{◌∙◌, Err, None, sym}
 use Rattle.device_registry.proofs.Common.{learn_update, device_data}
-use Rattle.device_registry.proofs.RegistryCalls.{err_is, shown_before, keeps, keeps_well, both_ready, reports}
-use Rattle.device_registry.proofs.RegistryCalls.{looks_up, unlearned, made_ready, upserted, upserted_learns}
-use Rattle.device_registry.proofs.RegistryCalls.{upserted_well}
+use Rattle.device_registry.proofs.RegistryCalls.{err_is, shown_before, keeps, keeps_well, both_ready, reports, looks_up}
+use Rattle.device_registry.proofs.RegistryCalls.{unlearned, made_ready, upserted, upserted_learns, upserted_well}
 use Rattle.learned_devices.proofs.ForCallers.{no_more_commits, one_more_commit}
 use Rattle.device_registry.proofs.device_table.DeviceTable.learn_unless_full.Goals as goal
 

@@ -3,8 +3,8 @@ use Rattle.device_registry.proofs.OpenCalls.{not_asked}
 use Rattle.device_registry.proofs.CacheAgreement.{none_recalled}
 use Rattle.device_registry.proofs.registry.RegistryOver.open_with.Goals as goal
 
-pub returns-in-Err-clause-refused : goal.returns-in-Err-clause-refused
-returns-in-Err-clause-refused g c = search (rules, not_asked)
+pub returns-in-Err-clause-failed : goal.returns-in-Err-clause-failed
+returns-in-Err-clause-failed g c = search (rules, not_asked)
 
 pub invariant_of-result : goal.invariant_of-result
 invariant_of-result g c = (

@@ -1,6 +1,5 @@
-use Rattle.std.proofs.Common.{◌≡◌, ℕ, ◌+◌, ◌<◌, ◌≤◌, List, ◌++◌, length, take, drop}
-use Rattle.std.proofs.Common.{get_or, sym, ap, ◌∙◌, append_assoc, arith}
-use Rattle.std.proofs.Common.{length-take, length-drop}
+use Rattle.std.proofs.Common.{◌≡◌, ℕ, ◌+◌, ◌<◌, ◌≤◌, List, ◌++◌, length, take, drop, get_or, sym, ap, ◌∙◌, append_assoc}
+use Rattle.std.proofs.Common.{arith, length-take, length-drop}
 use Rattle.std.proofs.Math.Seq.{take-add}
 use Rattle.std.proofs.lemmas.List.{get_or_default}
 use Rattle.esp3_frames.specs.Check.{check}

@@ -3,7 +3,7 @@ use Rattle.std.specs.Bool.{MatchBool}
 use Rattle.std.proofs.lemmas.Result.{err_from_is_err_and}
 use Rattle.learned_devices.specs.declared.fault.LearnFault.{LearnFault}
 use Rattle.learned_devices.specs.declared.fault.LearnFault.TheVariants as fault
-use Rattle.learned_devices.specs.StoreCalls.{RefusesToLearn}
+use Rattle.learned_devices.specs.StoreCalls.{FailsToLearn}
 use Rattle.teach_in.specs.declared.outcome.Outcome.TheVariants.{Accepted, Deleted}
 use Rattle.learned_devices.proofs.ForCallers.{learn_adds_one}
 use Rattle.gateway_core.proofs.AttemptLemmas.{alone, alone-unasked}
@@ -26,7 +26,7 @@ returns-in-Err-Full g c =
           alone g.S.DeviceStore.store_state _ _ _ _ _ _ c.learn.ensures.learns.clean c.learn.ensures.learns.reopenable
           (λ honest. learn_adds_one c.learn.result (c.learn.ensures.learns.commits honest))
           (λ honest devices has.
-          let Refuses = λ (why : LearnFault). RefusesToLearn (g.S.DeviceStore.store_state c.self.inside.registry)
+          let Refuses = λ (why : LearnFault). FailsToLearn (g.S.DeviceStore.store_state c.self.inside.registry)
           (g.S.DeviceStore.store_state c.learn.new.self) c.args.device devices why in
           let full : Refuses fault.Full = subst Refuses c.in-Err-Full.field-0-is
           (c.in-Err-Full.ensures.learns.devices honest devices has) in full);
@@ -40,7 +40,7 @@ returns-in-Err-Failed g c =
           alone g.S.DeviceStore.store_state _ _ _ _ _ _ c.learn.ensures.learns.clean c.learn.ensures.learns.reopenable
           (λ honest. learn_adds_one c.learn.result (c.learn.ensures.learns.commits honest))
           (λ honest devices has.
-          let Refuses = λ (why : LearnFault). RefusesToLearn (g.S.DeviceStore.store_state c.self.inside.registry)
+          let Refuses = λ (why : LearnFault). FailsToLearn (g.S.DeviceStore.store_state c.self.inside.registry)
           (g.S.DeviceStore.store_state c.learn.new.self) c.args.device devices why in
           let pends : Refuses (fault.Failed c.in-Err-Failed.fault) = subst Refuses c.in-Err-Failed.field-0-is
           (c.in-Err-Failed.ensures.learns.devices honest devices has) in pends);

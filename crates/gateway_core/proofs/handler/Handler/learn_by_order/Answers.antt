@@ -1,17 +1,17 @@
 use Rattle.std.proofs.Common.{[], ◌∷◌, Ok, sym, ap, subst, ◌∙◌, append-nil}
 use Rattle.std.proofs.lemmas.Result.{err_from_is_err_and}
 use Rattle.json_lines.specs.Lines.{Error}
-use Rattle.json_lines.specs.declared.error_lines.ErrorName.TheVariants as name
+use Rattle.gateway_state.specs.declared.error_reason.ErrorReason.TheVariants as name
 use Rattle.gateway_core.specs.Step.{text_answer, ordered_learn_effect, lines_effect, NeedsStore}
 use Rattle.gateway_core.specs.private.Attempts.{TriesToLearn}
-use Rattle.gateway_core.proofs.AttemptLemmas.{by-desk, tries-learned, tries-full, tries-refused}
+use Rattle.gateway_core.proofs.AttemptLemmas.{by-desk, tries-learned, tries-full, tries-failed}
 use Rattle.gateway_core.proofs.handler.Handler.learn_by_order.Goals as goal
 
 pub returns-in_err-line : goal.returns-in_err-line
 returns-in_err-line g c =
     let error = err_from_is_err_and c.from_residual.result c.from_residual.ensures.1 in
     rw (error.1, error.2)
-    (tries-refused g.S.DeviceStore.store_state _ _ c.args.device
+    (tries-failed g.S.DeviceStore.store_state _ _ c.args.device
     (λ state. lines_effect NeedsStore (Error name.Full ∷ []))
     (λ state. ordered_learn_effect c.args.device)
     (λ devices. by-desk c.args.device)

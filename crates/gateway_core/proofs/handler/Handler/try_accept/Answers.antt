@@ -4,7 +4,7 @@ use Rattle.teach_in.specs.declared.outcome.Outcome.TheVariants.{Accepted, Full}
 use Rattle.gateway_core.specs.Handling.{HandlerValue}
 use Rattle.gateway_core.specs.Step.{accept_effect, mode_set_by_learning, teach_report_effect, device_teach_line}
 use Rattle.gateway_core.specs.private.Attempts.{TriesToLearn, state_of}
-use Rattle.gateway_core.proofs.AttemptLemmas.{by-radio, teach_line-answer, tries-learned, tries-full, tries-refused}
+use Rattle.gateway_core.proofs.AttemptLemmas.{by-radio, teach_line-answer, tries-learned, tries-full, tries-failed}
 use Rattle.gateway_core.proofs.AttemptLemmas.{tries-unacknowledged}
 use Rattle.gateway_core.proofs.handler.Handler.try_accept.Goals as goal
 
@@ -12,7 +12,7 @@ pub returns-in_err-verdict : goal.returns-in_err-verdict
 returns-in_err-verdict g c =
     let error = err_from_is_err_and c.from_residual.result c.from_residual.ensures.1 in
     rw (error.1, error.2)
-    (tries-refused g.S.DeviceStore.store_state _ _ c.args.device
+    (tries-failed g.S.DeviceStore.store_state _ _ c.args.device
     (λ state. teach_report_effect state c.args.teach.now (device_teach_line c.args.device Full))
     (λ state. accept_effect state c.args.teach.now c.args.device)
     (λ devices. by-radio (state_of c.args.self.now devices) c.args.teach.now c.args.device)

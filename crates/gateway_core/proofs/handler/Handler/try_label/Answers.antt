@@ -1,7 +1,7 @@
 use Rattle.std.proofs.Common.{Ok, ap, subst, ◌∙◌}
 use Rattle.learned_devices.specs.StoreCalls.{Relabels}
 use Rattle.learned_devices.proofs.ForCallers.{relabel_adds_one}
-use Rattle.gateway_core.proofs.AttemptLemmas.{label-applies_or_fails, label-refused, tries}
+use Rattle.gateway_core.proofs.AttemptLemmas.{label-applies_or_fails, label-failed, tries}
 use Rattle.gateway_core.proofs.handler.Handler.try_label.Goals as goal
 use Rattle.gateway_core.proofs.handler.Handler.try_label.Goals.{in-Ok-true, in-Ok-false, in-Err}
 
@@ -30,5 +30,5 @@ returns g c =
           (w.error_effect.ensures, was.1))
       | in-Err w ↦
           let was = (subst Was w.in-Err.is relabels).devices honest devices has in
-          rw w.result-is (label-refused stored old new devices c.args.id c.args.label _ was)
+          rw w.result-is (label-failed stored old new devices c.args.id c.args.label _ was)
     ]))

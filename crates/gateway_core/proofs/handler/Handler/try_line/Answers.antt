@@ -1,7 +1,7 @@
 use Rattle.std.proofs.Common.{sym, ◌∙◌, Ok, Err}
 use Rattle.std.proofs.lemmas.Bool.{lt-ltb}
-use Rattle.actuator_commands.specs.Limits.{max_line}
-use Rattle.actuator_commands.proofs.ForCallers.{parsed-in_range}
+use Rattle.desk_orders.specs.Limits.{max_line}
+use Rattle.desk_orders.proofs.ForCallers.{parsed-in_range}
 use Rattle.gateway_core.proofs.AttemptLemmas.{tries-alone, tries-order}
 use Rattle.gateway_core.proofs.handler.Handler.try_line.Goals as goal
 

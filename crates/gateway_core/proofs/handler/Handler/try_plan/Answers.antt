@@ -34,13 +34,13 @@ returns-in_err-refused-in-Refuse g c =
     err_from_is_err_and c.from_residual.result c.from_residual.ensures.1 in
     let plan = sym c.plan_for.ensures ∙ c.in-Refuse.is in
     rw (← c.self.view_is, error.1, error.2)
-    (tries-alone g.S.DeviceStore.store_state _ _ _ (λ devices keeps. rw plan (permits-memory c.args.asked, keeps)))
+    (tries-alone g.S.DeviceStore.store_state _ _ _ (λ devices keeps. rw plan (permits-memory c.args.is_data, keeps)))
 
 pub returns-in-Silent : goal.returns-in-Silent
 returns-in-Silent g c =
     let plan = sym c.plan_for.ensures ∙ c.in-Silent.is in
     rw (← c.self.view_is) (tries-alone g.S.DeviceStore.store_state _ _ _
-    (λ devices keeps. rw (plan, ← c.why_nothing_done.ensures) (c.ignored_effect.ensures c.args.asked, keeps)))
+    (λ devices keeps. rw (plan, ← c.why_nothing_done.ensures) (c.ignored_effect.ensures c.args.is_data, keeps)))
 
 pub returns-in-Add : goal.returns-in-Add
 returns-in-Add g c =

@@ -1,7 +1,8 @@
 use Rattle.std.proofs.Common.{◌≡◌, true, false, Some, None, Ok, sym, ap, subst, ◌∙◌}
 use Rattle.std.specs.Prelude.{is_some}
 use Rattle.std.proofs.lemmas.Result.{err_from_is_err_and}
-use Rattle.actuator_commands.specs.Packets.{order_telegram, recipient_id}
+use Rattle.desk_orders.specs.Recipients.{recipient_id}
+use Rattle.actuator_commands.specs.Packets.{order_telegram}
 use Rattle.std.specs.Option.{option_copied}
 use Rattle.learned_devices.specs.Devices.{device_of}
 use Rattle.learned_devices.proofs.ForCallers.{no_more_commits}

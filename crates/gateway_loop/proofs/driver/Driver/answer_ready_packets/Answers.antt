@@ -4,7 +4,7 @@ use Rattle.gateway_core.specs.declared.handled.HandledPacket.{HandledPacket}
 use Rattle.gateway_core.specs.Calls.{GatewayValue, Transition, Next}
 use Rattle.gateway_core.specs.Replies.{packet_answer}
 use Rattle.gateway_core.specs.Step.{Received}
-use Rattle.json_lines.specs.Counts.{saturated_sum}
+use Rattle.gateway_state.specs.Counts.{saturated_sum}
 use Rattle.gateway_loop.specs.declared.driver.Driver.{Driver}
 use Rattle.gateway_loop.specs.private.DriverSteps.{Drains}
 use Rattle.gateway_loop.proofs.DriverStepLemmas.{drains_nothing, drains_one, drains_part}

@@ -1,9 +1,0 @@
-use Rattle.std.proofs.Common.{arith}
-use Rattle.actuator_commands.proofs.NumberLemmas.{number-utf8, number-parsed}
-use Rattle.actuator_commands.proofs.words.number_of.Goals as goal
-
-pub returns-in_err-ok : goal.returns-in_err-ok
-returns-in_err-ok c = grind (arith, number-utf8)
-
-pub returns : goal.returns
-returns c = grind (arith, number-parsed)

@@ -1,2 +1,0 @@
--- For private postconditions: no public contract depends on these.
-pub mod Targets

@@ -1,5 +1,0 @@
-use Rattle.keyed_table.proofs.Common.{refl}
-use Rattle.device_registry.proofs.laws.only_non_registries_are_refused.Goals as goal
-
-pub returns : goal.returns
-returns g c conn last clean refused = (refused.not_a_registry clean refl).0

@@ -1,8 +1,0 @@
-use Rattle.std.proofs.Common.{rules}
-use Rattle.json_lines.proofs.counts.Counts.increment.Goals as goal
-
-pub returns-in-Reading : goal.returns-in-Reading
-returns-in-Reading c = search rules
-
-pub returns-in-TeachLine : goal.returns-in-TeachLine
-returns-in-TeachLine c = search rules
