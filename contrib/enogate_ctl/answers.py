@@ -41,7 +41,7 @@ LEAST = 2
 # The errors that packets have, too.
 SHARED = frozenset({"memory", "store"})
 # The errors that each order can have, by its first word.
-ERRORS = {verb: frozenset().union(*(errors for _, errors in forms)) for verb, forms in share.orders().items()}
+ERRORS = {verb: frozenset().union(*(errors for _, errors in forms)) for verb, forms in share.order_forms().items()}
 
 
 class Line(NamedTuple):

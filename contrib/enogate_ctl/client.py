@@ -5,8 +5,9 @@ import os
 import sys
 import time
 from collections.abc import Callable, Sequence
+from typing import TypeVar
 
-from enogate_lines.follow import Follower, end_of, silent
+from enogate_lines.follow import Follower, position_at_end, ignore_message
 from enogate_tools.files import Unsafe, open_file
 from enogate_tools.gateways import Paths
 
@@ -22,6 +23,7 @@ PAUSE, LONG_PAUSE = 0.01, 0.1
 LONGEST_KEPT, KEPT_AFTER_ANSWER = 3600.0, 10.0
 # A number of fences that never comes. With it, the process keeps the lock as long as for an order without an answer.
 NEVER = sys.maxsize
+Taken = TypeVar("Taken")
 
 
 class NoAnswer(Exception):
@@ -54,8 +56,10 @@ class Lines:
         except OSError as error:
             raise Unusable(f"the lines {path} cannot be read: {error.strerror}; become root, or a member of the group "
                            "enogate (log in again afterwards)") from error
-        start = end_of(path, earlier)
-        self.follower = Follower(path, start, silent)
+        start = position_at_end(path, earlier)
+        self.follower = Follower(path, start, ignore_message)
+        # The lines that were read, and not taken.
+        self.unread: list[bytes] = []
         # The rest of a line that was begun before.
         self.is_torn = start is not None and start.offset > 0 and not start.last.endswith(b"\n")
 
@@ -74,7 +78,18 @@ class Lines:
         found = [line for line, _ in self.follower.read()]
         if found and self.is_torn:
             found, self.is_torn = found[1:], False
+        found, self.unread = self.unread + found, []
         return found
+
+    def first(self, take: Callable[[bytes], Taken | None]) -> Taken | None:
+        """What `take` returns of the first of these lines for which it returns something. The lines after that one are
+        read again."""
+        found = self.read()
+        for number, line in enumerate(found, 1):
+            if taken := take(line):
+                self.unread = found[number:]
+                return taken
+        return None
 
     def close(self) -> None:
         """Closes the file."""
@@ -100,9 +115,15 @@ class Client:
         return self.ask_all([order])[0]
 
     def ask_all(self, orders: Sequence[str]) -> list[Answer]:
-        """The answers to these orders, which are written at once, or NoAnswer. The desk is locked until then. If they
-        get no answers in time, or if a signal stops the command, another process keeps the lock until no answer can
-        come any more: otherwise the next order could get the answer of one of these."""
+        """The answers to these orders, which are written at once, or NoAnswer."""
+        answers, lines = self.ask_and_follow(orders)
+        lines.close()
+        return answers
+
+    def ask_and_follow(self, orders: Sequence[str]) -> tuple[list[Answer], Lines]:
+        """The answers to these orders, which are written at once, and the lines after them, or NoAnswer. The desk is
+        locked until then. If they get no answers in time, or if a signal stops the command, another process keeps the
+        lock until no answer can come any more: otherwise the next order could get the answer of one of these."""
         limit = self.clock() + self.timeout
         try:
             file = DeskFile(self.paths.desk)
@@ -122,12 +143,13 @@ class Client:
                                "a restart of the gateway ends the wait")
             self.sleep(PAUSE)
 
-    def ask_locked(self, file: DeskFile, finder: AnswerFinder, limit: float) -> list[Answer]:
-        """Writes the orders and waits for their answers."""
-        lines = Lines(self.paths.lines)
+    def ask_locked(self, file: DeskFile, finder: AnswerFinder, limit: float) -> tuple[list[Answer], Lines]:
+        """Writes the orders and waits for their answers. Returns these, and the lines after them."""
+        lines, answers = Lines(self.paths.lines), None
         try:
             self.write(file, finder)
-            return self.wait(file, lines, finder, limit)
+            answers = self.wait(file, lines, finder, limit)
+            return answers, lines
         except TooLate as late:
             self.keep_lock(file, lines, finder)
             raise NoAnswer(f"the gateway did not answer within {self.timeout:g} s, and may still carry out the order: "
@@ -142,7 +164,8 @@ class Client:
                 self.keep_lock(file, lines, finder)
             raise
         finally:
-            lines.close()
+            if answers is None:
+                lines.close()
 
     def write(self, file: DeskFile, finder: AnswerFinder) -> None:
         """Writes the orders with the fences that they need. The lines must be open already: then all orders whose
@@ -165,7 +188,7 @@ class Client:
         while True:
             # A line is read only once, so a signal must not interrupt this before the line is taken.
             with held():
-                answers = next(filter(None, map(finder.take, lines.read())), None)
+                answers = lines.first(finder.take)
                 finder.is_done = answers is not None
             file.check()
             if answers:

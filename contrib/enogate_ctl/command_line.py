@@ -2,28 +2,40 @@
 from __future__ import annotations
 
 import argparse
+import contextlib
 import math
 from collections.abc import Sequence
 from typing import NamedTuple, NoReturn
 
 from enogate_tools import VERSION
 from enogate_tools.desk import opens_window
-from enogate_tools.gateways import NoName, Paths, paths_of
+from enogate_tools.gateways import InvalidName, Paths, paths_of
 
 from . import grammar
 
 TIMEOUT = 10.0
-USAGE = """enogatectl [--timeout SECONDS] [--json] [--desk PATH] [--lines PATH] GATEWAY ORDER..
+# How long a command at a terminal waits for what the device reports after an order, by the first word of the order, in
+# seconds. Devices answer at once. A blind reports when it stands still, and a whole way takes a tall one a minute, more
+# with slow motors.
+ANSWERED_WITHIN, BLIND_WITHIN = 3.0, 120.0
+WAITS = {**dict.fromkeys(("switch", "dim", "query", "meter", "stop"), ANSWERED_WITHIN), "blind": BLIND_WITHIN}
+USAGE = """enogatectl [--timeout SECONDS] [--wait SECONDS|--no-wait] [--json] [--desk PATH] [--lines PATH] GATEWAY
+                  ORDER..
        enogatectl [..] GATEWAY learn on|on answer|as EEP --for SECONDS
        enogatectl [..] GATEWAY devices [--export|--import]
-       enogatectl [..] GATEWAY lines
+       enogatectl [..] GATEWAY lines|watch
+       enogatectl help [ORDER]
        enogatectl base PORT
        enogatectl paths
        enogatectl --serve"""
+# The options that not all commands have, by what their values are called here.
+OPTIONS = {"json": "json", "seconds": "for", "exports": "export", "imports": "import", "desk": "desk", "lines": "lines",
+           "wait": "wait", "no_wait": "no-wait"}
 EPILOG = ("GATEWAY is the name of a gateway, for example `hall` for enogate@hall.service. ORDER is one of: "
           f"{', '.join(grammar.FORMS)}. Words after -- are part of the order, even if they begin with -. "
           "The exit status is 0 if the order was carried out, 1 if the gateway refused it or it failed, 2 if the "
-          "command line is invalid, and 3 if the gateway did not answer in time. See enogatectl(1).")
+          "command line is invalid, 3 if the gateway does not run or did not answer in time, and 4 if the device "
+          "reported nothing. See enogatectl(1).")
 
 
 class AskBase(NamedTuple):
@@ -35,13 +47,22 @@ class ShowPaths(NamedTuple):
     """Prints where the files of the gateways are."""
 
 
+class ShowHelp(NamedTuple):
+    """Prints the forms of the orders, or of those with this first word."""
+    verb: str
+
+
 class Give(NamedTuple):
-    """Gives an order to a gateway. With `seconds`, it opens the learn window for this time."""
+    """Gives an order to a gateway. With `seconds`, it opens the learn window for this time. It waits for the report of
+    the device as long as `wait` says: None is the default. With a label, `order` has the word ID in place of the ID of
+    the device with this label."""
     paths: Paths
     timeout: float
     is_json: bool
     order: str
     seconds: float | None
+    wait: float | None = None
+    label: str = ""
 
 
 class Export(NamedTuple):
@@ -67,32 +88,57 @@ class ShowLines(NamedTuple):
     paths: Paths
 
 
+class ShowReadings(NamedTuple):
+    """Prints the readings of a gateway as they come, for people."""
+    paths: Paths
+
+
 class Serve(NamedTuple):
     """Runs the commands that another program requests."""
 
 
-Command = AskBase | ShowPaths | Serve | Give | Export | Import | ShowRecorded | ShowLines
+Following = ShowLines | ShowReadings
+Command = AskBase | ShowPaths | ShowHelp | Serve | Give | Export | Import | ShowRecorded | Following
 
 
 def seconds_of(text: str) -> float:
     """A time in seconds, which is greater than 0."""
-    seconds = float(text)
-    if not 0 < seconds < math.inf:
-        raise ValueError
-    return seconds
+    with contextlib.suppress(ValueError):
+        seconds = float(text)
+        if 0 < seconds < math.inf:
+            return seconds
+    raise argparse.ArgumentTypeError(f"{text!r} is not a number of seconds greater than 0")
 
 
-seconds_of.__name__ = "number of seconds"
+# How a message of argparse begins, which has all words that it does not know.
+UNRECOGNIZED = "unrecognized arguments: "
+
+
+class Parser(argparse.ArgumentParser):
+    """A parser that prints one line if the command line is invalid."""
+
+    def error(self, message: str) -> NoReturn:
+        """Ends the program with status 2."""
+        from .words import printable
+        if message.startswith(UNRECOGNIZED):
+            option = message.removeprefix(UNRECOGNIZED).split(" ")[0]
+            known = (f"--{name}" for name in ("help", "serve", "timeout", "version", *OPTIONS.values()))
+            message = f"there is no option {option}{grammar.nearest(option, known)}"
+        self.exit(2, f"enogatectl: {printable(message)}\n")
 
 
 def parser() -> argparse.ArgumentParser:
     """The parser of the command line."""
-    made = argparse.ArgumentParser("enogatectl", USAGE, "Give orders to an EnOcean gateway, and print the answers.",
-                                   EPILOG, allow_abbrev=False)
+    made = Parser("enogatectl", USAGE, "Give orders to an EnOcean gateway, and print the answers.", EPILOG,
+                  allow_abbrev=False)
     made.add_argument("gateway", metavar="GATEWAY", help=argparse.SUPPRESS)
     made.add_argument("order", metavar="ORDER", nargs="*", help=argparse.SUPPRESS)
     made.add_argument("--timeout", metavar="SECONDS", type=seconds_of, default=TIMEOUT,
                       help=f"how long to wait for the answer (default: {TIMEOUT:g})")
+    made.add_argument("--wait", metavar="SECONDS", type=seconds_of,
+                      help="with an order to a device: how long to wait until it reports what it did (default at a "
+                      f"terminal: {ANSWERED_WITHIN:g}, for a blind {BLIND_WITHIN:g}; otherwise no wait)")
+    made.add_argument("--no-wait", action="store_true", help="do not wait for that")
     made.add_argument("--json", action="store_true", help="print the lines of the answer as they are")
     made.add_argument("--desk", metavar="PATH", help="desk of a gateway without a unit")
     made.add_argument("--lines", metavar="PATH", help="output lines of a gateway without a unit")
@@ -137,46 +183,65 @@ class CommandLine:
         if words.serve:
             self.fail("--serve cannot be used with other words")
         if words.gateway == "base" and len(words.order) == 1 and "/" in words.order[0]:
-            self.forbid("base", "json", "seconds", "exports", "imports", "desk", "lines")
+            self.allow("base")
             return AskBase(words.order[0])
         if words.gateway == "paths" and not words.order:
-            self.forbid("paths", "json", "seconds", "exports", "imports", "desk", "lines")
+            self.allow("paths")
             return ShowPaths()
+        if words.gateway == "help" and len(words.order) < 2:
+            return self.help(*words.order)
+        if words.order[:1] == ["help"] and len(words.order) < 3:
+            return self.help(*words.order[1:])
         if words.order == ["devices"]:
             return self.devices()
-        if words.order == ["lines"]:
-            self.forbid("lines", "json", "seconds", "exports", "imports")
-            return ShowLines(self.paths())
+        if words.order in (["lines"], ["watch"]):
+            self.allow(words.order[0], "desk", "lines")
+            return (ShowLines if words.order == ["lines"] else ShowReadings)(self.paths())
         if hint := self.hint():
             self.fail(hint)
-        self.forbid("an order", "exports", "imports")
-        order = " ".join(words.order)
+        self.allow("an order", "desk", "lines", "json", "seconds", "wait", "no_wait")
         try:
-            grammar.check_order(order)
+            order, label = grammar.order_and_label(words.order)
         except grammar.NoOrder as error:
-            self.fail(str(error) if order else "an order is required")
+            self.fail(str(error) if any(words.order) else "an order is required")
         if words.seconds is not None and not opens_window(order.encode()):
             self.fail("--for needs an order that opens the learn window: learn on, learn on answer, or learn as EEP")
-        return Give(self.paths(), words.timeout, words.json, order, words.seconds)
+        return Give(self.paths(), words.timeout, words.json, order, words.seconds, self.wait(order), label)
+
+    def wait(self, order: str) -> float | None:
+        """How long the order waits for the report of its device; None if this is not set."""
+        words = self.words
+        if words.wait and words.no_wait:
+            self.fail("--wait and --no-wait cannot be used together")
+        if words.wait and order.split(" ")[0] not in WAITS:
+            self.fail(f"--wait needs an order after which a device reports something: {', '.join(WAITS)}")
+        return 0.0 if words.no_wait else words.wait
 
     def hint(self) -> str:
         """What to write instead, if the name of the gateway or the path of the port is missing; otherwise empty."""
         first, others = self.words.gateway, self.words.order
-        if first not in (*grammar.FORMS, "devices", "lines") or (others and others[0] in grammar.FORMS):
+        if first not in (*grammar.FORMS, *grammar.COMMANDS) or (others and others[0] in grammar.FORMS):
             return ""
         if first == "base" and others:
             return ("base needs the path of a serial port, such as /dev/enocean; give the order as: enogatectl GATEWAY "
                     "base")
         return f"the name of the gateway comes first: enogatectl GATEWAY {first} .."
 
+    def help(self, verb: str = "") -> Command:
+        """The command `help`."""
+        self.allow("help", "desk", "lines")
+        if verb and verb not in grammar.FORMS:
+            self.fail(str(grammar.refusal(verb)))
+        return ShowHelp(verb)
+
     def devices(self) -> Command:
         """The command `devices`."""
-        self.forbid("devices", "seconds")
+        self.allow("devices", "desk", "lines", "json", "exports", "imports")
         if not self.words.exports and not self.words.imports:
             return ShowRecorded(self.paths(), self.words.json)
         if self.words.exports and self.words.imports:
             self.fail("--export and --import cannot be used together")
-        self.forbid("devices --export and devices --import", "json")
+        self.allow("devices --export and devices --import", "desk", "lines", "exports", "imports")
         kind = Export if self.words.exports else Import
         return kind(self.paths(), self.words.timeout)
 
@@ -184,15 +249,14 @@ class CommandLine:
         """The files of the gateway."""
         try:
             paths = paths_of(self.words.gateway)
-        except NoName as error:
+        except InvalidName as error:
             self.fail(str(error))
         if (self.words.desk is None) != (self.words.lines is None):
             self.fail("--desk and --lines must be used together")
-        return Paths(self.words.desk or paths.desk, self.words.lines or paths.lines, paths.bridge)
+        return Paths(self.words.desk, self.words.lines, paths.bridge) if self.words.desk is not None else paths
 
-    def forbid(self, where: str, *options: str) -> None:
-        """Fails if one of these options was given."""
-        names = {"seconds": "for", "exports": "export", "imports": "import"}
-        for option in options:
-            if getattr(self.words, option) not in (None, False):
-                self.fail(f"--{names.get(option, option)} cannot be used with {where}")
+    def allow(self, where: str, *options: str) -> None:
+        """Fails if another option than these and --timeout was given."""
+        for option, name in OPTIONS.items():
+            if option not in options and getattr(self.words, option) not in (None, False):
+                self.fail(f"--{name} cannot be used with {where}")

@@ -4,8 +4,8 @@ from __future__ import annotations
 import fcntl
 import os
 
-from enogate_tools.desk import INVALID_END, MAX_SIZE, is_written
-from enogate_tools.files import IRREGULAR, Unsafe, open_file
+from enogate_tools.desk import INVALID_END, MAX_SIZE, write_orders
+from enogate_tools.files import IRREGULAR_FAULT, Unsafe, open_file
 
 from .stops import held
 
@@ -26,7 +26,7 @@ class DeskFile:
             raise Unusable(f"there is no desk {path}: correct the name of the gateway, or start it; its unit "
                            "makes the desk") from error
         except Unsafe as error:
-            if error.strerror == IRREGULAR:
+            if error.strerror == IRREGULAR_FAULT:
                 raise Unusable(f"the desk {path} is not a file: this command cannot use terminals and pipes") from error
             raise Unusable(f"the desk {path} is not used, because {error.strerror}: it must be a regular file with one "
                            "name, which belongs to the owner of its directory; delete it, and restart the gateway"
@@ -58,7 +58,7 @@ class DeskFile:
         end = b"" if size == 0 or os.pread(self.file, 1, size - 1) == b"\n" else INVALID_END
         try:
             with held():
-                is_whole = is_written(self.file, end + text)
+                is_whole = write_orders(self.file, end + text)
                 self.text = end + text
                 self.start = os.lseek(self.file, 0, os.SEEK_CUR) - len(self.text)
         except OSError as error:

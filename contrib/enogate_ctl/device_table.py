@@ -16,8 +16,8 @@ from .tables import table
 HEADINGS = ("LABEL", "ID", "PROFILE", "NAME", "LAST READINGS", "SIGNAL", "LAST SEEN")
 
 
-def device_table(listed: Iterable[Listed], paths: Paths, now: datetime) -> str:
-    """The table of these devices."""
+def device_table(listed: Iterable[Listed], paths: Paths, now: datetime, most: int = 0) -> str:
+    """The table of these devices, with at most so many characters in a row, unless that is 0."""
     telegrams = recent.last_telegrams(paths.lines)
     times = recent.last_times(paths.bridge, paths.lines)
     names, rows = Table(), [HEADINGS]
@@ -27,6 +27,6 @@ def device_table(listed: Iterable[Listed], paths: Paths, now: datetime) -> str:
         shown = readings(telegram, names) if telegram and is_current else ""
         signal = f"{telegram.dbm} dBm" if telegram and telegram.dbm is not None else ""
         age = words.age((now - time).total_seconds()) if time else ""
-        row = (device.label, device.device, device.eep, share.kind(device.eep), shown, signal, age)
+        row = (device.label, device.device, device.eep, share.device_kind(device.eep), shown, signal, age)
         rows.append(tuple(words.printable(cell) for cell in row))
-    return table(rows) if len(rows) > 1 else "no device is learned"
+    return table(rows, most) if len(rows) > 1 else "no device is learned"

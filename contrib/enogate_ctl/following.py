@@ -4,11 +4,11 @@ from __future__ import annotations
 import contextlib
 import os
 import select
-from collections.abc import Callable
+from collections.abc import Callable, Iterator
 from typing import BinaryIO
 
-from enogate_lines.follow import silent
-from enogate_lines.inotify import TURN, WatchedFiles
+from enogate_lines.follow import ignore_message
+from enogate_lines.inotify import POLL_PAUSE, WatchedFiles
 from enogate_tools.gateways import Paths
 
 from .client import Lines, Unreadable
@@ -18,43 +18,53 @@ from .desk_file import Unusable
 EARLIER = 1 << 20
 
 
-def print_lines(paths: Paths, out: BinaryIO, wait: Callable[[bool], bool]) -> None:
-    """Prints the lines until nobody reads the output. `wait(True)` waits for new lines, `wait(False)` for a short time.
-    Both return whether somebody still reads. Raises Unreadable, also if there is neither a file of lines nor a desk:
-    the name of the gateway is probably wrong."""
+def opened(paths: Paths, earlier: int = 0) -> Lines:
+    """The lines from now on, and those in so many bytes before. Raises Unreadable, also if there is neither a file of
+    lines nor a desk: the name of the gateway is probably wrong."""
+    if not (os.path.exists(paths.lines) or os.path.exists(paths.desk)):
+        raise Unreadable(f"there are no lines {paths.lines}: correct the name of the gateway, or start it")
     try:
-        lines = Lines(paths.lines, EARLIER)
+        return Lines(paths.lines, earlier)
     except Unusable as error:
         raise Unreadable(str(error)) from error
+
+
+def followed(lines: Lines, wait: Callable[[bool], bool]) -> Iterator[list[bytes]]:
+    """The lines as they come, until nobody reads the output. `wait(True)` waits for new lines, `wait(False)` for a
+    short time. Both return whether somebody still reads."""
+    is_read = True
+    while is_read:
+        yield lines.read()
+        is_read = not (lines.is_at_end or lines.are_rotated) or wait(not lines.are_rotated)
+
+
+def print_lines(paths: Paths, out: BinaryIO, wait: Callable[[bool], bool]) -> None:
+    """Prints the lines, or raises Unreadable."""
     are_new = False
-    with contextlib.closing(lines):
-        if not (os.path.exists(paths.lines) or os.path.exists(paths.desk)):
-            raise Unreadable(f"there are no lines {paths.lines}: correct the name of the gateway, or start it")
-        while True:
-            out.write(b"".join(line + b"\n" for line in lines.read() if line))
+    with contextlib.closing(opened(paths, EARLIER)) as lines:
+        for found in followed(lines, wait):
+            out.write(b"".join(line + b"\n" for line in found if line))
             if lines.is_at_end and not are_new:
                 out.write(b"\n")
                 are_new = True
             out.flush()
-            if (lines.is_at_end or lines.are_rotated) and not wait(not lines.are_rotated):
-                return
 
 
 class Reader:
     """Whoever reads the output, to which the lines at this path are printed."""
 
     def __init__(self, path: str, out: BinaryIO):
-        self.out, self.files = out.fileno(), WatchedFiles([path], silent)
+        self.out, self.files = out.fileno(), WatchedFiles([path], ignore_message)
 
     def wait(self, is_woken: bool) -> bool:
         """Waits for 0.1 s or, if `is_woken`, until the lines change, for a second at most. Returns whether somebody
         still reads."""
         poll = select.poll()
         poll.register(self.out, 0)
-        seconds = self.files.longest() if is_woken else TURN
+        seconds = self.files.longest_wait() if is_woken else POLL_PAUSE
         if is_woken and self.files.file >= 0:
             poll.register(self.files.file, select.POLLIN)
         changed = {file for file, _ in poll.poll(seconds * 1000)}
         if self.files.file in changed:
-            self.files.drop()
+            self.files.drop_events()
         return self.out not in changed

@@ -15,22 +15,22 @@ def readings(telegram: Telegram, table: Table) -> str:
 
 def is_detail(item: Reading, eep: str, table: Table) -> bool:
     """Whether people need not see this reading, if the device has others."""
-    row = table.of_reading(eep, item)
+    row = table.row_of_reading(eep, item)
     return row is not None and row.is_detail(item.text)
 
 
 def channel(item: Reading, telegram: Telegram, table: Table) -> str:
     """The text before a reading: the channel, if the actuator has several. Otherwise empty."""
-    row = table.of_reading(telegram.eep, item)
+    row = table.row_of_reading(telegram.eep, item)
     numbers = {other.name: other.number for other in telegram.readings}
     return f"channel {numbers[row.by]}: " if row and row.count > 1 and numbers.get(row.by) is not None else ""
 
 
 def reading(item: Reading, eep: str, table: Table) -> str:
     """A reading with its name, at most two decimals, and its unit."""
-    row = table.of_reading(eep, item)
+    row = table.row_of_reading(eep, item)
     unit = row.more.get("unit", item.unit) if row and item.unit else item.unit
-    name = row.said if row else item.name
+    name = row.name_for_people if row else item.name
     return " ".join(filter(None, (name, rounded(item.text) if item.unit else item.text, unit)))
 
 

@@ -9,7 +9,7 @@ from datetime import datetime
 from typing import BinaryIO
 
 from enogate_lines.contents import BadLine, Telegram, content_of
-from enogate_lines.follow import Follower, Position, files_of, silent, without_nuls
+from enogate_lines.follow import Follower, Position, rotated_files, ignore_message, without_nuls
 from enogate_mqtt.state import last_seen
 from enogate_tools.files import is_safe, open_file
 
@@ -47,7 +47,7 @@ def telegram_in(line: bytes) -> Telegram | None:
 def last_lines(path: str, most: int) -> Iterator[bytes]:
     """The lines in so many bytes at the end, the last line first. They may be in several files. The first one may be
     incomplete, and is then not valid."""
-    for name in reversed(files_of(path)):
+    for name in reversed(rotated_files(path)):
         try:
             file = os.fdopen(open_file(name), "rb")
         except OSError:
@@ -94,7 +94,7 @@ def last_times(path: str, lines: str, most: int = MOST_READ) -> dict[str, dateti
 def devices_after(position: Position, path: str, most: int) -> set[str] | None:
     """The devices with telegrams after this position in the lines; None if it is not found, or more than so many bytes
     before their end."""
-    follower, devices = Follower(path, position, silent), set()
+    follower, devices = Follower(path, position, ignore_message), set()
     if follower.file is None:
         return None
     with contextlib.closing(follower):

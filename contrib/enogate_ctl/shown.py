@@ -1,7 +1,8 @@
-"""What is printed about an answer, for people."""
+"""What is printed about an answer, and about the forms of orders, for people."""
 from __future__ import annotations
 
 from enogate_lines.contents import Response, Status
+from enogate_tools import share
 
 from .answers import Answer
 from .tables import table
@@ -16,3 +17,10 @@ def shown(answer: Answer) -> str:
         case Response(data=base):
             return base
     return last.members.get("result", last.kind)
+
+
+def forms(verb: str) -> str:
+    """The forms of the orders, or of those with this first word, each with what it does, and their parameters."""
+    shown = [(form, does) for form, does in share.effects().items() if not verb or form.split(" ")[0] == verb]
+    used = {word for form, _ in shown for word in form.split(" ")}
+    return table([*shown, *((name, meaning) for name, meaning in share.parameter_meanings().items() if name in used)])

@@ -11,7 +11,7 @@ MINUTE, HOUR, DAY = 60, 3600, 86400
 
 def advice(error: str) -> str:
     """The name of an error, with a sentence that says what to do."""
-    advice = share.words("error").get(error)
+    advice = share.texts_by_word("error").get(error)
     return f"{error}: {advice}" if advice else error
 
 
@@ -28,10 +28,10 @@ def taught(line: Line) -> str | None:
     result, device, eep = (line.members.get(key) for key in ("result", "id", "eep"))
     if line.kind != "teach" or not isinstance(result, str):
         return None
-    text = f"{device} {share.words('result').get(result, result)}"
+    text = f"{device} {share.texts_by_word('result').get(result, result)}"
     if not isinstance(line.content, Learned):
         return text
-    kind = share.kind(line.content.eep)
+    kind = share.device_kind(line.content.eep)
     return f"{text}, {eep} ({kind})" if kind else f"{text}, {eep}"
 
 

@@ -10,10 +10,10 @@ SHOWN_OF_A_LINE = 60
 # (docs/guide/orders.md), and names, words and units are shorter. A signal strength is a negated byte.
 MAX_TEXT, MAX_READINGS, MAX_MAKER, MAX_BYTE = 32, 64, 2047, 255
 MAX_SIGNED, MAX_UNSIGNED = 2 ** 63 - 1, 2 ** 64 - 1
-TEXT, TEXT_OR_NOTHING = f"[ -~]{{1,{MAX_TEXT}}}", f"[ -~]{{0,{MAX_TEXT}}}"
+TEXT_PATTERN, OPTIONAL_TEXT_PATTERN = f"[ -~]{{1,{MAX_TEXT}}}", f"[ -~]{{0,{MAX_TEXT}}}"
 # A name is part of a topic, so it may contain only letters, digits and _.
-NAME = f"[A-Za-z0-9_]{{1,{MAX_TEXT}}}"
-PROFILE = "[0-9A-F]{2}-[0-9A-F]{2}-[0-9A-F]{2}"
+NAME_PATTERN = f"[A-Za-z0-9_]{{1,{MAX_TEXT}}}"
+PROFILE_PATTERN = "[0-9A-F]{2}-[0-9A-F]{2}-[0-9A-F]{2}"
 
 
 class BadLine(Exception):
@@ -23,7 +23,7 @@ class BadLine(Exception):
         super().__init__(f"invalid line ignored: {line[:SHOWN_OF_A_LINE]!r}")
 
 
-class Unfitting(ValueError):
+class UnexpectedMember(ValueError):
     """A member of a line has an unexpected value."""
 
 
@@ -130,14 +130,16 @@ def content_by_type(kind: str, members: dict[str, object]) -> Content:
         case "teach", "deleted":
             return Deleted(device_of(members))
         case "device", _:
-            return Listed(device_of(members), eep_of(members), text(members["label"], TEXT_OR_NOTHING),
+            return Listed(device_of(members), eep_of(members), checked_text(members["label"], OPTIONAL_TEXT_PATTERN),
                           maker_of(members))
         case "list", _:
-            return EndOfList(count(members["count"]))
+            return EndOfList(checked_count(members["count"]))
         case "status", _:
-            return Status(text(members["mode"], TEXT), {name: count(members[name]) for name in COUNTERS})
+            counters = {name: checked_count(members[name]) for name in COUNTERS}
+            return Status(checked_text(members["mode"], TEXT_PATTERN), counters)
         case "response", _:
-            return Response(number(members["code"], 0, MAX_BYTE), text(members["data"], "(?:[0-9A-F]{2})*"))
+            return Response(checked_number(members["code"], 0, MAX_BYTE),
+                            checked_text(members["data"], "(?:[0-9A-F]{2})*"))
         case "ok" | "error", _:
             return OkOrError()
     return Other()
@@ -146,56 +148,57 @@ def content_by_type(kind: str, members: dict[str, object]) -> Content:
 def readings_of(members: object) -> tuple[Reading, ...]:
     """The readings of a telegram."""
     if not isinstance(members, list) or len(members) > MAX_READINGS:
-        raise Unfitting
+        raise UnexpectedMember
     return tuple(map(reading_of, members))
 
 
 def reading_of(members: dict[str, object]) -> Reading:
     """A reading of a telegram."""
-    name = text(members["name"], NAME)
+    name = checked_text(members["name"], NAME_PATTERN)
     if "num" in members:
         # imported only here, since most commands of enogatectl(1) need no numbers, and imports take most of their time
         from .decimals import decimal
-        value = decimal(number(members["num"], -MAX_SIGNED - 1, MAX_SIGNED), number(members["den"], 1, MAX_SIGNED))
-        return Reading(name, text(members["unit"], TEXT_OR_NOTHING), value, None)
+        value = decimal(checked_number(members["num"], -MAX_SIGNED - 1, MAX_SIGNED),
+                        checked_number(members["den"], 1, MAX_SIGNED))
+        return Reading(name, checked_text(members["unit"], OPTIONAL_TEXT_PATTERN), value, None)
     if "word" in members:
-        return Reading(name, "", text(members["word"], TEXT), None)
+        return Reading(name, "", checked_text(members["word"], TEXT_PATTERN), None)
     if "raw" in members:
-        raw = count(members["raw"])
+        raw = checked_count(members["raw"])
         return Reading(name, "", str(raw), raw)
-    count(members["out_of_range"])
+    checked_count(members["out_of_range"])
     return Reading(name, "", "out_of_range", None)
 
 
 def device_of(members: dict[str, object]) -> str:
-    return text(members["id"], "[0-9A-F]{8}")
+    return checked_text(members["id"], "[0-9A-F]{8}")
 
 
 def eep_of(members: dict[str, object]) -> str:
-    return text(members["eep"], PROFILE)
+    return checked_text(members["eep"], PROFILE_PATTERN)
 
 
 def maker_of(members: dict[str, object]) -> int | None:
-    return None if members["maker"] is None else number(members["maker"], 0, MAX_MAKER)
+    return None if members["maker"] is None else checked_number(members["maker"], 0, MAX_MAKER)
 
 
 def dbm_of(members: dict[str, object]) -> int | None:
-    return None if members["dbm"] is None else number(members["dbm"], -MAX_BYTE, 0)
+    return None if members["dbm"] is None else checked_number(members["dbm"], -MAX_BYTE, 0)
 
 
-def text(value: object, shape: str) -> str:
+def checked_text(value: object, shape: str) -> str:
     """A string that matches this pattern."""
     if not isinstance(value, str) or not re.fullmatch(shape, value):
-        raise Unfitting
+        raise UnexpectedMember
     return value
 
 
-def number(value: object, least: int, greatest: int) -> int:
+def checked_number(value: object, least: int, greatest: int) -> int:
     """An integer within these bounds."""
     if not isinstance(value, int) or isinstance(value, bool) or not least <= value <= greatest:
-        raise Unfitting
+        raise UnexpectedMember
     return value
 
 
-def count(value: object) -> int:
-    return number(value, 0, MAX_UNSIGNED)
+def checked_count(value: object) -> int:
+    return checked_number(value, 0, MAX_UNSIGNED)

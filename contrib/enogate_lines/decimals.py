@@ -4,7 +4,7 @@ from __future__ import annotations
 import math
 from decimal import ROUND_HALF_EVEN, Context, Decimal
 
-SIX_DIGITS = 6
+SIGNIFICANT_DIGITS = 6
 
 
 def decimal(numerator: int, denominator: int) -> str:
@@ -17,7 +17,7 @@ def decimal(numerator: int, denominator: int) -> str:
             rest //= factor
     digits = len(str(abs(numerator) // denominator))
     # a finite decimal number has at most as many digits after the point as its denominator has bits
-    precision = digits + bits if rest == 1 else max(SIX_DIGITS, digits)
+    precision = digits + bits if rest == 1 else max(SIGNIFICANT_DIGITS, digits)
     context = Context(prec=precision, rounding=ROUND_HALF_EVEN)
     shown = f"{context.divide(Decimal(numerator), Decimal(denominator)):f}"
     return shown.rstrip("0").rstrip(".") if "." in shown else shown

@@ -12,15 +12,15 @@ from enogate_tools import share
 from .contents import Reading, Telegram
 
 # The words that configure an entity.
-KEYS = {"class", "state", "unit", "digits", "on", "off", "options", "types", "diagnostic", "hidden", "cyclic", "say",
-        "normal", "detail"}
+ROW_KEYS = {"class", "state", "unit", "digits", "on", "off", "options", "types", "diagnostic", "hidden", "cyclic",
+            "say", "normal", "detail"}
 # the highest channel that accepts orders, by the kind of entity, and the number that means all channels in a query
 GREATEST_CHANNEL, ALL_CHANNELS = {"switch": 29, "light": 29, "cover": 0}, 30
 # A setting in place of a number of seconds: a cyclic reading expires after so many of its own intervals, because two
 # telegrams in a row may be lost.
-AUTO, INTERVALS = 0, 3
+AUTO, MISSED_INTERVALS = 0, 3
 # a number of an entity, as it is written in a topic
-NUMBER = re.compile("0|[1-9][0-9]?")
+CHANNEL_NUMBER = re.compile("0|[1-9][0-9]?")
 
 
 class WrongTable(ValueError):
@@ -58,10 +58,10 @@ class EntityRow:
         for all cyclic readings: a number, AUTO, or None if they do not expire."""
         if seconds is None or "cyclic" not in self.more:
             return None
-        return INTERVALS * int(self.more["cyclic"]) if seconds == AUTO else seconds
+        return MISSED_INTERVALS * int(self.more["cyclic"]) if seconds == AUTO else seconds
 
     @property
-    def said(self) -> str:
+    def name_for_people(self) -> str:
         """The name of the reading for people."""
         return self.more.get("say") or self.name or self.reading
 
@@ -77,14 +77,14 @@ class EntityRow:
     def words(self, key: str) -> list[str]:
         return self.more[key].split("|") if key in self.more else []
 
-    def numbers(self, reported: Iterable[str]) -> list[int | None]:
+    def entity_numbers(self, reported: Iterable[str]) -> list[int | None]:
         """The numbers of its entities, for a device with readings on these subtopics."""
         if not self.by:
             return [None]
         start = set(range(self.count)) if self.from_the_start else set()
         start_of_all = self.topic + "/"
         ends = (one.removeprefix(start_of_all) for one in reported if one.startswith(start_of_all))
-        every = sorted(start | {int(end) for end in ends if NUMBER.fullmatch(end)})
+        every = sorted(start | {int(end) for end in ends if CHANNEL_NUMBER.fullmatch(end)})
         return [number for number in every if number <= GREATEST_CHANNEL.get(self.entity, number)]
 
 
@@ -99,7 +99,7 @@ def entity_row_of(line: str) -> EntityRow:
         row = EntityRow(profiles, reading, unit, topic, by, int(count or 0), sign == ":", entity, name, more)
     except ValueError as error:
         raise WrongTable(line) from error
-    if not (more.keys() <= KEYS and re.fullmatch("[0-9]", more.get("digits", "0"))
+    if not (more.keys() <= ROW_KEYS and re.fullmatch("[0-9]", more.get("digits", "0"))
             and re.fullmatch("[1-9][0-9]{0,6}", more.get("cyclic", "1"))):
         raise WrongTable(line)
     return row
@@ -109,10 +109,10 @@ class Table:
     """The rows of the table."""
 
     def __init__(self, path: str = "entities"):
-        self.rows = [entity_row_of(line) for line in share.rows(path)]
+        self.rows = [entity_row_of(line) for line in share.table_lines(path)]
         self.found: dict[str, dict[tuple[str, str], EntityRow]] = {}
 
-    def of_profile(self, eep: str) -> dict[tuple[str, str], EntityRow]:
+    def rows_of_profile(self, eep: str) -> dict[tuple[str, str], EntityRow]:
         """The rows of a profile, by reading and unit: the first matching row of each."""
         if eep not in self.found:
             rows = self.found[eep] = {}
@@ -124,33 +124,33 @@ class Table:
     def channel_of_all(self, eep: str) -> int | None:
         """The channel with which an actuator of this profile is asked for the states of all its channels; None if the
         devices are no actuators."""
-        counts = [row.count for row in self.of_profile(eep).values() if row.entity in GREATEST_CHANNEL]
+        counts = [row.count for row in self.rows_of_profile(eep).values() if row.entity in GREATEST_CHANNEL]
         return None if not counts else 0 if counts[0] == 1 else ALL_CHANNELS
 
-    def of_reading(self, eep: str, reading: Reading) -> EntityRow | None:
+    def row_of_reading(self, eep: str, reading: Reading) -> EntityRow | None:
         """The row of a reading. A word instead of a value has no unit: it uses the row of the value."""
-        rows = self.of_profile(eep)
+        rows = self.rows_of_profile(eep)
         if (reading.name, reading.unit) in rows or reading.unit:
             return rows.get((reading.name, reading.unit))
         named = [row for row in rows.values() if row.reading == reading.name]
         return named[0] if len(named) == 1 else None
 
-    def reports(self, eep: str, subtopic: str) -> bool:
-        """Whether `reported_by` has this subtopic for some telegram of the profile."""
-        rows = self.of_profile(eep).values()
+    def may_report(self, eep: str, subtopic: str) -> bool:
+        """Whether `readings_by_subtopic` has this subtopic for some telegram of the profile."""
+        rows = self.rows_of_profile(eep).values()
         shown = [row for row in rows if row.entity not in ("", "event")]
         name, slash, number = subtopic.partition("/")
         if slash:
-            return name in {row.topic for row in shown if row.by} and bool(NUMBER.fullmatch(number))
+            return name in {row.topic for row in shown if row.by} and bool(CHANNEL_NUMBER.fullmatch(number))
         return name in {"dbm", *(row.reading for row in rows), *(row.topic for row in shown if not row.by)}
 
-    def reported_by(self, telegram: Telegram) -> dict[str, str]:
+    def readings_by_subtopic(self, telegram: Telegram) -> dict[str, str]:
         """The readings of a telegram, by their subtopics."""
         reported = {}
         numbers = {reading.name: reading.number for reading in telegram.readings}
         for reading in telegram.readings:
             reported[reading.name] = reading.text
-            row = self.of_reading(telegram.eep, reading)
+            row = self.row_of_reading(telegram.eep, reading)
             if row and row.topic and row.entity != "event" and (not row.by or numbers.get(row.by) is not None):
                 reported[row.subtopic(numbers.get(row.by))] = reading.text
         if telegram.dbm is not None:
@@ -161,7 +161,7 @@ class Table:
         """The events of a telegram, each with the subtopic of its entity and its type. A release is a single event."""
         events = []
         for reading in telegram.readings:
-            row = self.of_reading(telegram.eep, reading)
+            row = self.row_of_reading(telegram.eep, reading)
             if row and row.entity == "event" and reading.text in row.words("types"):
                 events.append((row.topic, reading.text))
         return [event for event in events if event[1] == "released"] or events

@@ -26,7 +26,7 @@ class Position(NamedTuple):
         return Position(self.inode, self.offset + len(part), (self.last + part)[-MAX_LAST:])
 
 
-NOWHERE = Position(0, 0, b"")
+START_OF_NO_FILE = Position(0, 0, b"")
 
 
 class Follower:
@@ -39,7 +39,7 @@ class Follower:
     def __init__(self, path: str, position: Position | None, warn: Callable[[str], None], is_same_boot: bool = True):
         self.path, self.warn = path, warn
         self.file: int | None = None
-        self.position = position or NOWHERE
+        self.position = position or START_OF_NO_FILE
         # the beginning of a line whose end has not been written yet
         self.rest = b""
         # the next file, if it existed at the last call
@@ -55,11 +55,11 @@ class Follower:
         self.is_found = bool(self.position.inode) and self.open_at_position(is_same_boot)
         if self.position.inode and not self.is_found:
             warn(f"{path}: previous file not found, reading from the beginning")
-            self.position = NOWHERE
+            self.position = START_OF_NO_FILE
 
     def open_at_position(self, is_same_boot: bool) -> bool:
         """Opens the file of the position, whatever its name is now."""
-        paths = files_of(self.path)
+        paths = rotated_files(self.path)
         for number, path in enumerate(paths):
             try:
                 file = open_regular(path)
@@ -67,10 +67,10 @@ class Follower:
                 continue
             there = position_at(file, self.position.offset)
             if there == self.position or (there.inode == self.position.inode and not is_same_boot):
-                self.file, self.older = file, inodes(paths[:number])
+                self.file, self.older = file, inodes_of(paths[:number])
                 if there != self.position:
                     self.warn(f"{path}: lines were lost, continuing at the end")
-                    self.position = end_of_lines(file)
+                    self.position = position_after_last_line(file)
                 return True
             os.close(file)
         return False
@@ -85,7 +85,7 @@ class Follower:
             if was_barred:
                 # its lines may be old
                 self.warn(f"{self.path}: can be read now, continuing at its end")
-                self.position = end_of_lines(self.file)
+                self.position = position_after_last_line(self.file)
         assert self.file is not None
         size = os.fstat(self.file).st_size
         if size < self.position.offset + len(self.rest):
@@ -93,18 +93,18 @@ class Follower:
         if size < self.position.offset:
             # what is left of the file was read before
             self.warn(f"{self.path}: file truncated, continuing at its end")
-            self.position = end_of_lines(self.file)
+            self.position = position_after_last_line(self.file)
         added = os.pread(self.file, MAX_READ, self.position.offset + len(self.rest))
         if len(added) < MAX_READ:
             # NUL bytes at the end, which a power failure leaves, are truncated when the gateway starts
             added = added.rstrip(b"\0")
         if not added:
-            self.go_on()
+            self.open_next()
             return []
         self.seen_next, self.is_at_end = None, False
-        return self.split(added)
+        return self.split_lines(added)
 
-    def split(self, added: bytes) -> list[tuple[bytes, Position]]:
+    def split_lines(self, added: bytes) -> list[tuple[bytes, Position]]:
         """The lines that end with these bytes. Data longer than any line of a gateway is returned as a line."""
         *whole, self.rest = (self.rest + added).split(b"\n")
         lines = []
@@ -116,10 +116,10 @@ class Follower:
             self.position, self.rest = self.position.after(self.rest), b""
         return lines
 
-    def go_on(self) -> None:
+    def open_next(self) -> None:
         """At the end of this file, continues with the next one, if there is one. It must have existed at the last call
         too: a line may still be written to the old one."""
-        following = self.following()
+        following = self.next_file()
         self.is_at_end = following is None
         if following and following == self.seen_next:
             if self.rest:
@@ -131,13 +131,13 @@ class Follower:
         else:
             self.seen_next = following
 
-    def following(self) -> str | None:
+    def next_file(self) -> str | None:
         """The file that was written after this one, if there is one."""
         assert self.file is not None
         own = os.fstat(self.file).st_ino
         if inode_of(self.path) == own:
             return None
-        paths = files_of(self.path)
+        paths = rotated_files(self.path)
         there = [(path, inode) for path in paths if (inode := inode_of(path))]
         indices = [number for number, (_, inode) in enumerate(there) if inode == own]
         if indices:
@@ -158,8 +158,8 @@ class Follower:
         if self.file is not None:
             os.close(self.file)
         self.file, self.rest, self.seen_next = file, b"", None
-        paths = files_of(self.path)
-        self.older = inodes(paths[:paths.index(path)] if path in paths else [])
+        paths = rotated_files(self.path)
+        self.older = inodes_of(paths[:paths.index(path)] if path in paths else [])
         self.position = Position(os.fstat(file).st_ino, 0, b"")
         return True
 
@@ -170,7 +170,7 @@ class Follower:
             self.file = None
 
 
-def silent(_message: str) -> None:
+def ignore_message(_message: str) -> None:
     """Logs nothing."""
 
 
@@ -180,7 +180,7 @@ def without_nuls(line: bytes) -> bytes:
     return line.rpartition(b"\0")[2] or line
 
 
-def files_of(path: str) -> list[str]:
+def rotated_files(path: str) -> list[str]:
     """The rotated files as logrotate names them, without the compressed ones, and the file itself: the oldest first.
     Their names end with a date (`-20261127`) or with a number (`.1`), which is greater for an older file."""
     folder, name = os.path.split(path)
@@ -201,7 +201,7 @@ def position_at(file: int, offset: int) -> Position:
     return Position(os.fstat(file).st_ino, offset, os.pread(file, offset - start, start))
 
 
-def end_of(path: str, before: int = 0) -> Position | None:
+def position_at_end(path: str, before: int = 0) -> Position | None:
     """The position at the end of the file at this path, or so many bytes before it; None if the file cannot be read. It
     may grow meanwhile."""
     try:
@@ -214,7 +214,7 @@ def end_of(path: str, before: int = 0) -> Position | None:
         os.close(file)
 
 
-def end_of_lines(file: int) -> Position:
+def position_after_last_line(file: int) -> Position:
     """The position after the last whole line of an open file. If no line ends there, it is the beginning of the file,
     or the end of a long one."""
     size = os.fstat(file).st_size
@@ -231,5 +231,5 @@ def inode_of(path: str) -> int:
         return 0
 
 
-def inodes(paths: list[str]) -> set[int]:
+def inodes_of(paths: list[str]) -> set[int]:
     return {inode for path in paths if (inode := inode_of(path))}

@@ -7,13 +7,13 @@ import os
 from collections.abc import Callable, Iterable
 
 # The longest wait without inotify, or while something is under way, and the longest one of all, in seconds.
-TURN, LONGEST = 0.1, 1.0
+POLL_PAUSE, LONGEST_WAIT = 0.1, 1.0
 # What is to be noticed, with the numbers of inotify(7): of a file, that it is written; of a directory, that a file is
 # created, gets another name or may be read now, and that the directory itself is renamed or removed.
 MODIFY, ATTRIB, MOVED, CREATE, SELF, ONLY_DIRECTORIES = 0x2, 0x4, 0xC0, 0x100, 0xC00, 0x1000000
-OF_FILE, OF_FOLDER = MODIFY, ATTRIB | MOVED | CREATE | SELF | ONLY_DIRECTORIES
+FILE_EVENTS, FOLDER_EVENTS = MODIFY, ATTRIB | MOVED | CREATE | SELF | ONLY_DIRECTORIES
 # So many bytes of events are dropped at once; if there are more, the next wait ends at once.
-MAX_EVENTS = 65536
+MAX_EVENT_BYTES = 65536
 
 
 class WatchedFiles:
@@ -22,8 +22,8 @@ class WatchedFiles:
 
     def __init__(self, paths: Iterable[str], warn: Callable[[str], None]):
         folders = sorted({os.path.dirname(os.path.abspath(path)) for path in paths})
-        self.watches = [(os.fsencode(path), OF_FILE) for path in paths] + [
-            (os.fsencode(folder), OF_FOLDER) for folder in folders]
+        self.watches = [(os.fsencode(path), FILE_EVENTS) for path in paths] + [
+            (os.fsencode(folder), FOLDER_EVENTS) for folder in folders]
         # the numbers of what is watched: a new one is that of another file or directory
         self.watched: list[int] = []
         try:
@@ -33,22 +33,22 @@ class WatchedFiles:
         except (OSError, AttributeError) as error:
             self.file, fault = -1, str(error)
         if self.file < 0:
-            warn(f"no inotify ({fault}): the lines are looked at every {TURN} seconds")
+            warn(f"no inotify ({fault}): the lines are looked at every {POLL_PAUSE} seconds")
 
-    def longest(self) -> float:
+    def longest_wait(self) -> float:
         """How long the wait may be. It is 0 if other files than before are watched now: what was written to them
         meanwhile has not been noticed."""
         if self.file < 0:
-            return TURN
+            return POLL_PAUSE
         before, self.watched, are_all = self.watched, [], True
         for path, mask in self.watches:
             self.watched.append(self.library.inotify_add_watch(self.file, path, mask))
             if self.watched[-1] < 0:
-                are_all &= mask == OF_FILE and ctypes.get_errno() == errno.ENOENT
+                are_all &= mask == FILE_EVENTS and ctypes.get_errno() == errno.ENOENT
         if self.watched != before:
             return 0.0
-        return LONGEST if are_all else TURN
+        return LONGEST_WAIT if are_all else POLL_PAUSE
 
-    def drop(self) -> None:
+    def drop_events(self) -> None:
         """Drops the events. What has changed is seen in the files."""
-        os.read(self.file, MAX_EVENTS)
+        os.read(self.file, MAX_EVENT_BYTES)

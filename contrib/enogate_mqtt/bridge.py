@@ -9,15 +9,15 @@ from collections.abc import Callable, Iterable, Iterator
 
 from enogate_lines.contents import BadLine, Content, Strange, content_of
 from enogate_lines.follow import Follower, Position
-from enogate_lines.inotify import LONGEST, TURN
+from enogate_lines.inotify import LONGEST_WAIT, POLL_PAUSE
 from enogate_tools.desk import opens_window
 
 from . import discovery
-from .connection import ECHO_WITHIN, Broker, Connection, Lost, Received
+from .connection import ECHO_WITHIN, Broker, Connection, ConnectionLost, ReceivedMessage
 from .desk import Desk
 from .devices import Devices, time_text
-from .log import Seldom
-from .orders import DEVICE, InvalidMessage, orders_of
+from .log import RateLimitedLog
+from .orders import DEVICE_PATTERN, InvalidMessage, orders_of
 from .outbox import MAX_UNDER_WAY, Backlog, Outbox
 from .reconcile import Part, Reconciler
 from .requests import ListRequest, Probe, Requests
@@ -31,16 +31,16 @@ SAVE_EVERY = 2.0
 END_WITHIN = 2.0
 # What the broker retains is compared on an open connection, too: each day, and when somebody has removed some of it and
 # has then removed nothing for so long, in seconds.
-COMPARE_EVERY, REMOVED_BEFORE = 86400.0, 5.0
+COMPARE_EVERY, COMPARE_AFTER_REMOVAL = 86400.0, 5.0
 # The shortest time between two messages with counters, in seconds. The gateway is asked for its status more often, and
 # not only by the bridge.
 COUNTERS_EVERY = 60.0
-GATEWAY, UNKNOWN = "gateway", "unknown"
+GATEWAY_PART, UNKNOWN_PART = "gateway", "unknown"
 # So long after its start the bridge waits for the clock to be set, in seconds.
 CLOCK_SET_WITHIN = 600.0
 
 
-def contents(lines: Iterable[tuple[bytes, Position]], devices: Devices, warn: Callable[[str, str], None]
+def decoded_lines(lines: Iterable[tuple[bytes, Position]], devices: Devices, warn: Callable[[str, str], None]
              ) -> Iterator[tuple[str, Position, Content]]:
     """The lines that are lines of a gateway, each with its position and its contents. Others are logged."""
     for line, position in lines:
@@ -48,7 +48,7 @@ def contents(lines: Iterable[tuple[bytes, Position]], devices: Devices, warn: Ca
             content = content_of(line)
         except BadLine as bad:
             warn("line", str(bad))
-            devices.skip()
+            devices.drop_listing()
             continue
         if isinstance(content, Strange):
             warn("members", content.complaint)
@@ -65,7 +65,7 @@ class Bridge:
         self.desk, self.requests, self.store, self.clock, self.wall = desk, requests, store, clock, wall
         self.wait = wait
         self.outbox, self.backlog = Outbox(), Backlog()
-        self.seldom = Seldom(clock)
+        self.rate_limited_log = RateLimitedLog(clock)
         self.connection: Connection | None = None
         # what the broker retains comes on a connection of its own: if it is too much for the broker, it drops some of
         # it, but no acknowledgement and no order
@@ -111,7 +111,7 @@ class Bridge:
         """Reads what the gateway has written before. A list among these lines is not the answer to a request. The lines
         are published if they are known to be new: after a power failure the state may be older than what was published,
         and after a position that was not found, all lines may be."""
-        self.catch_up(self.store.is_same_boot and self.follower.is_found, is_earlier=True)
+        self.read_existing_lines(self.store.is_same_boot and self.follower.is_found, is_earlier=True)
         self.has_read |= not self.is_stopped
         self.devices.lists = 0
         self.requests.list = ListRequest()
@@ -121,21 +121,21 @@ class Bridge:
         connections = [one for one in (self.broker.connection, self.reader) if one]
         self.wait(connections, self.longest_wait(), self.follower.seen_next is None)
         if self.broker.turn():
-            self.open()
+            self.handle_connected()
         self.turn_reader()
         # what has arrived before a loss is handled too
         for connection in filter(None, (self.connection, self.reader)):
             received, connection.received = connection.received, []
             for message in received:
-                self.receive(message)
+                self.handle_message(message)
         if self.connection is not self.broker.connection:
             self.connection = self.reconciler = None
             self.close_reader()
         if self.clock() >= self.look_at:
-            self.take_lines(True)
+            self.handle_lines(True)
             # a file that follows another one is not read at once: a line may still be written to the other one
-            self.look_at = self.clock() + TURN if self.follower.seen_next else 0.0
-        self.publish(self.devices.end_waits())
+            self.look_at = self.clock() + POLL_PAUSE if self.follower.seen_next else 0.0
+        self.publish(self.devices.end_label_waits())
         self.requests.turn(self.devices.needs_list)
         self.devices.needs_list = False
         if self.connection and self.reconciler:
@@ -145,9 +145,9 @@ class Bridge:
             if self.reconciler.is_done and not self.is_online:
                 self.is_online = True
                 self.publish([Message(self.topics.status, "online", True)])
-            if self.echo.is_late(self.clock()):
+            if self.echo.note_if_late(self.clock()):
                 self.broker.report_refused(self.topics.status)
-            self.report()
+            self.publish_gateway_reports()
             self.publish_waiting()
             self.outbox.publish(lambda line: self.send(Message(self.topics.lines, line, False)), self.has_room)
             self.note_acknowledged(self.connection)
@@ -159,11 +159,11 @@ class Bridge:
         if not self.follower.is_at_end and self.follower.seen_next is None:
             return 0.0
         if self.follower.seen_next or self.is_busy():
-            return TURN
+            return POLL_PAUSE
         due = min(self.requests.next_due(), self.saved_at + SAVE_EVERY)
         if not self.broker.connection:
             due = min(due, self.broker.due)
-        return min(max(due - self.clock(), TURN), LONGEST)
+        return min(max(due - self.clock(), POLL_PAUSE), LONGEST_WAIT)
 
     def is_busy(self) -> bool:
         """Whether something is under way at the broker."""
@@ -179,11 +179,11 @@ class Bridge:
         if self.reconciler and self.reconciler.is_done:
             self.close_reader()
         elif self.reconciler and not self.reader:
-            self.reader = self.broker.read()
+            self.reader = self.broker.open_reader()
         if self.reader:
             try:
                 self.reader.turn(0)
-            except Lost as lost:
+            except ConnectionLost as lost:
                 self.broker.lose(f"{lost} (on the connection that reads what is retained)")
 
     def turn_reconciler(self, reconciler: Reconciler) -> None:
@@ -191,7 +191,7 @@ class Bridge:
         if self.reader and self.reader.is_open:
             try:
                 reconciler.turn(self.reader)
-            except Lost as lost:
+            except ConnectionLost as lost:
                 self.broker.lose(str(lost))
 
     def close_reader(self) -> None:
@@ -199,22 +199,22 @@ class Bridge:
             self.reader.close()
             self.reader = None
 
-    def catch_up(self, are_kept: bool, is_earlier: bool = False) -> None:
+    def read_existing_lines(self, are_kept: bool, is_earlier: bool = False) -> None:
         """Reads all existing lines while nothing is published. Those of before this run answer none of its requests."""
         self.follower.is_at_end = False
         while not self.follower.is_at_end and not self.is_stopped:
-            self.take_lines(are_kept, is_late=True, is_earlier=is_earlier)
+            self.handle_lines(are_kept, is_late=True, is_earlier=is_earlier)
 
-    def open(self) -> None:
+    def handle_connected(self) -> None:
         """A connection was opened. Lines that came before cause no events. Then what the broker retains is compared."""
-        self.catch_up(True)
+        self.read_existing_lines(True)
         self.connection = self.broker.connection
         assert self.connection is not None
         self.close_reader()
         self.outbox.start_session()
         self.backlog = Backlog()
         self.reported, self.deleting = None, {}
-        self.reconciler = Reconciler(self.clock, self.compare)
+        self.reconciler = Reconciler(self.clock, self.publish_differences)
         self.is_online, self.echo = False, Probe(math.inf, ECHO_WITHIN)
         self.publish([Message(topic, "", True) for topic in sorted(self.devices.removed)])
         self.compare_all(self.reconciler)
@@ -222,56 +222,57 @@ class Bridge:
 
     def compare_all(self, reconciler: Reconciler) -> None:
         """Compares everything that the broker retains about the gateway and its devices."""
-        reconciler.add([Part(GATEWAY, [*self.topics.reports, *self.of_gateway()])])
-        reconciler.add(map(self.part_of, sorted(self.devices.known)))
+        reconciler.add([Part(GATEWAY_PART, [*self.topics.report_topics, *self.gateway_configs()])])
+        reconciler.add(map(self.part_of_device, sorted(self.devices.known)))
         self.compare_at = self.clock() + COMPARE_EVERY
 
-    def of_gateway(self) -> dict[str, str]:
+    def gateway_configs(self) -> dict[str, str]:
         """The discovery messages of the gateway itself, by topic."""
-        return discovery.gateway(self.topics) if self.topics.discovery else {}
+        return discovery.gateway_configs(self.topics) if self.topics.discovery else {}
 
-    def part_of(self, device: str) -> Part:
+    def part_of_device(self, device: str) -> Part:
         """What the broker may retain about a device: its readings, and the discovery messages that it should have."""
-        return Part(device, [*self.topics.of_device(device), *self.devices.shown[device]])
+        return Part(device, [*self.topics.device_filters(device), *self.devices.shown[device]])
 
-    def parts_of_unknown(self) -> list[Part]:
+    def parts_for_unknown_devices(self) -> list[Part]:
         """Without a state file it is unknown which devices were published before: the broker is asked for all, in parts
         that are as small as possible."""
-        filters = [[f"{self.topics.own}/+/+"], [f"{self.topics.own}/+/+/+"]]
+        filters = [[f"{self.topics.root}/+/+"], [f"{self.topics.root}/+/+/+"]]
         if self.topics.discovery:
             filters += [[self.topics.config(component, "+")] for component in sorted(discovery.COMPONENTS)]
-        return [Part(UNKNOWN, some, is_large=True, expected=self.wanted()) for some in filters]
+        return [Part(UNKNOWN_PART, some, is_large=True, expected=self.wanted_messages()) for some in filters]
 
-    def wanted(self) -> dict[str, str]:
+    def wanted_messages(self) -> dict[str, str]:
         """Everything that the broker should retain, by topic."""
-        wanted = self.of_gateway()
+        wanted = self.gateway_configs()
         for device in self.devices.known:
-            wanted |= self.devices.retained(device)
+            wanted |= self.devices.retained_messages(device)
         return wanted
 
-    def compare(self, part: Part) -> None:
+    def publish_differences(self, part: Part) -> None:
         """Publishes the differences between what is retained and what should be."""
         there = {topic: text for topic, text in part.retained.items() if text}
-        wanted = self.wanted() if part.name == UNKNOWN else self.of_gateway() if part.name == GATEWAY else {}
-        if part.name == GATEWAY:
-            self.reported = {topic: there.pop(topic) for topic in self.topics.reports if topic in there}
-        if part.name == UNKNOWN:
-            self.devices.may_adopt = False
+        wanted = self.gateway_configs() if part.name == GATEWAY_PART else {}
+        if part.name == GATEWAY_PART:
+            self.reported = {topic: there.pop(topic) for topic in self.topics.report_topics if topic in there}
+        if part.name == UNKNOWN_PART:
+            wanted, self.devices.may_adopt = self.wanted_messages(), False
         elif part.name in self.devices.known:
             # a list, since a device may be shown with other entities
-            if any([self.devices.adopt(topic, text) for topic, text in there.items()]):
-                self.publish(self.devices.show(self.devices.known[part.name]))
-            wanted = self.devices.retained(part.name)
-        if part.name != UNKNOWN:
+            if any([self.devices.adopt_reading(topic, text) for topic, text in there.items()]):
+                self.publish(self.devices.update_discovery(self.devices.known[part.name]))
+            wanted = self.devices.retained_messages(part.name)
+        if part.name != UNKNOWN_PART:
             # the topics of a device that was not shown before are not in this part, and were published meanwhile
             self.publish([Message(topic, text, True) for topic, text in wanted.items()
-                          if there.get(topic) != text and part.matches(topic)])
-        self.publish(self.devices.remove(topic for topic in there if topic not in wanted and self.is_stray(topic)))
+                          if there.get(topic) != text and part.has_topic(topic)])
+        strays = (topic for topic in there if topic not in wanted and self.is_stray(topic))
+        self.publish(self.devices.delete_retained(strays))
 
     def is_stray(self, topic: str) -> bool:
         """Whether an unwanted topic is one that this bridge publishes: below a device, or a discovery message."""
-        if topic.startswith(self.topics.own + "/"):
-            return re.match(f"{DEVICE}/", topic.removeprefix(self.topics.own + "/")) is not None
+        if topic.startswith(self.topics.root + "/"):
+            return re.match(f"{DEVICE_PATTERN}/", topic.removeprefix(self.topics.root + "/")) is not None
         return True
 
     def publish(self, messages: Iterable[Message]) -> None:
@@ -280,7 +281,7 @@ class Bridge:
         if self.connection and self.reconciler:
             for message in messages:
                 if message.retained:
-                    self.reconciler.publish(message.topic, message.payload)
+                    self.reconciler.note_published(message.topic, message.payload)
                 self.backlog.add(message)
                 self.publish_waiting()
 
@@ -291,71 +292,71 @@ class Bridge:
     def publish_waiting(self) -> None:
         """Publishes messages that wait, while there is room for them."""
         while self.backlog and self.has_room():
-            message = self.backlog.next()
+            message = self.backlog.pop_next()
             number = self.send(message)
             if message.retained and not message.payload:
                 self.deleting[message.topic] = number
             if message.topic == self.topics.status and self.echo.is_online is None:
-                self.echo.ask(self.clock())
+                self.echo.note_asked(self.clock())
 
     def send(self, message: Message) -> int:
         """Publishes a message on the open connection, and returns its number."""
         assert self.connection is not None
         return self.connection.publish(message)
 
-    def take_lines(self, are_kept: bool, is_late: bool = False, is_earlier: bool = False) -> None:
+    def handle_lines(self, are_kept: bool, is_late: bool = False, is_earlier: bool = False) -> None:
         """Handles the lines that have arrived. When they are late, the time of their arrival is not known."""
         lists, known = self.devices.lists, set(self.devices.known)
-        for line, position, content in contents(self.follower.read(), self.devices, self.seldom.warning):
+        for line, position, content in decoded_lines(self.follower.read(), self.devices, self.rate_limited_log.warning):
             if are_kept:
                 self.outbox.add(line, position)
-            self.publish(self.devices.take(content, None if is_late else self.now()))
+            self.publish(self.devices.handle_line(content, None if is_late else self.plausible_time()))
             if not is_earlier:
-                self.requests.take(content)
+                self.requests.handle_line(content)
         if self.devices.lists > lists:
-            self.requests.list.answer()
+            self.requests.list.note_answer()
         if self.reconciler:
-            self.reconciler.add(map(self.part_of, sorted(self.devices.known.keys() - known)))
+            self.reconciler.add(map(self.part_of_device, sorted(self.devices.known.keys() - known)))
             if self.devices.may_adopt and self.devices.lists and not self.is_unknown_asked:
                 self.is_unknown_asked = True
-                self.reconciler.add(self.parts_of_unknown())
+                self.reconciler.add(self.parts_for_unknown_devices())
 
-    def now(self) -> float | None:
+    def plausible_time(self) -> float | None:
         """The time; None if it is earlier than that of an earlier run, soon after the start: a computer without a clock
         chip has the wrong time until the network is there. Later it counts, since the earlier time may be wrong."""
         now = self.wall()
         return None if time_text(now) < self.newest and self.clock() < self.waits_until else now
 
-    def receive(self, message: Received) -> None:
+    def handle_message(self, message: ReceivedMessage) -> None:
         """Handles a message from the broker."""
         is_order = message.topic == self.topics.orders or message.topic.endswith("/set")
         if message.retained and is_order:
-            self.seldom.warning("retained", f"message on {message.topic!r} ignored: it is retained")
+            self.rate_limited_log.warning("retained", f"message on {message.topic!r} ignored: it is retained")
         elif message.retained and self.reconciler:
-            self.reconciler.take(message.topic, message.payload.decode("utf-8", "replace"))
+            self.reconciler.handle_retained(message.topic, message.payload.decode("utf-8", "replace"))
         if message.retained:
             return
-        if message.topic in self.topics.watched:
-            self.correct(message.topic, message.payload.decode("utf-8", "replace"))
+        if message.topic in self.topics.watched_topics:
+            self.restore_own_topic(message.topic, message.payload.decode("utf-8", "replace"))
         elif is_order:
-            self.give(message)
+            self.pass_orders_on(message)
 
-    def correct(self, topic: str, text: str) -> None:
+    def restore_own_topic(self, topic: str, text: str) -> None:
         """Handles a message on a topic on which only this bridge publishes: what others publish there is replaced, and
         what they have removed comes back. The broker sends `offline` if it notices late that an earlier connection was
         lost."""
         if not text:
-            self.compare_at = self.clock() + REMOVED_BEFORE
+            self.compare_at = self.clock() + COMPARE_AFTER_REMOVAL
         if topic == self.topics.status and self.is_online:
             if text != "online":
                 self.publish([Message(topic, "online", True)])
             elif not self.echo.is_online:
-                self.echo.answer()
+                self.echo.note_answer()
                 self.broker.report_connected()
-        if self.reported is not None and topic in self.topics.reports and text != self.reported.get(topic):
+        if self.reported is not None and topic in self.topics.report_topics and text != self.reported.get(topic):
             self.reported.pop(topic, None)
 
-    def give(self, message: Received) -> None:
+    def pass_orders_on(self, message: ReceivedMessage) -> None:
         """Passes the orders of a message to the gateway."""
         window = self.requests.window
         try:
@@ -363,26 +364,26 @@ class Bridge:
             if opens_window(orders):
                 # this is saved first: if the bridge is killed after it has given the order, its next run closes the
                 # learn window
-                self.requests.open_window(self.requests.learn_for)
+                self.requests.schedule_window_end(self.requests.learn_for)
                 self.save()
             left_out = self.desk.give(orders, len(self.devices.known))
         except InvalidMessage as invalid:
-            self.seldom.warning("refused", f"message on {message.topic!r} ignored: {invalid}")
+            self.rate_limited_log.warning("refused", f"message on {message.topic!r} ignored: {invalid}")
             return
         except OSError as error:
             lost = f"message on {message.topic!r} lost: {self.desk.path}: {error.strerror or error}"
-            self.seldom.warning("lost", lost)
+            self.rate_limited_log.warning("lost", lost)
             self.requests.window = window
             return
         if left_out:
             left_out_of = f"message on {message.topic!r}: {left_out} orders not passed on: "
-            self.seldom.warning("left out", left_out_of + "an earlier list or status is not answered yet")
-        self.requests.command(orders)
+            self.rate_limited_log.warning("left out", left_out_of + "an earlier list or status is not answered yet")
+        self.requests.note_window_orders(orders)
         if self.requests.gateway.is_online is False:
             may_be_lost = f"message on {message.topic!r}: the gateway does not answer, orders may be lost"
-            self.seldom.warning("offline", may_be_lost)
+            self.rate_limited_log.warning("offline", may_be_lost)
 
-    def report(self) -> None:
+    def publish_gateway_reports(self) -> None:
         """Publishes what is known about the gateway itself, if it has changed."""
         if self.reported is None:
             return
@@ -414,7 +415,7 @@ class Bridge:
         the learn window. A position among the earlier lines is not saved: the next run would take the rest for new."""
         if not self.has_read:
             return
-        position = self.outbox.position(self.follower.position)
+        position = self.outbox.acknowledged_position(self.follower.position)
         self.saved_at = self.clock()
         changed, removed, may_adopt = self.devices.changed, self.devices.removed, self.devices.may_adopt
         learn_until = self.requests.window.end if self.requests.window else None

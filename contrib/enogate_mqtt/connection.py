@@ -9,7 +9,7 @@ from dataclasses import dataclass
 from types import ModuleType
 from typing import Any
 
-from .settings import Login, reason
+from .settings import Login, error_text
 from .topics import Message, Topics
 
 KEEPALIVE = 30
@@ -26,12 +26,12 @@ MAX_PACKET = 65536
 # the longest pause resets it. Up to half of a pause is random, so that many bridges do not connect in the same moment.
 FIRST_PAUSE, MAX_PAUSE = 1.0, 60.0
 # An open connection that is lost sooner, so often in a row, is a sign of another client with this name.
-SHORT, OFTEN = 10.0, 3
-NOT_ACCEPTED = 128
+SHORT_CONNECTION, OFTEN_SHORT = 10.0, 3
+FIRST_REFUSAL_CODE = 128
 # The status of paho after the end of a connection. Up to 1.6 it does not report the reason code that MQTT 5 has for it.
 CONNECTION_LOST = 7
 # The type of the packet that opens a connection.
-CONNECT = 1
+CONNECT_PACKET = 1
 # So many packets are handled in one turn, if there are so many.
 MAX_LOOPS = 100
 # So much of the text of an exception is logged.
@@ -40,16 +40,16 @@ SHOWN_OF_AN_ERROR = 100
 NOT_SENT = -1
 
 
-class Lost(Exception):
+class ConnectionLost(Exception):
     """The reason why the connection was lost."""
 
 
-class WrongProtocol(Lost):
+class WrongProtocol(ConnectionLost):
     """The broker does not speak MQTT 5."""
 
 
 @dataclass(frozen=True)
-class Received:
+class ReceivedMessage:
     """A message that was received."""
     topic: str
     payload: bytes
@@ -71,7 +71,7 @@ class Connection:
         # why a message could not be sent, and the last exception of a callback
         self.failure = ""
         self.fault: Exception | None = None
-        self.received: list[Received] = []
+        self.received: list[ReceivedMessage] = []
         # the numbers of messages, and of requests for (un)subscription, that the broker has not acknowledged
         self.unacknowledged: set[int] = set()
         self.unanswered: set[int] = set()
@@ -83,7 +83,7 @@ class Connection:
         try:
             self.client.connect(login.host, login.port, KEEPALIVE, **self.connect_options())
         except (OSError, ValueError) as error:
-            raise Lost(reason(error)) from error
+            raise ConnectionLost(error_text(error)) from error
 
     def make_client(self, login: Login) -> Any:
         """A client of paho. Its callbacks have the same last arguments in all versions."""
@@ -102,15 +102,16 @@ class Connection:
             client.tls_set_context(login.tls)
         if not self.is_reader:
             client.will_set(self.topics.status, "offline", qos=1, retain=True)
-        client.on_connect = self.noting(lambda client, _data, _flags, code, *_: self.on_connect(client, code))
-        client.on_disconnect = self.noting(lambda _client, _data, *rest: self.on_disconnect(rest))
-        client.on_message = self.noting(lambda _client, _data, message: self.on_message(message))
-        client.on_publish = self.noting(lambda _c, _data, number, *_: self.on_answer(self.unacknowledged, number))
-        client.on_subscribe = self.noting(lambda _c, _data, number, codes, *_: self.on_subscribe(number, codes))
-        client.on_unsubscribe = self.noting(lambda _c, _data, number, *_: self.on_answer(self.unanswered, number))
+        noting = self.with_noted_error
+        client.on_connect = noting(lambda client, _data, _flags, code, *_: self.on_connect(client, code))
+        client.on_disconnect = noting(lambda _client, _data, *rest: self.on_disconnect(rest))
+        client.on_message = noting(lambda _client, _data, message: self.on_message(message))
+        client.on_publish = noting(lambda _c, _data, number, *_: self.on_answer(self.unacknowledged, number))
+        client.on_subscribe = noting(lambda _c, _data, number, codes, *_: self.on_subscribe(number, codes))
+        client.on_unsubscribe = noting(lambda _c, _data, number, *_: self.on_answer(self.unanswered, number))
         return client
 
-    def noting(self, callback: Callable[..., None]) -> Callable[..., None]:
+    def with_noted_error(self, callback: Callable[..., None]) -> Callable[..., None]:
         """This callback. What it raises passes through paho, and is noted: it is not an exception of paho."""
         def call(*arguments: Any) -> None:
             try:
@@ -124,25 +125,25 @@ class Connection:
         """With MQTT 5 the session ends with the connection, and large messages are not sent to the bridge."""
         if not self.is_five:
             return {}
-        properties = self.paho.Properties(CONNECT)
+        properties = self.paho.Properties(CONNECT_PACKET)
         properties.MaximumPacketSize = MAX_PACKET
         return {"clean_start": True, "properties": properties}
 
     def on_connect(self, client: Any, code: Any) -> None:
-        if value_of(code) == 0 and self.is_reader:
+        if code_number(code) == 0 and self.is_reader:
             self.is_open = True
             return
-        if value_of(code) == 0:
-            filters = [*self.topics.commands, *self.topics.watched]
-            self.orders_request = sent(client.subscribe, [(topic, 1) for topic in filters])[1]
+        if code_number(code) == 0:
+            filters = [*self.topics.command_filters, *self.topics.watched_topics]
+            self.orders_request = send_or_lose(client.subscribe, [(topic, 1) for topic in filters])[1]
             return
-        self.is_unsupported = self.is_five and value_of(code) in (1, 132)
+        self.is_unsupported = self.is_five and code_number(code) in (1, 132)
         text = self.paho.connack_string(code) if isinstance(code, int) else str(code)
         self.refusal = f"rejected by the broker: {text}"
 
     def on_disconnect(self, rest: tuple[Any, ...]) -> None:
         """The reason code is the first argument, or the second one after the flags of paho 2."""
-        self.is_taken_over = any(value_of(code) == 142 for code in rest)
+        self.is_taken_over = any(code_number(code) == 142 for code in rest)
 
     def on_answer(self, numbers: set[int], number: int) -> None:
         numbers.discard(number)
@@ -152,7 +153,7 @@ class Connection:
     def on_subscribe(self, number: int, codes: Any) -> None:
         self.on_answer(self.unanswered, number)
         if number == self.orders_request:
-            if any(value_of(code) >= NOT_ACCEPTED for code in codes[:len(self.topics.commands)]):
+            if any(code_number(code) >= FIRST_REFUSAL_CODE for code in codes[:len(self.topics.command_filters)]):
                 self.complaint = ", but this user may not subscribe to orders"
             self.is_open = True
 
@@ -161,7 +162,7 @@ class Connection:
             topic = message.topic
         except UnicodeDecodeError:
             return
-        self.received.append(Received(topic, message.payload, bool(message.retain)))
+        self.received.append(ReceivedMessage(topic, message.payload, bool(message.retain)))
         self.arrived += 1
 
     def sockets(self) -> tuple[list[Any], list[Any]]:
@@ -176,71 +177,73 @@ class Connection:
         return bool(self.failure) or not self.sockets()[0] or hasattr(socket, "pending") and socket.pending() > 0
 
     def turn(self, seconds: float) -> None:
-        """Does the network's work: waits for at most so many seconds, and handles what has arrived. Or raises Lost."""
+        """Does the network's work: waits for at most so many seconds, and handles what has arrived. Or raises
+        ConnectionLost."""
         if self.failure:
-            raise Lost(self.failure)
-        before, status = self.arrived, self.call(self.client.loop, seconds)
+            raise ConnectionLost(self.failure)
+        before, status = self.arrived, self.run_loop(self.client.loop, seconds)
         for _ in range(MAX_LOOPS - 1):
             if status != 0 or self.arrived == before:
                 break
             # without a system call that asks whether there is anything to read
-            before, status = self.arrived, self.call(self.client.loop_read)
+            before, status = self.arrived, self.run_loop(self.client.loop_read)
         if self.is_unsupported:
             raise WrongProtocol(self.refusal)
         if self.refusal:
-            raise Lost(self.refusal)
+            raise ConnectionLost(self.refusal)
         if self.is_taken_over:
-            raise Lost(f"another client has the name {self.name}")
+            raise ConnectionLost(f"another client has the name {self.name}")
         if status == CONNECTION_LOST and self.is_open:
-            raise Lost(f"broker or network closed the connection; perhaps another client has the name {self.name}")
+            raise ConnectionLost(
+                f"broker or network closed the connection; perhaps another client has the name {self.name}")
         if status != 0:
-            raise Lost(self.paho.error_string(status))
+            raise ConnectionLost(self.paho.error_string(status))
         if not self.is_open and self.clock() > self.began + OPEN_WITHIN:
-            raise Lost("no answer from the broker")
+            raise ConnectionLost("no answer from the broker")
         if self.unacknowledged and self.clock() > self.acknowledged_at + ACKNOWLEDGE_WITHIN:
-            raise Lost("the broker acknowledges nothing")
+            raise ConnectionLost("the broker acknowledges nothing")
 
-    def call(self, loop: Callable[..., Any], *arguments: Any) -> int:
+    def run_loop(self, loop: Callable[..., Any], *arguments: Any) -> int:
         """Calls a loop of paho. It raises all kinds of exceptions if the broker sends malformed packets, and those of
-        ssl if TLS fails. Each of them is Lost, but not those that a callback has raised: these are errors of the
-        bridge."""
+        ssl if TLS fails. Each of them is ConnectionLost, but not those that a callback has raised: these are errors of
+        the bridge."""
         try:
             return int(loop(*arguments))
         except Exception as error:
             if error is self.fault:
                 raise
             if isinstance(error, OSError):
-                raise Lost(reason(error)[:SHOWN_OF_AN_ERROR]) from error
+                raise ConnectionLost(error_text(error)[:SHOWN_OF_AN_ERROR]) from error
             text = f"{type(error).__name__}: {str(error)[:SHOWN_OF_AN_ERROR]}"
-            raise Lost(f"invalid packet from the broker ({text})") from error
+            raise ConnectionLost(f"invalid packet from the broker ({text})") from error
 
     def publish(self, message: Message) -> int:
         """Publishes a message. Its number is in `unacknowledged` until it is acknowledged. If it cannot be sent, the
-        next turn raises Lost."""
+        next turn raises ConnectionLost."""
         if not self.unacknowledged:
             self.acknowledged_at = self.clock()
         number = NOT_SENT
         if not self.failure:
             try:
                 options = {"qos": 1, "retain": message.retained}
-                number = int(sent(self.client.publish, message.topic, message.payload, **options).mid)
-            except Lost as lost:
+                number = int(send_or_lose(self.client.publish, message.topic, message.payload, **options).mid)
+            except ConnectionLost as lost:
                 self.failure = str(lost)
         self.unacknowledged.add(number)
         return number
 
-    def request(self, filters: list[str]) -> int:
+    def request_retained(self, filters: list[str]) -> int:
         """Subscribes to these, to get what the broker retains. The number is in `unanswered` until it is answered."""
-        return self.ask(*sent(self.client.subscribe, [(topic, 0) for topic in filters]))
+        return self.note_request(*send_or_lose(self.client.subscribe, [(topic, 0) for topic in filters]))
 
-    def cancel(self, filters: list[str]) -> int:
+    def cancel_request(self, filters: list[str]) -> int:
         """Ends these subscriptions. What the broker retains arrives before the answer."""
-        return self.ask(*sent(self.client.unsubscribe, filters))
+        return self.note_request(*send_or_lose(self.client.unsubscribe, filters))
 
-    def ask(self, status: int, number: int | None) -> int:
-        """Notes a request that paho has sent, or raises Lost if it could not."""
+    def note_request(self, status: int, number: int | None) -> int:
+        """Notes a request that paho has sent, or raises ConnectionLost if it could not."""
         if status != 0 or number is None:
-            raise Lost(self.paho.error_string(status))
+            raise ConnectionLost(self.paho.error_string(status))
         self.unanswered.add(number)
         return number
 
@@ -250,8 +253,8 @@ class Connection:
         try:
             while self.unacknowledged and self.clock() < until:
                 self.turn(0.1)
-            sent(self.client.disconnect)
-        except Lost:
+            send_or_lose(self.client.disconnect)
+        except ConnectionLost:
             pass
 
     def close(self) -> None:
@@ -261,16 +264,16 @@ class Connection:
                 self.client.socket().close()
 
 
-def sent(call: Callable[..., Any], *arguments: Any, **named: Any) -> Any:
+def send_or_lose(call: Callable[..., Any], *arguments: Any, **named: Any) -> Any:
     """The result of this call of paho, which sends something. Unlike other faults of the network, those of TLS are
-    exceptions: they are Lost."""
+    exceptions: they are ConnectionLost."""
     try:
         return call(*arguments, **named)
     except OSError as error:
-        raise Lost(reason(error)[:SHOWN_OF_AN_ERROR]) from error
+        raise ConnectionLost(error_text(error)[:SHOWN_OF_AN_ERROR]) from error
 
 
-def value_of(code: Any) -> int:
+def code_number(code: Any) -> int:
     """The number of a return code or reason code; -1 of anything else."""
     value = getattr(code, "value", code)
     return value if isinstance(value, int) else -1
@@ -299,9 +302,9 @@ class Broker:
             self.connection.turn(0)
         except WrongProtocol:
             self.version = 4
-            self.drop()
+            self.close_connection()
             return False
-        except Lost as lost:
+        except ConnectionLost as lost:
             self.lose(str(lost))
             return False
         if self.connection.is_open and not was_open:
@@ -318,11 +321,11 @@ class Broker:
         logging.warning("the broker at %s accepts the connection, but refuses what is published: %s did not come back "
                         "within %.0f seconds; check the access rights of this user", self.name, topic, ECHO_WITHIN)
 
-    def read(self) -> Connection | None:
+    def open_reader(self) -> Connection | None:
         """A reader, which is opened in its turns; None if there is no connection any more."""
         try:
             return self.connect(self.version, True)
-        except Lost as lost:
+        except ConnectionLost as lost:
             self.lose(str(lost))
             return None
 
@@ -331,17 +334,17 @@ class Broker:
         if self.connection and self.connection.is_open:
             lasted = self.clock() - self.connection.began
             self.pause = FIRST_PAUSE if lasted > MAX_PAUSE else self.pause
-            self.short = self.short + 1 if lasted < SHORT else 0
-            if self.short == OFTEN:
+            self.short = self.short + 1 if lasted < SHORT_CONNECTION else 0
+            if self.short == OFTEN_SHORT:
                 logging.warning("the connection is lost again and again: is there another bridge with this name?")
-        self.drop()
+        self.close_connection()
         if why not in self.reasons:
             logging.warning("no connection to %s: %s", self.name, why)
             self.reasons.add(why)
         self.due = self.clock() + self.pause * (0.5 + self.fraction() / 2)
         self.pause = min(2 * self.pause, MAX_PAUSE)
 
-    def drop(self) -> None:
+    def close_connection(self) -> None:
         """Closes the connection, if there is one."""
         if self.connection:
             self.connection.close()

@@ -9,27 +9,27 @@ from collections import deque
 from collections.abc import Callable
 
 from enogate_lines.contents import OkOrError, Content, Deleted, EndOfList, Learned, Status
-from enogate_tools.desk import INVALID_END, MAX_SIZE, is_written
+from enogate_tools.desk import INVALID_END, MAX_SIZE, write_orders
 
 # So many bytes may be appended at once, and so many more with each second. The gateway reads more per second, unless
 # its disk is slow: what it has not read stays below MAX_BURST, and another order waits for a few seconds at most.
 MAX_BURST, BYTES_PER_SECOND = 16384, 2000
 # The gateway reads nothing from the stick while it writes an answer, and the answer to `list` has a line for each
 # device. Each of these lines counts like the shortest order, which is answered with one line.
-LIST, STATUS, BASE = b"list", b"status", b"base"
-LINE = len(LIST) + 1
+LIST_ORDER, STATUS_ORDER, BASE_ORDER = b"list", b"status", b"base"
+COST_OF_LISTED_DEVICE = len(LIST_ORDER) + 1
 # An answer that has not come after so many seconds does not come any more.
 ANSWER_WITHIN = 60.0
 # So many orders that are not answered are noted; the bridge gives far fewer in that time.
-MAX_UNANSWERED = 100
+MAX_PENDING_REQUESTS = 100
 # So many orders are noted that may be lost.
-MAX_GIVEN = 1000
-LABEL = b"\nlabel "
+MAX_PENDING_ORDERS = 1000
+LABEL_START = b"\nlabel "
 # So many bytes are looked at in a turn. Other programs may make the desk longer than the memory.
-MAX_NEWS = 1 << 20
+MAX_LOOK = 1 << 20
 
 
-class News(enum.Enum):
+class DeskChange(enum.Enum):
     """What changed at the desk."""
     NONE = enum.auto()
     CREATED = enum.auto()    # the file is there, and was not
@@ -38,7 +38,7 @@ class News(enum.Enum):
     LABELLED = enum.auto()   # an order for a label was appended
 
 
-class Unanswered:
+class PendingRequests:
     """The orders `list` and `status` that were given and are not answered yet. Others give one of each at a time: its
     answer is published, so whoever gives another one gets it too. An order that another program wrote to the desk may
     be answered first; then another one is passed on early."""
@@ -47,12 +47,12 @@ class Unanswered:
         self.clock = clock
         # by order: when each was given, and whether by the bridge itself; the gateway answers them in this sequence
         self.given: dict[bytes, deque[tuple[float, bool]]] = {
-            order: deque(maxlen=MAX_UNANSWERED) for order in (LIST, STATUS)}
+            order: deque(maxlen=MAX_PENDING_REQUESTS) for order in (LIST_ORDER, STATUS_ORDER)}
 
-    def without_waiting(self, orders: bytes) -> list[bytes]:
+    def without_pending(self, orders: bytes) -> list[bytes]:
         """The lines of these orders of others, without those for which an earlier one waits."""
         kept = []
-        waiting = {order for order in self.given if self.waits(order)}
+        waiting = {order for order in self.given if self.is_pending(order)}
         for line in orders.split(b"\n")[:-1]:
             if line not in waiting:
                 kept.append(line)
@@ -60,7 +60,7 @@ class Unanswered:
                 waiting.add(line)
         return kept
 
-    def waits(self, order: bytes) -> bool:
+    def is_pending(self, order: bytes) -> bool:
         """Whether an order of others is not answered yet."""
         given = self.given[order]
         while given and self.clock() > given[0][0] + ANSWER_WITHIN:
@@ -72,7 +72,7 @@ class Unanswered:
             if line in self.given:
                 self.given[line].append((self.clock(), is_own))
 
-    def answer(self, order: bytes) -> None:
+    def note_answer(self, order: bytes) -> None:
         if self.given[order]:
             self.given[order].popleft()
 
@@ -82,14 +82,14 @@ class Unanswered:
             given.clear()
 
 
-class Given:
+class PendingOrders:
     """The orders that the bridge has written to the desk and that are not answered yet, each with whether it is of
     others. No line names its order, and other programs give orders too, whose answers are taken for those of the
     oldest order here. So an order may be taken as answered too early, until a `status` or `list` is answered: these
     show that all orders before them were."""
 
     def __init__(self) -> None:
-        self.orders: deque[tuple[bytes, bool]] = deque(maxlen=MAX_GIVEN)
+        self.orders: deque[tuple[bytes, bool]] = deque(maxlen=MAX_PENDING_ORDERS)
 
     def __len__(self) -> int:
         return len(self.orders)
@@ -97,21 +97,21 @@ class Given:
     def add(self, orders: bytes, is_own: bool) -> None:
         self.orders.extend((line, not is_own) for line in orders.split(b"\n")[:-1])
 
-    def take(self, content: Content) -> None:
+    def handle_line(self, content: Content) -> None:
         """Handles a line of the gateway."""
         match content:
             case Status():
-                self.end(STATUS)
+                self.end_through(STATUS_ORDER)
             case EndOfList():
-                self.end(LIST)
+                self.end_through(LIST_ORDER)
             case OkOrError():
-                self.end_first(lambda order: order not in (LIST, STATUS))
+                self.end_first(lambda order: order not in (LIST_ORDER, STATUS_ORDER))
             case Learned():
                 self.end_first(lambda order: order.startswith(b"add "))
             case Deleted():
                 self.end_first(lambda order: order.startswith(b"remove "))
 
-    def end(self, answered: bytes) -> None:
+    def end_through(self, answered: bytes) -> None:
         """This order and all before it are answered."""
         if any(order == answered for order, _ in self.orders):
             while self.orders.popleft()[0] != answered:
@@ -125,7 +125,8 @@ class Given:
     def clear(self) -> list[bytes]:
         """A gateway that was started answers none of them. Returns those of others that are lost. The bridge then gives
         `list`, `status` and `base` by itself."""
-        lost = [order for order, is_of_others in self.orders if is_of_others and order not in (LIST, STATUS, BASE)]
+        own = LIST_ORDER, STATUS_ORDER, BASE_ORDER
+        lost = [order for order, is_of_others in self.orders if is_of_others and order not in own]
         self.orders.clear()
         return lost
 
@@ -135,11 +136,11 @@ class Desk:
 
     def __init__(self, path: str, clock: Callable[[], float]):
         self.path, self.clock = path, clock
-        self.unanswered, self.given = Unanswered(clock), Given()
+        self.unanswered, self.given = PendingRequests(clock), PendingOrders()
         # what has changed since the last question for news, and the orders that were lost by that
-        self.change, self.lost = News.NONE, list[bytes]()
+        self.change, self.lost = DeskChange.NONE, list[bytes]()
         # which file was checked, up to which offset, and the last bytes before that; and its size after an order
-        self.inode, self.seen = self.state()
+        self.inode, self.seen = self.inode_and_size()
         self.size = 0
         self.last = b"\n"
         self.allowance, self.allowed_at = float(MAX_BURST), clock()
@@ -147,11 +148,11 @@ class Desk:
     def give(self, orders: bytes, devices: int) -> int:
         """Appends these orders of others to a gateway with so many devices, or raises OSError. A `list` or `status` is
         left out while an earlier one is not answered. Returns how many orders were left out."""
-        self.notice()
-        lines = self.unanswered.without_waiting(orders)
+        self.note_replacement()
+        lines = self.unanswered.without_pending(orders)
         if lines:
             # the end that the last line of the longest message got does not count
-            cost = sum(len(line) + 1 for line in lines) + lines.count(LIST) * devices * LINE
+            cost = sum(len(line) + 1 for line in lines) + lines.count(LIST_ORDER) * devices * COST_OF_LISTED_DEVICE
             self.append(b"".join(line + b"\n" for line in lines), min(cost, MAX_BURST))
         return orders.count(b"\n") - len(lines)
 
@@ -159,7 +160,7 @@ class Desk:
         """Appends these orders in a single write, or raises OSError. If the file ends with an incomplete line, that
         line is made invalid first. Orders that the bridge gives by itself are few: they have no cost, and are not
         limited."""
-        self.notice()
+        self.note_replacement()
         flags = os.O_WRONLY | os.O_APPEND | os.O_NONBLOCK | os.O_NOCTTY | os.O_CLOEXEC
         file = os.open(self.path, flags)
         try:
@@ -167,9 +168,9 @@ class Desk:
             if size + len(orders) > MAX_SIZE:
                 raise OSError("file is full until the gateway restarts")
             if cost is not None:
-                self.take_allowance(cost)
-            text = orders if size == 0 or self.ends_with_line(size) else INVALID_END + orders
-            if not is_written(file, text):
+                self.charge_allowance(cost)
+            text = orders if size == 0 or self.has_whole_lines(size) else INVALID_END + orders
+            if not write_orders(file, text):
                 raise OSError("incomplete write")
             self.size = size + len(text)
             self.unanswered.add(orders, is_own=cost is None)
@@ -177,7 +178,7 @@ class Desk:
         finally:
             os.close(file)
 
-    def take_allowance(self, cost: int) -> None:
+    def charge_allowance(self, cost: int) -> None:
         """Accounts for a cost in bytes, or raises OSError if too much was appended in a short time."""
         now = self.clock()
         self.allowance = min(MAX_BURST, self.allowance + (now - self.allowed_at) * BYTES_PER_SECOND)
@@ -186,56 +187,57 @@ class Desk:
             raise OSError("too many orders in a short time")
         self.allowance -= cost
 
-    def ends_with_line(self, size: int) -> bool:
+    def has_whole_lines(self, size: int) -> bool:
         """Whether the file ends with the end of a line, as far as it can be read."""
         return self.read(size - 1, 1) in (b"\n", b"")
 
-    def take(self, content: Content) -> None:
+    def handle_line(self, content: Content) -> None:
         """Handles a line of the gateway."""
-        self.given.take(content)
+        self.given.handle_line(content)
         match content:
             case Status():
-                self.unanswered.answer(STATUS)
+                self.unanswered.note_answer(STATUS_ORDER)
             case EndOfList():
-                self.unanswered.answer(LIST)
+                self.unanswered.note_answer(LIST_ORDER)
 
-    def notice(self) -> int:
+    def note_replacement(self) -> int:
         """Notes whether this is another desk, or one that was emptied: its gateway answers no earlier order. Returns
         its size."""
-        inode, size = self.state()
+        inode, size = self.inode_and_size()
         before = self.inode
         if inode != before or size < max(self.seen, self.size):
             self.inode, self.seen, self.size, self.last = inode, 0, 0, b"\n"
             self.unanswered.clear()
             self.lost += self.given.clear()
             if inode != 0:
-                self.change = News.TRUNCATED if inode == before else News.REPLACED if before else News.CREATED
+                is_same, replaced = inode == before, DeskChange.REPLACED if before else DeskChange.CREATED
+                self.change = DeskChange.TRUNCATED if is_same else replaced
         return size
 
-    def orders(self, start: bytes) -> set[bytes]:
+    def appended_orders(self, start: bytes) -> set[bytes]:
         """The orders that begin with these bytes and were appended since the file was emptied. After MAX_SIZE bytes the
         bridge has appended none."""
-        inode, size = self.state()
+        inode, size = self.inode_and_size()
         # opening a pipe that nobody writes would block
         text = self.read(0, min(size, MAX_SIZE)) if inode else b""
         return {found[0] for found in re.finditer(rb"^%s.*(?=\n)" % re.escape(start), text, re.MULTILINE)}
 
-    def take_lost(self) -> list[bytes]:
+    def take_lost_orders(self) -> list[bytes]:
         """The orders of others that were lost since the last call."""
         lost, self.lost = self.lost, []
         return lost
 
-    def news(self) -> News:
+    def take_change(self) -> DeskChange:
         """What changed since the last call."""
-        size = self.notice()
-        change, self.change = self.change, News.NONE
-        if change is not News.NONE or self.inode == 0:
+        size = self.note_replacement()
+        change, self.change = self.change, DeskChange.NONE
+        if change is not DeskChange.NONE or self.inode == 0:
             # opening a pipe that nobody writes would block
             return change
-        added = self.last + self.read(self.seen, min(size - self.seen, MAX_NEWS))
+        added = self.last + self.read(self.seen, min(size - self.seen, MAX_LOOK))
         self.seen += len(added) - len(self.last)
-        self.last = added[1 - len(LABEL):]
-        return News.LABELLED if LABEL in added else News.NONE
+        self.last = added[1 - len(LABEL_START):]
+        return DeskChange.LABELLED if LABEL_START in added else DeskChange.NONE
 
     def read(self, offset: int, length: int) -> bytes:
         """This part of the file, or nothing if it cannot be read."""
@@ -246,7 +248,7 @@ class Desk:
         except OSError:
             return b""
 
-    def state(self) -> tuple[int, int]:
+    def inode_and_size(self) -> tuple[int, int]:
         """The inode and the size of the file; both are 0 if there is none, or if it is a terminal or a pipe."""
         try:
             found = os.stat(self.path)

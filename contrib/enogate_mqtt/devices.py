@@ -39,7 +39,7 @@ class Devices:
         # the devices that wait for a label, each with the end of its wait
         self.waiting: dict[str, float] = {}
         self.known = {device.name: device for device in known}
-        self.shown = {device.name: self.configs(device) for device in self.known.values()}
+        self.shown = {device.name: self.discovery_configs(device) for device in self.known.values()}
         # the topics whose retained messages are to be deleted
         self.removed = set(removed)
         # the devices that changed since this was emptied
@@ -53,25 +53,25 @@ class Devices:
         self.adopting = {name for name, device in self.known.items() if may_adopt and not device.reported}
         self.may_adopt = may_adopt
 
-    def retained(self, device: str) -> dict[str, str]:
+    def retained_messages(self, device: str) -> dict[str, str]:
         """Everything that the broker should retain about a device, by topic."""
         reported = self.known[device].reported
         return self.shown[device] | {self.topics.reading(device, subtopic): text for subtopic, text in reported.items()}
 
-    def adopt(self, topic: str, text: str) -> bool:
+    def adopt_reading(self, topic: str, text: str) -> bool:
         """Takes a reading that the broker retains as the last one of its device: the state file was lost, or another
         bridge ran before. Returns whether it was taken."""
-        name, _, subtopic = topic.removeprefix(self.topics.own + "/").partition("/")
+        name, _, subtopic = topic.removeprefix(self.topics.root + "/").partition("/")
         if name not in self.adopting:
             return False
         device = self.known[name]
-        if subtopic in device.reported or not (subtopic == LAST_SEEN or self.table.reports(device.eep, subtopic)):
+        if subtopic in device.reported or not (subtopic == LAST_SEEN or self.table.may_report(device.eep, subtopic)):
             return False
         device.reported[subtopic] = text
         self.changed.add(name)
         return True
 
-    def take(self, content: Content, now: float | None = None) -> list[Message]:
+    def handle_line(self, content: Content, now: float | None = None) -> list[Message]:
         """Handles a line, and returns what is published for it. `now` is the time of its arrival in seconds since 1970,
         if it is known."""
         match content:
@@ -86,7 +86,7 @@ class Devices:
         self.listing = []
         match content:
             case Telegram():
-                return self.receive(content, now)
+                return self.handle_telegram(content, now)
             case Learned():
                 self.adopting.discard(content.device)
                 label = self.label_of(content.device, now)
@@ -95,7 +95,7 @@ class Devices:
                 return self.forget(content.device)
         return []
 
-    def skip(self) -> None:
+    def drop_listing(self) -> None:
         """Drops the current list: an invalid line may have been part of it."""
         self.listing = []
 
@@ -130,9 +130,9 @@ class Devices:
             return []
         messages = self.set_profile(device, eep)
         device.maker, device.label = maker, label
-        return messages + self.show(device)
+        return messages + self.update_discovery(device)
 
-    def end_waits(self) -> list[Message]:
+    def end_label_waits(self) -> list[Message]:
         """Shows the devices that have waited for a label for long enough."""
         due = [name for name, end in self.waiting.items() if self.clock() >= end]
         return [message for name in due
@@ -146,36 +146,36 @@ class Devices:
         self.adopting.discard(name)
         self.waiting.pop(name, None)
         self.changed.add(name)
-        return self.remove(self.shown.pop(name, {})) + self.remove_readings(device)
+        return self.delete_retained(self.shown.pop(name, {})) + self.remove_readings(device)
 
-    def receive(self, telegram: Telegram, now: float | None) -> list[Message]:
+    def handle_telegram(self, telegram: Telegram, now: float | None) -> list[Message]:
         """Handles a telegram. If its device is unknown or has another profile, lines were missed: a list is needed."""
         device = self.known.setdefault(telegram.device, Device(telegram.device, telegram.eep))
         is_unknown = device.label is None and device.name not in self.waiting
         self.needs_list |= is_unknown or device.eep != telegram.eep
         messages = self.set_profile(device, telegram.eep)
-        reported = self.table.reported_by(telegram)
+        reported = self.table.readings_by_subtopic(telegram)
         events = self.table.events_of(telegram)
         if self.has_events(telegram.eep):
             # a rocker that is not pressed any more is not retained as pressed
             old = [subtopic for subtopic in device.reported
                    if subtopic not in reported and subtopic not in ("dbm", LAST_SEEN)]
-            messages += self.remove(self.topics.reading(device.name, subtopic) for subtopic in old)
+            messages += self.delete_retained(self.topics.reading(device.name, subtopic) for subtopic in old)
             device.reported = {subtopic: text for subtopic, text in device.reported.items() if subtopic not in old}
         if now is not None:
             reported[LAST_SEEN] = time_text(now)
         is_new = not reported.keys() <= device.reported.keys()
         device.reported |= reported
         self.changed.add(device.name)
-        messages += self.show(device) if is_new else []
-        messages += self.publish({self.topics.reading(device.name, subtopic): text
-                                  for subtopic, text in reported.items()})
+        messages += self.update_discovery(device) if is_new else []
+        messages += self.publish_retained({self.topics.reading(device.name, subtopic): text
+                                           for subtopic, text in reported.items()})
         return messages + [Message(self.topics.reading(device.name, subtopic), event_payload(kind), False)
                            for subtopic, kind in events]
 
     def has_events(self, eep: str) -> bool:
         """Whether devices of this profile are switches, whose telegrams are events."""
-        return any(row.entity == "event" for row in self.table.of_profile(eep).values())
+        return any(row.entity == "event" for row in self.table.rows_of_profile(eep).values())
 
     def set_profile(self, device: Device, eep: str) -> list[Message]:
         """Removes the readings of another profile."""
@@ -189,35 +189,35 @@ class Devices:
         """Removes all readings of a device."""
         topics = [self.topics.reading(device.name, subtopic) for subtopic in device.reported]
         device.reported = {}
-        return self.remove(topics)
+        return self.delete_retained(topics)
 
-    def show(self, device: Device) -> list[Message]:
+    def update_discovery(self, device: Device) -> list[Message]:
         """The discovery messages for a device that changed."""
         self.changed.add(device.name)
-        before, now = self.shown.get(device.name, {}), self.configs(device)
+        before, now = self.shown.get(device.name, {}), self.discovery_configs(device)
         self.shown[device.name] = now
-        gone = self.remove(topic for topic in before if topic not in now)
-        return gone + self.publish({topic: text for topic, text in now.items() if before.get(topic) != text})
+        gone = self.delete_retained(topic for topic in before if topic not in now)
+        return gone + self.publish_retained({topic: text for topic, text in now.items() if before.get(topic) != text})
 
-    def remove(self, topics: Iterable[str]) -> list[Message]:
+    def delete_retained(self, topics: Iterable[str]) -> list[Message]:
         """Deletes the retained messages on these topics, now or when the broker is connected again."""
         topics = list(topics)
         self.removed.update(topics)
         return [Message(topic, "", True) for topic in topics]
 
-    def publish(self, texts: dict[str, str]) -> list[Message]:
+    def publish_retained(self, texts: dict[str, str]) -> list[Message]:
         """Retained messages on these topics."""
         self.removed.difference_update(texts)
         return [Message(topic, text, True) for topic, text in texts.items()]
 
-    def configs(self, device: Device) -> dict[str, str]:
+    def discovery_configs(self, device: Device) -> dict[str, str]:
         """The messages of Home Assistant's discovery, by topic. A device that no list has reported is not shown: it
         would get a wrong name."""
         if device.label is None or not self.topics.discovery:
             return {}
-        about = discovery.about_device(self.topics, device.name, device.eep, device.label, device.maker)
-        rows = self.table.of_profile(device.eep).values()
-        return discovery.configs(self.topics, device.name, about, rows, device.reported, self.expire_after)
+        about = discovery.device_description(self.topics, device.name, device.eep, device.label, device.maker)
+        rows = self.table.rows_of_profile(device.eep).values()
+        return discovery.device_configs(self.topics, device.name, about, rows, device.reported, self.expire_after)
 
 
 def time_text(seconds: float) -> str:

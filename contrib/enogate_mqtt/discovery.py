@@ -16,42 +16,42 @@ Config = dict[str, Any]
 Entities = dict[tuple[str, str], Config]
 
 # The names of the table's keys in a message.
-NAMES = {"class": "device_class", "state": "state_class", "unit": "unit_of_measurement", "on": "payload_on",
-         "off": "payload_off"}
+CONFIG_KEYS = {"class": "device_class", "state": "state_class", "unit": "unit_of_measurement", "on": "payload_on",
+               "off": "payload_off"}
 
 # The counters of the gateway, with the names of their entities.
-COUNTERS = {"readings": "Readings", "responses": "Module responses", "teach": "Teach-in telegrams",
-            "ignored": "Ignored packets", "refused": "Refused packets and orders"}
+COUNTER_TITLES = {"readings": "Readings", "responses": "Module responses", "teach": "Teach-in telegrams",
+                  "ignored": "Ignored packets", "refused": "Refused packets and orders"}
 
 # A word instead of a number, such as `unknown` or `out_of_range`, makes a state unknown.
-NUMBER_OR_NONE = "{{ value if value | is_number else None }}"
-NUMBER_OR_NOTHING = "{{ value if value | is_number else '' }}"
-ON_OFF_OR_NONE = "{{ None if not value | is_number else 'OFF' if value | float == 0 else 'ON' }}"
-OPEN_CLOSED_OR_NONE = "{{ None if not value | is_number else 'closed' if value | float == 100 else 'open' }}"
-EVENT_TYPE = "{{ value_json.event_type }}"
+NUMBER_OR_NONE_TEMPLATE = "{{ value if value | is_number else None }}"
+NUMBER_OR_NOTHING_TEMPLATE = "{{ value if value | is_number else '' }}"
+ON_OFF_OR_NONE_TEMPLATE = "{{ None if not value | is_number else 'OFF' if value | float == 0 else 'ON' }}"
+OPEN_CLOSED_OR_NONE_TEMPLATE = "{{ None if not value | is_number else 'closed' if value | float == 100 else 'open' }}"
+EVENT_TYPE_TEMPLATE = "{{ value_json.event_type }}"
 
 
-def configs(topics: Topics, device: str, about: Config, rows: Iterable[EntityRow], reported: Collection[str],
-            expire_after: int | None) -> dict[str, str]:
+def device_configs(topics: Topics, device: str, about: Config, rows: Iterable[EntityRow], reported: Collection[str],
+                   expire_after: int | None) -> dict[str, str]:
     """The messages of a device, by topic. `about` describes the device, and `reported` has the subtopics of its
     readings. A cyclic reading becomes unavailable some time after the last one: `expire_after` is the setting for
     it."""
-    entities = of_rows(topics, device, rows, reported, expire_after)
-    shared = {"device": about, **available(topics.status, topics.gateway, topics.module)}
-    every = messages(topics, entities | of_every_device(topics, device), shared)
-    return every | triggers(topics, about, entities)
+    entities = entities_of_rows(topics, device, rows, reported, expire_after)
+    shared = {"device": about, **availability(topics.status, topics.gateway, topics.module)}
+    every = config_messages(topics, entities | entities_of_every_device(topics, device), shared)
+    return every | trigger_configs(topics, about, entities)
 
 
-def gateway(topics: Topics) -> dict[str, str]:
+def gateway_configs(topics: Topics) -> dict[str, str]:
     """The messages of the gateway itself, by topic."""
     identifier = f"enogate_{topics.name}"
     about = {"identifiers": [identifier], "name": f"enogate {topics.name}", "model": "enogate", "sw_version": VERSION}
     # whether the bridge is connected is known even if it is not
     entities: Entities = {("binary_sensor", "status"): connectivity("Bridge", topics.status)}
     for name, title, state in [("gateway", "Gateway", topics.gateway), ("module", "Radio module", topics.module)]:
-        entities["binary_sensor", name] = {**connectivity(title, state), **available(topics.status)}
-    with_gateway = available(topics.status, topics.gateway)
-    for name, title in COUNTERS.items():
+        entities["binary_sensor", name] = {**connectivity(title, state), **availability(topics.status)}
+    with_gateway = availability(topics.status, topics.gateway)
+    for name, title in COUNTER_TITLES.items():
         entities["sensor", name] = {
             "name": title, "state_topic": topics.counters, "value_template": f"{{{{ value_json.{name} }}}}",
             "state_class": "total_increasing", **visibility("hidden"), **with_gateway,
@@ -60,48 +60,49 @@ def gateway(topics: Topics) -> dict[str, str]:
         "name": "Learn window", "state_topic": topics.learn, "command_topic": topics.learn_command,
         "icon": "mdi:access-point-plus", "entity_category": "config", **with_gateway,
     }
-    return messages(topics, entities, {"device": about})
+    return config_messages(topics, entities, {"device": about})
 
 
-def about_device(topics: Topics, device: str, eep: str, label: str, maker: int | None) -> Config:
+def device_description(topics: Topics, device: str, eep: str, label: str, maker: int | None) -> Config:
     """The description of a device, which each of its entities contains."""
     about = {
-        "identifiers": [f"enogate_{topics.name}_{device}"], "name": label or f"{eep} {device}", "model": model(eep),
-        "serial_number": device, "via_device": f"enogate_{topics.name}",
+        "identifiers": [f"enogate_{topics.name}_{device}"], "name": label or f"{eep} {device}",
+        "model": model_name(eep), "serial_number": device, "via_device": f"enogate_{topics.name}",
     }
-    return about if maker is None else {**about, "manufacturer": manufacturer(maker)}
+    return about if maker is None else {**about, "manufacturer": manufacturer_name(maker)}
 
 
-def model(eep: str) -> str:
+def model_name(eep: str) -> str:
     """The kind of a device with this profile, and the profile."""
-    kind = share.kind(eep)
+    kind = share.device_kind(eep)
     return f"{kind} ({eep})" if kind else eep
 
 
-def manufacturer(maker: int) -> str:
-    return manufacturers().get(maker, f"EnOcean manufacturer ID {maker}")
+def manufacturer_name(maker: int) -> str:
+    return manufacturer_names().get(maker, f"EnOcean manufacturer ID {maker}")
 
 
 @functools.cache
-def manufacturers() -> dict[int, str]:
+def manufacturer_names() -> dict[int, str]:
     """The names of manufacturers by their numbers."""
-    return {int(number, 16): name for number, name in (row.split("\t") for row in share.rows("manufacturers"))}
+    return {int(number, 16): name for number, name in (row.split("\t") for row in share.table_lines("manufacturers"))}
 
 
-def messages(topics: Topics, entities: Entities, shared: Config) -> dict[str, str]:
+def config_messages(topics: Topics, entities: Entities, shared: Config) -> dict[str, str]:
     """The messages of these entities, by topic. All of them contain `shared`."""
     return {
-        topics.config(component, name): payload({**config, **shared, "unique_id": f"enogate_{topics.name}_{name}"})
+        topics.config(component, name): config_payload(
+            {**config, **shared, "unique_id": f"enogate_{topics.name}_{name}"})
         for (component, name), config in entities.items()
     }
 
 
-def payload(config: Config) -> str:
+def config_payload(config: Config) -> str:
     config = {**config, "origin": {"name": "enogate-mqtt", "sw": VERSION}}
     return json.dumps(config, ensure_ascii=False, sort_keys=True, separators=(",", ":"))
 
 
-def available(*states: str) -> Config:
+def availability(*states: str) -> Config:
     """An entity is available while all these topics are `online`, the word that Home Assistant expects."""
     return {"availability": [{"topic": topic} for topic in states], "availability_mode": "all"}
 
@@ -111,14 +112,14 @@ def connectivity(title: str, state: str) -> Config:
             "device_class": "connectivity", **visibility("diagnostic")}
 
 
-def of_rows(topics: Topics, device: str, rows: Iterable[EntityRow], reported: Collection[str],
-            expire_after: int | None) -> Entities:
+def entities_of_rows(topics: Topics, device: str, rows: Iterable[EntityRow], reported: Collection[str],
+                     expire_after: int | None) -> Entities:
     """The entities of a device according to the table. Rows with the same topic are one entity."""
     found: Entities = {}
     for row in rows:
-        for number in row.numbers(reported) if row.entity else []:
+        for number in row.entity_numbers(reported) if row.entity else []:
             key = row.entity, f"{device}_{row.subtopic(number).replace('/', '_')}"
-            config = entity(topics, device, row, number)
+            config = entity_config(topics, device, row, number)
             seconds = row.expires_after(expire_after)
             if seconds is not None:
                 config["expire_after"] = seconds
@@ -128,7 +129,7 @@ def of_rows(topics: Topics, device: str, rows: Iterable[EntityRow], reported: Co
     return found
 
 
-def of_every_device(topics: Topics, device: str) -> Entities:
+def entities_of_every_device(topics: Topics, device: str) -> Entities:
     """The entities that each device has, whatever its profile is."""
     return {
         ("sensor", f"{device}_dbm"): {
@@ -142,25 +143,25 @@ def of_every_device(topics: Topics, device: str) -> Entities:
     }
 
 
-def triggers(topics: Topics, about: Config, entities: Entities) -> dict[str, str]:
+def trigger_configs(topics: Topics, about: Config, entities: Entities) -> dict[str, str]:
     """The messages of the device triggers, by topic: one for each type of an event. Home Assistant does not define an
     ID or an availability for them."""
     found = {}
     for (component, name), config in entities.items():
         for kind in config["event_types"] if component == "event" else []:
-            found[topics.config("device_automation", f"{name}_{kind}")] = payload({
+            found[topics.config("device_automation", f"{name}_{kind}")] = config_payload({
                 "automation_type": "trigger", "subtype": kind,
                 "type": "button_short_release" if kind == "released" else "button_short_press",
-                "topic": config["state_topic"], "value_template": EVENT_TYPE, "payload": kind, "device": about,
+                "topic": config["state_topic"], "value_template": EVENT_TYPE_TEMPLATE, "payload": kind, "device": about,
             })
     return found
 
 
-def entity(topics: Topics, device: str, row: EntityRow, number: int | None) -> Config:
+def entity_config(topics: Topics, device: str, row: EntityRow, number: int | None) -> Config:
     """The configuration of one entity, without what all entities of the device share."""
     subtopic = row.subtopic(number)
-    special = KINDS[row.entity](row, topics.reading(device, subtopic), topics.command(device, subtopic))
-    words: Config = {NAMES[key]: value for key, value in row.more.items() if key in NAMES}
+    special = CONFIG_BY_COMPONENT[row.entity](row, topics.reading(device, subtopic), topics.command(device, subtopic))
+    words: Config = {CONFIG_KEYS[key]: value for key, value in row.more.items() if key in CONFIG_KEYS}
     if row.digits is not None:
         words["suggested_display_precision"] = row.digits
     return {"name": row.title(number), **words, **special, **visibility(*row.more)}
@@ -173,46 +174,47 @@ def visibility(*words: str) -> Config:
     return {"entity_category": "diagnostic"} if "diagnostic" in words else {}
 
 
-def sensor(row: EntityRow, state: str, _command: str) -> Config:
+def sensor_config(row: EntityRow, state: str, _command: str) -> Config:
     config: Config = {"state_topic": state}
     if row.words("options"):
         config |= {"device_class": "enum", "options": row.words("options")}
     elif row.unit:
-        config["value_template"] = NUMBER_OR_NONE
+        config["value_template"] = NUMBER_OR_NONE_TEMPLATE
     return config
 
 
-def binary_sensor(_row: EntityRow, state: str, _command: str) -> Config:
+def binary_sensor_config(_row: EntityRow, state: str, _command: str) -> Config:
     return {"state_topic": state}
 
 
-def event(row: EntityRow, state: str, _command: str) -> Config:
+def event_config(row: EntityRow, state: str, _command: str) -> Config:
     return {"state_topic": state, "event_types": row.words("types")}
 
 
-def switch(_row: EntityRow, state: str, command: str) -> Config:
-    return {"state_topic": state, "value_template": ON_OFF_OR_NONE, "command_topic": command}
+def switch_config(_row: EntityRow, state: str, command: str) -> Config:
+    return {"state_topic": state, "value_template": ON_OFF_OR_NONE_TEMPLATE, "command_topic": command}
 
 
-def light(_row: EntityRow, state: str, command: str) -> Config:
+def light_config(_row: EntityRow, state: str, command: str) -> Config:
     return {
-        "state_topic": state, "state_value_template": ON_OFF_OR_NONE, "command_topic": command,
-        "brightness_state_topic": state, "brightness_value_template": NUMBER_OR_NOTHING,
+        "state_topic": state, "state_value_template": ON_OFF_OR_NONE_TEMPLATE, "command_topic": command,
+        "brightness_state_topic": state, "brightness_value_template": NUMBER_OR_NOTHING_TEMPLATE,
         "brightness_command_topic": command, "brightness_scale": 100, "on_command_type": "brightness",
     }
 
 
-def cover(_row: EntityRow, state: str, command: str) -> Config:
+def cover_config(_row: EntityRow, state: str, command: str) -> Config:
     """In the profile, 0 % is open and 100 % is closed."""
     return {
-        "state_topic": state, "value_template": OPEN_CLOSED_OR_NONE, "command_topic": command,
-        "position_topic": state, "position_template": NUMBER_OR_NOTHING, "set_position_topic": command,
+        "state_topic": state, "value_template": OPEN_CLOSED_OR_NONE_TEMPLATE, "command_topic": command,
+        "position_topic": state, "position_template": NUMBER_OR_NOTHING_TEMPLATE, "set_position_topic": command,
         "position_open": 0, "position_closed": 100,
     }
 
 
-KINDS: dict[str, Callable[[EntityRow, str, str], Config]] = {
-    "sensor": sensor, "binary_sensor": binary_sensor, "event": event, "switch": switch, "light": light, "cover": cover,
+CONFIG_BY_COMPONENT: dict[str, Callable[[EntityRow, str, str], Config]] = {
+    "sensor": sensor_config, "binary_sensor": binary_sensor_config, "event": event_config, "switch": switch_config,
+    "light": light_config, "cover": cover_config,
 }
 # The components of Home Assistant that have entities or triggers of this bridge.
-COMPONENTS = {"device_automation", *KINDS}
+COMPONENTS = {"device_automation", *CONFIG_BY_COMPONENT}

@@ -24,14 +24,14 @@ class Formatter(logging.Formatter):
         return PRIORITIES.get(record.levelno, "") + line if self.with_priority else line
 
 
-def set_up(environment: Mapping[str, str], stream: TextIO = sys.stderr) -> None:
+def set_up_logging(environment: Mapping[str, str], stream: TextIO = sys.stderr) -> None:
     """Logs to standard error, with priorities if it is the journal."""
     handler = logging.StreamHandler(stream)
     handler.setFormatter(Formatter("JOURNAL_STREAM" in environment))
     logging.basicConfig(handlers=[handler], level=logging.INFO, force=True)
 
 
-class Seldom:
+class RateLimitedLog:
     """Logs messages of which very many may come: a few of each kind at once, and the next one after a while, with the
     number of those in between."""
 

@@ -10,26 +10,26 @@ import time
 from types import ModuleType
 
 from enogate_lines.entities import Table
-from enogate_lines.follow import NOWHERE, Follower, without_nuls
+from enogate_lines.follow import START_OF_NO_FILE, Follower, without_nuls
 
 from . import discovery, log
-from .bridge import Bridge, contents
+from .bridge import Bridge, decoded_lines
 from .connection import Broker, Connection
 from .desk import Desk
 from .devices import Devices
 from .queries import Queries
 from .requests import Requests
-from .settings import STATUS, Options, Words, WrongSetting, read_login, read_options, read_words
+from .settings import EXIT_STATUS, Options, Arguments, WrongSetting, read_login, read_options, read_arguments
 from .store import Store
 from .topics import Message, Topics
-from .wake import Wake
+from .wake import Waiter
 
 
 def main() -> int:
     """Runs the program, and returns its exit status."""
-    log.set_up(os.environ)
+    log.set_up_logging(os.environ)
     try:
-        words = read_words(sys.argv[1:])
+        words = read_arguments(sys.argv[1:])
         options = read_options(os.environ)
         if words.prints:
             print_messages(Topics(words.name, options.discovery), options)
@@ -37,13 +37,13 @@ def main() -> int:
             run(words, options)
     except WrongSetting as wrong:
         logging.error("%s", wrong)
-        return STATUS
+        return EXIT_STATUS
     except KeyboardInterrupt:
         return 1
     return 0
 
 
-def run(words: Words, options: Options) -> None:
+def run(words: Arguments, options: Options) -> None:
     """Connects the gateway to the broker, until a signal stops it."""
     login, clock = read_login(os.environ), time.monotonic
     topics = Topics(words.name, options.discovery)
@@ -51,13 +51,14 @@ def run(words: Words, options: Options) -> None:
     store = Store(words.state, options.discovery, words.boot)
     broker = Broker(lambda version, is_reader: Connection(paho, login, topics, version, clock, is_reader),
                     f"{login.host}:{login.port}", clock)
-    devices = Devices(topics, Table(), options.expire_after, store.devices, store.removed | old_topics(topics, store),
+    removed = store.removed | old_discovery_topics(topics, store)
+    devices = Devices(topics, Table(), options.expire_after, store.devices, removed,
                       may_adopt=store.may_adopt, label_wait=options.label_wait, clock=clock)
     desk = Desk(words.desk, clock)
     queries = Queries(devices, desk) if options.queries else None
     requests = Requests(desk, clock, time.time, options.learn_for, store.learn_until, queries)
     follower = Follower(words.lines, store.position, logging.warning, store.is_same_boot)
-    wake = Wake([words.lines, words.desk])
+    wake = Waiter([words.lines, words.desk])
     bridge = Bridge(topics, broker, devices, follower, desk, requests, store, clock, time.time, wake.wait)
 
     def stop(_number: int, _frame: object) -> None:
@@ -77,12 +78,12 @@ def import_paho() -> ModuleType:
         raise WrongSetting(f"python3-paho-mqtt is not installed: {error}") from error
 
 
-def old_topics(topics: Topics, store: Store) -> set[str]:
+def old_discovery_topics(topics: Topics, store: Store) -> set[str]:
     """The discovery messages below another topic prefix, if it was changed."""
     if store.old_discovery in ("", topics.discovery):
         return set()
     old = Topics(topics.name, store.old_discovery)
-    found = set(discovery.gateway(old))
+    found = set(discovery.gateway_configs(old))
     return found.union(*Devices(old, Table(), known=store.devices).shown.values())
 
 
@@ -90,7 +91,7 @@ def print_messages(topics: Topics, options: Options) -> None:
     """Prints what would be published for the lines on standard input."""
     signal.signal(signal.SIGPIPE, signal.SIG_DFL)
     devices = Devices(topics, Table(), options.expire_after)
-    lines = ((without_nuls(line.removesuffix(b"\n")), NOWHERE) for line in sys.stdin.buffer)
-    for line, _, content in contents(lines, devices, lambda _kind, text: logging.warning("%s", text)):
-        for message in [Message(topics.lines, line, False), *devices.take(content)]:
+    lines = ((without_nuls(line.removesuffix(b"\n")), START_OF_NO_FILE) for line in sys.stdin.buffer)
+    for line, _, content in decoded_lines(lines, devices, lambda _kind, text: logging.warning("%s", text)):
+        for message in [Message(topics.lines, line, False), *devices.handle_line(content)]:
             print(message.topic, "retained" if message.retained else "-", message.payload, flush=True)

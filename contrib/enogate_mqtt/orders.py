@@ -10,8 +10,8 @@ MAX_MESSAGE = 16384
 # The gateway answers all longer lines alike, whatever they contain (docs/guide/orders.md).
 MAX_LINE = 202
 SHOWN_OF_A_PAYLOAD = 60
-LEARN = {"ON": "learn on", "OFF": "learn off"}
-DEVICE = "[0-9A-F]{8}"
+LEARN_ORDERS = {"ON": "learn on", "OFF": "learn off"}
+DEVICE_PATTERN = "[0-9A-F]{8}"
 
 
 class InvalidMessage(ValueError):
@@ -23,18 +23,18 @@ def orders_of(topics: Topics, topic: str, payload: bytes) -> bytes:
     if len(payload) > MAX_MESSAGE:
         raise InvalidMessage(f"{len(payload)} bytes, the maximum is {MAX_MESSAGE}")
     if topic == topics.orders:
-        return b"".join(without_end(line)[:MAX_LINE] + b"\n" for line in payload.split(b"\n") if line)
+        return b"".join(without_cr(line)[:MAX_LINE] + b"\n" for line in payload.split(b"\n") if line)
     command = payload.decode("ascii", "replace")
     if topic == topics.learn_command:
-        order, expected = LEARN.get(command), "ON or OFF"
+        order, expected = LEARN_ORDERS.get(command), "ON or OFF"
     else:
-        order, expected = command_order(topic.removeprefix(topics.own + "/"), command)
+        order, expected = command_order(topic.removeprefix(topics.root + "/"), command)
     if order is None:
         raise InvalidMessage(f"{payload[:SHOWN_OF_A_PAYLOAD]!r} is not {expected}")
     return order.encode() + b"\n"
 
 
-def without_end(line: bytes) -> bytes:
+def without_cr(line: bytes) -> bytes:
     """The line without the CR of CR LF, which the gateway would remove too. On the desk, `status` CR LF is the end of a
     text of enogatectl. If the line ends with several CRs, none is removed: with one fewer it would be another
     order."""
@@ -44,9 +44,9 @@ def without_end(line: bytes) -> bytes:
 def command_order(subtopic: str, command: str) -> tuple[str | None, str]:
     """The order for a command at ID/OV/CHANNEL/set or ID/POS/0/set, if it is one, and what the subtopic expects."""
     percent = command if re.fullmatch("0|[1-9][0-9]?|100", command) else None
-    if found := re.fullmatch(f"({DEVICE})/OV/([0-9]{{1,2}})/set", subtopic):
+    if found := re.fullmatch(f"({DEVICE_PATTERN})/OV/([0-9]{{1,2}})/set", subtopic):
         return switch_order(f"{found[1]} {int(found[2])}", command, percent), "ON, OFF or 0 to 100"
-    if found := re.fullmatch(f"({DEVICE})/POS/0/set", subtopic):
+    if found := re.fullmatch(f"({DEVICE_PATTERN})/POS/0/set", subtopic):
         return blind_order(found[1], command, percent), "OPEN, CLOSE, STOP or 0 to 100"
     raise InvalidMessage("the topic is not ID/OV/CHANNEL/set or ID/POS/0/set (with ID in upper case)")
 

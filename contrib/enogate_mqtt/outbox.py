@@ -62,7 +62,7 @@ class Outbox:
         while self.entries and self.entries[0].number is not None and self.entries[0].number not in unacknowledged:
             self.entries.popleft()
 
-    def position(self, end: Position) -> Position:
+    def acknowledged_position(self, end: Position) -> Position:
         """The position up to which all lines are acknowledged; `end` is that up to which they were read."""
         return self.entries[0].before if self.entries else end
 
@@ -84,6 +84,6 @@ class Backlog:
         else:
             self.events.append(message)
 
-    def next(self) -> Message:
+    def pop_next(self) -> Message:
         """Removes the message that is published next."""
         return self.events.popleft() if self.events else self.states.pop(next(iter(self.states)))

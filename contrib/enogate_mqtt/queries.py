@@ -6,8 +6,8 @@ from .desk import Desk
 from .devices import Devices
 
 # The shortest time between two queries, in seconds: so no other order waits for them, and the answers do not collide.
-EVERY = 1.0
-QUERY = b"query "
+QUERY_EVERY = 1.0
+QUERY_START = b"query "
 
 
 class Queries:
@@ -17,20 +17,20 @@ class Queries:
 
     def __init__(self, devices: Devices, desk: Desk):
         self.devices, self.due = devices, 0.0
-        self.given = desk.orders(QUERY)
+        self.given = desk.appended_orders(QUERY_START)
         # the devices that need not be looked at again
         self.done: set[str] = set()
 
-    def start_again(self) -> None:
+    def forget_given(self) -> None:
         """The gateway was started."""
         self.given.clear()
         self.done.clear()
 
-    def next(self, now: float) -> bytes | None:
+    def take_due_query(self, now: float) -> bytes | None:
         """The query that is due, if there is one."""
         if now < self.due:
             return None
-        self.due = now + EVERY
+        self.due = now + QUERY_EVERY
         for name in sorted(self.devices.known.keys() - self.done):
             query = self.query_of(name)
             if query and query not in self.given:
@@ -38,11 +38,11 @@ class Queries:
             self.done.add(name)
         return None
 
-    def note(self, query: bytes) -> None:
+    def note_given(self, query: bytes) -> None:
         """This query was given."""
         self.given.add(query)
 
     def query_of(self, name: str) -> bytes | None:
         """The order that asks a device for the states of all its channels; None if it is no actuator."""
         channel = self.devices.table.channel_of_all(self.devices.known[name].eep)
-        return None if channel is None else b"%s%s %d" % (QUERY, name.encode(), channel)
+        return None if channel is None else b"%s%s %d" % (QUERY_START, name.encode(), channel)

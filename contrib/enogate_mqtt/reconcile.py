@@ -9,18 +9,18 @@ from typing import Protocol
 # So many devices are compared at the same time.
 MAX_PARTS = 8
 # A part is over after so many seconds without a message or an answer of the broker.
-QUIET = 5.0
+QUIET_SECONDS = 5.0
 # So many topics that nobody knows are noted per part; a flood of them is not stored.
 MAX_UNKNOWN = 1000
 
 
-class Asks(Protocol):
+class RequestingConnection(Protocol):
     """What is needed of a connection."""
     unanswered: set[int]
 
-    def request(self, filters: list[str]) -> int: ...
+    def request_retained(self, filters: list[str]) -> int: ...
 
-    def cancel(self, filters: list[str]) -> int: ...
+    def cancel_request(self, filters: list[str]) -> int: ...
 
 
 class Part:
@@ -40,17 +40,17 @@ class Part:
         self.published: set[str] = set()
         self.number, self.is_cancelled = -1, False
 
-    def matches(self, topic: str) -> bool:
-        return topic in self.exact or self.has_shape(topic)
+    def has_topic(self, topic: str) -> bool:
+        return topic in self.exact or self.has_wildcard_topic(topic)
 
-    def has_shape(self, topic: str) -> bool:
+    def has_wildcard_topic(self, topic: str) -> bool:
         """Whether a filter with a wildcard matches a topic."""
         for start, levels in self.shapes:
-            if topic.startswith(start) and fits(levels, topic):
+            if topic.startswith(start) and is_match(levels, topic):
                 return True
         return False
 
-    def note(self, topic: str, text: str) -> None:
+    def note_retained(self, topic: str, text: str) -> None:
         """A retained message has arrived."""
         if topic in self.published:
             return
@@ -60,7 +60,7 @@ class Part:
             self.retained[topic] = text
 
 
-def fits(levels: list[str], topic: str) -> bool:
+def is_match(levels: list[str], topic: str) -> bool:
     """Whether a topic matches the filter with these levels."""
     words = topic.split("/")
     return len(words) == len(levels) and all(level in ("+", word) for level, word in zip(levels, words))
@@ -82,28 +82,28 @@ class Reconciler:
     def is_done(self) -> bool:
         return not self.waiting and not self.active
 
-    def take(self, topic: str, text: str) -> None:
+    def handle_retained(self, topic: str, text: str) -> None:
         """Handles a retained message."""
         self.heard = self.clock()
         # most topics are in a filter as they are, and no other part has the same
         for part in ([part for part in self.active if topic in part.exact]
-                     or [part for part in self.active if part.has_shape(topic)]):
-            part.note(topic, text)
+                     or [part for part in self.active if part.has_wildcard_topic(topic)]):
+            part.note_retained(topic, text)
 
-    def publish(self, topic: str, text: str) -> None:
+    def note_published(self, topic: str, text: str) -> None:
         """The bridge has published a retained message."""
         for part in self.active:
-            if part.matches(topic):
+            if part.has_topic(topic):
                 part.published.add(topic)
                 part.retained[topic] = text
 
-    def turn(self, connection: Asks) -> None:
+    def turn(self, connection: RequestingConnection) -> None:
         """Starts parts, and compares those that are complete."""
         for part in list(self.active):
             self.advance(part, connection)
         while self.waiting and self.has_room(self.waiting[0]):
             part = self.waiting.popleft()
-            part.number = connection.request(part.filters)
+            part.number = connection.request_retained(part.filters)
             self.active.append(part)
             self.heard = self.clock()
 
@@ -113,15 +113,15 @@ class Reconciler:
             return not self.active
         return len(self.active) < MAX_PARTS
 
-    def advance(self, part: Part, connection: Asks) -> None:
+    def advance(self, part: Part, connection: RequestingConnection) -> None:
         """What is retained comes before the answer to the request, or before the answer to its cancellation."""
         is_answered = part.number not in connection.unanswered
         if is_answered:
             self.heard = self.clock()
-        if not is_answered and self.clock() < self.heard + QUIET:
+        if not is_answered and self.clock() < self.heard + QUIET_SECONDS:
             return
         if not part.is_cancelled:
-            part.number, part.is_cancelled = connection.cancel(part.filters), True
+            part.number, part.is_cancelled = connection.cancel_request(part.filters), True
             self.heard = self.clock()
             return
         self.active.remove(part)

@@ -10,7 +10,7 @@ from dataclasses import dataclass
 from enogate_lines.contents import Content, EndOfList, Response, Status, Telegram
 from enogate_tools.desk import opens_window
 
-from .desk import Desk, News
+from .desk import Desk, DeskChange
 from .queries import Queries
 
 # The pauses between two unanswered requests for the list, in seconds: the first, and the longest.
@@ -24,9 +24,9 @@ PROBE_AFTER, SILENT_FOR = 7.0, 7.0
 # So long may a gateway be silent that starts. The unit starts it two seconds after its end.
 START_WITHIN = 10.0
 # So many lost orders are named in a message, and so much of each.
-MAX_NAMED, SHOWN_OF_AN_ORDER = 5, 60
+MAX_NAMED_ORDERS, SHOWN_OF_ORDER = 5, 60
 # The order that closes the learn window.
-CLOSING = b"learn off"
+CLOSE_WINDOW = b"learn off"
 
 
 class ListRequest:
@@ -35,14 +35,14 @@ class ListRequest:
     def __init__(self) -> None:
         self.due, self.pause, self.asked = 0.0, FIRST_PAUSE, -math.inf
 
-    def need(self, now: float, is_news: bool = True) -> None:
+    def note_needed(self, now: float, is_news: bool = True) -> None:
         """The answer may have changed. Without news, a list that is asked for already keeps its pauses: it may never be
         complete."""
         if is_news or self.is_answered:
             self.pause = FIRST_PAUSE
             self.due = min(self.due, max(now, self.asked + FIRST_PAUSE))
 
-    def is_due(self, now: float) -> bool:
+    def begin_if_due(self, now: float) -> bool:
         """Whether to ask now; if so, the next request is due after a pause, which grows."""
         if now < self.due:
             return False
@@ -50,7 +50,7 @@ class ListRequest:
         self.pause = min(2 * self.pause, MAX_PAUSE)
         return True
 
-    def answer(self) -> None:
+    def note_answer(self) -> None:
         """A complete list has arrived."""
         self.due = math.inf
 
@@ -70,19 +70,19 @@ class Probe:
     asked: float = math.inf
     is_online: bool | None = None
 
-    def is_due(self, now: float) -> bool:
+    def begin_if_due(self, now: float) -> bool:
         """Whether to ask now."""
         if now < self.due:
             return False
         self.due = now + self.every
-        self.ask(now)
+        self.note_asked(now)
         return True
 
-    def ask(self, now: float) -> None:
+    def note_asked(self, now: float) -> None:
         """It is asked now. An unanswered request stays the one that counts."""
         self.asked = min(self.asked, now)
 
-    def answer(self) -> None:
+    def note_answer(self) -> None:
         self.asked, self.is_online = math.inf, True
 
     @property
@@ -90,7 +90,7 @@ class Probe:
         """When the answer has been missing for too long; never if this was reported."""
         return math.inf if self.is_online is False else self.asked + self.within
 
-    def is_late(self, now: float, earliest: float = 0.0) -> bool:
+    def note_if_late(self, now: float, earliest: float = 0.0) -> bool:
         """Whether the answer has been missing for too long, and this was not reported yet. It is not missing before the
         earliest time."""
         if now < max(self.late_at, earliest):
@@ -124,29 +124,29 @@ class Requests:
         self.window: WindowEnd | None = None
         if learn_until is not None:
             # if the time of day was set back, a window is not open for longer than a new one
-            self.open_window(min(max(learn_until - wall(), 0.0), learn_for))
-        self.change: News | None = None
+            self.schedule_window_end(min(max(learn_until - wall(), 0.0), learn_for))
+        self.change: DeskChange | None = None
 
     def turn(self, needs_list: bool) -> None:
         """Gives the orders that are due."""
         now = self.clock()
-        self.look_at_desk(now)
+        self.handle_desk_change(now)
         if needs_list:
-            self.list.need(now, is_news=False)
-        if self.list.is_due(now):
-            self.give(b"list\n")
-        if self.gateway.is_due(now):
-            self.give(b"status\n")
+            self.list.note_needed(now, is_news=False)
+        if self.list.begin_if_due(now):
+            self.give_order(b"list\n")
+        if self.gateway.begin_if_due(now):
+            self.give_order(b"status\n")
         # the order `base` has the response of the module as its answer
-        if self.gateway.is_online and self.module.is_due(now):
-            self.give(b"base\n")
+        if self.gateway.is_online and self.module.begin_if_due(now):
+            self.give_order(b"base\n")
         if self.window and now >= self.window.until:
             self.close_window()
         self.ask_actuator(now)
         earliest = self.started + START_WITHIN
-        if self.gateway.is_late(now) or self.gateway.is_online and self.output.is_late(now, earliest):
+        if self.gateway.note_if_late(now) or self.gateway.is_online and self.output.note_if_late(now, earliest):
             self.report_silence()
-        self.module.is_late(now, earliest)
+        self.module.note_if_late(now, earliest)
 
     def next_due(self) -> float:
         """When `turn` has something to do again, as far as this is known now."""
@@ -156,90 +156,90 @@ class Requests:
             due += [self.module.due, *(max(check.late_at, earliest) for check in (self.output, self.module))]
         if self.window:
             due.append(self.window.until)
-        if self.queries and self.can_ask():
+        if self.queries and self.may_ask_actuators():
             due.append(self.queries.due)
         return min(due)
 
-    def can_ask(self) -> bool:
+    def may_ask_actuators(self) -> bool:
         """Whether actuators are known and can be reached."""
         return bool(self.list.is_answered and self.gateway.is_online and self.module.is_online)
 
     def ask_actuator(self, now: float) -> None:
         """Asks an actuator for its states, if one is to be asked and can be reached."""
-        if self.queries and self.can_ask():
-            query = self.queries.next(now)
-            if query and self.give(query + b"\n"):
-                self.queries.note(query)
+        if self.queries and self.may_ask_actuators():
+            query = self.queries.take_due_query(now)
+            if query and self.give_order(query + b"\n"):
+                self.queries.note_given(query)
 
-    def look_at_desk(self, now: float) -> None:
+    def handle_desk_change(self, now: float) -> None:
         """Asks again if the gateway was started, or a label was given."""
-        news = self.desk.news()
-        lost = [repr(order.decode("ascii", "replace")[:SHOWN_OF_AN_ORDER]) for order in self.desk.take_lost()]
+        news = self.desk.take_change()
+        lost = [repr(order.decode("ascii", "replace")[:SHOWN_OF_ORDER]) for order in self.desk.take_lost_orders()]
         if lost:
-            more = f" and {len(lost) - MAX_NAMED} more" if len(lost) > MAX_NAMED else ""
+            more = f" and {len(lost) - MAX_NAMED_ORDERS} more" if len(lost) > MAX_NAMED_ORDERS else ""
             logging.warning("not answered before the gateway was started again, so probably lost: %s%s",
-                            ", ".join(lost[:MAX_NAMED]), more)
-        if news in (News.CREATED, News.REPLACED, News.TRUNCATED):
+                            ", ".join(lost[:MAX_NAMED_ORDERS]), more)
+        if news in (DeskChange.CREATED, DeskChange.REPLACED, DeskChange.TRUNCATED):
             self.gateway.due = self.module.due = now
             if self.change is None:
                 # if it is started again and again, the first time counts
                 self.started = now
             self.change = news
             if self.queries:
-                self.queries.start_again()
-        if news is not News.NONE:
-            self.list.need(now)
+                self.queries.forget_given()
+        if news is not DeskChange.NONE:
+            self.list.note_needed(now)
 
     def report_silence(self) -> None:
         """Says once that the gateway does not answer, with a change at the desk that may be the reason. Whether the
         module works is then unknown."""
         self.gateway.is_online, self.module = False, Probe(PROBE_AFTER, SILENT_FOR)
         logging.warning("the gateway does not answer: orders are lost until it runs")
-        if self.change is News.TRUNCATED:
+        if self.change is DeskChange.TRUNCATED:
             logging.warning("%s was truncated: if > was used in place of >>, restart the gateway", self.desk.path)
-        if self.change is News.REPLACED:
+        if self.change is DeskChange.REPLACED:
             logging.warning("%s was replaced by another file, which the gateway does not read: restart the gateway",
                             self.desk.path)
 
-    def take(self, content: Content) -> None:
+    def handle_line(self, content: Content) -> None:
         """Handles a line of the gateway."""
-        self.output.answer()
-        self.desk.take(content)
+        self.output.note_answer()
+        self.desk.handle_line(content)
         match content:
             case Status():
                 if self.gateway.is_online is False:
                     logging.info("the gateway answers again")
-                self.gateway.answer()
+                self.gateway.note_answer()
                 self.status, self.change = content, None
             case Response() | Telegram():
-                self.module.answer()
+                self.module.note_answer()
                 self.module.due = self.clock() + PROBE_AFTER
             case EndOfList():
                 self.gateway.due = min(self.gateway.due, self.clock())
 
-    def command(self, orders: bytes) -> None:
+    def note_window_orders(self, orders: bytes) -> None:
         """Remembers commands for the learn window that were passed on, and asks for the status after them."""
         for line in orders.split(b"\n"):
             if opens_window(line):
-                self.open_window(self.learn_for)
-            elif line == CLOSING:
+                self.schedule_window_end(self.learn_for)
+            elif line == CLOSE_WINDOW:
                 self.window = None
             else:
                 continue
             self.gateway.due = self.clock()
 
-    def open_window(self, seconds: float) -> None:
+    def schedule_window_end(self, seconds: float) -> None:
         """Closes the learn window after so many seconds."""
         self.window = WindowEnd(self.clock() + seconds, self.wall() + seconds)
 
     def close_window(self) -> None:
         """Closes the learn window, if it was opened through the bridge."""
-        if self.window and self.give(CLOSING + b"\n"):
+        if self.window and self.give_order(CLOSE_WINDOW + b"\n"):
             self.window, self.gateway.due = None, self.clock()
 
-    def give(self, order: bytes) -> bool:
+    def give_order(self, order: bytes) -> bool:
         """Gives an order; without a desk, or if it takes none now, nothing is lost, since all of these are repeated."""
-        self.output.ask(self.clock())
+        self.output.note_asked(self.clock())
         try:
             self.desk.append(order)
         except OSError:

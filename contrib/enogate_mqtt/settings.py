@@ -10,9 +10,9 @@ from typing import NoReturn
 
 from enogate_lines.entities import AUTO
 from enogate_tools import VERSION
-from enogate_tools.gateways import NoName, is_name
+from enogate_tools.gateways import InvalidName, is_name
 
-STATUS = 2
+EXIT_STATUS = 2
 # How long a learn window stays open that was opened through the bridge, in seconds.
 LEARN_FOR = 120
 # How long a newly learned device waits for a label before it is shown without one, in seconds.
@@ -24,7 +24,7 @@ class WrongSetting(Exception):
 
 
 @dataclass(frozen=True)
-class Words:
+class Arguments:
     """The command line."""
     name: str
     lines: str
@@ -64,7 +64,7 @@ class Parser(argparse.ArgumentParser):
         raise WrongSetting(message)
 
 
-def read_words(arguments: Sequence[str]) -> Words:
+def read_arguments(arguments: Sequence[str]) -> Arguments:
     """The command line, or WrongSetting."""
     parser = Parser("enogate-mqtt", description="Connect an enogate gateway to an MQTT broker. The connection is "
                     "configured with environment variables; see enogate-mqtt(1).")
@@ -79,10 +79,10 @@ def read_words(arguments: Sequence[str]) -> Words:
     parser.add_argument("--version", action="version", version=f"enogate-mqtt {VERSION}")
     words = parser.parse_args(arguments)
     if not is_name(words.name):
-        raise WrongSetting(str(NoName(words.name)))
+        raise WrongSetting(str(InvalidName(words.name)))
     if not words.prints and not (words.lines and words.desk and words.state):
         raise WrongSetting("--lines, --desk and --state are required, except with --print")
-    return Words(**vars(words))
+    return Arguments(**vars(words))
 
 
 def read_discovery(environment: Mapping[str, str]) -> str:
@@ -97,7 +97,7 @@ def read_options(environment: Mapping[str, str]) -> Options:
     """The settings of what is published, or WrongSetting."""
     learn_for = read_seconds("MQTT_LEARN_SECONDS", environment.get("MQTT_LEARN_SECONDS") or str(LEARN_FOR))
     label_wait = read_seconds("MQTT_LABEL_SECONDS", environment.get("MQTT_LABEL_SECONDS") or str(LABEL_WAIT))
-    queries = read_yes("MQTT_QUERY", environment.get("MQTT_QUERY") or "yes")
+    queries = read_yes_or_no("MQTT_QUERY", environment.get("MQTT_QUERY") or "yes")
     return Options(read_discovery(environment), learn_for, read_expiry(environment), label_wait, queries)
 
 
@@ -117,7 +117,7 @@ def read_seconds(name: str, text: str) -> int:
     return int(text)
 
 
-def read_yes(name: str, text: str) -> bool:
+def read_yes_or_no(name: str, text: str) -> bool:
     if text not in ("yes", "no"):
         raise WrongSetting(f"invalid {name}: {text} (expected yes or no)")
     return text == "yes"
@@ -145,7 +145,7 @@ def read_port(port: str) -> int:
 
 def read_tls(environment: Mapping[str, str]) -> ssl.SSLContext | None:
     """How the broker and the bridge identify themselves on an encrypted connection; None without encryption."""
-    is_wanted = read_yes("MQTT_TLS", environment.get("MQTT_TLS") or "no")
+    is_wanted = read_yes_or_no("MQTT_TLS", environment.get("MQTT_TLS") or "no")
     files = {name: environment.get(name) or None for name in ("MQTT_CA_FILE", "MQTT_CERT_FILE", "MQTT_KEY_FILE")}
     if not is_wanted:
         for name, path in files.items():
@@ -158,13 +158,13 @@ def read_tls(environment: Mapping[str, str]) -> ssl.SSLContext | None:
     try:
         context = ssl.create_default_context(cafile=ca)
     except OSError as error:
-        raise WrongSetting(f"cannot load MQTT_CA_FILE: {ca}: {reason(error)}") from error
+        raise WrongSetting(f"cannot load MQTT_CA_FILE: {ca}: {error_text(error)}") from error
     if cert:
         try:
             context.load_cert_chain(cert, key, password="")
         except OSError as error:
             both = f"{cert} and {key}" if key else cert
-            raise WrongSetting(f"cannot load MQTT_CERT_FILE and MQTT_KEY_FILE: {both}: {reason(error)}") from error
+            raise WrongSetting(f"cannot load MQTT_CERT_FILE and MQTT_KEY_FILE: {both}: {error_text(error)}") from error
     return context
 
 
@@ -174,12 +174,12 @@ def first_line(name: str, path: str) -> str:
         with open(path, encoding="utf-8") as file:
             line = file.readline().rstrip("\r\n")
     except (OSError, ValueError) as error:
-        raise WrongSetting(f"cannot read {name}: {path}: {reason(error)}") from error
+        raise WrongSetting(f"cannot read {name}: {path}: {error_text(error)}") from error
     if not line:
         raise WrongSetting(f"first line of {name} is empty: {path}")
     return line
 
 
-def reason(error: Exception) -> str:
+def error_text(error: Exception) -> str:
     """The text of the error, without the path."""
     return getattr(error, "strerror", None) or str(error)

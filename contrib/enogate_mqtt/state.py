@@ -15,12 +15,12 @@ VERSION = 2
 # No file is larger, in bytes.
 MAX_SIZE = 1 << 62
 # How long `last_seen` waits for a bridge that is writing, in seconds.
-WAIT = 1.0
+LOCK_WAIT = 1.0
 # The subtopic of the reading with the time of the last telegram.
 LAST_SEEN = "last_seen"
 
 
-class Foreign(Exception):
+class ForeignFile(Exception):
     """The file is not a state file of this version."""
 
 
@@ -34,13 +34,13 @@ def check_version(connection: sqlite3.Connection) -> None:
     version = connection.execute("PRAGMA user_version").fetchone()[0]
     tables = connection.execute("SELECT count(*) FROM sqlite_master").fetchone()[0]
     if tables and version != VERSION:
-        raise Foreign(f"version {version} of the state, expected {VERSION}")
+        raise ForeignFile(f"version {version} of the state, expected {VERSION}")
 
 
 def position_of(inode: object, offset: object, last: object) -> Position:
     """How far the lines were read."""
     if not (isinstance(inode, int) and isinstance(offset, int) and isinstance(last, bytes) and 0 <= offset <= MAX_SIZE):
-        raise Foreign("place of an unknown form")
+        raise ForeignFile("place of an unknown form")
     return Position(inode, offset, last)
 
 
@@ -48,13 +48,13 @@ def last_seen(path: str) -> tuple[Position, dict[str, datetime]] | None:
     """How far the bridge with this state file has read the lines, and when it received the last telegram of each
     device. None if the bridge has read none, or if the file cannot be read."""
     try:
-        with contextlib.closing(sqlite3.connect(uri_of(path, "mode=ro"), uri=True, timeout=WAIT)) as connection:
+        with contextlib.closing(sqlite3.connect(uri_of(path, "mode=ro"), uri=True, timeout=LOCK_WAIT)) as connection:
             check_version(connection)
             row = connection.execute("SELECT inode, offset, last FROM place").fetchone()
             devices = connection.execute("SELECT id, told FROM device").fetchall()
         times = {device: time for device, text in devices if (time := time_in(text))}
         return (position_of(*row), times) if row else None
-    except (sqlite3.Error, Foreign):
+    except (sqlite3.Error, ForeignFile):
         return None
 
 

@@ -11,15 +11,15 @@ import re
 import sqlite3
 from collections.abc import Iterable
 
-from enogate_lines.contents import NAME
+from enogate_lines.contents import NAME_PATTERN
 from enogate_lines.follow import Position
 
 from .devices import Device
-from .state import VERSION, Foreign, check_version, position_of, uri_of
+from .state import VERSION, ForeignFile, check_version, position_of, uri_of
 
 # So long the start waits for a file that another program has locked, in seconds.
-WAIT = 5.0
-TABLES = f"""
+LOCK_WAIT = 5.0
+CREATE_TABLES = f"""
 PRAGMA journal_mode = WAL;
 PRAGMA synchronous = NORMAL;
 BEGIN;
@@ -32,7 +32,7 @@ PRAGMA user_version = {VERSION};
 COMMIT;
 """
 # The subtopic of a reading.
-SUBTOPIC = re.compile(f"{NAME}(?:/[0-9]{{1,20}})?")
+SUBTOPIC_PATTERN = re.compile(f"{NAME_PATTERN}(?:/[0-9]{{1,20}})?")
 
 
 class Store:
@@ -45,12 +45,12 @@ class Store:
         # whether the last save failed, and whether the file lacks changes of this run
         self.is_failing = self.is_behind = False
         self.connection: sqlite3.Connection | None = None
-        self.forget()
-        if not self.open(WAIT):
+        self.start_empty()
+        if not self.open(LOCK_WAIT):
             self.is_behind = self.is_failing = True
             self.read_without_writing()
 
-    def forget(self) -> None:
+    def start_empty(self) -> None:
         """The state without a file."""
         self.devices: list[Device] = []
         self.removed: set[str] = set()
@@ -76,7 +76,7 @@ class Store:
     def open_or_replace(self, wait: float) -> None:
         try:
             self.prepare(wait)
-        except (sqlite3.DatabaseError, Foreign, ValueError, TypeError) as error:
+        except (sqlite3.DatabaseError, ForeignFile, ValueError, TypeError) as error:
             # a file that cannot be opened or is locked is not damaged
             if isinstance(error, sqlite3.OperationalError) and "no such" not in str(error):
                 raise
@@ -90,7 +90,7 @@ class Store:
     def prepare(self, wait: float) -> None:
         self.connection = sqlite3.connect(self.path, timeout=wait)
         check_version(self.connection)
-        self.connection.executescript(TABLES)
+        self.connection.executescript(CREATE_TABLES)
         self.read(self.connection)
 
     def read_without_writing(self) -> None:
@@ -99,12 +99,12 @@ class Store:
         for option in ("mode=ro", "immutable=1"):
             try:
                 uri = uri_of(self.path, option)
-                with contextlib.closing(sqlite3.connect(uri, timeout=WAIT, uri=True)) as connection:
+                with contextlib.closing(sqlite3.connect(uri, timeout=LOCK_WAIT, uri=True)) as connection:
                     check_version(connection)
                     self.read(connection)
                 return
-            except (sqlite3.Error, Foreign, ValueError, TypeError):
-                self.forget()
+            except (sqlite3.Error, ForeignFile, ValueError, TypeError):
+                self.start_empty()
 
     def close(self) -> None:
         if self.connection:
@@ -112,8 +112,8 @@ class Store:
             self.connection = None
 
     def read(self, connection: sqlite3.Connection) -> None:
-        self.forget()
-        self.devices = [Device(name, eep, label, maker, reported_of(reported)) for name, eep, label, maker, reported
+        self.start_empty()
+        self.devices = [Device(name, eep, label, maker, readings_in(reported)) for name, eep, label, maker, reported
                         in connection.execute("SELECT id, eep, label, maker, told FROM device")]
         self.removed = {topic for topic, in connection.execute("SELECT topic FROM removed")}
         row = connection.execute("SELECT inode, offset, last, discovery, may_adopt FROM place").fetchone()
@@ -123,7 +123,7 @@ class Store:
         self.is_same_boot = self.boot == (row[0] if row else "")
         row = connection.execute("SELECT until FROM learn").fetchone()
         if row and not isinstance(row[0], float):
-            raise Foreign("learn window of an unknown form")
+            raise ForeignFile("learn window of an unknown form")
         self.learn_until = row[0] if row else None
 
     def save(self, position: Position, changed: Iterable[str], known: dict[str, Device], removed: set[str],
@@ -170,14 +170,14 @@ class Store:
             connection.execute("INSERT INTO device VALUES (?, ?, ?, ?, ?)", values)
 
 
-def reported_of(text: str) -> dict[str, str]:
+def readings_in(text: str) -> dict[str, str]:
     """The readings of a device, by their subtopics."""
     reported = json.loads(text)
     if not isinstance(reported, dict) or not all(isinstance(value, str) for value in reported.values()):
-        raise Foreign("readings of an unknown form")
+        raise ForeignFile("readings of an unknown form")
     for subtopic, value in reported.items():
         # an earlier version accepted lines with such readings, which cannot be published
-        if not SUBTOPIC.fullmatch(subtopic) or any("\ud800" <= character <= "\udfff" for character in value):
-            raise Foreign("readings that cannot be published")
+        if not SUBTOPIC_PATTERN.fullmatch(subtopic) or any("\ud800" <= character <= "\udfff" for character in value):
+            raise ForeignFile("readings that cannot be published")
     return reported
 

@@ -20,79 +20,79 @@ class Topics:
     discovery: str
 
     @property
-    def own(self) -> str:
+    def root(self) -> str:
         return f"enogate/{self.name}"
 
     @property
     def lines(self) -> str:
-        return f"{self.own}/lines"
+        return f"{self.root}/lines"
 
     @property
     def orders(self) -> str:
-        return f"{self.own}/orders"
+        return f"{self.root}/orders"
 
     @property
     def status(self) -> str:
         """`online` or `offline`, retained: whether the bridge is connected."""
-        return f"{self.own}/status"
+        return f"{self.root}/status"
 
     @property
     def gateway(self) -> str:
         """`online` or `offline`, retained: whether the gateway answers the order `status`."""
-        return f"{self.own}/gateway"
+        return f"{self.root}/gateway"
 
     @property
     def module(self) -> str:
         """`online` or `offline`, retained: whether the radio module answers the order `base`."""
-        return f"{self.own}/module"
+        return f"{self.root}/module"
 
     @property
     def counters(self) -> str:
         """The counters of the last status line, retained, as a JSON object."""
-        return f"{self.own}/counters"
+        return f"{self.root}/counters"
 
     @property
     def learn(self) -> str:
         """`ON` or `OFF`, retained: whether the learn window is open."""
-        return f"{self.own}/learn"
+        return f"{self.root}/learn"
 
     @property
-    def reports(self) -> list[str]:
+    def report_topics(self) -> list[str]:
         """The topics for what is known about the gateway itself."""
         return [self.gateway, self.module, self.counters, self.learn]
 
     @property
-    def watched(self) -> list[str]:
+    def watched_topics(self) -> list[str]:
         """Topics of the gateway itself. Whoever removes all retained messages removes these too: the bridge receives
         this if it subscribes to them, and little else, since it rarely publishes there."""
         configs = [("binary_sensor", "status"), ("sensor", "readings"), ("switch", "learn")] if self.discovery else []
-        return [self.status, *self.reports, *(self.config(component, name) for component, name in configs)]
+        return [self.status, *self.report_topics, *(self.config(component, name) for component, name in configs)]
 
     @property
     def learn_command(self) -> str:
         """`ON` or `OFF`: opens or closes the learn window."""
-        return f"{self.own}/learn/set"
+        return f"{self.root}/learn/set"
 
     @property
-    def commands(self) -> list[str]:
+    def command_filters(self) -> list[str]:
         """Filters for everything that the bridge receives as an order."""
         return [self.orders, self.learn_command, self.command("+", "+/+")]
 
     def reading(self, device: str, subtopic: str) -> str:
         """The topic of a reading: this subtopic of the topic of the device."""
-        return f"{self.own}/{device}/{subtopic}"
+        return f"{self.root}/{device}/{subtopic}"
 
     def last_seen(self, device: str) -> str:
         """The time of the last telegram of a device, retained, in ISO 8601 with the time zone."""
         return self.reading(device, "last_seen")
 
-    def of_device(self, device: str) -> list[str]:
+    def device_filters(self, device: str) -> list[str]:
         """Filters for everything that is retained below the topic of a device."""
-        return [f"{self.own}/{device}/+", f"{self.own}/{device}/+/+"]
+        return [f"{self.root}/{device}/+", f"{self.root}/{device}/+/+"]
 
     def command(self, device: str, subtopic: str) -> str:
         """The topic for commands to this subtopic of a device."""
-        return f"{self.own}/{device}/{subtopic}/set"
+        return f"{self.root}/{device}/{subtopic}/set"
 
     def config(self, component: str, entity: str) -> str:
         """The topic of the discovery message of an entity."""

@@ -10,7 +10,7 @@ from typing import Protocol
 from enogate_lines.inotify import WatchedFiles
 
 
-class Waited(Protocol):
+class WaitableConnection(Protocol):
     """What is needed of a connection."""
 
     def sockets(self) -> tuple[list, list]: ...
@@ -18,14 +18,14 @@ class Waited(Protocol):
     def has_work(self) -> bool: ...
 
 
-class Wake:
+class Waiter:
     """The wait of the bridge."""
 
     def __init__(self, paths: Iterable[str]):
         self.files = WatchedFiles(list(paths), logging.warning)
         self.stops = os.eventfd(0, os.EFD_NONBLOCK | os.EFD_CLOEXEC)
 
-    def wait(self, connections: Iterable[Waited], seconds: float, watches: bool) -> None:
+    def wait(self, connections: Iterable[WaitableConnection], seconds: float, watches: bool) -> None:
         """Waits until something arrives on these connections, or can be sent, or a watched file changes, or the bridge
         is stopped, but at most so many seconds."""
         reading, writing = [self.stops], []
@@ -34,10 +34,10 @@ class Wake:
                 found += sockets
             seconds = 0.0 if connection.has_work() else seconds
         if watches:
-            seconds = min(seconds, self.files.longest())
+            seconds = min(seconds, self.files.longest_wait())
             reading += [self.files.file] if self.files.file >= 0 else []
         if self.files.file in select.select(reading, writing, [], seconds)[0]:
-            self.files.drop()
+            self.files.drop_events()
 
     def stop(self) -> None:
         """Ends this wait and all later ones. A handler of a signal may call it."""

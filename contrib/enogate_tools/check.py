@@ -11,25 +11,27 @@ import tempfile
 import time
 
 from . import VERSION, files, gateways, port as ports
-from .system import OpenFile, System, is_same
+from .system import OpenFile, System, is_same_file
 
 OK, FAULT, UNCHECKED = "ok", "fault", "not checked"
 MEGABYTE = 1024 * 1024
 # The write-ahead log of the database grows to 4.3 MB.
-LEAST_SPACE = {"/var/lib": 5 * MEGABYTE, "/var/log": MEGABYTE}
+MIN_SPACE = {"/var/lib": 5 * MEGABYTE, "/var/log": MEGABYTE}
 # How much is copied of the database and of its log, and how many instructions SQLite may execute for a question: the
 # user of the service could make files that fill the disk, or never answer.
-MOST_COPIED, MOST_STEPS = 64 * MEGABYTE, 100_000_000
+MAX_COPY_SIZE, MAX_SQLITE_STEPS = 64 * MEGABYTE, 100_000_000
 # The copy is made here, in memory: the disk may be full.
-MEMORY = "/dev/shm"
+MEMORY_FOLDER = "/dev/shm"
 # How long a running gateway is asked for the base ID of its module, in seconds.
-ASKED_FOR = "5"
-TABLES = {1: "enogate_device", 2: "enogate_device_v2"}
+ASK_TIMEOUT = "5"
+# The fault of a unit that has not started its gateway, if no other one is found.
+NOT_STARTED = "the gateway is not started yet; see why: sudo journalctl -n 5 -t enogate-{}"
+DEVICE_TABLES = {1: "enogate_device", 2: "enogate_device_v2"}
 # The parts of a file with settings: what is before a key, a key, a value in quotes, and the rest of a value.
-SKIPPED = re.compile(r"(?:[ \t\n\r]|[#;][^\n\r]*)*")
-KEY = re.compile(r"([^=\n\r]*?)[ \t]*(=|[\n\r]|\Z)")
-QUOTED = re.compile(r"""[ \t]*(?:'([^']*)'|"((?:[^"\\]|\\.)*)")""", re.DOTALL)
-PLAIN = re.compile(r"[ \t]*((?:[^\n\r\\]|\\.?)*?)[ \t]*(?=[\n\r]|\Z)", re.DOTALL)
+SKIPPED_TEXT = re.compile(r"(?:[ \t\n\r]|[#;][^\n\r]*)*")
+KEY_TEXT = re.compile(r"([^=\n\r]*?)[ \t]*(=|[\n\r]|\Z)")
+QUOTED_VALUE = re.compile(r"""[ \t]*(?:'([^']*)'|"((?:[^"\\]|\\.)*)")""", re.DOTALL)
+PLAIN_VALUE = re.compile(r"[ \t]*((?:[^\n\r\\]|\\.?)*?)[ \t]*(?=[\n\r]|\Z)", re.DOTALL)
 
 
 def exists(path: str) -> bool:
@@ -41,7 +43,7 @@ def exists(path: str) -> bool:
         return False
 
 
-def is_odd(path: str) -> bool:
+def is_irregular(path: str) -> bool:
     """Whether this is a file, but not a regular file with one name."""
     try:
         status = os.lstat(path)
@@ -50,11 +52,11 @@ def is_odd(path: str) -> bool:
     return not stat.S_ISREG(status.st_mode) or status.st_nlink > 1
 
 
-def copy(path: str, new: str) -> bool:
+def copy_if_small(path: str, new: str) -> bool:
     """Copies a file of the service, as long as it is now. Returns whether it is small enough for that."""
     with os.fdopen(files.open_file(path), "rb") as old, open(new, "wb") as made:
         size = os.fstat(old.fileno()).st_size
-        if size > MOST_COPIED:
+        if size > MAX_COPY_SIZE:
             return False
         while size and (part := old.read(min(size, MEGABYTE))):
             made.write(part)
@@ -66,23 +68,23 @@ def settings_in(text: str) -> dict[str, str]:
     """The settings in a file, as systemd reads them (systemd.exec(5), EnvironmentFile=): a comment is a line of its
     own. If a quotation mark has no partner, its line is the value, and the rest of the file is not read."""
     found, place = {}, 0
-    while (place := SKIPPED.match(text, place).end()) < len(text):
-        key, value = KEY.match(text, place), ""
+    while (place := SKIPPED_TEXT.match(text, place).end()) < len(text):
+        key, value = KEY_TEXT.match(text, place), ""
         place = key.end()
         if key[2] != "=":
             continue
-        while quoted := QUOTED.match(text, place):
-            value += re.sub(r'\\(["\\`$\n])', unescaped, quoted[2]) if quoted[1] is None else quoted[1]
+        while quoted := QUOTED_VALUE.match(text, place):
+            value += re.sub(r'\\(["\\`$\n])', unescaped_character, quoted[2]) if quoted[1] is None else quoted[1]
             place = quoted.end()
-        plain = PLAIN.match(text, place)
+        plain = PLAIN_VALUE.match(text, place)
         place = plain.end()
         if plain[1][:1] in ("'", '"'):
             return {**found, key[1]: plain[1]}
-        found[key[1]] = value + re.sub(r"(?s)\\(.?)", unescaped, plain[1])
+        found[key[1]] = value + re.sub(r"(?s)\\(.?)", unescaped_character, plain[1])
     return found
 
 
-def unescaped(found: re.Match) -> str:
+def unescaped_character(found: re.Match) -> str:
     """A character that follows a backslash. The end of a line is left out: the value continues in the next one."""
     return found[1].strip("\n")
 
@@ -95,8 +97,8 @@ class Check:
         self.desk = system.path(f"/run/enogate/{name}/desk")
         self.lines = system.path(f"/var/log/enogate/{name}.lines")
         self.database = system.path(f"/var/lib/enogate/{name}.db")
-        self.gateway = system.gateway(self.desk)
-        self.start = system.start(os.path.dirname(self.desk))
+        self.gateway = system.gateway_at(self.desk)
+        self.start = system.main_process(os.path.dirname(self.desk))
         self.settings = {"BASE": "", "SERIAL": "/dev/enocean", "TURNS": "864000", "EXPLAIN": ""}
         # The files that have them.
         self.sources: dict[str, str] = {}
@@ -107,30 +109,31 @@ class Check:
     def findings(self):
         """The findings of all checks, whatever the files are."""
         # On a full disk the answer with the base ID is missing, too: the cause comes first.
-        checks = {"settings": self.of_settings, "port": self.of_port, "desk": self.of_desk,
-                  "disk space": self.of_space, "base ID": self.of_base, "earlier base ID": self.of_earlier_base,
-                  "lines": self.of_lines, "database": self.of_database, "units": self.of_units}
+        checks = {"settings": self.check_settings, "port": self.check_port, "desk": self.check_desk,
+                  "disk space": self.check_space, "base ID": self.check_base,
+                  "earlier base ID": self.check_earlier_base, "lines": self.check_lines,
+                  "database": self.check_database, "units": self.check_units}
         for what, check in checks.items():
             try:
                 yield from check()
             except OSError as error:
-                yield self.failed(what, error)
+                yield self.failure_finding(what, error)
 
-    def failed(self, what: str, error: OSError):
+    def failure_finding(self, what: str, error: OSError):
         """The finding that this check failed."""
         if not error.filename:
             return FAULT, f"the check of the {what} failed: {error.strerror or error}"
         if isinstance(error, PermissionError):
-            return self.unchecked(f"permission denied for {error.filename}")
+            return self.unchecked_finding(f"permission denied for {error.filename}")
         return FAULT, f"{error.filename} cannot be read: {error.strerror}"
 
-    def unchecked(self, what: str):
+    def unchecked_finding(self, what: str):
         """The finding that this could not be checked, and why."""
         if self.system.is_root:
             return UNCHECKED, f"{what}: not even root may see this here, for example because this is a container"
         return UNCHECKED, f"{what}: run enogate-check as root"
 
-    def of_settings(self):
+    def check_settings(self):
         """The settings of the gateway, which override those of all."""
         of_all, own = (self.system.path(f"/etc/default/enogate{end}") for end in ("", f"-{self.name}"))
         for path in (of_all, own) if exists(own) else (of_all,):
@@ -142,21 +145,21 @@ class Check:
                 yield FAULT, (f"{key}={self.settings[key]} has a comment after the value, which is part of the value "
                               f"for systemd: write the comment on a line of its own in {self.sources[key]}")
             return
-        yield from self.of_values()
+        yield from self.check_values()
 
-    def of_values(self):
+    def check_values(self):
         """The values of the settings."""
         where = f"correct it in /etc/default/enogate-{self.name}"
         base, turns = self.settings["BASE"], self.settings["TURNS"]
         if base and not ports.is_base(base):
-            yield FAULT, f"BASE={base} is not a base ID ({ports.SHAPE}): {where}, or remove it"
+            yield FAULT, f"BASE={base} is not a base ID ({ports.BASE_FORM}): {where}, or remove it"
         if not (turns.isdecimal() and 1 <= int(turns) <= 4294967295):
             yield FAULT, f"TURNS={turns} is not a number from 1 to 4294967295: {where}"
         if self.settings["EXPLAIN"] not in ("", "--explain"):
             yield FAULT, f"EXPLAIN={self.settings['EXPLAIN']} is neither empty nor --explain: {where}"
         yield OK, f"settings: BASE={base} SERIAL={self.settings['SERIAL']} TURNS={turns}"
 
-    def of_port(self):
+    def check_port(self):
         """The serial port."""
         path, where = self.settings["SERIAL"], f"SERIAL in /etc/default/enogate-{self.name}"
         if not path:
@@ -166,12 +169,12 @@ class Check:
         elif not stat.S_ISCHR(os.stat(path).st_mode):
             yield FAULT, f"{path} is not a serial port: correct {where}"
         else:
-            yield from self.of_node(path, where)
+            yield from self.check_node(path, where)
 
-    def of_node(self, path: str, where: str):
+    def check_node(self, path: str, where: str):
         """The node of the port: rights, other users, and the lock or the settings of the line. `where` is its
         setting."""
-        if not self.system.may(path, 6):
+        if not self.system.may_access(path, 6):
             yield FAULT, (f"the user enogate may not read and write {path}: give it to the group dialout, for example "
                           f"with a udev rule, or run: sudo chgrp dialout {path} && sudo chmod 660 {path}")
         users, sees_all = self.system.users_of(path)
@@ -181,19 +184,19 @@ class Check:
             yield FAULT, (f"{user} uses {path} too, and each program receives only part of the data: end it, or "
                           f"correct {where}")
         if not sees_all:
-            yield self.unchecked(f"programs of other users that use {path} without a lock")
+            yield self.unchecked_finding(f"programs of other users that use {path} without a lock")
         if self.gateway:
-            yield from self.of_line(path)
+            yield from self.check_line(path)
         elif self.start:
-            yield FAULT, f"the gateway is not started yet; see why: sudo journalctl -n 5 -t enogate-{self.name}"
+            yield FAULT, NOT_STARTED.format(self.name)
         elif not others:
-            yield from self.of_module(path)
+            yield from self.check_module(path)
 
-    def of_line(self, path: str):
+    def check_line(self, path: str):
         """The settings of the line that a running gateway uses."""
         port = os.open(path, os.O_RDONLY | os.O_NOCTTY | os.O_NONBLOCK)
         try:
-            wrong = ports.differences(port)
+            wrong = ports.wrong_settings(port)
         finally:
             os.close(port)
         if wrong:
@@ -201,13 +204,13 @@ class Check:
         else:
             yield OK, f"port: {path}, used by {self.gateway}"
 
-    def of_module(self, path: str):
+    def check_module(self, path: str):
         """The base ID of the module at a free port."""
         try:
             port = ports.open_port(path)
         except ports.PortError as error:
             if isinstance(error.__cause__, PermissionError):
-                yield self.unchecked(f"the radio module at {path}")
+                yield self.unchecked_finding(f"the radio module at {path}")
             else:
                 yield FAULT, str(error)
             return
@@ -229,17 +232,17 @@ class Check:
         else:
             yield OK, f"port: {path}, with a radio module whose base ID is {reported}"
 
-    def of_desk(self):
+    def check_desk(self):
         """The desk, compared with what the running gateway has open."""
         if not self.gateway:
-            if exists(os.path.dirname(self.desk)) and not self.system.may(os.path.dirname(self.desk), 7):
+            if exists(os.path.dirname(self.desk)) and not self.system.may_access(os.path.dirname(self.desk), 7):
                 yield FAULT, f"the user enogate may not write in {os.path.dirname(self.desk)}: delete this directory"
             yield OK, f"desk: no gateway reads {self.desk}, which each start empties"
             return
         files = self.system.open_files(self.gateway)
         if files is None:
             self.takes_orders = True
-            yield self.unchecked("whether the desk was truncated or replaced")
+            yield self.unchecked_finding("whether the desk was truncated or replaced")
             return
         held = self.held_desk(files)
         if not held:
@@ -266,8 +269,8 @@ class Check:
         desk = os.stat(self.desk) if exists(self.desk) else None
         if not desk or not stat.S_ISREG(desk.st_mode):
             return None
-        return next((file for file in files if file.number > 2 and file.is_read_only and is_same(file.status, desk)),
-                    None)
+        read = (file for file in files if file.number > 2 and file.is_read_only)
+        return next((file for file in read if is_same_file(file.status, desk)), None)
 
     def is_stuck(self, number: int, offset: int) -> bool:
         """Whether the gateway has read nothing from the desk for two seconds."""
@@ -275,20 +278,20 @@ class Check:
         return any(file.number == number and file.offset == offset
                    for file in self.system.open_files(self.gateway) or [])
 
-    def of_base(self):
+    def check_base(self):
         """The base ID that a running gateway uses, compared with the one that its radio module reports now. A report
         that is in the lines already may be that of an earlier stick."""
         if not self.takes_orders:
             return
         module = f"the radio module at {self.settings['SERIAL']}"
-        used = self.system.option(self.gateway, "--base").upper()
+        used = self.system.option_value(self.gateway, "--base").upper()
         if not (self.system.is_root or os.access(self.desk, os.W_OK) and os.access(self.lines, os.R_OK)):
-            yield self.unchecked(f"the base ID of {module}")
+            yield self.unchecked_finding(f"the base ID of {module}")
             return
-        reported = self.system.run(["enogatectl", "--timeout", ASKED_FOR, self.name, "base"])
+        reported = self.system.run(["enogatectl", "--timeout", ASK_TIMEOUT, self.name, "base"])
         if not ports.is_base(reported):
-            yield FAULT, (f"{module} did not report its base ID within {ASKED_FOR} s: after noise, the gateway may be "
-                          f"waiting for the end of a packet, or SERIAL is wrong; {self.restart}")
+            yield FAULT, (f"{module} did not report its base ID within {ASK_TIMEOUT} s: after noise, the gateway may "
+                          f"be waiting for the end of a packet, or SERIAL is wrong; {self.restart}")
         elif reported != used:
             is_set = self.settings["BASE"].upper() not in ("", reported)
             correct = f"correct or remove BASE in /etc/default/enogate-{self.name}, and " if is_set else ""
@@ -297,38 +300,38 @@ class Check:
         else:
             yield OK, f"base ID: {used}, as {module} reports"
 
-    def of_earlier_base(self):
+    def check_earlier_base(self):
         """The base ID that a running gateway uses, compared with that of its first start, if no base ID is set."""
         path = self.system.path(f"/var/lib/enogate/{self.name}.base")
         if self.settings["BASE"] or not self.gateway or not exists(path):
             return
-        if faults := self.odd(path):
+        if faults := self.irregularity_faults(path):
             yield from faults
             return
         with os.fdopen(files.open_file(path), encoding="ascii", errors="replace") as file:
             earlier = file.read(9).strip()
-        used = self.system.option(self.gateway, "--base").upper()
-        if why := ports.other_stick(earlier, used, self.settings["SERIAL"]):
+        used = self.system.option_value(self.gateway, "--base").upper()
+        if why := ports.other_stick_fault(earlier, used, self.settings["SERIAL"]):
             yield FAULT, why
 
-    def odd(self, *paths: str):
+    def irregularity_faults(self, *paths: str):
         """The faults of files that are no regular files with one name. They are not opened: root could open a file of
         another user through a link, or wait for a pipe."""
         return [(FAULT, f"{path} is not a regular file with one name: move it, or remove its other names")
-                for path in paths if is_odd(path)]
+                for path in paths if is_irregular(path)]
 
-    def without_rights(self, does: str, *paths: tuple[str, int]):
+    def rights_faults(self, does: str, *paths: tuple[str, int]):
         """The faults of files on which the user of the unit does not have these rights. The command that is recommended
         follows no link."""
         return [(FAULT, f"the user enogate may not {does} {path}: run: sudo chown -h enogate:enogate {path}")
-                for path, rights in paths if exists(path) and not self.system.may(path, rights)]
+                for path, rights in paths if exists(path) and not self.system.may_access(path, rights)]
 
-    def of_lines(self):
+    def check_lines(self):
         """The output file."""
-        if faults := self.odd(self.lines):
+        if faults := self.irregularity_faults(self.lines):
             yield from faults
             return
-        yield from (faults := self.without_rights("write", (os.path.dirname(self.lines), 3), (self.lines, 2)))
+        yield from (faults := self.rights_faults("write", (os.path.dirname(self.lines), 3), (self.lines, 2)))
         if not exists(self.lines):
             yield OK, f"lines: {self.lines} does not exist yet"
             return
@@ -344,65 +347,65 @@ class Check:
             yield FAULT, (f"the last line of {self.lines} is truncated, because the disk was full or the power failed: "
                           "programs that read it must skip this line, and the next start of the gateway ends it")
 
-    def of_database(self):
+    def check_database(self):
         """The database: rights, users, and contents."""
-        if faults := self.odd(*(self.database + end for end in ("", "-wal", "-shm"))):
+        if faults := self.irregularity_faults(*(self.database + end for end in ("", "-wal", "-shm"))):
             yield from faults
             return
-        faults = self.without_rights("read and write", (os.path.dirname(self.database), 7), (self.database, 6),
-                                     (self.database + "-wal", 6))
+        faults = self.rights_faults("read and write", (os.path.dirname(self.database), 7), (self.database, 6),
+                                    (self.database + "-wal", 6))
         yield from faults
         if not exists(self.database):
             yield OK, f"database: {self.database} does not exist yet; the first start makes it"
             return
-        if faults and not all(map(files.is_safe, self.parts())):
+        if faults and not all(map(files.is_safe, self.database_files())):
             return
         users, sees_all = self.system.users_of(self.database)
         others = sorted({*users, *self.system.lockers_of(self.database)} - {self.gateway}, key=lambda user: user.number)
         for user in others:
             yield FAULT, f"{user} uses the database {self.database}: end it"
         if not sees_all and not others:
-            yield self.unchecked(f"programs of other users that use {self.database}")
+            yield self.unchecked_finding(f"programs of other users that use {self.database}")
         if self.gateway:
             yield OK, f"database: {self.database}, used by {self.gateway}"
         elif not others:
-            yield self.of_contents()
+            yield self.check_contents()
 
-    def parts(self) -> list[str]:
+    def database_files(self) -> list[str]:
         """The database and its write-ahead log, if there is one."""
         return [path for path in (self.database, self.database + "-wal") if exists(path)]
 
-    def of_contents(self):
+    def check_contents(self):
         """What is in the database, read from a copy: SQLite may write to a file and its log even if it only reads."""
-        with tempfile.TemporaryDirectory(dir=MEMORY if os.access(MEMORY, os.W_OK) else None) as folder:
-            for path in self.parts():
-                if not copy(path, f"{folder}/copy{path.removeprefix(self.database)}"):
-                    return UNCHECKED, f"the contents of {path}, because it has more than {MOST_COPIED // MEGABYTE} MB"
+        with tempfile.TemporaryDirectory(dir=MEMORY_FOLDER if os.access(MEMORY_FOLDER, os.W_OK) else None) as folder:
+            for path in self.database_files():
+                if not copy_if_small(path, f"{folder}/copy{path.removeprefix(self.database)}"):
+                    return UNCHECKED, f"the contents of {path}, because it has more than {MAX_COPY_SIZE // MEGABYTE} MB"
             connection = sqlite3.connect(f"{folder}/copy")
-            connection.set_progress_handler(lambda: 1, MOST_STEPS)
+            connection.set_progress_handler(lambda: 1, MAX_SQLITE_STEPS)
             try:
-                return self.of_registry(connection)
+                return self.check_registry(connection)
             except sqlite3.Error as error:
                 return FAULT, (f"{self.database} is not a database of enogate ({error}): restore a backup, or move the "
                                "file away; the next start then begins without devices")
             finally:
                 connection.close()
 
-    def of_registry(self, connection: sqlite3.Connection):
+    def check_registry(self, connection: sqlite3.Connection):
         """The version and the number of devices."""
         if not connection.execute("SELECT count(*) FROM sqlite_master WHERE name LIKE 'enogate_%'").fetchone()[0]:
             return OK, f"database: {self.database} has no tables yet; the next start makes them"
         version, = connection.execute("SELECT version FROM enogate_meta").fetchone() or (None,)
-        if version not in TABLES:
+        if version not in DEVICE_TABLES:
             return FAULT, f"the version of {self.database} is {version}, not 1 or 2: install the newest enogate"
-        count, = connection.execute(f"SELECT count(*) FROM {TABLES[version]}").fetchone()
+        count, = connection.execute(f"SELECT count(*) FROM {DEVICE_TABLES[version]}").fetchone()
         if count > 1000:
             return FAULT, f"{self.database} has {count} devices, and a gateway takes 1,000: remove some with sqlite3"
         return OK, f"database: {self.database}, version {version}, {count} devices"
 
-    def of_space(self):
+    def check_space(self):
         """The disk space for the database and the lines."""
-        for path, least in LEAST_SPACE.items():
+        for path, least in MIN_SPACE.items():
             # It may be a file system of its own. The sandbox of the unit makes the folders above it read-only.
             folder = self.system.path(f"{path}/enogate")
             is_made = exists(folder)
@@ -416,10 +419,10 @@ class Check:
             else:
                 yield OK, f"disk space: {free // MEGABYTE} MB for {path}/enogate"
 
-    def of_units(self):
+    def check_units(self):
         """Whether the gateway and, if it is enabled, its bridge run."""
         unit, bridge = f"enogate@{self.name}", f"enogate-mqtt@{self.name}"
-        state = self.system.state(unit)
+        state = self.system.unit_state(unit)
         if not state:
             yield UNCHECKED, f"whether {unit} and {bridge} run: systemctl does not answer"
             return
@@ -429,7 +432,7 @@ class Check:
             yield FAULT, f"{unit} is waiting, for a reason that this command prints: sudo journalctl -n 20 -u {unit}"
         else:
             yield OK, f"{unit} is {state}"
-        enabled, state = self.system.state(bridge, "is-enabled"), self.system.state(bridge)
+        enabled, state = self.system.unit_state(bridge, "is-enabled"), self.system.unit_state(bridge)
         if state == "failed" or (enabled == "enabled" and state == "inactive"):
             yield FAULT, f"{bridge} is not running ({state}): run: sudo journalctl -n 20 -u {bridge}"
         else:
@@ -450,9 +453,9 @@ def main(arguments: list[str] | None = None, system: System | None = None) -> in
     words = parser.parse_args(arguments)
     signal.signal(signal.SIGPIPE, signal.SIG_DFL)
     if words.name is not None and not gateways.is_name(words.name):
-        parser.error(str(gateways.NoName(words.name)))
+        parser.error(str(gateways.InvalidName(words.name)))
     system = system or System()
-    names = gateways.names(system.root) if words.name is None else [words.name]
+    names = gateways.gateway_names(system.root) if words.name is None else [words.name]
     if not names:
         parser.error("no gateway is found on this machine: give a NAME")
     shown = {FAULT} | ({UNCHECKED} if not words.quiet else set()) | ({OK} if words.verbose else set())

@@ -7,8 +7,8 @@ import os
 import pwd
 import stat
 
-LINK, IRREGULAR = "it is a symbolic link", "it is not a regular file"
-FLAGS = os.O_NOFOLLOW | os.O_NONBLOCK | os.O_NOCTTY | os.O_CLOEXEC
+LINK_FAULT, IRREGULAR_FAULT = "it is a symbolic link", "it is not a regular file"
+OPEN_FLAGS = os.O_NOFOLLOW | os.O_NONBLOCK | os.O_NOCTTY | os.O_CLOEXEC
 
 
 class Unsafe(OSError):
@@ -18,13 +18,13 @@ class Unsafe(OSError):
         super().__init__(errno.EINVAL, why, path)
 
 
-def fault_of(status: os.stat_result, owner: int) -> str:
+def safety_fault(status: os.stat_result, owner: int) -> str:
     """Why a file with this status is not opened, if its directory belongs to this user; empty if it may be opened. A
     user other than root may also open a file of their own."""
     if stat.S_ISLNK(status.st_mode):
-        return LINK
+        return LINK_FAULT
     if not stat.S_ISREG(status.st_mode):
-        return IRREGULAR
+        return IRREGULAR_FAULT
     if status.st_nlink > 1:
         return "it has a second name (a hard link)"
     user = os.geteuid()
@@ -45,14 +45,14 @@ def open_file(path: str, flags: int = os.O_RDONLY) -> int:
     folder = os.open(os.path.dirname(path) or ".", os.O_PATH | os.O_DIRECTORY | os.O_CLOEXEC)
     try:
         owner, name = owner_of(folder), os.path.basename(path)
-        check_safe(os.stat(name, dir_fd=folder, follow_symlinks=False), owner, path)
-        file = os.open(name, flags | FLAGS, dir_fd=folder)
+        require_safe(os.stat(name, dir_fd=folder, follow_symlinks=False), owner, path)
+        file = os.open(name, flags | OPEN_FLAGS, dir_fd=folder)
     except OSError as error:
-        raise Unsafe(LINK, path) if error.errno == errno.ELOOP else error
+        raise Unsafe(LINK_FAULT, path) if error.errno == errno.ELOOP else error
     finally:
         os.close(folder)
     try:
-        check_safe(os.fstat(file), owner, path)
+        require_safe(os.fstat(file), owner, path)
     except Unsafe:
         os.close(file)
         raise
@@ -63,18 +63,18 @@ def open_regular(path: str) -> int:
     """Opens a regular file of any user to read it, or raises Unsafe or another OSError. No link is followed, and no
     pipe is waited for."""
     try:
-        file = os.open(path, os.O_RDONLY | FLAGS)
+        file = os.open(path, os.O_RDONLY | OPEN_FLAGS)
     except OSError as error:
-        raise Unsafe(LINK, path) if error.errno == errno.ELOOP else error
+        raise Unsafe(LINK_FAULT, path) if error.errno == errno.ELOOP else error
     if not stat.S_ISREG(os.fstat(file).st_mode):
         os.close(file)
-        raise Unsafe(IRREGULAR, path)
+        raise Unsafe(IRREGULAR_FAULT, path)
     return file
 
 
-def check_safe(status: os.stat_result, owner: int, path: str) -> None:
+def require_safe(status: os.stat_result, owner: int, path: str) -> None:
     """Raises Unsafe if a file with this status is not opened."""
-    if why := fault_of(status, owner):
+    if why := safety_fault(status, owner):
         raise Unsafe(why, path)
 
 
@@ -98,11 +98,11 @@ def become_owner(*folders: str) -> None:
         except OSError:
             continue
         if status.st_uid != 0:
-            become(status.st_uid, status.st_gid)
+            become_user(status.st_uid, status.st_gid)
             return
 
 
-def become(user: int, group: int) -> None:
+def become_user(user: int, group: int) -> None:
     """Takes on the rights of this user, for good. A user without an entry in the list of users has only this group."""
     groups = [group]
     try:

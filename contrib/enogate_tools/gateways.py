@@ -8,11 +8,12 @@ from typing import NamedTuple
 
 # The name of a gateway. Programs would take one that begins with - for an option, and /etc/default/enogate-mqtt-NAME
 # has the settings of a bridge.
-NAME = "(?!-|mqtt)[A-Za-z0-9_-]+"
-SETTINGS, UNITS, RUNNING, DATABASES = "/etc/default", "/etc/systemd/system", "/run/enogate", "/var/lib/enogate"
+NAME_PATTERN = "(?!-|mqtt)[A-Za-z0-9_-]+"
+SETTINGS_FOLDER, UNITS_FOLDER = "/etc/default", "/etc/systemd/system"
+RUNTIME_FOLDER, DATABASE_FOLDER = "/run/enogate", "/var/lib/enogate"
 
 
-class NoName(ValueError):
+class InvalidName(ValueError):
     """A text is not the name of a gateway."""
 
     def __init__(self, text: str):
@@ -21,54 +22,62 @@ class NoName(ValueError):
 
 
 class Paths(NamedTuple):
-    """The files of a gateway: its desk, its lines, and the state of its MQTT bridge."""
+    """The files of a gateway: its desk, its lines, and the state of its MQTT bridge. With a name, they are those of the
+    unit with this name."""
     desk: str
     lines: str
     bridge: str
+    name: str = ""
+
+    @property
+    def unit(self) -> str:
+        """The name of its unit."""
+        return f"enogate@{self.name}"
 
 
 def is_name(text: str) -> bool:
     """Whether a gateway may have this name."""
-    return re.fullmatch(NAME, text) is not None
+    return re.fullmatch(NAME_PATTERN, text) is not None
 
 
 def paths_of(name: str, root: str = "") -> Paths:
-    """The files of the gateway with this name, or NoName. `root` is put before their paths."""
+    """The files of the gateway with this name, or InvalidName. `root` is put before their paths."""
     if not is_name(name):
-        raise NoName(name)
-    return Paths(f"{root}{RUNNING}/{name}/desk", f"{root}/var/log/enogate/{name}.lines",
-                 f"{root}/var/lib/enogate-mqtt/{name}.db")
+        raise InvalidName(name)
+    return Paths(f"{root}{RUNTIME_FOLDER}/{name}/desk", f"{root}/var/log/enogate/{name}.lines",
+                 f"{root}/var/lib/enogate-mqtt/{name}.db", name)
 
 
 def all_paths(root: str = "") -> dict[str, dict[str, str]]:
     """The files of each gateway of this machine, by their names. Each of these files may be missing."""
     found = {}
-    for name in names(root):
+    for name in gateway_names(root):
         paths = paths_of(name, root)
-        found[name] = {"desk": paths.desk, "lines": paths.lines, "settings": f"{root}{SETTINGS}/enogate-{name}"}
+        found[name] = {"desk": paths.desk, "lines": paths.lines, "settings": f"{root}{SETTINGS_FOLDER}/enogate-{name}"}
     return found
 
 
-def names(root: str = "") -> list[str]:
+def gateway_names(root: str = "") -> list[str]:
     """The names of the gateways that have settings of their own, a unit that is started at boot, a directory for their
     desk, which is made when they are started, or a database. A directory that this user may not read counts as empty.
     `root` is put before the directories."""
-    found = names_in(root + SETTINGS, "enogate-({})", os.path.isfile) | names_in(root + RUNNING, "({})", os.path.isdir)
-    found |= names_in(root + DATABASES, r"({})\.db")
-    for folder in listed(root + UNITS):
+    found = names_in_folder(root + SETTINGS_FOLDER, "enogate-({})", os.path.isfile)
+    found |= names_in_folder(root + RUNTIME_FOLDER, "({})", os.path.isdir)
+    found |= names_in_folder(root + DATABASE_FOLDER, r"({})\.db")
+    for folder in file_names(root + UNITS_FOLDER):
         if folder.endswith(".wants"):
-            found |= names_in(f"{root}{UNITS}/{folder}", r"enogate@({})\.service")
+            found |= names_in_folder(f"{root}{UNITS_FOLDER}/{folder}", r"enogate@({})\.service")
     return sorted(found)
 
 
-def names_in(folder: str, shape: str, is_of_gateway: Callable[[str], bool] = os.path.lexists) -> set[str]:
+def names_in_folder(folder: str, shape: str, is_of_gateway: Callable[[str], bool] = os.path.lexists) -> set[str]:
     """The gateways whose names are part of the names of files in this directory. `shape` is the form of these names."""
-    pattern = shape.format(NAME)
-    return {found[1] for file in listed(folder)
+    pattern = shape.format(NAME_PATTERN)
+    return {found[1] for file in file_names(folder)
             if (found := re.fullmatch(pattern, file)) and is_of_gateway(f"{folder}/{file}")}
 
 
-def listed(folder: str) -> list[str]:
+def file_names(folder: str) -> list[str]:
     """The names of the files in this directory; none if it is missing, or if this user may not read it."""
     try:
         return os.listdir(folder)

@@ -9,11 +9,11 @@ import stat
 from collections.abc import Callable
 
 NEW_MODE = 0o640
-PART = 1 << 16
+READ_SIZE = 1 << 16
 # How much waits in memory while the lines cannot be stored, in bytes. The oldest lines are dropped first.
 MAX_WAITING = 1 << 20
 # Each line passes through here before it is stored, so it is searched for this, and not parsed.
-PACKET = b'"type":"packet"'
+PACKET_MARK = b'"type":"packet"'
 WARNING, NOTICE = "<4>", "<5>"
 
 
@@ -33,11 +33,11 @@ class LineStore:
         whole, end, self.rest = (self.rest + text).rpartition(b"\n")
         whole += end
         self.count += whole.count(b"\n")
-        self.packets += whole.count(PACKET)
+        self.packets += whole.count(PACKET_MARK)
         self.waiting += whole
         return whole
 
-    def end(self) -> None:
+    def drop_unended(self) -> None:
         """The gateway has ended. A line that has not ended is not stored."""
         self.rest = b""
 
@@ -51,7 +51,7 @@ class LineStore:
             if not self.is_failing:
                 self.say(WARNING, f"{self.path}: {error.strerror}: the lines cannot be stored, and wait in memory")
             self.is_failing = True
-            self.drop()
+            self.drop_oldest()
         else:
             if self.is_failing:
                 self.say(NOTICE, f"{self.path}: the lines are stored again, {self.dropped} are lost")
@@ -72,7 +72,7 @@ class LineStore:
         if self.waiting:
             raise OSError(errno.ENOSPC, os.strerror(errno.ENOSPC))
 
-    def drop(self) -> None:
+    def drop_oldest(self) -> None:
         """Drops the oldest lines if there are too many."""
         if len(self.waiting) > MAX_WAITING:
             start = self.waiting.index(b"\n", len(self.waiting) - MAX_WAITING - 1) + 1
@@ -86,7 +86,7 @@ class LineStore:
             self.say(WARNING, f"{self.path}: {lost} lines are lost")
 
 
-def repair(path: str, say: Callable[[str, str], None]) -> None:
+def repair_file(path: str, say: Callable[[str, str], None]) -> None:
     """Corrects what an earlier run left: lines of older versions could be written by the group. After a power failure
     the file may end with NUL bytes and with a part of a line. The part stays, as a line of its own, since it may have
     been read already; if the disk is full, it is removed."""
@@ -95,7 +95,7 @@ def repair(path: str, say: Callable[[str, str], None]) -> None:
             os.chmod(old, stat.S_IMODE(os.stat(old).st_mode) & ~stat.S_IWGRP)
     with contextlib.suppress(FileNotFoundError), open(path, "r+b", buffering=0) as file:
         size = os.fstat(file.fileno()).st_size
-        end = end_in(file.fileno(), size, lambda part: len(part.rstrip(b"\0")))
+        end = end_of_last(file.fileno(), size, lambda part: len(part.rstrip(b"\0")))
         if end < size:
             file.truncate(end)
             say(NOTICE, f"{path}: {size - end} NUL bytes at the end are removed, as a power failure leaves them")
@@ -103,14 +103,14 @@ def repair(path: str, say: Callable[[str, str], None]) -> None:
             try:
                 os.pwrite(file.fileno(), b"\n", end)
             except OSError:
-                file.truncate(end_in(file.fileno(), end, lambda part: part.rfind(b"\n") + 1))
+                file.truncate(end_of_last(file.fileno(), end, lambda part: part.rfind(b"\n") + 1))
 
 
-def end_in(file: int, size: int, length: Callable[[bytes], int]) -> int:
+def end_of_last(file: int, size: int, length: Callable[[bytes], int]) -> int:
     """The end of the last part of a file of this size that has a length according to `length`; 0 if none has."""
     start = size
     while start:
-        start, end = max(0, start - PART), start
+        start, end = max(0, start - READ_SIZE), start
         if found := length(os.pread(file, end - start, start)):
             return start + found
     return 0

@@ -12,15 +12,15 @@ import termios
 import time
 
 # ESP3, packet type 5: the command CO_RD_IDBASE. The response has type 2, the code 0 and four bytes.
-QUESTION = bytes.fromhex("5500010005700838")
+BASE_REQUEST = bytes.fromhex("5500010005700838")
 RESPONSE = 2
 # A module answers within 0.5 s (ESP3); the rest is for a slow computer.
-ANSWERED_WITHIN = 2.0
-SHAPE = "8 hexadecimal digits from FF800000 to FFFFFF80; the last two are 00 or 80"
+ANSWER_TIMEOUT = 2.0
+BASE_FORM = "8 hexadecimal digits from FF800000 to FFFFFF80; the last two are 00 or 80"
 
 # The settings as stty prints them: the line of the guide sets the same ones.
-IN_C_CC = {"min 0": (termios.VMIN, 0), "time 1": (termios.VTIME, 1)}
-OFF = {
+REQUIRED_C_CC = {"min 0": (termios.VMIN, 0), "time 1": (termios.VTIME, 1)}
+REQUIRED_OFF = {
     "icrnl": (0, termios.ICRNL), "inlcr": (0, termios.INLCR), "igncr": (0, termios.IGNCR),
     "istrip": (0, termios.ISTRIP), "ixon": (0, termios.IXON), "ixoff": (0, termios.IXOFF),
     "opost": (1, termios.OPOST), "cstopb": (2, termios.CSTOPB), "parenb": (2, termios.PARENB),
@@ -31,7 +31,7 @@ OFF = {
 
 # How long the end of a run waits for the stick to take what was sent to it, in seconds. 4 KB, the most that the kernel
 # holds for a USB stick, take 0.7 s.
-SENT_WITHIN, PAUSE = 1.0, 0.1
+SEND_TIMEOUT, PAUSE = 1.0, 0.1
 
 
 class PortError(Exception):
@@ -45,7 +45,7 @@ def is_base(text: str) -> bool:
     return 0xFF800000 <= int(text, 16) <= 0xFFFFFF80 and int(text, 16) % 128 == 0
 
 
-def other_stick(earlier: str, base: str, path: str) -> str:
+def other_stick_fault(earlier: str, base: str, path: str) -> str:
     """What is wrong if the base ID at earlier starts of a gateway was another one; empty if it was not, or if this is
     not known."""
     if not is_base(earlier) or earlier == base:
@@ -108,7 +108,7 @@ def configure(port: int, path: str) -> None:
     dropped: it could be the answer to a question of a start that was stopped."""
     try:
         old = termios.tcgetattr(port)
-        for place, value in IN_C_CC.values():
+        for place, value in REQUIRED_C_CC.values():
             old[6][place] = value
         flags = termios.CS8 | termios.CREAD | termios.CLOCAL | old[2] & termios.HUPCL
         termios.tcsetattr(port, termios.TCSANOW, [0, 0, flags, 0, termios.B57600, termios.B57600, old[6]])
@@ -117,21 +117,21 @@ def configure(port: int, path: str) -> None:
         raise PortError(f"{path} is not a serial port: correct SERIAL") from error
 
 
-def differences(port: int) -> list[str]:
+def wrong_settings(port: int) -> list[str]:
     """The settings of an open port that keep a gateway from working, as stty prints them."""
     now = termios.tcgetattr(port)
-    wrong = [name for name, (part, bit) in OFF.items() if now[part] & bit]
+    wrong = [name for name, (part, bit) in REQUIRED_OFF.items() if now[part] & bit]
     wrong += ["-clocal"] * (not now[2] & termios.CLOCAL) + ["not cs8"] * (now[2] & termios.CSIZE != termios.CS8)
     wrong += ["not 57600 baud"] * (now[4:6] != [termios.B57600] * 2)
-    return wrong + [f"not {name}" for name, (place, value) in IN_C_CC.items() if now[6][place] not in
+    return wrong + [f"not {name}" for name, (place, value) in REQUIRED_C_CC.items() if now[6][place] not in
                     (value, bytes([value]))]
 
 
 def ask_base(port: int, path: str, clock=time.monotonic) -> str | None:
     """The base ID that the module reports, or None if it reports none in time."""
-    stream, end = b"", clock() + ANSWERED_WITHIN
+    stream, end = b"", clock() + ANSWER_TIMEOUT
     try:
-        os.write(port, QUESTION)
+        os.write(port, BASE_REQUEST)
         while (left := end - clock()) > 0:
             if select.select([port], [], [], left)[0]:
                 got = os.read(port, 4096)
@@ -145,7 +145,7 @@ def ask_base(port: int, path: str, clock=time.monotonic) -> str | None:
     return base_in(stream)
 
 
-def unsent(port: int) -> int:
+def unsent_bytes(port: int) -> int:
     """How many bytes wait in the kernel for the stick."""
     try:
         return int.from_bytes(fcntl.ioctl(port, termios.TIOCOUTQ, bytes(4)), sys.byteorder)
@@ -160,18 +160,18 @@ def is_hung_up(port: int) -> bool:
     return bool(poll.poll(0))
 
 
-def release(port: int, sleep=time.sleep) -> None:
+def close_port(port: int, sleep=time.sleep) -> None:
     """Closes a port. What the stick has not taken after a second is discarded: the kernel would wait for half a
     minute."""
-    for _ in range(round(SENT_WITHIN / PAUSE)):
-        if not unsent(port):
+    for _ in range(round(SEND_TIMEOUT / PAUSE)):
+        if not unsent_bytes(port):
             break
         sleep(PAUSE)
-    discard(port)
+    discard_unsent(port)
     os.close(port)
 
 
-def discard(port: int) -> None:
+def discard_unsent(port: int) -> None:
     """Discards what the stick has not taken."""
     with contextlib.suppress(termios.error):
         termios.tcflush(port, termios.TCOFLUSH)

@@ -9,7 +9,7 @@ from collections.abc import Iterator
 SHARE = os.path.join(os.path.dirname(os.path.dirname(os.path.abspath(__file__))), "share")
 
 
-def rows(name: str) -> Iterator[str]:
+def table_lines(name: str) -> Iterator[str]:
     """The lines of a table, without its comments. `name` is that of a file in `share`, or an absolute path."""
     with open(os.path.join(SHARE, name), encoding="utf-8") as file:
         for line in file:
@@ -18,10 +18,10 @@ def rows(name: str) -> Iterator[str]:
 
 
 @functools.cache
-def profiles() -> dict[str, str]:
+def kinds_by_profile() -> dict[str, str]:
     """The supported profiles, each with the kind of its devices."""
     found = {}
-    for row in rows("profiles"):
+    for row in table_lines("profiles"):
         eeps, kind = row.split(None, 1)
         first, _, last = eeps.partition("..")
         for number in range(int(first[6:], 16), int(last or first[6:], 16) + 1):
@@ -29,30 +29,38 @@ def profiles() -> dict[str, str]:
     return found
 
 
-def kind(eep: str) -> str:
+def device_kind(eep: str) -> str:
     """The kind of the devices of a profile; empty if the profile is not supported."""
-    return profiles().get(eep, "")
+    return kinds_by_profile().get(eep, "")
 
 
 @functools.cache
-def words(kind: str) -> dict[str, str]:
+def texts_by_word(kind: str) -> dict[str, str]:
     """Words of the gateway of this kind (`error`, `result`, `reason` or `rorg`), each with a text for people."""
-    found = (row.split(None, 2) for row in rows("words"))
+    found = (row.split(None, 2) for row in table_lines("words"))
     return {word: text for one, word, text in found if one == kind}
 
 
 @functools.cache
-def orders() -> dict[str, list[tuple[str, frozenset[str]]]]:
+def order_forms() -> dict[str, list[tuple[str, frozenset[str]]]]:
     """The orders by their first words: the forms of each, with the errors that each form can have."""
     found: dict[str, list[tuple[str, frozenset[str]]]] = {}
-    for row in rows("orders"):
-        form, *errors = re.split(" {2,}", row, maxsplit=1)
-        if form[0].islower():
+    for row in table_lines("orders"):
+        if row[0].islower():
+            form, *errors = re.split(" {2,}", row, maxsplit=1)
             found.setdefault(form.split(" ")[0], []).append((form, frozenset(" ".join(errors).split())))
     return found
 
 
 @functools.cache
-def parameters() -> dict[str, str]:
+def effects() -> dict[str, str]:
+    """What each of these forms does."""
+    every = list(table_lines("orders"))
+    pairs = ((row, below.strip()) for row, below in zip(every, every[1:]) if below[0] == " ")
+    return {re.split(" {2,}", row, maxsplit=1)[0]: does for row, does in pairs}
+
+
+@functools.cache
+def parameter_meanings() -> dict[str, str]:
     """The meanings of the words in capital letters in these forms."""
-    return dict(row.split(None, 1) for row in rows("orders") if row[0].isupper())
+    return dict(row.split(None, 1) for row in table_lines("orders") if row[0].isupper())

@@ -18,7 +18,7 @@ PLACEHOLDER = "{base}"
 PAUSE = 1.0
 
 
-def parsed(arguments: list[str]) -> argparse.Namespace:
+def parse_arguments(arguments: list[str]) -> argparse.Namespace:
     """The command line."""
     parser = argparse.ArgumentParser(
         prog="enogate-port", allow_abbrev=False,
@@ -45,11 +45,11 @@ def parsed(arguments: list[str]) -> argparse.Namespace:
         parser.error("--unit, --lines: either both or none are required")
     if words.base and not ports.is_base(words.base):
         before = "" if words.unit else "enogate-port: "
-        parser.exit(2, f"{before}BASE={words.base} is not a base ID ({ports.SHAPE}): correct it, or remove it\n")
+        parser.exit(2, f"{before}BASE={words.base} is not a base ID ({ports.BASE_FORM}): correct it, or remove it\n")
     return words
 
 
-class Starter:
+class PortStarter:
     """Prepares the port. `path` is its name, `base` the ID that was set, or empty."""
 
     def __init__(self, words: argparse.Namespace, say, sleep=time.sleep, clock=time.monotonic):
@@ -65,26 +65,26 @@ class Starter:
         self.announces = not words.base_id
         self.say, self.sleep, self.clock = say, sleep, clock
 
-    def prepare(self) -> int:
+    def prepare_port(self) -> int:
         """Opens, locks and configures the port, and finds the base ID. Returns the descriptor that holds the lock."""
         self.asked = port = ports.open_port(self.path)
         try:
             ports.configure(port, self.path)
             if self.needs_base:
-                self.find_base(ports.ask_base(port, self.path, self.clock))
+                self.set_or_compare_base(ports.ask_base(port, self.path, self.clock))
         except ports.PortError:
-            ports.release(port)
+            ports.close_port(port)
             raise
         finally:
             self.asked = None
         return port
 
-    def discard(self) -> None:
+    def discard_unsent(self) -> None:
         """This process ends while it prepares a port: a stick that takes no bytes must not delay that."""
         if self.asked is not None:
-            ports.discard(self.asked)
+            ports.discard_unsent(self.asked)
 
-    def find_base(self, reported: str | None) -> None:
+    def set_or_compare_base(self, reported: str | None) -> None:
         """Compares the base ID with the one that the module reported, or takes that one."""
         self.reported, self.compared = reported, ""
         if not self.set_base and not reported:
@@ -98,22 +98,22 @@ class Starter:
             self.say(WARNING, f"no radio module at {self.path} reports its base ID: check SERIAL; the gateway starts "
                      f"with BASE={self.base}")
         else:
-            self.compare(reported)
+            self.warn_of_other_base(reported)
 
-    def compare(self, reported: str) -> None:
+    def warn_of_other_base(self, reported: str) -> None:
         """Logs a warning if the module has reported another base ID than that of the gateway; once for each one."""
         if reported not in (self.base, self.compared):
             self.say(WARNING, f"BASE is {self.base}, but the base ID of the radio module at {self.path} is {reported}: "
                      "correct or remove BASE, and restart the gateway")
         self.compared = reported
 
-    def wait(self) -> int:
-        """Like `prepare`, but waits until the port can be used. Each reason is reported once, even if it comes back:
-        a stick with a loose plug may change between two reasons for days."""
+    def wait_for_port(self) -> int:
+        """Like `prepare_port`, but waits until the port can be used. Each reason is reported once, even if it comes
+        back: a stick with a loose plug may change between two reasons for days."""
         reported: set[str] = set()
         while True:
             try:
-                port = self.prepare()
+                port = self.prepare_port()
                 break
             except ports.PortError as error:
                 if str(error) not in reported:
@@ -123,11 +123,11 @@ class Starter:
         if reported:
             self.say(NOTICE, f"{self.path} can be used now")
             # Orders that were given meanwhile are out of date.
-            desk.empty(os.path.join(self.unit, "desk"))
-        self.compare_with_earlier()
+            desk.make_empty(os.path.join(self.unit, "desk"))
+        self.warn_of_other_stick()
         return port
 
-    def compare_with_earlier(self) -> None:
+    def warn_of_other_stick(self) -> None:
         """Logs a warning if the module is not that of earlier starts: of two sticks, the other one may have been taken.
         Its base ID is stored if it is set, or if none was stored."""
         if not self.base_file or self.reported != self.base:
@@ -135,7 +135,7 @@ class Starter:
         earlier = ""
         with contextlib.suppress(OSError), open(self.base_file, encoding="ascii", errors="replace") as file:
             earlier = file.read(9).strip()
-        if not self.set_base and (why := ports.other_stick(earlier, self.base, self.path)):
+        if not self.set_base and (why := ports.other_stick_fault(earlier, self.base, self.path)):
             self.say(WARNING, why)
         elif earlier != self.base:
             with contextlib.suppress(OSError), open(self.base_file, "w", encoding="ascii") as file:
@@ -146,7 +146,7 @@ class Starter:
         return [self.base if word == PLACEHOLDER else word for word in self.words]
 
 
-def run(command: list[str], port: int) -> int:
+def run_in_place(command: list[str], port: int) -> int:
     """Runs the command in place of this process. It keeps the lock."""
     os.set_inheritable(port, True)
     signal.signal(signal.SIGPIPE, signal.SIG_DFL)
@@ -159,7 +159,7 @@ def run(command: list[str], port: int) -> int:
 
 def main(arguments: list[str] | None = None) -> int:
     """Runs the program, and returns its exit status."""
-    words = parsed(sys.argv[1:] if arguments is None else arguments)
+    words = parse_arguments(sys.argv[1:] if arguments is None else arguments)
 
     def say(priority: str, text: str) -> None:
         """Writes a line, in a unit with its priority for the journal."""
@@ -168,11 +168,11 @@ def main(arguments: list[str] | None = None) -> int:
         with contextlib.suppress(OSError):
             print(f"{before}{text}", file=sys.stderr, flush=True)
 
-    starter = Starter(words, say)
+    starter = PortStarter(words, say)
     if words.unit:
         return run_unit(words, starter, say)
     try:
-        port = starter.prepare()
+        port = starter.prepare_port()
     except ports.PortError as error:
         print(f"enogate-port: {error}", file=sys.stderr)
         return 1
@@ -181,20 +181,20 @@ def main(arguments: list[str] | None = None) -> int:
     if words.base_id:
         print(starter.base)
         return 0
-    return run(starter.command(), port)
+    return run_in_place(starter.command(), port)
 
 
-def run_unit(words: argparse.Namespace, starter: Starter, say) -> int:
+def run_unit(words: argparse.Namespace, starter: PortStarter, say) -> int:
     """Prepares the files for a start of the unit, or runs the gateway."""
     try:
         if not words.clean:
             return Unit(words.port, words.unit, words.lines, starter, say).run()
-        desk.empty(os.path.join(words.unit, "desk"))
+        desk.make_empty(os.path.join(words.unit, "desk"))
     except OSError as error:
         say(WARNING, f"{error.filename}: {error.strerror}")
         return 1
     try:
-        lines.repair(words.lines, say)
+        lines.repair_file(words.lines, say)
     except OSError as error:
         # the gateway runs while its lines cannot be stored, so it starts, too
         say(WARNING, f"{words.lines}: {error.strerror}")

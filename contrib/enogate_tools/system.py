@@ -1,20 +1,20 @@
-"""What enogate-check looks at: files of a gateway, processes, locks, and units. Tests put others in their place."""
+"""What enogate-check looks at, and enogatectl(1) before an order: files of a gateway, processes, locks, and units.
+Tests put others in their place."""
 from __future__ import annotations
 
-import dataclasses
+import functools
 import grp
 import os
 import pwd
 import re
 import stat
-import subprocess
+from typing import NamedTuple
 
 # How long a command may take that is asked, in seconds: systemctl, or enogatectl, which waits for an answer.
 LONGEST_RUN = 10.0
 
 
-@dataclasses.dataclass(frozen=True)
-class Process:
+class Process(NamedTuple):
     """A running process."""
     number: int
     name: str
@@ -23,8 +23,7 @@ class Process:
         return f"process {self.number} ({self.name})"
 
 
-@dataclasses.dataclass(frozen=True)
-class OpenFile:
+class OpenFile(NamedTuple):
     """A file that a process has open, with the offset at which it reads or writes next."""
     number: int
     status: os.stat_result
@@ -32,8 +31,10 @@ class OpenFile:
     is_read_only: bool
 
 
-def output_of(command: list[str]) -> str:
+def first_line_of(command: list[str]) -> str:
     """The first line that a command prints, or nothing if it cannot be run."""
+    # imported only here, since enogatectl(1) seldom runs a command, and imports take most of its time
+    import subprocess
     try:
         done = subprocess.run(command, capture_output=True, text=True, timeout=LONGEST_RUN, check=False)
     except (OSError, subprocess.TimeoutExpired):
@@ -41,7 +42,7 @@ def output_of(command: list[str]) -> str:
     return done.stdout.partition("\n")[0]
 
 
-def identity(name: str = "enogate") -> tuple[int, set[int]] | None:
+def user_and_groups(name: str = "enogate") -> tuple[int, set[int]] | None:
     """The user and the groups with which the unit runs, or None if there is no such user."""
     try:
         user = pwd.getpwnam(name)
@@ -54,9 +55,14 @@ def identity(name: str = "enogate") -> tuple[int, set[int]] | None:
 class System:
     """A machine: `root` is put before the directories of the gateways, `proc` has its processes."""
 
-    def __init__(self, root: str = "", proc: str = "/proc", run=output_of, user=identity):
-        self.root, self.proc, self.run, self.user = root, proc, run, user()
+    def __init__(self, root: str = "", proc: str = "/proc", run=first_line_of, user=user_and_groups):
+        self.root, self.proc, self.run, self.identify = root, proc, run, user
         self.is_root = os.geteuid() == 0
+
+    @functools.cached_property
+    def user(self) -> tuple[int, set[int]] | None:
+        """The user and the groups with which the unit runs."""
+        return self.identify()
 
     def path(self, path: str) -> str:
         """A path on this machine."""
@@ -79,28 +85,34 @@ class System:
         numbers = sorted(int(name) for name in os.listdir(self.proc) if name.isdigit())
         return [self.process(number) for number in numbers if number != os.getpid()]
 
-    def gateway(self, desk: str) -> Process | None:
+    def gateway_at(self, desk: str) -> Process | None:
         """The gateway that reads this desk."""
         for process in self.processes():
-            if process.name == "enogate" and self.option(process, "--desk") == desk:
+            if process.name == "enogate" and self.option_value(process, "--desk") == desk:
                 return process
         return None
 
-    def start(self, folder: str) -> Process | None:
+    def main_process(self, folder: str) -> Process | None:
         """The main process of the unit with this folder. The one that runs this program looks for the cause of a fault,
         and does nothing else."""
         for process in self.processes():
-            if process.name == "enogate-port" and self.option(process, "--unit") == folder:
+            if process.name == "enogate-port" and self.option_value(process, "--unit") == folder:
                 return process if process.number != os.getppid() else None
         return None
 
-    def reads_of(self, process: Process) -> tuple[int | None, int | None]:
+    def age_of(self, process: Process) -> float:
+        """How long ago a process was started, in seconds; 0 if it has ended."""
+        fields = self.read(str(process.number), "stat").rpartition(")")[2].split()
+        uptime = self.read("uptime").split()
+        return float(uptime[0]) - int(fields[19]) / os.sysconf("SC_CLK_TCK") if fields and uptime else 0.0
+
+    def read_counts(self, process: Process) -> tuple[int | None, int | None]:
         """How many read calls a process has made, and how many bytes it has read; None if the kernel does not count."""
         counts = dict(re.findall(r"(rchar|syscr): (\d+)", self.read(str(process.number), "io")))
         calls, bytes_read = counts.get("syscr"), counts.get("rchar")
         return calls and int(calls), bytes_read and int(bytes_read)
 
-    def option(self, process: Process, name: str) -> str:
+    def option_value(self, process: Process, name: str) -> str:
         """The value of this option in the command line of a process, or nothing."""
         words = self.read(str(process.number), "cmdline").split("\0")
         for word, following in zip(words, words[1:]):
@@ -142,7 +154,7 @@ class System:
         for process in self.processes():
             files = self.open_files(process)
             sees_all &= files is not None
-            if any(is_same(file.status, status) for file in files or []):
+            if any(is_same_file(file.status, status) for file in files or []):
                 users.append(process)
         return users, sees_all
 
@@ -153,7 +165,7 @@ class System:
         numbers = re.findall(rf"^\d+: \w+ +\w+ +\w+ (\d+) {file} ", self.read("locks"), re.MULTILINE)
         return [self.process(number) for number in sorted(set(map(int, numbers)) - {os.getpid()})]
 
-    def may(self, path: str, rights: int) -> bool:
+    def may_access(self, path: str, rights: int) -> bool:
         """Whether the user of the unit has these rights on a path: 4 read, 2 write, 1 search. Without the user: yes."""
         if self.user is None:
             return True
@@ -161,12 +173,12 @@ class System:
         shift = 6 if status.st_uid == user else 3 if status.st_gid in groups else 0
         return user == 0 or stat.S_IMODE(status.st_mode) >> shift & rights == rights
 
-    def state(self, unit: str, question: str = "is-active") -> str:
+    def unit_state(self, unit: str, question: str = "is-active") -> str:
         """What systemctl answers about a unit, or nothing."""
         return self.run(["systemctl", question, unit])
 
 
-def is_same(one: os.stat_result, other: os.stat_result) -> bool:
+def is_same_file(one: os.stat_result, other: os.stat_result) -> bool:
     """Whether these are the same file, or the same device with whatever name."""
     if stat.S_ISCHR(one.st_mode) and stat.S_ISCHR(other.st_mode):
         return one.st_rdev == other.st_rdev

@@ -13,49 +13,49 @@ from typing import Protocol
 
 from . import desk, port as ports
 from .lines import NOTICE, WARNING, LineStore
-from .system import Process, System, is_same
-from .watch import Pauses, Sample, Watch
+from .system import Process, System, is_same_file
+from .watch import RestartPauses, Sample, Watch
 
 # How often it looks at the gateway, in seconds.
-LOOK = 1.0
+LOOK_PAUSE = 1.0
 # After so many looks a gateway that does not end is killed.
 KILLED_AFTER = 10
 # The pause before a start after a fault of the program, in seconds: the first one, which then doubles, and the longest
 # one. After a run of LONG_RUN seconds, the first one applies again.
 FIRST_WAIT, MAX_WAIT, LONG_RUN = 2.0, 60.0, 600.0
-PART = 1 << 16
+READ_SIZE = 1 << 16
 # The line of a module's response with its base ID: no other response to an order has four bytes of data. Lines are
 # searched for it, and not parsed: see lines.PACKET.
-REPORT = re.compile(rb'^\{"code":0,"data":"([0-9A-F]{8})","name":"OK","type":"response"\}$', re.MULTILINE)
+BASE_REPORT = re.compile(rb'^\{"code":0,"data":"([0-9A-F]{8})","name":"OK","type":"response"\}$', re.MULTILINE)
 
 
-class Starting(Protocol):
-    """Prepares a start of the gateway: enogate_tools.start.Starter."""
+class StarterOfUnit(Protocol):
+    """Prepares a start of the gateway: enogate_tools.start.PortStarter."""
 
-    def wait(self) -> int:
+    def wait_for_port(self) -> int:
         """Waits for the port, and returns it."""
 
     def command(self) -> list[str]:
         """The command of the gateway, once the base ID is known."""
 
-    def compare(self, reported: str) -> None:
+    def warn_of_other_base(self, reported: str) -> None:
         """The module has reported this base ID."""
 
-    def discard(self) -> None:
+    def discard_unsent(self) -> None:
         """The unit ends, perhaps while a port is being prepared."""
 
 
 class Unit:
     """Runs a gateway at a port with this path, with its desk in a folder and its lines in a file."""
 
-    def __init__(self, path: str, folder: str, lines: str, starter: Starting, say: Callable[[str, str], None],
-                 look: float = LOOK, clock: Callable[[], float] = time.monotonic,
+    def __init__(self, path: str, folder: str, lines: str, starter: StarterOfUnit, say: Callable[[str, str], None],
+                 look: float = LOOK_PAUSE, clock: Callable[[], float] = time.monotonic,
                  sleep: Callable[[float], None] = time.sleep):
         self.path, self.folder, self.starter = path, folder, starter
         self.say, self.look, self.clock, self.sleep = say, look, clock, sleep
         self.desk = os.path.join(folder, "desk")
         self.lines = LineStore(lines, say)
-        self.pauses, self.wait = Pauses(), FIRST_WAIT / 2
+        self.pauses, self.wait = RestartPauses(), FIRST_WAIT / 2
         self.gateway: subprocess.Popen[bytes] | None = None
         self.is_stopped = False
 
@@ -65,14 +65,14 @@ class Unit:
         signal.signal(signal.SIGTERM, self.stop)
         try:
             while (status := self.run_gateway()) is None:
-                desk.empty(self.desk)
+                desk.make_empty(self.desk)
         finally:
             self.close()
         return status
 
     def run_gateway(self) -> int | None:
         """Runs the gateway once. Returns the exit status of the unit, or None if it is to be started again."""
-        port, command, started = self.starter.wait(), self.starter.command(), self.clock()
+        port, command, started = self.starter.wait_for_port(), self.starter.command(), self.clock()
         try:
             # SIGXFSZ and SIGPIPE stay ignored: a write that fails is an error of the gateway, which it reports
             self.gateway = subprocess.Popen(command, stdout=subprocess.PIPE, restore_signals=False)
@@ -80,18 +80,18 @@ class Unit:
             self.say("", f"{command[0]} cannot be run: {error.strerror}")
             # systemd does not start the unit again after 127, but memory may be free later
             return 127 if isinstance(error, (FileNotFoundError, PermissionError)) else 1
-        fault = Run(self, self.gateway, port).follow()
+        fault = GatewayRun(self, self.gateway, port).follow()
         status, self.gateway = self.gateway.wait(), None
         is_unplugged, node = ports.is_hung_up(port), os.fstat(port)
-        ports.release(port)
+        ports.close_port(port)
         if self.is_stopped:
             self.end_stopped()
         if fault:
             self.say(WARNING, f"{fault}; the gateway is started again")
             return None
-        if not self.explain_end(status, is_unplugged, node):
+        if not self.log_end(status, is_unplugged, node):
             return status if status >= 0 else 128 - status
-        self.explain_fault()
+        self.log_fault_cause()
         self.sleep_before_start(self.clock() - started)
         return None
 
@@ -105,16 +105,16 @@ class Unit:
 
     def end_stopped(self) -> None:
         """Ends the unit, which is stopped."""
-        self.starter.discard()
+        self.starter.discard_unsent()
         self.close()
-        end_by(signal.SIGTERM)
+        end_by_signal(signal.SIGTERM)
 
     def close(self) -> None:
         """Stores the lines that wait. A signal that came meanwhile would store them twice."""
         signal.signal(signal.SIGTERM, signal.SIG_IGN)
         self.lines.close()
 
-    def explain_end(self, status: int, is_unplugged: bool, node: os.stat_result) -> bool:
+    def log_end(self, status: int, is_unplugged: bool, node: os.stat_result) -> bool:
         """Logs why the gateway has ended. Returns whether its program reported a fault for another reason."""
         try:
             now = os.stat(self.path)
@@ -129,10 +129,10 @@ class Unit:
             self.say(NOTICE, f"exited after {turns} read cycles (TURNS), with the stick plugged in")
         return status == 1
 
-    def explain_fault(self) -> None:
+    def log_fault_cause(self) -> None:
         """Looks for the cause of a fault."""
         name = os.path.basename(self.folder)
-        if run_check(name) == 0:
+        if run_enogate_check(name) == 0:
             self.say(NOTICE, f"no cause found; more is checked by: sudo enogate-check {name}")
 
     def sleep_before_start(self, ran: float) -> None:
@@ -142,7 +142,7 @@ class Unit:
         self.sleep(self.wait)
 
 
-class Run:
+class GatewayRun:
     """One run of the gateway."""
 
     def __init__(self, unit: Unit, gateway: subprocess.Popen[bytes], port: int):
@@ -168,11 +168,11 @@ class Run:
                     # reads would now return at once, without data, until all turns are over
                     poll.unregister(self.port)
                     self.end()
-                elif text := os.read(output, PART):
-                    for report in REPORT.finditer(lines.add(text)):
-                        self.unit.starter.compare(report[1].decode())
+                elif text := os.read(output, READ_SIZE):
+                    for report in BASE_REPORT.finditer(lines.add(text)):
+                        self.unit.starter.warn_of_other_base(report[1].decode())
                 else:
-                    lines.end()
+                    lines.drop_unended()
                     self.gateway.stdout.close()
                     return self.fault
             lines.store()
@@ -187,8 +187,8 @@ class Run:
             if self.ending == KILLED_AFTER:
                 self.gateway.kill()
             return
-        fault = self.watch.see(self.sample())
-        if fault and self.unit.pauses.allows(now):
+        fault = self.watch.fault_at(self.take_sample())
+        if fault and self.unit.pauses.take_restart(now):
             self.fault = fault
             self.end()
 
@@ -196,18 +196,20 @@ class Run:
         self.ending = 0
         self.gateway.terminate()
 
-    def sample(self) -> Sample:
+    def take_sample(self) -> Sample:
         """The gateway as it is now."""
         process = Process(self.gateway.pid, "enogate")
-        calls, received = self.system.reads_of(process)
+        calls, received = self.system.read_counts(process)
         try:
             desk = os.stat(self.unit.desk)
         except OSError:
             desk = None
         files = self.system.open_files(process) or []
-        offset = next((file.offset for file in files if desk and file.is_read_only and is_same(file.status, desk)), 0)
+        read = (file for file in files if desk and file.is_read_only)
+        offset = next((file.offset for file in read if is_same_file(file.status, desk)), 0)
         return Sample(calls, None if received is None else received - offset, self.unit.lines.count,
-                      self.unit.lines.packets, offset, desk.st_size - offset if desk else 0, ports.unsent(self.port))
+                      self.unit.lines.packets, offset, desk.st_size - offset if desk else 0,
+                      ports.unsent_bytes(self.port))
 
 
 def is_same_node(one: os.stat_result, other: os.stat_result) -> bool:
@@ -215,13 +217,13 @@ def is_same_node(one: os.stat_result, other: os.stat_result) -> bool:
     return (one.st_dev, one.st_ino) == (other.st_dev, other.st_ino)
 
 
-def end_by(number: int) -> None:
+def end_by_signal(number: int) -> None:
     """Ends this process by a signal, as systemd expects it of a unit that it stops."""
     signal.signal(number, signal.SIG_DFL)
     os.kill(os.getpid(), number)
 
 
-def run_check(name: str) -> int:
+def run_enogate_check(name: str) -> int:
     """Looks for the cause of a fault. Returns 0 if none was found."""
     try:
         return subprocess.run(["enogate-check", "--quiet", name], stdin=subprocess.DEVNULL, stdout=2, check=False

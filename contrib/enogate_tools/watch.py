@@ -3,16 +3,17 @@ from __future__ import annotations
 
 from dataclasses import dataclass
 
-# A fault is reported after so many looks, one a second: STUCK without a read call or a line, UNREAD with reads at which
-# no order was read although some wait or the desk was truncated, or UNSENT at which the stick took no byte that waits,
-# and brought none. The module answers within 0.5 s (ESP3), and a slow disk may delay a commit for a few seconds.
-STUCK, UNREAD, UNSENT = 30, 30, 10
+# A fault is reported after so many looks, one a second: STUCK_LOOKS without a read call or a line, UNREAD_LOOKS with
+# reads at which no order was read although some wait or the desk was truncated, or UNSENT_LOOKS at which the stick took
+# no byte that waits, and brought none. The module answers within 0.5 s (ESP3), and a slow disk may delay a commit for a
+# few seconds.
+STUCK_LOOKS, UNREAD_LOOKS, UNSENT_LOOKS = 30, 30, 10
 # No packet was complete at so many looks since a byte came, and bytes came at so many of these looks: the gateway may
 # be waiting for up to 65,535 bytes after a damaged header.
-NO_PACKET, BURSTS = 60, 5
+PACKETLESS_LOOKS, MIN_BURSTS = 60, 5
 # The shortest time between two restarts by the watchdog, in seconds: at first, at most, and how long after a restart
 # the first one applies again.
-FIRST_PAUSE, MAX_PAUSE, FORGOTTEN = 60.0, 3600.0, 86400.0
+FIRST_PAUSE, MAX_PAUSE, FORGOTTEN_AFTER = 60.0, 3600.0, 86400.0
 
 
 @dataclass(frozen=True)
@@ -44,7 +45,7 @@ class Watch:
         # the looks since the first byte after the last packet, and those at which bytes had come
         self.looks = self.bursts = 0
 
-    def see(self, now: Sample) -> str:
+    def fault_at(self, now: Sample) -> str:
         """What is wrong at this look; empty if nothing is."""
         last, self.last = self.last, now
         if last is None:
@@ -55,22 +56,23 @@ class Watch:
         # between two reads it carries out a part of its orders, which takes long if the disk is slow
         self.unread = self.unread + has_read if now.unread and last.unread and now.offset == last.offset else 0
         self.unsent = self.unsent + 1 if now.unsent and last.unsent and not comes else 0
-        self.listen(comes, now, last)
-        if self.unsent >= UNSENT:
-            return f"the stick at {self.path} has taken no bytes for {UNSENT} s, {now.unsent} are waiting"
-        if self.stuck >= STUCK:
-            return (f"the gateway has read nothing for {STUCK} s: perhaps the stick at {self.path} takes no bytes, or "
-                    "the disk does not answer")
-        if self.unread >= UNREAD and now.unread < 0:
+        self.count_looks_without_packet(comes, now, last)
+        if self.unsent >= UNSENT_LOOKS:
+            return f"the stick at {self.path} has taken no bytes for {UNSENT_LOOKS} s, {now.unsent} are waiting"
+        if self.stuck >= STUCK_LOOKS:
+            return (f"the gateway has read nothing for {STUCK_LOOKS} s: perhaps the stick at {self.path} takes no "
+                    "bytes, or the disk does not answer")
+        if self.unread >= UNREAD_LOOKS and now.unread < 0:
             return f"the desk was truncated: the next {-now.unread} bytes of orders would be lost"
-        if self.unread >= UNREAD:
-            return f"{now.unread} bytes of orders have not been read for {UNREAD} s: perhaps the desk was replaced"
-        if self.explains and self.looks >= NO_PACKET and self.bursts >= BURSTS:
-            return (f"bytes come from the stick at {self.path}, but no packet for {NO_PACKET} s: they are damaged, or "
-                    "this is not the port of a radio module")
+        if self.unread >= UNREAD_LOOKS:
+            return (f"{now.unread} bytes of orders have not been read for {UNREAD_LOOKS} s: perhaps the desk was "
+                    "replaced")
+        if self.explains and self.looks >= PACKETLESS_LOOKS and self.bursts >= MIN_BURSTS:
+            return (f"bytes come from the stick at {self.path}, but no packet for {PACKETLESS_LOOKS} s: they are "
+                    "damaged, or this is not the port of a radio module")
         return ""
 
-    def listen(self, comes: bool, now: Sample, last: Sample) -> None:
+    def count_looks_without_packet(self, comes: bool, now: Sample, last: Sample) -> None:
         """Counts the looks since bytes came without a packet. While an order is carried out, the gateway may read the
         database."""
         is_asked = self.is_asked or now.offset != last.offset or now.lines != last.lines
@@ -82,17 +84,17 @@ class Watch:
             self.bursts += comes and not is_asked
 
 
-class Pauses:
+class RestartPauses:
     """When the watchdog may restart the gateway again: a restart that does not help only loses telegrams and orders."""
 
     def __init__(self) -> None:
         self.pause, self.last = FIRST_PAUSE, float("-inf")
 
-    def allows(self, now: float) -> bool:
+    def take_restart(self, now: float) -> bool:
         """Whether to restart it at this time; if so, this counts as a restart."""
         if now < self.last + self.pause:
             return False
-        if self.last == float("-inf") or now >= self.last + FORGOTTEN:
+        if self.last == float("-inf") or now >= self.last + FORGOTTEN_AFTER:
             self.pause = FIRST_PAUSE
         else:
             self.pause = min(2 * self.pause, MAX_PAUSE)

@@ -13,20 +13,20 @@ from typing import Callable, TypeVar
 
 from broker import Broker, Listener
 from programs import lines_of, wait_for
-from services import BASE, Bridge, Gateway, Stick, of_type
+from services import BASE, Bridge, Gateway, Stick, lines_of_type
 
 PYTHON = "/usr/bin/python3"
 MAY_SKIP = not os.environ.get("SKIP_NOTHING")
-OWN = "enogate/hall"
-ONLINE, OFFLINE = f"{OWN}/status online", f"{OWN}/status offline"
+TOPIC_ROOT = "enogate/hall"
+ONLINE, OFFLINE = f"{TOPIC_ROOT}/status online", f"{TOPIC_ROOT}/status offline"
 # The client as which the bridge reads what the broker retains.
 READER = "enogate-hall.reader"
 RESPONSE = f'{{"code":0,"data":"{BASE}","name":"OK","type":"response"}}'
 # The parts of a failure's report: the first lines of a difference, the last lines of each journal and of what was
 # published, each limited to its first characters.
-MOST_DIFFERENT, MOST, WIDEST = 60, 12, 240
+MAX_DIFFERENT_LINES, MAX_SHOWN_LINES, MAX_WIDTH = 60, 12, 240
 # These are not compared: they depend on the time, or on how often the bridge has asked.
-VARYING = ("/last_seen", "/counters")
+VARYING_TOPIC_ENDS = ("/last_seen", "/counters")
 Seen = TypeVar("Seen")
 
 
@@ -38,7 +38,7 @@ def has_module(name: str) -> bool:
 
 
 @functools.cache
-def is_missing() -> str:
+def missing_requirement() -> str:
     """Why the bridge cannot be tried at a broker on this computer; empty if it can."""
     for program in (PYTHON, "mosquitto", "mosquitto_pub", "mosquitto_sub", "mosquitto_passwd", "openssl", "bash"):
         if not shutil.which(program):
@@ -46,23 +46,23 @@ def is_missing() -> str:
     return "" if has_module("paho.mqtt.client") else "python3-paho-mqtt is not installed"
 
 
-def shown(line: str) -> str:
+def printable_start(line: str) -> str:
     """A line as a failure shows it: the first characters, without line breaks and control characters."""
-    return "".join(it if it.isprintable() else repr(it)[1:-1] for it in line[:WIDEST])
+    return "".join(it if it.isprintable() else repr(it)[1:-1] for it in line[:MAX_WIDTH])
 
 
-def rows(value: object) -> list[str]:
+def value_lines(value: object) -> list[str]:
     """A value as lines: each member of a list or a dictionary is one."""
     if isinstance(value, dict):
         return [f"{key} {value[key]}" for key in sorted(value)]
     return list(map(str, value)) if isinstance(value, list) else str(value).splitlines()
 
 
-def difference(wanted: object, seen: object) -> str:
+def difference_lines(wanted: object, seen: object) -> str:
     """The lines that are different, each with the lines next to it."""
-    lines = list(difflib.unified_diff(rows(wanted), rows(seen), "wanted", "seen", n=1, lineterm=""))
-    more = [f"({len(lines) - MOST_DIFFERENT} more lines)"] if len(lines) > MOST_DIFFERENT else []
-    return "\n".join([*map(shown, lines[:MOST_DIFFERENT]), *more])
+    lines = list(difflib.unified_diff(value_lines(wanted), value_lines(seen), "wanted", "seen", n=1, lineterm=""))
+    more = [f"({len(lines) - MAX_DIFFERENT_LINES} more lines)"] if len(lines) > MAX_DIFFERENT_LINES else []
+    return "\n".join([*map(printable_start, lines[:MAX_DIFFERENT_LINES]), *more])
 
 
 class BridgeTest(unittest.TestCase):
@@ -72,8 +72,8 @@ class BridgeTest(unittest.TestCase):
 
     @classmethod
     def setUpClass(cls) -> None:
-        if MAY_SKIP and is_missing():
-            raise unittest.SkipTest(is_missing())
+        if MAY_SKIP and missing_requirement():
+            raise unittest.SkipTest(missing_requirement())
 
     def shortDescription(self) -> None:
         """Only the names of tests are printed, without their docstrings."""
@@ -93,12 +93,13 @@ class BridgeTest(unittest.TestCase):
         self.bridge.start(**settings)
         self.assert_published(ONLINE)
 
-    def context(self) -> str:
+    def failure_context(self) -> str:
         """The report of a failure, besides the difference."""
         parts = {"what was published": self.heard.messages(), "the gateway": lines_of(self.bridge.lines_path)}
         parts |= {path.name: lines_of(path) for path in sorted(self.work.glob("enogate*.journal"))}
-        return "\n".join(line for name, lines in parts.items() if lines
-                         for line in (f"last lines of {name}:", *(f"    {shown(line)}" for line in lines[-MOST:])))
+        shown = {name: [f"    {printable_start(line)}" for line in lines[-MAX_SHOWN_LINES:]]
+                 for name, lines in parts.items() if lines}
+        return "\n".join(line for name, lines in shown.items() for line in (f"last lines of {name}:", *lines))
 
     def assert_soon(self, see: Callable[[], Seen], wanted: Seen) -> None:
         """`see` returns this within ten seconds."""
@@ -106,7 +107,7 @@ class BridgeTest(unittest.TestCase):
 
     def assert_seen(self, seen: object, wanted: object) -> None:
         if seen != wanted:
-            self.fail(f"this is not what was wanted:\n{difference(wanted, seen)}\n{self.context()}")
+            self.fail(f"this is not what was wanted:\n{difference_lines(wanted, seen)}\n{self.failure_context()}")
 
     def assert_published(self, *wanted: str) -> None:
         """Each of these messages was published. If not, what was published on their topics is shown."""
@@ -117,11 +118,11 @@ class BridgeTest(unittest.TestCase):
         if not is_complete(messages):
             topics = {message.split(" ")[0] for message in wanted}
             seen = [message for message in messages if message.split(" ")[0] in topics]
-            self.assert_seen(seen[-MOST:], list(wanted))
+            self.assert_seen(seen[-MAX_SHOWN_LINES:], list(wanted))
 
     def assert_lines(self, *lines: str) -> None:
         """Each of these lines of the gateway was published."""
-        self.assert_published(*(f"{OWN}/lines {line}" for line in lines))
+        self.assert_published(*(f"{TOPIC_ROOT}/lines {line}" for line in lines))
 
     def assert_logged(self, text: str) -> None:
         """A line of the bridge's journal begins with this text."""
@@ -132,28 +133,28 @@ class BridgeTest(unittest.TestCase):
 
         journal = wait_for(self.bridge.journal, has_it)
         if not has_it(journal):
-            self.assert_seen(journal[-MOST:], [wanted])
+            self.assert_seen(journal[-MAX_SHOWN_LINES:], [wanted])
 
     def published(self) -> list[str]:
         """The messages that were published besides lines and counters, sorted."""
-        others = (f"{OWN}/lines ", f"{OWN}/counters ")
+        others = (f"{TOPIC_ROOT}/lines ", f"{TOPIC_ROOT}/counters ")
         return sorted(message for message in self.heard.messages() if not message.startswith(others))
 
     def published_lines(self, kind: str = "") -> list[str]:
         """The lines of the gateway that were published: those of this type, or all."""
-        start = f"{OWN}/lines "
+        start = f"{TOPIC_ROOT}/lines "
         messages = [message for message in self.heard.messages() if message.startswith(start)]
-        return of_type([message.removeprefix(start) for message in messages], kind)
+        return lines_of_type([message.removeprefix(start) for message in messages], kind)
 
     def retained(self) -> dict[str, str]:
         """The messages that the broker retains, by topic, without the parts that vary."""
-        return {topic: text for topic, text in self.broker.retained().items() if not topic.endswith(VARYING)}
+        return {topic: text for topic, text in self.broker.retained().items() if not topic.endswith(VARYING_TOPIC_ENDS)}
 
-    def pass_a_cycle(self) -> None:
+    def wait_for_a_cycle(self) -> None:
         """Waits until the bridge has looked at its lines: it handles messages before them, in each of its cycles."""
         for _ in range(2):
             before = self.heard.messages().count(ONLINE)
-            self.broker.publish(f"{OWN}/status", "offline")
+            self.broker.publish(f"{TOPIC_ROOT}/status", "offline")
             self.assert_soon(lambda: self.heard.messages().count(ONLINE) - before, 1)
 
 
@@ -175,20 +176,23 @@ class GatewayTest(BridgeTest):
 
     def order(self, *orders: str) -> None:
         """Gives orders at the desk itself, and waits for a line for each."""
-        self.print_lines(lambda: self.gateway.order(*orders), len(orders))
+        self.act_and_wait_for_lines(lambda: self.gateway.order(*orders), len(orders))
 
     def bring(self, device: str, *telegrams: str) -> None:
         """A device sends telegrams. Waits for a reading line for each."""
-        self.print_lines(lambda: self.stick.bring(device, *telegrams), len(telegrams), "reading")
+        self.act_and_wait_for_lines(lambda: self.stick.bring(device, *telegrams), len(telegrams), "reading")
 
-    def print_lines(self, act: Callable[[], None], count: int, kind: str = "") -> None:
+    def act_and_wait_for_lines(self, act: Callable[[], None], count: int, kind: str = "") -> None:
         """Does something, and waits until the gateway has printed this many lines of this type, or more."""
-        before = len(of_type(self.gateway.lines(), kind))
+        def line_count() -> int:
+            return len(lines_of_type(self.gateway.lines(), kind))
+
+        before = line_count()
         act()
-        printed = wait_for(lambda: len(of_type(self.gateway.lines(), kind)) - before, lambda printed: printed >= count)
+        printed = wait_for(lambda: line_count() - before, lambda printed: printed >= count)
         self.assert_seen(f"{min(printed, count)} new lines of the gateway", f"{count} new lines of the gateway")
 
-    def settle(self) -> None:
+    def wait_until_handled(self) -> None:
         """Waits until the bridge has handled everything that the gateway has printed (an invalid order is answered),
         and has compared the retained messages."""
         before = len(self.published_lines("error"))

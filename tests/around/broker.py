@@ -11,12 +11,12 @@ import subprocess
 from programs import Program, lines_of, wait_for
 
 GUIDE = pathlib.Path(__file__).resolve().parents[2] / "docs" / "guide" / "mqtt.md"
-PEOPLE = ("people", "people-secret")
-BRIDGE = ("bridge", "bridge-secret")
+PEOPLE_LOGIN = ("people", "people-secret")
+BRIDGE_LOGIN = ("bridge", "bridge-secret")
 # A subscription to this topic, as the last one, is answered after everything else that is retained.
-END = "test/end"
-PROBE = "test/probe"
-KEY = ["-newkey", "ec", "-pkeyopt", "ec_paramgen_curve:P-256", "-nodes"]
+END_TOPIC = "test/end"
+PROBE_TOPIC = "test/probe"
+NEW_KEY_OPTIONS = ["-newkey", "ec", "-pkeyopt", "ec_paramgen_curve:P-256", "-nodes"]
 
 
 def free_ports(count: int) -> list[int]:
@@ -34,27 +34,28 @@ class Certificates:
     def __init__(self, folder: pathlib.Path):
         self.folder = folder
 
-    def openssl(self, *words: str) -> None:
+    def run_openssl(self, *words: str) -> None:
         subprocess.run(["openssl", *words], cwd=self.folder, check=True, capture_output=True)
 
     def add_authority(self, name: str) -> None:
         """A certificate that signs itself."""
-        self.openssl("req", "-x509", *KEY, "-days", "2", "-subj", f"/CN={name}", "-keyout", f"{name}.key",
-                     "-out", f"{name}.crt")
+        self.run_openssl("req", "-x509", *NEW_KEY_OPTIONS, "-days", "2", "-subj", f"/CN={name}",
+                         "-keyout", f"{name}.key", "-out", f"{name}.crt")
 
     def add(self, name: str, host: str, authority: str) -> None:
         """A certificate for this host, which the authority signs."""
-        self.openssl("req", *KEY, "-keyout", f"{name}.key", "-out", f"{name}.csr", "-subj", f"/CN={host}")
+        self.run_openssl("req", *NEW_KEY_OPTIONS, "-keyout", f"{name}.key", "-out", f"{name}.csr",
+                         "-subj", f"/CN={host}")
         (self.folder / f"{name}.ext").write_text(f"subjectAltName=DNS:{host}\n")
-        self.openssl("x509", "-req", "-in", f"{name}.csr", "-CA", f"{authority}.crt", "-CAkey", f"{authority}.key",
-                     "-CAcreateserial", "-days", "2", "-extfile", f"{name}.ext", "-out", f"{name}.crt")
+        self.run_openssl("x509", "-req", "-in", f"{name}.csr", "-CA", f"{authority}.crt", "-CAkey", f"{authority}.key",
+                         "-CAcreateserial", "-days", "2", "-extfile", f"{name}.ext", "-out", f"{name}.crt")
 
 
-def rights() -> str:
+def access_rules() -> str:
     """The bridge has the rights that the guide lists, and no others."""
     found = re.search(r"^user enogate\n((?:topic .*\n)+)```$", GUIDE.read_text(), re.MULTILINE)
     assert found, f"{GUIDE} lists no rights"
-    return f"user {PEOPLE[0]}\ntopic readwrite #\nuser {BRIDGE[0]}\n{found[1]}"
+    return f"user {PEOPLE_LOGIN[0]}\ntopic readwrite #\nuser {BRIDGE_LOGIN[0]}\n{found[1]}"
 
 
 class Broker(Program):
@@ -64,10 +65,10 @@ class Broker(Program):
         super().__init__(work / "broker.journal")
         self.work, self.config = work, work / "broker.conf"
         self.port, self.tls_port = free_ports(2)
-        for number, (user, password) in enumerate((PEOPLE, BRIDGE)):
+        for number, (user, password) in enumerate((PEOPLE_LOGIN, BRIDGE_LOGIN)):
             words = ["mosquitto_passwd", *([] if number else ["-c"]), "-b", str(work / "users"), user, password]
             subprocess.run(words, check=True, capture_output=True)
-        (work / "rights").write_text(rights())
+        (work / "rights").write_text(access_rules())
         self.config.write_text(
             f"user {pwd.getpwuid(os.geteuid()).pw_name}\nper_listener_settings false\nallow_anonymous false\n"
             f"password_file {work}/users\nacl_file {work}/rights\npersistence false\nlistener {self.port} localhost\n")
@@ -80,20 +81,21 @@ class Broker(Program):
 
     def start(self) -> None:
         self.run(["mosquitto", "-c", self.config])
-        answered = wait_for(lambda: self.client("pub", "-r", "-t", END, "-m", "end"), lambda run: run.returncode == 0)
+        answered = wait_for(lambda: self.run_client("pub", "-r", "-t", END_TOPIC, "-m", "end"),
+                            lambda run: run.returncode == 0)
         assert answered.returncode == 0, (answered, self.journal())
 
-    def words(self, kind: str, *words: str) -> list[str]:
+    def client_command(self, kind: str, *words: str) -> list[str]:
         """The command of a client of the user `people`."""
-        return [f"mosquitto_{kind}", "-p", str(self.port), "-u", PEOPLE[0], "-P", PEOPLE[1], *words]
+        return [f"mosquitto_{kind}", "-p", str(self.port), "-u", PEOPLE_LOGIN[0], "-P", PEOPLE_LOGIN[1], *words]
 
-    def client(self, kind: str, *words: str, payload: bytes = b"") -> subprocess.CompletedProcess[bytes]:
-        return subprocess.run(self.words(kind, *words), input=payload, capture_output=True)
+    def run_client(self, kind: str, *words: str, payload: bytes = b"") -> subprocess.CompletedProcess[bytes]:
+        return subprocess.run(self.client_command(kind, *words), input=payload, capture_output=True)
 
     def publish(self, topic: str, payload: str | bytes, *words: str) -> None:
         """Publishes a message; `-r` retains it."""
         payload = payload.encode() if isinstance(payload, str) else payload
-        self.client("pub", "-t", topic, "-s" if payload else "-n", *words, payload=payload).check_returncode()
+        self.run_client("pub", "-t", topic, "-s" if payload else "-n", *words, payload=payload).check_returncode()
 
     def has_client(self, name: str) -> bool:
         """Whether a client of this name is connected."""
@@ -102,21 +104,21 @@ class Broker(Program):
 
     def retained(self) -> dict[str, str]:
         """The messages that the broker retains, by topic."""
-        filters = [word for topic in ("enogate/#", "homeassistant/#", END) for word in ("-t", topic)]
-        words = self.words("sub", "--retained-only", "-W", "10", "-F", "%t %x", *filters)
+        filters = [word for topic in ("enogate/#", "homeassistant/#", END_TOPIC) for word in ("-t", topic)]
+        words = self.client_command("sub", "--retained-only", "-W", "10", "-F", "%t %x", *filters)
         found = {}
         with subprocess.Popen(words, stdout=subprocess.PIPE, text=True) as client:
             assert client.stdout is not None
             for line in client.stdout:
-                topic, payload = message(line)
-                if topic == END:
+                topic, payload = topic_and_payload(line)
+                if topic == END_TOPIC:
                     client.kill()
                     return found
                 found[topic] = payload
         raise AssertionError(f"not everything that is retained was received: {found}")
 
 
-def message(line: str) -> tuple[str, str]:
+def topic_and_payload(line: str) -> tuple[str, str]:
     """The topic and the payload in a line of a subscriber, which has the payload in hexadecimal digits."""
     topic, _, digits = line.partition(" ")
     return topic, bytes.fromhex(digits).decode(errors="backslashreplace")
@@ -132,12 +134,12 @@ class Listener(Program):
     def start(self) -> None:
         """Starts to listen, and forgets earlier messages."""
         self.path.write_bytes(b"")
-        self.run(self.broker.words("sub", "-R", "-t", "#", "-F", "%t %x"), out=self.path)
-        assert wait_for(self.hears, bool), self.journal()
+        self.run(self.broker.client_command("sub", "-R", "-t", "#", "-F", "%t %x"), out=self.path)
+        assert wait_for(self.has_heard, bool), self.journal()
         self.forget()
 
-    def hears(self) -> bool:
-        self.broker.publish(PROBE, "")
+    def has_heard(self) -> bool:
+        self.broker.publish(PROBE_TOPIC, "")
         return bool(lines_of(self.path))
 
     def forget(self) -> None:
@@ -146,5 +148,5 @@ class Listener(Program):
 
     def messages(self) -> list[str]:
         """The messages, each as TOPIC PAYLOAD, in their sequence."""
-        found = map(message, lines_of(self.path)[self.forgotten:])
-        return [" ".join(one) for one in found if one[0] != PROBE]
+        found = map(topic_and_payload, lines_of(self.path)[self.forgotten:])
+        return [" ".join(one) for one in found if one[0] != PROBE_TOPIC]

@@ -22,10 +22,15 @@ from services import CONTRIB
 PAGE = CONTRIB / "cockpit/enogate"
 SERVER = "/usr/lib/cockpit/cockpit-ws"
 UNIT = "/etc/systemd/system/multi-user.target.wants/enogate@{name}.service"
-# A stand-in for systemctl: the state of each service is in a file.
+# A stand-in for systemctl: the state of each service is in a file, and the orders to services are in another one.
 SYSTEMCTL = """#!/bin/sh
 for unit; do :; done
-cat "{folder}/$unit" 2>/dev/null || printf 'ActiveState=inactive\\nSubState=dead\\n'
+case $1 in
+start | restart)
+    echo "$*" >>"{folder}/orders"
+    printf 'ActiveState=active\\nSubState=running\\n' >"{folder}/$unit" ;;
+*) cat "{folder}/$unit" 2>/dev/null || printf 'ActiveState=inactive\\nSubState=dead\\n' ;;
+esac
 """
 
 
@@ -71,6 +76,11 @@ class Machine:
 
     def disable(self, name: str) -> None:
         os.unlink(UNIT.format(name=name))
+
+    def orders(self) -> list[str]:
+        """The orders that the services were given."""
+        path = self.services / "orders"
+        return path.read_text().splitlines() if path.exists() else []
 
     def set_state(self, name: str, active: str, sub: str) -> None:
         """Sets the state of its service."""
@@ -167,6 +177,14 @@ class Browser:
 
     def click(self, selector: str) -> None:
         self.find(selector).click()
+
+    def resize(self, width: int, height: int) -> None:
+        """The page has this size from now on, as on a phone."""
+        size = {"width": width, "height": height, "deviceScaleFactor": 1, "mobile": True}
+        self.driver.execute_cdp_cmd("Emulation.setDeviceMetricsOverride", size)
+
+    def reset_size(self) -> None:
+        self.driver.execute_cdp_cmd("Emulation.clearDeviceMetricsOverride", {})
 
     def type(self, selector: str, text: str) -> None:
         """Replaces the text of a field."""

@@ -12,36 +12,37 @@ from fractions import Fraction
 from oracle.profiles import BLIND, FOUR_BYTE, MEASUREMENT, STATE, SWITCHES, VARIABLE_LENGTH
 
 # The units and the state classes that Home Assistant allows for a device class, and how it writes units of profiles.
-MEASURED, COUNTED = {"measurement"}, {"total", "total_increasing"}
-SENSORS = {
-    "temperature": ({"°C"}, MEASURED), "humidity": ({"%"}, MEASURED), "illuminance": ({"lx"}, MEASURED),
-    "voltage": ({"V"}, MEASURED), "carbon_dioxide": ({"ppm"}, MEASURED), "power": ({"W", "kW"}, MEASURED),
-    "energy": ({"Wh", "kWh"}, COUNTED), "gas": ({"m³"}, COUNTED), "water": ({"m³"}, COUNTED),
+MEASURED_STATES, COUNTED_STATES = {"measurement"}, {"total", "total_increasing"}
+SENSOR_CLASSES = {
+    "temperature": ({"°C"}, MEASURED_STATES), "humidity": ({"%"}, MEASURED_STATES),
+    "illuminance": ({"lx"}, MEASURED_STATES), "voltage": ({"V"}, MEASURED_STATES),
+    "carbon_dioxide": ({"ppm"}, MEASURED_STATES), "power": ({"W", "kW"}, MEASURED_STATES),
+    "energy": ({"Wh", "kWh"}, COUNTED_STATES), "gas": ({"m³"}, COUNTED_STATES), "water": ({"m³"}, COUNTED_STATES),
 }
-WRITTEN = {"C": "°C", "m3": "m³", "l/s": "L/s"}
-CLASSES = {
-    "sensor": {*SENSORS, None}, "binary_sensor": {"opening", "motion", "problem", None}, "event": {"button"},
+UNITS_AS_WRITTEN = {"C": "°C", "m3": "m³", "l/s": "L/s"}
+CLASSES_BY_COMPONENT = {
+    "sensor": {*SENSOR_CLASSES, None}, "binary_sensor": {"opening", "motion", "problem", None}, "event": {"button"},
     "switch": {None}, "light": {None}, "cover": {"blind"}, "-": {None},
 }
 # The words for the page and enogatectl, and those for Home Assistant.
-FOR_PEOPLE = {"say", "normal", "detail"}
-KEYS = {"class", "state", "unit", "digits", "on", "off", "options", "types", "diagnostic", "hidden", "cyclic",
-        *FOR_PEOPLE}
+KEYS_FOR_PEOPLE = {"say", "normal", "detail"}
+ROW_KEYS = {"class", "state", "unit", "digits", "on", "off", "options", "types", "diagnostic", "hidden", "cyclic",
+            *KEYS_FOR_PEOPLE}
 
 # The units of values that only grow: meters and actuators count them. All other values go up and down.
-GROWING = {"Ws", "Wh", "kWh", "m3"}
+GROWING_UNITS = {"Ws", "Wh", "kWh", "m3"}
 # The words of switches that are neither a press nor a release: EB reports a press beside its rocker.
-NO_EVENT = {("EB", "pressed"), ("buttons", "none")}
+WORDS_WITHOUT_EVENT = {("EB", "pressed"), ("buttons", "none")}
 # D2-01 of EnOcean Equipment Profiles 2.6: the types that dim, and those with two channels. The others have one.
-DIMMING = {"02", "03", "04", "05", "09"}
-TWO_CHANNELS = {"10", "11", "12"}
+DIMMING_TYPES = {"02", "03", "04", "05", "09"}
+TWO_CHANNEL_TYPES = {"10", "11", "12"}
 # Of these profiles the device chooses the resolution: at most so many digits after the point.
-CHOSEN = {"A5-12": 3}
+MAX_CHOSEN_DIGITS = {"A5-12": 3}
 # The profiles of devices that send at intervals.
-CYCLIC = {"D5-00", "A5-02", "A5-04", "A5-06", "A5-07", "A5-08", "A5-09", "A5-10"}
+CYCLIC_PROFILES = {"D5-00", "A5-02", "A5-04", "A5-06", "A5-07", "A5-08", "A5-09", "A5-10"}
 # The reading that drives an actuator, and the number in a reading of a channel or a tariff.
-DRIVEN = {"D2-01": "OV", "D2-05": "POS"}
-NUMBERED = {"A5-12": "TI", "D2-01": "IO", "D2-05": "CHN"}
+DRIVING_READINGS = {"D2-01": "OV", "D2-05": "POS"}
+NUMBER_READINGS = {"A5-12": "TI", "D2-01": "IO", "D2-05": "CHN"}
 
 
 def rows_by_profile():
@@ -52,24 +53,24 @@ def rows_by_profile():
         yield eep, BLIND if eep == "D2-05-00" else STATE + MEASUREMENT
 
 
-def values(kind, length):
+def values_of_row(kind, length):
     """The values of a row that are numbers, by ascending raw number."""
     read = [kind(number, "0" * 64) for number in range(2 ** min(length, 10))]
     return [Fraction(one["num"], one["den"]) if "num" in one else Fraction(one["raw"]) for one in read
             if "num" in one or "raw" in one]
 
 
-def digits_of(eep, name, unit):
+def fewest_digits(eep, name, unit):
     """The fewest digits after the point with which adjacent raw numbers look different."""
     kinds = [(kind, length) for profile, rows in rows_by_profile() if profile == eep
              for row, _offset, length, _condition, kind in rows
-             if row == name and unit in said(kind, length)[0] | {"-"}]
-    found = [value for kind, length in kinds[:1] for value in values(kind, length)]
+             if row == name and unit in units_and_words(kind, length)[0] | {"-"}]
+    found = [value for kind, length in kinds[:1] for value in values_of_row(kind, length)]
     return next(digits for digits in range(10) if all(
         f"{float(one):.{digits}f}" != f"{float(other):.{digits}f}" for one, other in zip(found, found[1:])))
 
 
-def said(kind, length):
+def units_and_words(kind, length):
     """The units and the words of a row, and whether it has numbers without a unit."""
     units, words, is_plain = set(), set(), False
     for number in range(2 ** length) if length <= 10 else [0, 1]:
@@ -80,37 +81,37 @@ def said(kind, length):
     return units, words, is_plain
 
 
-def readings():
+def words_by_reading():
     """Each reading of each profile: (profile, name, unit), with its words. A word beside values has their unit."""
     found = {}
     for eep, rows in rows_by_profile():
         for name, _offset, length, _condition, kind in rows:
-            units, words, is_plain = said(kind, length)
+            units, words, is_plain = units_and_words(kind, length)
             for unit in units or {"-"}:
                 found.setdefault((eep, name, unit), set()).update(words or ({"0", "1"} if is_plain else set()))
     return found
 
 
-def fits(line, reading):
+def is_line_of(line, reading):
     return fnmatch.fnmatchcase(reading[0], line[0]) and tuple(line[1:3]) == reading[1:]
 
 
-def component(reading):
+def driving_component(reading):
     """The kind of entity that drives an actuator by this reading, or None."""
     eep, name, _unit = reading
-    if DRIVEN.get(eep[:5]) != name:
+    if DRIVING_READINGS.get(eep[:5]) != name:
         return None
-    return "cover" if eep[:5] == "D2-05" else "light" if eep[6:] in DIMMING else "switch"
+    return "cover" if eep[:5] == "D2-05" else "light" if eep[6:] in DIMMING_TYPES else "switch"
 
 
-def numbers(reading):
+def numbers_text(reading):
     """How the numbers of the entities of a reading are written in a line. What an actuator measures has no entity
     before it is reported."""
     eep, name, _unit = reading
-    if eep[:5] not in NUMBERED:
+    if eep[:5] not in NUMBER_READINGS:
         return "-"
-    count = 2 if eep[:5] == "D2-01" and eep[6:] in TWO_CHANNELS else 1
-    return f"{NUMBERED[eep[:5]]}{'?' if name == 'MV' else ':'}{count}"
+    count = 2 if eep[:5] == "D2-01" and eep[6:] in TWO_CHANNEL_TYPES else 1
+    return f"{NUMBER_READINGS[eep[:5]]}{'?' if name == 'MV' else ':'}{count}"
 
 
 def faults_of_words(entity, more, reading, words):
@@ -118,28 +119,28 @@ def faults_of_words(entity, more, reading, words):
     own = {more[key] for key in ("on", "off") if key in more}
     own |= set("|".join(more[key] for key in ("options", "types") if key in more).split("|")) - {""}
     if entity == "event":
-        words = {word for word in words if (reading[1], word) not in NO_EVENT}
+        words = {word for word in words if (reading[1], word) not in WORDS_WITHOUT_EVENT}
     has_words = entity in ("event", "binary_sensor") or "options" in more
     if own != (words if has_words else set()):
         yield "other words"
     if entity == "binary_sensor" and not {"on", "off"} <= more.keys():
         yield "a binary sensor without its two words"
-    if not more.keys() <= KEYS or "unit" in more and entity != "sensor":
+    if not more.keys() <= ROW_KEYS or "unit" in more and entity != "sensor":
         yield "a word that an entity of this kind has not"
 
 
 def faults_of_sensor(more, unit):
     """The faults of a sensor for values of this unit."""
-    written = WRITTEN.get(unit, unit)
-    units, states = SENSORS.get(more.get("class"), ({written}, MEASURED | COUNTED))
+    written = UNITS_AS_WRITTEN.get(unit, unit)
+    units, states = SENSOR_CLASSES.get(more.get("class"), ({written}, MEASURED_STATES | COUNTED_STATES))
     state = more.get("state")
     if more.get("unit", "-") != written or written not in units:
         yield "another unit"
-    if unit != "-" and state != ("total_increasing" if unit in GROWING else "measurement"):
+    if unit != "-" and state != ("total_increasing" if unit in GROWING_UNITS else "measurement"):
         yield "another state class"
     if state not in {*states, None}:
         yield "a state class that its class has not"
-    if "class" not in more and written != "%" and any(written in units for units, _ in SENSORS.values()):
+    if "class" not in more and written != "%" and any(written in units for units, _ in SENSOR_CLASSES.values()):
         yield "no class"
 
 
@@ -147,20 +148,20 @@ def faults_of_digits(entity, more, reading):
     """The faults in how many digits of a number are shown."""
     if (entity == "sensor" and ("unit" in more or "state" in more)) != ("digits" in more):
         yield "digits without a number, or the other way round"
-    elif "digits" in more and reading[0][:5] in CHOSEN:
-        if not 0 <= int(more["digits"]) <= CHOSEN[reading[0][:5]]:
+    elif "digits" in more and reading[0][:5] in MAX_CHOSEN_DIGITS:
+        if not 0 <= int(more["digits"]) <= MAX_CHOSEN_DIGITS[reading[0][:5]]:
             yield "too many digits"
-    elif "digits" in more and int(more["digits"]) != digits_of(*reading):
-        yield f"{more['digits']} digits, and not {digits_of(*reading)}"
+    elif "digits" in more and int(more["digits"]) != fewest_digits(*reading):
+        yield f"{more['digits']} digits, and not {fewest_digits(*reading)}"
 
 
 def faults_of(line, reading, words):
     """The faults of a line for this reading."""
     _profiles, _name, unit, topic, by, entity, title, *more = line
     more = dict(word.partition("=")[::2] for word in more)
-    if more.get("class") not in CLASSES[entity]:
+    if more.get("class") not in CLASSES_BY_COMPONENT[entity]:
         yield "an unknown class"
-    if (entity == "-") != (topic == "-") or entity == "-" and (by != "-" or more.keys() - FOR_PEOPLE):
+    if (entity == "-") != (topic == "-") or entity == "-" and (by != "-" or more.keys() - KEYS_FOR_PEOPLE):
         yield "a topic without an entity, or the other way round"
     if title == "-" and "say" not in more:
         yield "no name for people"
@@ -170,13 +171,14 @@ def faults_of(line, reading, words):
     yield from faults_of_digits(entity, more, reading)
     if entity == "sensor":
         yield from faults_of_sensor(more, unit)
-    if component(reading) not in (None, entity) or entity in ("switch", "light", "cover") and not component(reading):
+    driving = driving_component(reading)
+    if driving not in (None, entity) or entity in ("switch", "light", "cover") and not driving:
         yield "an entity of another kind"
-    if entity != "-" and by != numbers(reading):
+    if entity != "-" and by != numbers_text(reading):
         yield "other numbers"
-    if (title == "-") != (entity == "-" or component(reading) is not None and not by.endswith("2")):
+    if (title == "-") != (entity == "-" or driving_component(reading) is not None and not by.endswith("2")):
         yield "a name that it has not, or none"
-    if ("cyclic" in more) != (entity != "-" and reading[0][:5] in CYCLIC):
+    if ("cyclic" in more) != (entity != "-" and reading[0][:5] in CYCLIC_PROFILES):
         yield "it is cyclic and the device not, or the other way round"
     if not 100 <= int(more.get("cyclic", 100)) <= 1800:
         yield "a device that sends at another interval"
@@ -186,9 +188,9 @@ def main():
     with open(sys.argv[1], encoding="utf-8") as file:
         lines = [shlex.split(line, comments=True) for line in file]
     lines, used, wrong = [line for line in lines if line], set(), []
-    every = readings()
+    every = words_by_reading()
     for reading, words in every.items():
-        line = next((line for line in lines if fits(line, reading)), None)
+        line = next((line for line in lines if is_line_of(line, reading)), None)
         if line is None:
             wrong.append(f"{reading} has no line")
             continue

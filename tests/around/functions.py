@@ -5,15 +5,15 @@
 import ast
 import sys
 
-MOST, WIDEST = 40, 120
+MAX_FUNCTION_LINES, MAX_COLUMNS = 40, 120
 
-wrong = []
+faults = []
 for path in sys.argv[1:]:
     with open(path, encoding="utf-8") as file:
         text = file.read()
     for node in ast.walk(ast.parse(text)):
-        if isinstance(node, ast.FunctionDef) and node.end_lineno - node.lineno >= MOST:
-            wrong.append(f"{path}: {node.name} has {node.end_lineno - node.lineno + 1} lines")
-    wrong += [f"{path}: {line[:40]}.." for line in text.split("\n") if len(line) > WIDEST]
-print(*wrong, sep="\n", end="\n" if wrong else "")
-sys.exit(bool(wrong))
+        if isinstance(node, ast.FunctionDef) and node.end_lineno - node.lineno >= MAX_FUNCTION_LINES:
+            faults.append(f"{path}: {node.name} has {node.end_lineno - node.lineno + 1} lines")
+    faults += [f"{path}: {line[:40]}.." for line in text.split("\n") if len(line) > MAX_COLUMNS]
+print(*faults, sep="\n", end="\n" if faults else "")
+sys.exit(bool(faults))

@@ -12,14 +12,14 @@ STATUS = {"ignored": 0, "mode": "closed", "readings": 0, "refused": 0, "response
 RESPONSE = {"code": 0, "data": "FF800000", "name": "OK", "type": "response"}
 
 
-def reading(device, channel):
+def line_of_reading(device, channel):
     numbers = {"PF": 0, "PFD": 0, "OC": 0, "IO": channel, "LC": 1}
     readings = [{"name": name, "raw": number} for name, number in numbers.items()]
     readings += [{"name": "EL", "word": "ok"}, {"den": 1, "name": "OV", "num": 100, "unit": "%"}]
     return {"dbm": -45, "eep": "D2-01-12", "id": device, "readings": readings, "type": "reading"}
 
 
-def answers(order, devices):
+def answer_lines(order, devices):
     if order == "list":
         yield from ({"eep": "D2-01-12", "id": name, "label": "", "maker": 70, "type": "device"} for name in devices)
         yield {"count": len(devices), "type": "list"}
@@ -33,16 +33,16 @@ def answers(order, devices):
 def main():
     devices = [f"{0x01800000 + number:08X}" for number in range(int(sys.argv[3]))]
     with open(sys.argv[1], "w+", encoding="utf-8") as desk, open(sys.argv[2], "a", encoding="utf-8") as lines:
-        def write(found):
+        def write_line(found):
             lines.write("".join(json.dumps(line, separators=(",", ":")) + "\n" for line in found))
             lines.flush()
         if "--readings" in sys.argv:
-            write(reading(name, channel) for name in devices for channel in (0, 1))
+            write_line(line_of_reading(name, channel) for name in devices for channel in (0, 1))
         rest = ""
         while True:
             *orders, rest = (rest + desk.read(256)).split("\n")
             for order in orders:
-                write(answers(order, devices))
+                write_line(answer_lines(order, devices))
             time.sleep(0.1)
 
 

@@ -4,7 +4,7 @@ from __future__ import annotations
 from bridge_testcase import GatewayTest
 
 # The ID and the profile of each device, and its telegrams as RORG PAYLOAD or RORG PAYLOAD STATUS.
-KINDS: tuple[tuple[str, str, tuple[str, ...]], ...] = (
+DEVICES_OF_EACH_KIND: tuple[tuple[str, str, tuple[str, ...]], ...] = (
     ("01800A01", "D5-00-01", ("D5 09",)),
     ("01800A02", "A5-02-05", ("A5 00007F08",)),
     ("01800A03", "A5-04-01", ("A5 007DFA0A",)),
@@ -24,8 +24,8 @@ KINDS: tuple[tuple[str, str, tuple[str, ...]], ...] = (
     ("01800ABC", "D2-01-12", ("D2 0461E4", "D2 0760000004D2")),
     ("01800ABD", "D2-05-00", ("D2 327F0004",)),
 )
-ADDED = tuple(f"add {device} {profile}" for device, profile, _ in KINDS)
-END_OF_LIST = f'{{"count":{len(KINDS)},"type":"list"}}'
+ADD_ORDERS = tuple(f"add {device} {profile}" for device, profile, _ in DEVICES_OF_EACH_KIND)
+END_OF_LIST = f'{{"count":{len(DEVICES_OF_EACH_KIND)},"type":"list"}}'
 
 
 class KindsTest(GatewayTest):
@@ -34,14 +34,14 @@ class KindsTest(GatewayTest):
     def bring_all(self) -> None:
         """Each device sends its telegrams, and the bridge publishes what they say."""
         def bring() -> None:
-            for device, _, telegrams in KINDS:
+            for device, _, telegrams in DEVICES_OF_EACH_KIND:
                 self.stick.bring(device, *telegrams)
 
-        self.print_lines(bring, sum(len(telegrams) for _, _, telegrams in KINDS), "reading")
-        self.settle()
+        self.act_and_wait_for_lines(bring, sum(len(telegrams) for _, _, telegrams in DEVICES_OF_EACH_KIND), "reading")
+        self.wait_until_handled()
 
     def start_all(self) -> None:
         """Adds the devices, and starts the bridge. Then each device sends its telegrams."""
-        self.order(*ADDED)
+        self.order(*ADD_ORDERS)
         self.start_bridge()
         self.bring_all()

@@ -10,12 +10,12 @@ import sys
 kit = pathlib.Path(sys.argv[1])
 root = pathlib.Path(__file__).resolve().parents[2]
 # For each license whose text the package contains: how the text begins, after the notices of a crate.
-BEGINNINGS = {"Expat": "Permission is hereby granted", "BSD-3-Clause": "Redistribution and use"}
+LICENSE_BEGINNINGS = {"Expat": "Permission is hereby granted", "BSD-3-Clause": "Redistribution and use"}
 paragraphs = re.split(r"\n\n+", (root / "packaging/debian/copyright").read_text())
 fields = [dict(re.findall(r"^([A-Z]\w+):((?:.*\n?)(?:[ \t].*\n?)*)", text + "\n", re.MULTILINE)) for text in paragraphs]
 
 
-def used(crate):
+def used_crates(crate):
     """The crates of the toolchain that a crate names, except for those that are its own modules."""
     sources = [path for path in (kit / crate / "src").rglob("*.rt") if "tests" not in path.parts]
     own = {path.stem for path in sources} | {path.parent.name for path in sources}
@@ -31,35 +31,35 @@ def all_crates():
     while todo:
         crate = todo.pop()
         found.add(crate)
-        todo |= used(crate) - found
+        todo |= used_crates(crate) - found
     return sorted(found)
 
 
-def plain(text):
+def joined_words(text):
     """A text without its lines, and without what marks the empty ones of a paragraph."""
     return " ".join(re.sub(r"^ \.$", "", text, flags=re.M).split())
 
 
-texts = {name["License"].split("\n")[0].strip(): plain(name["License"].partition("\n")[2])
+texts = {name["License"].split("\n")[0].strip(): joined_words(name["License"].partition("\n")[2])
          for name in fields if "License" in name and "Files" not in name}
-wrong = []
+faults = []
 for crate in all_crates():
     for license in sorted((kit / crate).glob("LICENSE*")):
         text = license.read_text()
-        kind = next((name for name, beginning in BEGINNINGS.items() if beginning in text), "Apache-2.0")
+        kind = next((name for name, beginning in LICENSE_BEGINNINGS.items() if beginning in text), "Apache-2.0")
         notices = []
-        if kind in BEGINNINGS:
+        if kind in LICENSE_BEGINNINGS:
             notices = [line.strip() for line in text.split("\n") if line.startswith("Copyright")]
-            if plain(text[text.index(BEGINNINGS[kind]):]) != texts.get(kind):
-                wrong.append(f"{crate}: {license.name} has another text")
+            if joined_words(text[text.index(LICENSE_BEGINNINGS[kind]):]) != texts.get(kind):
+                faults.append(f"{crate}: {license.name} has another text")
         elif "Apache License" not in text:
-            wrong.append(f"{crate}: {license.name} is no license that this script knows")
+            faults.append(f"{crate}: {license.name} is no license that this script knows")
         own = [field for field in fields if field.get("Files", "").strip() == f"rattle/{crate}/*"]
         if not own or kind not in own[0]["License"]:
-            wrong.append(f"{crate}: no paragraph with the license {kind}")
+            faults.append(f"{crate}: no paragraph with the license {kind}")
         else:
-            wrong += [f"{crate}: {line}" for line in notices if line not in own[0]["Copyright"]]
+            faults += [f"{crate}: {line}" for line in notices if line not in own[0]["Copyright"]]
     if not any(path for path in (kit / crate).glob("LICENSE*")) and (kit / crate / "NOTICE").exists():
-        wrong.append(f"{crate}: a notice without a license")
-print(*wrong, sep="\n", end="\n" if wrong else "")
-sys.exit(bool(wrong))
+        faults.append(f"{crate}: a notice without a license")
+print(*faults, sep="\n", end="\n" if faults else "")
+sys.exit(bool(faults))

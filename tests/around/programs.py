@@ -10,7 +10,7 @@ from typing import Callable, Self, Sequence, TypeVar
 
 # How long a test waits for an event, and how long a program runs if the test is killed, in seconds.
 WITHIN = 10.0
-LIFE = 600
+MAX_LIFE = 600
 PAUSE = 0.02
 Seen = TypeVar("Seen")
 
@@ -44,7 +44,7 @@ class Program:
 
     def run(self, words: Sequence[str | pathlib.Path], out: str | pathlib.Path = os.devnull, **variables: str) -> None:
         """Starts it with these words and environment variables. Its standard output is appended to the file `out`."""
-        words = ["timeout", str(LIFE), *words]
+        words = ["timeout", str(MAX_LIFE), *words]
         with open(out, "ab") as output, open(self.journal_path, "wb") as journal:
             self.process = subprocess.Popen(words, stdin=subprocess.DEVNULL, stdout=output, stderr=journal,
                                             env={**os.environ, **variables}, process_group=0)

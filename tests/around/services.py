@@ -8,7 +8,7 @@ import sqlite3
 import subprocess
 import sys
 
-from broker import BRIDGE, Broker
+from broker import BRIDGE_LOGIN, Broker
 from oracle.esp3 import packet, telegram
 from programs import Program, lines_of, wait_for
 
@@ -21,7 +21,7 @@ CTL = CONTRIB / "enogatectl"
 BASE = "FF800000"
 
 
-def of_type(lines: list[str], kind: str) -> list[str]:
+def lines_of_type(lines: list[str], kind: str) -> list[str]:
     """The lines of a gateway that are of this type; all of them without a type."""
     return [line for line in lines if not kind or line.endswith(f'"type":"{kind}"}}')]
 
@@ -109,7 +109,7 @@ class Gateway(Unit):
         with self.lines_path.open("a") as lines:
             lines.write(text)
 
-    def lose(self, count: int) -> None:
+    def zero_end(self, count: int) -> None:
         """The last bytes of its lines become NUL bytes, as a power failure leaves them."""
         with self.lines_path.open("r+b") as lines:
             lines.seek(-count, os.SEEK_END)
@@ -127,16 +127,17 @@ class Bridge(Unit):
         super().__init__(work, "enogate-mqtt")
         self.broker = broker
         self.password = work / "bridge.password"
-        self.password.write_text(BRIDGE[1] + "\n")
+        self.password.write_text(BRIDGE_LOGIN[1] + "\n")
 
     def start(self, **settings: str) -> None:
         """Starts it with the user and the password that it has at the broker, and these settings besides. Devices are
         shown at once, and actuators are not asked for their states."""
-        login = {"MQTT_PORT": str(self.broker.port), "MQTT_USER": BRIDGE[0], "MQTT_PASSWORD_FILE": str(self.password)}
+        login = {"MQTT_PORT": str(self.broker.port), "MQTT_USER": BRIDGE_LOGIN[0],
+                 "MQTT_PASSWORD_FILE": str(self.password)}
         own = {"MQTT_EXPIRE_AFTER": "7200", "MQTT_LABEL_SECONDS": "0", "MQTT_QUERY": "no"}
         self.run_unit(**{**own, **login, **settings})
 
-    def saved(self) -> int:
+    def saved_offset(self) -> int:
         """Up to which offset its state file says that the lines were read; 0 if it does not say it yet."""
         with contextlib.closing(sqlite3.connect(f"file:{self.state}?mode=ro", uri=True)) as connection:
             row = connection.execute("SELECT offset FROM place").fetchone()

@@ -12,10 +12,10 @@ import sys
 
 import jinja2
 
-SAMPLES = ("0", "50", "100", "unknown")
-JSON = {"event_type": "AI", "readings": 1, "responses": 2, "teach": 3, "ignored": 4, "refused": 5}
+SAMPLE_VALUES = ("0", "50", "100", "unknown")
+SAMPLE_JSON = {"event_type": "AI", "readings": 1, "responses": 2, "teach": 3, "ignored": 4, "refused": 5}
 # The entities that each device has, by the ends of their names.
-EVERYWHERE = {
+ENTITIES_OF_EVERY_DEVICE = {
     "dbm": {
         "name": "Signal strength", "device_class": "signal_strength", "state_class": "measurement",
         "unit_of_measurement": "dBm", "entity_category": "diagnostic", "enabled_by_default": False,
@@ -38,24 +38,25 @@ engine = jinja2.Environment(undefined=jinja2.StrictUndefined)
 engine.filters["is_number"] = is_number
 
 
-def rendered(template):
+def rendered_results(template):
     """The results of a template."""
-    samples = [{"value_json": JSON}] if "value_json" in template else [{"value": sample} for sample in SAMPLES]
+    values = [{"value": sample} for sample in SAMPLE_VALUES]
+    samples = [{"value_json": SAMPLE_JSON}] if "value_json" in template else values
     return [engine.from_string(template).render(sample) for sample in samples]
 
 
-def fact(key, value):
+def fact_text(key, value):
     """A key and its value, as one text."""
     if key == "availability":
         value = [f"{one.pop('topic')}{one or ''}" for one in value]
     elif key.endswith("template"):
-        value = rendered(value)
+        value = rendered_results(value)
     if isinstance(value, list):
         value = "|".join(value)
     return f"{key}={'' if value is None else value}"
 
 
-class Shown:
+class ShownEntities:
     """The contents of the messages of a gateway."""
 
     def __init__(self, name, seconds):
@@ -63,7 +64,7 @@ class Shown:
         # the descriptions of the devices by their identifiers, the versions of the bridge, and the printed entities
         self.devices, self.versions, self.entities, self.everywhere = {}, set(), [], {}
 
-    def take(self, topic, config):
+    def add_message(self, topic, config):
         """Reads a message."""
         _, component, node, name, end = topic.split("/")
         device, origin = config.pop("device"), config.pop("origin")
@@ -72,27 +73,27 @@ class Shown:
         (identifier,) = device.pop("identifiers")
         assert self.devices.setdefault(identifier, device) == device, topic
         if component == "device_automation":
-            self.take_trigger(topic, name, config)
+            self.check_trigger(topic, name, config)
         else:
             assert config.pop("unique_id") == f"enogate_{self.name}_{name}", topic
         if identifier != node:
-            self.take_alike(topic, component, name, identifier, config)
+            self.check_common_parts(topic, component, name, identifier, config)
         if config:
             assert config.get("expire_after", self.seconds) == self.seconds, topic
             words = ["    expires"] if config.pop("expire_after", None) else []
-            facts = [f"    {fact(*item)}" for item in sorted(config.items())]
+            facts = [f"    {fact_text(*item)}" for item in sorted(config.items())]
             self.entities.append([f"{component} {name}", *facts, *words])
 
-    def take_trigger(self, topic, name, config):
+    def check_trigger(self, topic, name, config):
         """Checks what all triggers have alike."""
         device, place, _ = name.split("_", 2)
         assert config.pop("automation_type") == "trigger", topic
         assert config.pop("topic") == f"enogate/{self.name}/{device}/{place}", topic
-        assert rendered(config.pop("value_template")) == [JSON["event_type"]], topic
+        assert rendered_results(config.pop("value_template")) == [SAMPLE_JSON["event_type"]], topic
         kind = config.pop("payload")
         assert (name, config.pop("subtype")) == (f"{device}_{place}_{kind}", kind), topic
 
-    def take_alike(self, topic, component, name, identifier, config):
+    def check_common_parts(self, topic, component, name, identifier, config):
         """Checks what all entities and triggers of devices have alike."""
         device, place = name.split("_", 1)
         own = f"enogate/{self.name}"
@@ -102,12 +103,13 @@ class Shown:
         states = [{"topic": f"{own}/{name}"} for name in ("status", "gateway", "module")]
         assert config.pop("availability") == states, topic
         assert config.pop("availability_mode") == "all", topic
-        if place in EVERYWHERE:
-            assert component == "sensor" and config == {**EVERYWHERE[place], "state_topic": f"{own}/{device}/{place}"}
+        if place in ENTITIES_OF_EVERY_DEVICE:
+            wanted = {**ENTITIES_OF_EVERY_DEVICE[place], "state_topic": f"{own}/{device}/{place}"}
+            assert component == "sensor" and config == wanted
             self.everywhere.setdefault(identifier, set()).add(place)
             config.clear()
 
-    def check(self):
+    def check_devices(self):
         """Checks what holds of all messages together."""
         gateway, (version,) = f"enogate_{self.name}", self.versions
         assert re.fullmatch(r"\d+\.\d+\.\d+", version), version
@@ -116,9 +118,9 @@ class Shown:
             if identifier != gateway:
                 assert device.pop("via_device") == gateway, identifier
                 assert device.pop("serial_number") == identifier.removeprefix(f"{gateway}_"), identifier
-                assert self.everywhere.get(identifier) == set(EVERYWHERE), identifier
+                assert self.everywhere.get(identifier) == set(ENTITIES_OF_EVERY_DEVICE), identifier
 
-    def print(self):
+    def print_all(self):
         for identifier, device in sorted(self.devices.items()):
             facts = (f"{key}={value}" for key, value in sorted(device.items()))
             print(f"device {identifier.removeprefix(f'enogate_{self.name}_')}", *facts)
@@ -127,12 +129,12 @@ class Shown:
 
 
 def main():
-    shown = Shown(sys.argv[1], int(sys.argv[2]) if len(sys.argv) > 2 else None)
+    shown = ShownEntities(sys.argv[1], int(sys.argv[2]) if len(sys.argv) > 2 else None)
     for line in sys.stdin:
         topic, payload = line.rstrip("\n").split(" ", 1)
-        shown.take(topic, json.loads(payload))
-    shown.check()
-    shown.print()
+        shown.add_message(topic, json.loads(payload))
+    shown.check_devices()
+    shown.print_all()
 
 
 main()

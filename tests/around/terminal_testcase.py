@@ -22,7 +22,7 @@ PAUSE = 0.02
 AN_HOUR = 36000
 
 
-class Program:
+class BackgroundProgram:
     """A program in the background, which is killed at the end of the test. The file `output` gets what it prints."""
 
     def __init__(self, *words: str | pathlib.Path, output: pathlib.Path):
@@ -30,7 +30,7 @@ class Program:
         with output.open("wb") as file:
             self.process = subprocess.Popen(words, stdin=subprocess.DEVNULL, stdout=file, stderr=file)
 
-    def __enter__(self) -> Program:
+    def __enter__(self) -> BackgroundProgram:
         return self
 
     def __exit__(self, *_: object) -> None:
@@ -50,7 +50,7 @@ class Program:
     def printed(self) -> str:
         return text_of(self.output.read_bytes())
 
-    def ending(self) -> str:
+    def status_and_output(self) -> str:
         """Whether it still runs, or its status, and what it has printed."""
         status = "still runs" if not self.has_ended() else f"has ended with status {self.process.returncode}"
         return f"{status}, and has printed {self.printed()!r}"
@@ -60,13 +60,13 @@ class TerminalTest(LiveTest):
     """The serial line is a stick. Orders are given in `orders`, which is the desk, and lines are read in `lines`, which
     is the file of answers."""
 
-    gateway: Program
+    gateway: BackgroundProgram
 
     def setUp(self) -> None:
         super().setUp()
         self.orders, self.lines = self.desk, self.answers
         self.outputs = pathlib.Path(self.enterContext(tempfile.TemporaryDirectory()))
-        self.programs: dict[str, Program] = {}
+        self.programs: dict[str, BackgroundProgram] = {}
         self.plug_in()
 
     def plug_in(self, tenths: int = 1) -> None:
@@ -75,20 +75,21 @@ class TerminalTest(LiveTest):
         self.line = self.stick.path
         self.wanted_sent = b""
 
-    def begin(self, name: str, *words: str | pathlib.Path, output: pathlib.Path | None = None) -> Program:
+    def start_program(self, name: str, *words: str | pathlib.Path, output: pathlib.Path | None = None
+                      ) -> BackgroundProgram:
         """Starts a program in the background, in place of an earlier one of this name."""
-        program = self.enterContext(Program(*words, output=output or self.outputs / name))
+        program = self.enterContext(BackgroundProgram(*words, output=output or self.outputs / name))
         self.programs[name] = program
         return program
 
-    def launch(self, *options: str | pathlib.Path, turns: int = AN_HOUR) -> None:
+    def start_gateway(self, *options: str | pathlib.Path, turns: int = AN_HOUR) -> None:
         """Starts a gateway."""
         self.wanted_lines = ""
-        self.gateway = self.begin("the gateway", PROGRAM, *self.live_words(*options, turns=turns))
+        self.gateway = self.start_program("the gateway", PROGRAM, *self.live_words(*options, turns=turns))
 
     def start(self, *options: str | pathlib.Path, turns: int = AN_HOUR) -> None:
         """Starts a gateway, and waits until there is a file of answers, which it opens last."""
-        self.launch(*options, turns=turns)
+        self.start_gateway(*options, turns=turns)
         self.assert_made(self.answers)
 
     def order(self, text: str, *lines: str, sent: bytes = b"") -> None:
@@ -96,21 +97,21 @@ class TerminalTest(LiveTest):
         desk = os.open(self.orders, os.O_WRONLY | os.O_APPEND | os.O_NOCTTY)
         os.write(desk, text.encode())
         os.close(desk)
-        self.expect(*lines, sent=sent)
+        self.assert_new_output(*lines, sent=sent)
 
     def bring(self, received: bytes, *lines: str, sent: bytes = b"") -> None:
         """The stick receives these bytes. They are answered with these lines and these bytes."""
         self.stick.bring(received)
-        self.expect(*lines, sent=sent)
+        self.assert_new_output(*lines, sent=sent)
 
-    def expect(self, *lines: str, sent: bytes = b"") -> None:
+    def assert_new_output(self, *lines: str, sent: bytes = b"") -> None:
         """After what was expected before, exactly these lines are written, and these bytes are sent."""
         self.wanted_lines += "".join(lines)
         self.wanted_sent += sent
-        self.assert_comes("the lines", self.written, self.wanted_lines)
+        self.assert_comes("the lines", self.written_lines, self.wanted_lines)
         self.assert_comes("the bytes sent to the stick", lambda: self.stick.sent.hex(), self.wanted_sent.hex())
 
-    def written(self) -> str:
+    def written_lines(self) -> str:
         """The lines that the gateway has written."""
         return text_of(self.lines.read_bytes()) if self.lines.exists() else ""
 
@@ -135,7 +136,7 @@ class TerminalTest(LiveTest):
         if seen != wanted:
             pair = wanted.splitlines(), seen.splitlines()
             lines = difflib.unified_diff(*pair, "wanted", "seen", n=1, lineterm="")
-            endings = (f"{name} {program.ending()}" for name, program in self.programs.items())
+            endings = (f"{name} {program.status_and_output()}" for name, program in self.programs.items())
             self.fail("\n".join([f"{what}, wanted and seen:", *lines, *endings]))
 
     def assert_end(self, status: int, printed: str = "") -> None:
@@ -143,15 +144,15 @@ class TerminalTest(LiveTest):
         with contextlib.suppress(subprocess.TimeoutExpired):
             self.gateway.process.wait(WITHIN)
         wanted = f"has ended with status {status}, and has printed {printed!r}"
-        self.assert_seen("the end of the gateway", self.gateway.ending(), wanted)
+        self.assert_seen("the end of the gateway", self.gateway.status_and_output(), wanted)
 
-    def assert_nothing_else(self) -> None:
+    def assert_no_other_output(self) -> None:
         """The gateway, which has ended, has written no other line, and sent no other byte, than what was expected."""
         self.stick.collect_all(WITHIN)
-        self.expect()
+        self.assert_new_output()
 
     def end(self) -> None:
         """A signal ends the gateway, and it has done nothing else than what was expected."""
         self.gateway.process.terminate()
         self.assert_end(-signal.SIGTERM)
-        self.assert_nothing_else()
+        self.assert_no_other_output()

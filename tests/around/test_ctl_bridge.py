@@ -11,12 +11,12 @@ import threading
 import time
 from typing import Callable
 
-from bridge_testcase import OWN, GatewayTest
+from bridge_testcase import TOPIC_ROOT, GatewayTest
 from ctl_testcase import OK, REFUSED, Run
 from enogate_ctl.fence import needed
 from oracle.esp3 import sent
 from programs import WITHIN, lines_of, wait_for
-from services import BASE, CONTRIB, of_type
+from services import BASE, CONTRIB, lines_of_type
 
 # The command, with the files of its gateway and its bridge below a directory.
 COMMAND = """import functools, sys
@@ -43,7 +43,7 @@ class WithBridge(GatewayTest):
         (self.work / "var").symlink_to(self.work)
         self.order(f"add {SENSOR} A5-02-05", f"add {NEVER_HEARD} A5-02-05", f"label {SENSOR} Attic")
         self.start_bridge()
-        self.settle()
+        self.wait_until_handled()
 
     def ctl(self, *words: str) -> Run:
         """Runs a command for the gateway."""
@@ -65,8 +65,8 @@ class Orders(WithBridge):
         """Gives an order with enogatectl. It has this exit status and prints this text, or an error with it."""
         self.given.append(order)
         run = self.ctl(*order.split(" "))
-        shown = run.out if status == OK else run.err
-        if run.status != status or (text and text not in shown) or (run.err if status == OK else run.out):
+        printable_start = run.out if status == OK else run.err
+        if run.status != status or (text and text not in printable_start) or (run.err if status == OK else run.out):
             self.wrong.append((order, run))
         return run.out
 
@@ -93,9 +93,9 @@ class Orders(WithBridge):
         for turn in range(MESSAGES):
             device = f"0190AA{turn:02X}"
             orders = f"add {device} {SWITCH}", f"label {device} Message {turn}", "status", "status"
-            self.broker.publish(f"{OWN}/orders", "\n".join(orders))
-            self.broker.publish(f"{OWN}/{device}/OV/{turn}/set", "ON")
-            self.broker.publish(f"{OWN}/learn/set", "OFF" if turn % 2 else "ON")
+            self.broker.publish(f"{TOPIC_ROOT}/orders", "\n".join(orders))
+            self.broker.publish(f"{TOPIC_ROOT}/{device}/OV/{turn}/set", "ON")
+            self.broker.publish(f"{TOPIC_ROOT}/learn/set", "OFF" if turn % 2 else "ON")
             self.stick.bring(SENSOR, "A5 00007F08", "A5 00007F08")
             time.sleep(PAUSE)
 
@@ -110,7 +110,7 @@ class Orders(WithBridge):
     def test_orders_of_the_bridge_and_of_two_programs_at_once(self):
         """The programs give 44 orders, and the bridge receives 36."""
         self.at_once(lambda: self.give_all(1), lambda: self.give_all(2), self.publish)
-        self.settle()
+        self.wait_until_handled()
         with self.subTest("each exit status and each answer is right"):
             self.assert_seen(self.wrong, [])
         with self.subTest("the bridge has given orders of its own"):
@@ -157,8 +157,8 @@ class Orders(WithBridge):
     def assert_answered(self) -> None:
         """Each order on the desk has one answer."""
         def count() -> tuple[int, int]:
-            answers = sum(len(of_type(self.gateway.lines(), kind)) for kind in ENDS)
-            return answers - len(lines_of(self.gateway.desk)), len(of_type(self.gateway.lines(), "reading"))
+            answers = sum(len(lines_of_type(self.gateway.lines(), kind)) for kind in ENDS)
+            return answers - len(lines_of(self.gateway.desk)), len(lines_of_type(self.gateway.lines(), "reading"))
         self.assert_soon(count, (0, 2 * MESSAGES))
 
     def state(self) -> dict[str, str]:
@@ -170,18 +170,19 @@ class Orders(WithBridge):
         """The bridge has published each line, and has the devices with their labels. The learn window is closed, as the
         last message wanted. A bridge that begins without a state file makes the broker retain the same."""
         self.assert_soon(self.state, self.wanted())
-        self.assert_soon(lambda: self.gateway.size() - self.bridge.saved(), 0)
+        self.assert_soon(lambda: self.gateway.size() - self.bridge.saved_offset(), 0)
         printed = self.gateway.lines()
         self.assert_soon(lambda: self.published_lines()[-100:], printed[-100:])
         retained = self.retained()
-        self.assert_seen({topic: retained.get(f"{OWN}/{topic}") for topic in ("status", "gateway", "module", "learn")},
+        topics = "status", "gateway", "module", "learn"
+        self.assert_seen({topic: retained.get(f"{TOPIC_ROOT}/{topic}") for topic in topics},
                          {"status": "online", "gateway": "online", "module": "online", "learn": "OFF"})
         self.bridge.end()
         for file in self.bridge.state.parent.iterdir():
             file.unlink()
         self.heard.forget()
         self.start_bridge()
-        self.settle()
+        self.wait_until_handled()
         self.assert_seen(self.retained(), retained)
 
 

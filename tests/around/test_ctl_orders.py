@@ -46,7 +46,8 @@ class Orders(CtlTest):
 
     def test_bad_usage_is_not_written_to_the_desk(self):
         before = self.gateway.desk.read_bytes()
-        for words in ((), ("frob",), ("add", "1800ABC", "D5-00-01"), ("label", "01800ABC", "a\nremove 01800ABC"),
+        for words in ((), ("frob",), ("add", "1800ABC D5-00-01"), ("switch", "01800ABC 0", "on"),
+                      ("label", "01800ABC", "a\nremove 01800ABC"),
                       ("label", "01800ABC", "ö"), ("label", "01800ABC", "x" * 33), ("--no", "list"), ("list", " "),
                       ("list", "--for", "5"), ("learn", "off", "--for", "5"), ("learn", "on", "--for", "0"),
                       ("learn", "on", "--for", "x"), ("devices", "--export", "--import"),
@@ -55,8 +56,31 @@ class Orders(CtlTest):
             with self.subTest(words):
                 run = self.ctl(*words)
                 self.assertEqual((run.status, run.out), (USAGE, ""))
-                self.assertIn("usage: enogatectl", run.err)
+                self.assertRegex(run.err, r"\Aenogatectl: [^\n]+\n\Z")
         self.assertEqual(self.gateway.desk.read_bytes(), before)
+
+    def test_labels_in_place_of_ids(self):
+        """A label that was moved counts at once, whoever moved it. One that looks like an order is only a label."""
+        hostile = "01900302 0 off"
+        for order in ("add 01900301 D2-01-12", "add 01900302 D2-01-12", "label 01900301 Lamp",
+                      f"label 01900302 {hostile}"):
+            self.assertEqual(self.ctl(*order.split(" ")).status, OK)
+        before = self.gateway.desk.read_bytes()
+        for label, device in (("Lamp", "01900301"), (hostile, "01900302")):
+            self.assert_run(self.ctl("switch", label, "7", "on"), OK, "ok\n")
+            packet = sent(0xD2, bytes.fromhex("010764"), 0xFF800000, int(device, 16)).hex()
+            self.assertIn(packet, wait_for(self.stick.sent, lambda seen: packet in seen))
+        given = self.gateway.desk.read_bytes().removeprefix(before).replace(b"\r", b"").replace(b"status\n", b"")
+        self.assertEqual(given, b"list\nswitch 01900301 7 on\nswitch 01900302 7 on\n")
+        self.gateway.order("label 01900301 Other", "label 01900302 Lamp")
+        self.assert_run(self.ctl("switch", "Lamp", "8", "on"), OK, "ok\n")
+        packet = sent(0xD2, bytes.fromhex("010864"), 0xFF800000, 0x01900302).hex()
+        self.assertIn(packet, wait_for(self.stick.sent, lambda seen: packet in seen))
+        self.assert_run(self.ctl("label", "Other", "Lamp"), OK, "ok\n")
+        self.assert_run(self.ctl("switch", "Lamp", "9", "on"), USAGE, "", "several devices have the label 'Lamp': give "
+                        "the ID, 01900301 or 01900302")
+        for device in ("01900301", "01900302"):
+            self.assert_run(self.ctl("remove", device), OK, "deleted\n")
 
     def test_one_write_between_status_orders(self):
         before = self.gateway.desk.read_bytes()

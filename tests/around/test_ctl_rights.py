@@ -18,7 +18,7 @@ from typing import Any, Callable, Iterator
 
 from bridge_testcase import MAY_SKIP, PYTHON
 from enogate_tools.check import Check
-from enogate_tools.gateways import names
+from enogate_tools.gateways import gateway_names
 from enogate_tools.system import System
 from programs import wait_for
 from services import BASE, Stick
@@ -146,7 +146,7 @@ class Group(RightsTest):
         (self.work / "var").mkdir()
         (self.work / "var/lib").symlink_to(self.work / "lib")
         for user, wanted in ((MEMBER, ["cellar", "hall"]), (OTHER, ["hall"]), (SUPERUSER, ["cellar", "hall"])):
-            self.assertEqual(as_user(user, lambda: names(str(self.work))), str(wanted))
+            self.assertEqual(as_user(user, lambda: gateway_names(str(self.work))), str(wanted))
 
     def test_forged_and_emptied_lines(self):
         self.start()

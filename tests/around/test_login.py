@@ -24,23 +24,24 @@ SCREENSHOTS = os.environ.get("SCREENSHOTS")
 HOST, PORT = "127.0.0.1", 9090
 FILES = "/cockpit/@localhost/enogate/"
 LINES = ROOT / "var/log/enogate/hall.lines"
-CHIEF, TECH, GUEST = (("chief", "chief-password"), ("tech", "tech-password"), ("guest", "guest-password"))
-FRAME = "iframe[name='cockpit1:localhost/enogate']"
+ADMINISTRATOR, GROUP_MEMBER = ("chief", "chief-password"), ("tech", "tech-password")
+OTHER_USER = "guest", "guest-password"
+PAGE_FRAME = "iframe[name='cockpit1:localhost/enogate']"
 # The problem of an order with administrative rights, or nothing.
-GIVE = """
+GIVE_SCRIPT = """
 const [done] = arguments;
 window.cockpit.spawn(["enogatectl", "hall", "learn", "on"], { superuser: "require" })
     .then(() => done(""), error => done(error.problem));
 """
 # A click on a button that the page has disabled.
-CLICK = """
+CLICK_SCRIPT = """
 const button = document.querySelector(arguments[0]);
 button.disabled = false;
 button.click();
 """
 UNAUTHORIZED = 401
 # The certificate is one that nobody knows.
-UNKNOWN = ssl._create_unverified_context()  # pylint: disable=protected-access
+UNVERIFIED = ssl._create_unverified_context()  # pylint: disable=protected-access
 
 
 @dataclass(frozen=True)
@@ -51,63 +52,71 @@ class Response:
     text: bytes
 
 
-def get(path: str, **headers: str) -> Response:
+def request_file(path: str, **headers: str) -> Response:
     """Asks Cockpit for a file."""
-    with contextlib.closing(http.client.HTTPSConnection(HOST, PORT, context=UNKNOWN, timeout=60)) as connection:
+    with contextlib.closing(http.client.HTTPSConnection(HOST, PORT, context=UNVERIFIED, timeout=60)) as connection:
         connection.request("GET", path, headers=headers)
         response = connection.getresponse()
         return Response(response.status, (response.getheader("Set-Cookie") or "").split(";")[0], response.read())
 
 
-def login(user: str, password: str) -> Response:
+def request_login(user: str, password: str) -> Response:
     """The response to a login."""
     words = base64.b64encode(f"{user}:{password}".encode()).decode()
-    return get("/cockpit/login", Authorization=f"Basic {words}")
+    return request_file("/cockpit/login", Authorization=f"Basic {words}")
 
 
-def running() -> list[pathlib.Path]:
-    """The processes that give the orders of pages on the system."""
+def order_processes(user: str) -> list[pathlib.Path]:
+    """The processes that give the orders of pages on the system with the rights of this user. Those of a page that was
+    left may run a little longer."""
     found = []
     for process in pathlib.Path("/proc").glob("[0-9]*"):
         with contextlib.suppress(OSError):
             words = (process / "cmdline").read_text().split("\0")
-            if "--serve" in words and os.path.samefile(process / "root", ROOT):
+            is_of_user = process.stat().st_uid == uid_of(user)
+            if "--serve" in words and is_of_user and os.path.samefile(process / "root", ROOT):
                 found.append(process)
     return found
 
 
-def mode() -> str:
+def uid_of(user: str) -> int:
+    """The number of a user of the system."""
+    [found] = re.findall(f"^{user}:[^:]*:([0-9]+):", (ROOT / "etc/passwd").read_text(), re.MULTILINE)
+    return int(found)
+
+
+def reported_mode() -> str:
     """The mode of the learn window that the last line with a status reports."""
     return re.findall('"mode":"([^"]*)"', LINES.read_text())[-1]
 
 
-class Files(unittest.TestCase):
+class ServedFiles(unittest.TestCase):
     """The files of the page, and the login without a browser."""
 
     def test_they_are_served_only_after_a_login(self):
         names = [path.name for path in (CONTRIB / "cockpit/enogate").iterdir()]
         for name in names:
             self.assert_refused(name)
-        response = login(*TECH)
+        response = request_login(*GROUP_MEMBER)
         self.assertEqual(response.status, 200)
         for name in names:
-            found = get(FILES + name, Cookie=response.cookie)
+            found = request_file(FILES + name, Cookie=response.cookie)
             self.assertEqual((found.status, found.text), (200, (CONTRIB / "cockpit/enogate" / name).read_bytes()), name)
 
     def test_a_wrong_password_an_unknown_user_and_a_wrong_cookie_are_refused(self):
         for user, password in (("tech", "chief-password"), ("nobody", "x")):
-            response = login(user, password)
+            response = request_login(user, password)
             self.assertEqual((response.status, response.cookie), (UNAUTHORIZED, ""), user)
         self.assert_refused("index.html", Cookie="cockpit=dj0yO2s9MTIz")
 
     def assert_refused(self, name: str, **headers: str) -> None:
         """Instead of a page there is the form for the login, and instead of another file nothing."""
-        response = get(FILES + name, **headers)
+        response = request_file(FILES + name, **headers)
         self.assertEqual(response.status, 200 if name.endswith(".html") else UNAUTHORIZED, name)
         self.assertEqual(b"login-password-input" in response.text, name.endswith(".html"), name)
 
 
-class Shell(unittest.TestCase):
+class PageInShell(unittest.TestCase):
     """The page in Cockpit's own shell, after its form for the login."""
 
     def setUp(self) -> None:
@@ -141,8 +150,8 @@ class Shell(unittest.TestCase):
     def enter_frame(self) -> None:
         """From now on, elements are those of the page."""
         self.browser.driver.switch_to.default_content()
-        self.wait(lambda: self.browser.find(FRAME).is_displayed())
-        self.browser.driver.switch_to.frame(self.browser.find(FRAME))
+        self.wait(lambda: self.browser.find(PAGE_FRAME).is_displayed())
+        self.browser.driver.switch_to.frame(self.browser.find(PAGE_FRAME))
 
     def turn_on_administrative_access(self, password: str) -> None:
         """Asks for it at the top of Cockpit, with the password of the user."""
@@ -169,77 +178,96 @@ class Shell(unittest.TestCase):
 
     def assert_is_read_only(self) -> None:
         """No button works, the page says why, and an order with administrative rights is refused."""
-        self.wait_for_text("#read-only", "without administrative access, so you cannot change anything")
-        self.browser.click("#tab-teach")
-        for name in ("teach-open", "teach-answer", "teach-as", "teach-close", "gateway-refresh"):
+        self.wait_for_text("#read-only", "You can look, but not change anything.")
+        for name in ("teach-open", "teach-close", "gateway-refresh", "gateway-restart"):
             self.assertFalse(self.browser.find(f"#{name}").is_enabled(), name)
-        self.browser.click("#tab-devices")
-        self.assertEqual(self.browser.driver.execute_async_script(GIVE), "access-denied")
+        self.assert_is_not_root()
+
+    def assert_is_not_root(self) -> None:
+        self.assertEqual(self.browser.driver.execute_async_script(GIVE_SCRIPT), "access-denied")
 
     def rename(self, label: str) -> None:
-        """Changes the label of the device."""
-        self.browser.click("#devices-rows button")
+        """Changes the label of the device, in its view."""
+        self.browser.click("#tab-devices")
+        self.wait(lambda: self.browser.find("#devices-rows a").is_displayed())
+        self.browser.click("#devices-rows a")
+        self.wait(lambda: self.browser.find("#device-edit").is_displayed())
+        self.browser.click("#device-edit")
         self.browser.type("#edit-label", label)
         self.browser.click("#edit-save")
-        self.wait_for_text("#devices-rows", label)
+        self.wait_for_text("#device-label", label)
 
     def test_an_administrator_may_act_after_administrative_access_was_turned_on(self):
         """This user is not in the group of the gateway, so only the administrative access shows the lines."""
-        self.log_in(*CHIEF, state="lost")
+        self.log_in(*ADMINISTRATOR, state="lost")
         self.assert_is_read_only()
-        self.turn_on_administrative_access(CHIEF[1])
+        self.turn_on_administrative_access(ADMINISTRATOR[1])
         self.enter_frame()
         self.wait_for_text("#feed", "live")
         self.wait(lambda: not self.browser.find("#read-only").is_displayed())
-        self.wait_for_text("#devices-rows", "Front door")
         self.rename("Back door")
         self.assertIn('"label":"Back door"', LINES.read_text())
-        self.browser.click("#tab-teach")
+        self.browser.click("#tab-add")
         self.browser.click("#teach-open")
-        self.wait_for_text("#window", "learn window: on")
+        self.wait_for_text("#window", "Learn window open")
         self.shoot("administrator")
         self.browser.click("#teach-close")
-        self.wait_for_text("#window", "learn window: closed")
-        self.rename_back()
-
-    def rename_back(self) -> None:
-        """The other tests look for this label."""
-        self.browser.click("#tab-devices")
+        self.wait(lambda: not self.browser.find("#window").is_displayed())
+        # The other tests look for this label.
         self.rename("Front door")
+        self.assert_has_an_address()
+
+    def assert_has_an_address(self) -> None:
+        """Cockpit's own address has that of the view, so a reload of Cockpit opens it again."""
+        self.browser.driver.switch_to.default_content()
+        self.wait(lambda: self.browser.driver.current_url.endswith("/enogate#/device/01800ABC"))
+        self.browser.driver.refresh()
+        self.enter_frame()
+        self.wait_for_text("#device-label", "Front door")
+        self.browser.click("#tab-overview")
+        self.browser.click("#gateway-journal")
+        self.browser.driver.switch_to.default_content()
+        self.wait(lambda: self.browser.driver.current_url.endswith("/system/services#/enogate%40hall.service"))
 
     def test_all_orders_end_with_the_administrative_access(self):
-        self.log_in(*CHIEF, state="lost")
-        self.assertEqual(running(), [])
-        self.turn_on_administrative_access(CHIEF[1])
+        self.log_in(*ADMINISTRATOR, state="lost")
+        self.assertEqual(order_processes("root"), [])
+        self.turn_on_administrative_access(ADMINISTRATOR[1])
         self.enter_frame()
         self.wait_for_text("#feed", "live")
-        self.browser.click("#tab-teach")
+        self.browser.click("#tab-add")
         self.wait(lambda: self.browser.find("#teach-open").is_enabled())
         self.browser.click("#teach-open")
-        self.wait_for_text("#window", "learn window: on")
-        self.assertNotEqual(running(), [])
+        self.wait_for_text("#window", "Learn window open")
+        self.assertNotEqual(order_processes("root"), [])
         self.turn_off_administrative_access()
         self.enter_frame()
-        self.wait(lambda: running() == [] and mode() == "closed")
+        self.wait(lambda: order_processes("root") == [] and reported_mode() == "closed")
         self.assert_is_read_only()
-        self.browser.run(CLICK, "#teach-close")
-        self.wait_for_text("#problem-text", "You have no administrative access: turn it on at the top of Cockpit.")
+        self.browser.run(CLICK_SCRIPT, "#teach-close")
+        self.wait_for_text("#problem-text", "You have no administrative access: turn it on in Cockpit.")
 
-    def test_a_member_of_the_group_sees_all_and_may_change_nothing(self):
-        self.log_in(*TECH)
-        self.wait_for_text("#devices-rows", "Front door")
-        self.assert_is_read_only()
-        self.turn_on_administrative_access(TECH[1])
+    def test_a_member_of_the_group_gives_orders_without_becoming_root(self):
+        self.log_in(*GROUP_MEMBER)
+        self.wait(lambda: self.browser.find("#gateway-refresh").is_enabled())
+        self.assertFalse(self.browser.find("#gateway-restart").is_enabled())
+        self.assert_is_not_root()
+        self.turn_on_administrative_access(GROUP_MEMBER[1])
         self.wait_for_text(".pf-c-modal-box", "Problem becoming administrator")
         self.browser.click(".pf-c-modal-box__footer button")
         self.enter_frame()
-        self.assert_is_read_only()
+        self.assert_is_not_root()
+        self.rename("Side door")
+        self.assertIn('"label":"Side door"', LINES.read_text())
+        self.assertNotEqual(order_processes(GROUP_MEMBER[0]), [])
+        self.assertEqual(order_processes("root"), [])
         self.shoot("member")
+        self.rename("Front door")
 
     def test_another_user_is_told_that_the_lines_cannot_be_read(self):
-        self.log_in(*GUEST, state="lost")
-        self.wait_for_text("#trouble", "/var/log/enogate/hall.lines is missing, or you may not read it")
-        self.assertEqual(self.browser.text("#devices-rows"), "")
+        self.log_in(*OTHER_USER, state="lost")
+        self.wait_for_text("#attention", "/var/log/enogate/hall.lines is missing, or you may not read it")
+        self.assertEqual(self.browser.text("#device-count"), "")
         self.assert_is_read_only()
         self.shoot("guest")
 

@@ -6,16 +6,16 @@ import socket
 import subprocess
 import unittest
 
-from bridge_testcase import MAY_SKIP, OWN, PYTHON, BridgeTest, is_missing
-from broker import BRIDGE, PEOPLE, Certificates, free_ports
+from bridge_testcase import MAY_SKIP, TOPIC_ROOT, PYTHON, BridgeTest, missing_requirement
+from broker import BRIDGE_LOGIN, PEOPLE_LOGIN, Certificates, free_ports
 from programs import WITHIN, lines_of, wait_for
 from services import CONTRIB, ROOT
 
 # An acceptance of the connection whose properties are longer than the packet, and one of subscriptions that ends early.
-MALFORMED = (b"\x20\x03\x00\x00\x7f", b"\x90\x01\x00")
+MALFORMED_PACKETS = (b"\x20\x03\x00\x00\x7f", b"\x90\x01\x00")
 
 
-class Connections(BridgeTest):
+class EncryptedConnections(BridgeTest):
     """A broker that requires certificates at its second port, and certificates for it and for the bridge."""
 
     def setUp(self):
@@ -27,7 +27,7 @@ class Connections(BridgeTest):
         self.broker.require_certificates(self.work)
         self.start_broker()
 
-    def secure(self, authority: str) -> dict[str, str]:
+    def secure_settings(self, authority: str) -> dict[str, str]:
         """The settings for the second port, with a broker of this authority."""
         files = {"CA": authority, "CERT": "bridge.crt", "KEY": "bridge.key"}
         paths = {f"MQTT_{name}_FILE": str(self.work / file) for name, file in files.items()}
@@ -35,18 +35,18 @@ class Connections(BridgeTest):
 
     def test_a_command_by_tls(self):
         self.bridge.desk.touch()
-        self.start_bridge(**self.secure("ca.crt"))
-        self.broker.publish(f"{OWN}/01800ABC/OV/0/set", "ON")
+        self.start_bridge(**self.secure_settings("ca.crt"))
+        self.broker.publish(f"{TOPIC_ROOT}/01800ABC/OV/0/set", "ON")
         self.assert_soon(lambda: [it for it in lines_of(self.bridge.desk) if it.startswith("switch")],
                          ["switch 01800ABC 0 on"])
 
     def test_a_broker_of_another_authority(self):
         Certificates(self.work).add_authority("other")
-        self.bridge.start(**self.secure("other.crt"))
+        self.bridge.start(**self.secure_settings("other.crt"))
         self.assert_retries(f"{self.broker.tls_port}: [SSL: CERTIFICATE_VERIFY_FAILED]", "alert unknown ca")
 
     def test_a_missing_certificate(self):
-        settings = self.secure("ca.crt") | {"MQTT_CERT_FILE": "", "MQTT_KEY_FILE": ""}
+        settings = self.secure_settings("ca.crt") | {"MQTT_CERT_FILE": "", "MQTT_KEY_FILE": ""}
         self.bridge.start(**settings)
         self.assert_rejected("peer did not return a certificate")
         # the reason depends on whether the bridge reads the answer of the broker, or writes, after it was rejected
@@ -59,7 +59,7 @@ class Connections(BridgeTest):
             server.settimeout(WITHIN)
             port = server.getsockname()[1]
             self.bridge.start(MQTT_PORT=str(port))
-            for packet in MALFORMED:
+            for packet in MALFORMED_PACKETS:
                 client = server.accept()[0]
                 with client:
                     client.settimeout(WITHIN)
@@ -69,11 +69,12 @@ class Connections(BridgeTest):
             server.accept()[0].close()
         reason = f"enogate-mqtt: no connection to localhost:{port}: invalid packet from the broker ("
         journal = [line for line in self.bridge.journal() if "cannot open" not in line]
-        self.assert_seen([line[:len(reason)] for line in journal[:len(MALFORMED)]], [reason] * len(MALFORMED))
+        count = len(MALFORMED_PACKETS)
+        self.assert_seen([line[:len(reason)] for line in journal[:count]], [reason] * count)
 
     def test_a_wrong_password(self):
         wrong = self.work / "wrong.password"
-        wrong.write_text(f"{PEOPLE[1]}\n")
+        wrong.write_text(f"{PEOPLE_LOGIN[1]}\n")
         self.bridge.start(MQTT_PASSWORD_FILE=str(wrong))
         self.assert_retries(f"{self.broker.port}: rejected by the broker: Not authorized", "not authorised")
 
@@ -96,36 +97,37 @@ class Connections(BridgeTest):
         self.assert_soon(lambda: [text for line in self.broker.journal() if text in line][:2], [text] * 2)
 
 
-class Rights(BridgeTest):
+class RefusedPublications(BridgeTest):
     """A broker at which the bridge may read, but not publish."""
 
     def test_publications_that_are_refused(self):
-        (self.work / "rights").write_text(f"user {PEOPLE[0]}\ntopic readwrite #\nuser {BRIDGE[0]}\ntopic read #\n")
+        (self.work / "rights").write_text(
+            f"user {PEOPLE_LOGIN[0]}\ntopic readwrite #\nuser {BRIDGE_LOGIN[0]}\ntopic read #\n")
         self.start_broker()
         self.bridge.start()
         refused = f"the broker at localhost:{self.broker.port} accepts the connection, but refuses what is published: "
         # a wait takes ten seconds
         wait_for(lambda: any(refused in line for line in self.bridge.journal()), bool)
-        self.assert_logged(f"{refused}{OWN}/status did not come back within 15 seconds")
+        self.assert_logged(f"{refused}{TOPIC_ROOT}/status did not come back within 15 seconds")
         self.assert_seen([line for line in self.bridge.journal() if "connected to" in line], [])
         self.assert_seen(self.heard.messages(), [])
 
 
-class Names(BridgeTest):
+class SameClientName(BridgeTest):
     """A broker and a bridge."""
 
     def test_another_client_with_its_name(self):
         self.start_broker()
         self.start_bridge()
-        self.broker.client("sub", "-i", "enogate-hall", "-t", "x", "-W", "1")
+        self.broker.run_client("sub", "-i", "enogate-hall", "-t", "x", "-W", "1")
         named = "another client has the name enogate-hall"
         self.assert_soon(lambda: [named for line in self.bridge.journal() if named in line][:1], [named])
 
 
-class Packets(unittest.TestCase):
+class RandomPackets(unittest.TestCase):
     """The connection of the bridge, without a broker."""
 
-    @unittest.skipIf(MAY_SKIP and is_missing(), is_missing())
+    @unittest.skipIf(MAY_SKIP and missing_requirement(), missing_requirement())
     def test_random_packets(self):
         path = f"{CONTRIB}:{os.environ.get('PAHO', '')}"
         run = subprocess.run([PYTHON, "-B", ROOT / "tests" / "bridge" / "fuzz_packets.py"], capture_output=True,

@@ -5,35 +5,35 @@ import json
 import re
 import subprocess
 
-from bridge_testcase import MAY_SKIP, OWN, PYTHON, GatewayTest, has_module
-from kinds import ADDED, END_OF_LIST, KINDS, KindsTest
+from bridge_testcase import MAY_SKIP, TOPIC_ROOT, PYTHON, GatewayTest, has_module
+from kinds import ADD_ORDERS, END_OF_LIST, DEVICES_OF_EACH_KIND, KindsTest
 from services import HERE
 
 # The teach-in of a UTE device, the reply of the gateway, and its line.
 TEACH_IN = bytes.fromhex("55000D0701FDD4A00146001201D201800ABC0001FFFFFFFF2D008A")
-REPLY = "55000d0701fdd4910146001201d2ff800000000301800abcff00f3"
-LEARNED = '{"eep":"D2-01-12","id":"01800ABC","maker":70,"result":"accepted","type":"teach"}'
-LABELS = ("label 01800A01 Front door", 'label 01800A09 Meter "A" \\')
-LABELLED = r'{"eep":"A5-12-01","id":"01800A09","label":"Meter \"A\" \\","maker":null,"type":"device"}'
+TEACH_IN_REPLY = "55000d0701fdd4910146001201d2ff800000000301800abcff00f3"
+LEARNED_LINE = '{"eep":"D2-01-12","id":"01800ABC","maker":70,"result":"accepted","type":"teach"}'
+LABEL_ORDERS = ("label 01800A01 Front door", 'label 01800A09 Meter "A" \\')
+LABELLED_LINE = r'{"eep":"A5-12-01","id":"01800A09","label":"Meter \"A\" \\","maker":null,"type":"device"}'
 PRESSES = (
     '01800A0C/press {"event_type":"pressed"}', '01800A0D/press {"event_type":"BI"}',
     '01800A0D/press {"event_type":"released"}', '01800A0E/press {"event_type":"C0"}',
     '01800A0E/press {"event_type":"BI"}',
 )
-TIME = re.compile(rf"{OWN}/(\w+)/last_seen 20[-0-9]+T[:0-9]+\+00:00")
+LAST_SEEN_MESSAGE = re.compile(rf"{TOPIC_ROOT}/(\w+)/last_seen 20[-0-9]+T[:0-9]+\+00:00")
 # An empty message on this topic removes an entity of a device from Home Assistant.
-SHOWN = "homeassistant/event/enogate_hall/{}_press/config "
+SHOWN_TOPIC = "homeassistant/event/enogate_hall/{}_press/config "
 
 
-def kept_by_hand(name: str) -> list[str]:
+def stored_lines(name: str) -> list[str]:
     """The lines of a file beside this one that is kept by hand, without comments."""
     return [line for line in (HERE / name).read_text().splitlines() if not line.startswith("#")]
 
 
-class Labels(GatewayTest):
+class FirstLabel(GatewayTest):
     """Home Assistant is shown the label of a new device first."""
 
-    def names(self, device: str) -> list[str]:
+    def shown_names(self, device: str) -> list[str]:
         """The names under which Home Assistant was shown the contact of a device."""
         topic = f"homeassistant/binary_sensor/enogate_hall/{device}_CO/config "
         return [json.loads(message.removeprefix(topic))["device"]["name"] for message in self.heard.messages()
@@ -43,80 +43,81 @@ class Labels(GatewayTest):
         self.start_bridge(MQTT_LABEL_SECONDS="3600")
         self.order("add 01800A01 D5-00-01", "label 01800A01 Front door", "add 01800A02 D5-00-01")
         self.bring("01800A02", "D5 09")
-        self.assert_soon(lambda: self.names("01800A01"), ["Front door"])
-        self.assert_published(f"{OWN}/01800A02/CO closed")
-        self.settle()
-        self.assert_seen((self.names("01800A01"), self.names("01800A02")), (["Front door"], []))
+        self.assert_soon(lambda: self.shown_names("01800A01"), ["Front door"])
+        self.assert_published(f"{TOPIC_ROOT}/01800A02/CO closed")
+        self.wait_until_handled()
+        self.assert_seen((self.shown_names("01800A01"), self.shown_names("01800A02")), (["Front door"], []))
 
     def test_a_device_without_a_label_appears_later(self):
         self.start_bridge(MQTT_LABEL_SECONDS="2")
         self.order("add 01800A01 D5-00-01")
-        self.assert_soon(lambda: self.names("01800A01"), ["D5-00-01 01800A01"])
+        self.assert_soon(lambda: self.shown_names("01800A01"), ["D5-00-01 01800A01"])
 
 
-class Devices(KindsTest):
+class DevicesOfEachKind(KindsTest):
     """A device of each kind. All but one are added by one message, which opens the learn window for the last one."""
 
     def setUp(self):
         super().setUp()
         self.start_bridge()
-        self.learn()
+        self.add_and_teach_in()
         self.bring_all()
         # the bridge asks for the labels a few seconds after its first query
-        self.assert_lines(LABELLED, END_OF_LIST)
-        self.settle()
+        self.assert_lines(LABELLED_LINE, END_OF_LIST)
+        self.wait_until_handled()
 
-    def learn(self) -> None:
-        added = [order for order in ADDED if "01800ABC" not in order]
-        self.broker.publish(f"{OWN}/orders", "\n".join([*added[:9], "", *added[9:], "learn on", "status"]))
-        self.assert_published(f"{OWN}/learn ON")
+    def add_and_teach_in(self) -> None:
+        added = [order for order in ADD_ORDERS if "01800ABC" not in order]
+        self.broker.publish(f"{TOPIC_ROOT}/orders", "\n".join([*added[:9], "", *added[9:], "learn on", "status"]))
+        self.assert_published(f"{TOPIC_ROOT}/learn ON")
         self.stick.bring_packet(TEACH_IN)
-        self.assert_lines(LEARNED)
-        self.order(*LABELS)
-        self.broker.publish(f"{OWN}/orders", "learn off")
-        self.assert_published(f"{OWN}/learn OFF")
+        self.assert_lines(LEARNED_LINE)
+        self.order(*LABEL_ORDERS)
+        self.broker.publish(f"{TOPIC_ROOT}/orders", "learn off")
+        self.assert_published(f"{TOPIC_ROOT}/learn OFF")
 
     def test_devices_of_each_kind_are_published_and_removed(self):
         retained = self.retained()
         with self.subTest("the orders of a message are given in their sequence"):
-            self.assert_seen(self.stick.sent(), REPLY)
+            self.assert_seen(self.stick.sent(), TEACH_IN_REPLY)
         with self.subTest("readings are retained"):
             seen = sorted(f"{topic} {text}" for topic, text in retained.items()
-                          if topic.startswith(OWN) and not topic.endswith("/dbm"))
-            self.assert_seen(seen, kept_by_hand("states"))
+                          if topic.startswith(TOPIC_ROOT) and not topic.endswith("/dbm"))
+            self.assert_seen(seen, stored_lines("states"))
         with self.subTest("signal strengths are retained"):
             seen = {topic: text for topic, text in retained.items() if topic.endswith("/dbm")}
-            self.assert_seen(seen, {f"{OWN}/{device}/dbm": "-45" for device, _, _ in KINDS})
+            self.assert_seen(seen, {f"{TOPIC_ROOT}/{device}/dbm": "-45" for device, _, _ in DEVICES_OF_EACH_KIND})
         with self.subTest("the times of telegrams are published"):
-            seen = {time[1] for time in map(TIME.fullmatch, self.heard.messages()) if time}
-            self.assert_seen(sorted(seen), [device for device, _, _ in KINDS])
+            seen = {time[1] for time in map(LAST_SEEN_MESSAGE.fullmatch, self.heard.messages()) if time}
+            self.assert_seen(sorted(seen), [device for device, _, _ in DEVICES_OF_EACH_KIND])
         with self.subTest("presses are published as events"):
             seen = [message for message in self.heard.messages() if "/press " in message]
-            self.assert_seen(seen, [f"{OWN}/{press}" for press in PRESSES])
+            self.assert_seen(seen, [f"{TOPIC_ROOT}/{press}" for press in PRESSES])
         with self.subTest("Home Assistant is shown each device"):
             self.assert_shown(retained)
         with self.subTest("a device is removed"):
-            self.remove()
+            self.remove_devices()
         with self.subTest("a device is removed while the bridge is stopped and loses its state"):
-            self.remove_while_stopped()
+            self.remove_device_while_stopped()
 
     def assert_shown(self, retained: dict[str, str]) -> None:
         """Home Assistant is shown what the file `discovery` has."""
         if MAY_SKIP and not has_module("jinja2"):
             self.skipTest("python3-jinja2 is not installed")
-        text = "".join(f"{topic} {text}\n" for topic, text in sorted(retained.items()) if not topic.startswith(OWN))
+        text = "".join(f"{topic} {text}\n" for topic, text in sorted(retained.items())
+                       if not topic.startswith(TOPIC_ROOT))
         run = subprocess.run([PYTHON, HERE / "shown.py", "hall", "7200"], input=text, capture_output=True, text=True)
         self.assert_seen(run.stderr, "")
-        self.assert_seen(run.stdout.splitlines(), kept_by_hand("discovery"))
+        self.assert_seen(run.stdout.splitlines(), stored_lines("discovery"))
 
-    def remove(self) -> None:
+    def remove_devices(self) -> None:
         """Nothing of the device is retained."""
-        self.broker.publish(f"{OWN}/orders", "remove 01800A0D")
-        self.assert_published(SHOWN.format("01800A0D"), f"{OWN}/01800A0D/EB ")
-        self.settle()
+        self.broker.publish(f"{TOPIC_ROOT}/orders", "remove 01800A0D")
+        self.assert_published(SHOWN_TOPIC.format("01800A0D"), f"{TOPIC_ROOT}/01800A0D/EB ")
+        self.wait_until_handled()
         self.assert_seen([topic for topic in self.retained() if "01800A0D" in topic], [])
 
-    def remove_while_stopped(self) -> None:
+    def remove_device_while_stopped(self) -> None:
         """Everything else stays retained. Since lines are rotated, only the broker still has the readings."""
         before = self.retained()
         self.bridge.end()
@@ -126,6 +127,6 @@ class Devices(KindsTest):
         self.order("remove 01800A0E")
         self.heard.forget()
         self.start_bridge()
-        self.assert_published(SHOWN.format("01800A0E"), f"{OWN}/01800A0E/R1 ")
-        self.settle()
+        self.assert_published(SHOWN_TOPIC.format("01800A0E"), f"{TOPIC_ROOT}/01800A0E/R1 ")
+        self.wait_until_handled()
         self.assert_seen(self.retained(), {topic: before[topic] for topic in before if "01800A0E" not in topic})

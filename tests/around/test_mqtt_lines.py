@@ -6,12 +6,12 @@ import pathlib
 import re
 import time
 
-from bridge_testcase import OWN, GatewayTest
+from bridge_testcase import TOPIC_ROOT, GatewayTest
 
-DEVICE = f"{OWN}/01800A02"
+DEVICE = f"{TOPIC_ROOT}/01800A02"
 READING = ('{{"dbm":-45,"eep":"A5-02-05","id":"01800A02","readings":'
            '[{{"den":1,"name":"TMP","num":{},"unit":"C"}}],"type":"reading"}}\n')
-TORN = '{"dbm":-45,"eep":"D5-0'
+TORN_LINE = '{"dbm":-45,"eep":"D5-0'
 
 
 class ManyLines(GatewayTest):
@@ -22,23 +22,23 @@ class ManyLines(GatewayTest):
         press = ('{"dbm":-45,"eep":"F6-02-01","id":"01800A0D","readings":[{"name":"R1","word":"BI"},'
                  '{"name":"EB","word":"pressed"}],"type":"reading"}\n')
         self.gateway.append("".join(map(READING.format, range(9000))) + press)
-        self.assert_published(f'{OWN}/01800A0D/press {{"event_type":"BI"}}')
+        self.assert_published(f'{TOPIC_ROOT}/01800A0D/press {{"event_type":"BI"}}')
         self.assert_published(f"{DEVICE}/TMP 8999")
         self.assertLess(len([it for it in self.heard.messages() if it.startswith(f"{DEVICE}/TMP ")]), 2000)
 
 
-class Waits(GatewayTest):
+class IdleBridge(GatewayTest):
     """The bridge waits until something happens."""
 
     def test_an_idle_bridge(self):
         self.start_bridge()
-        self.settle()
+        self.wait_until_handled()
         time.sleep(2)
-        before = self.wakes()
+        before = self.wait_count()
         time.sleep(5)
-        self.assertLess(self.wakes() - before, 15)
+        self.assertLess(self.wait_count() - before, 15)
 
-    def wakes(self) -> int:
+    def wait_count(self) -> int:
         """How often the bridge has waited."""
         # it is a child, below `timeout`
         pid = str(self.bridge.process.pid)
@@ -48,61 +48,62 @@ class Waits(GatewayTest):
         return int(re.findall(r"^voluntary_ctxt_switches:\s*(\d+)$", text, re.MULTILINE)[0])
 
 
-class Lines(GatewayTest):
+class LinesOfGateway(GatewayTest):
     """A gateway that received its device before the bridge runs for the first time, and a broker that retains an order.
     While the bridge runs, other programs change the file of lines."""
 
     def setUp(self):
         super().setUp()
-        self.broker.publish(f"{OWN}/orders", "level 5 40 10", "-r")
+        self.broker.publish(f"{TOPIC_ROOT}/orders", "level 5 40 10", "-r")
         self.order("add 01800A02 A5-02-05")
         self.bring("01800A02", "A5 00007F08")
         self.start_bridge()
 
     def test_the_first_run_a_torn_line_a_rotation_and_a_cut(self):
         with self.subTest("the first run"):
-            self.first_run()
+            self.assert_first_run()
         with self.subTest("an order that is retained"):
-            self.assert_logged(f"message on '{OWN}/orders' ignored: it is retained")
+            self.assert_logged(f"message on '{TOPIC_ROOT}/orders' ignored: it is retained")
             self.assert_seen(self.stick.sent(), "")
         self.heard.forget()
         with self.subTest("a torn line"):
-            self.torn()
+            self.assert_torn_line()
         with self.subTest("a rotation"):
             self.gateway.rotate()
-            self.pass_a_cycle()
+            self.wait_for_a_cycle()
             self.bring_temperature("A5 0000FF08", "0")
         with self.subTest("a cut"):
             os.truncate(self.gateway.lines_path, 0)
-            self.assert_logged(self.reason_of_a_cut())
+            self.assert_logged(self.reason_of_truncation())
             self.bring_temperature("A5 00007F08", "20.0784")
-        self.settle()
+        self.wait_until_handled()
         with self.subTest("each reading is published once"):
             seen = [message for message in self.heard.messages() if message.startswith(f"{DEVICE}/TMP ")]
             self.assert_seen(seen, [f"{DEVICE}/TMP {value}" for value in ("40", "0", "20.0784")])
         with self.subTest("the journal"):
             self.assert_seen(self.bridge.journal()[2:], [
-                f"enogate-mqtt: invalid line ignored: b'{TORN}'", f"enogate-mqtt: {self.reason_of_a_cut()}"])
+                f"enogate-mqtt: invalid line ignored: b'{TORN_LINE}'", f"enogate-mqtt: {self.reason_of_truncation()}"])
 
-    def first_run(self) -> None:
+    def assert_first_run(self) -> None:
         """The readings of the device are published, but none of its lines. The bridge asks for the name of the
         device."""
         self.assert_lines('{"eep":"A5-02-05","id":"01800A02","label":"","maker":null,"type":"device"}',
                           '{"count":1,"type":"list"}')
         self.assert_published(f"{DEVICE}/TMP 20.0784")
-        self.settle()
+        self.wait_until_handled()
         self.assert_seen(self.published_lines("reading"), [])
-        retained = {topic: text for topic, text in self.retained().items() if topic.startswith(OWN)}
+        retained = {topic: text for topic, text in self.retained().items() if topic.startswith(TOPIC_ROOT)}
         self.assert_seen(retained, {
-            f"{DEVICE}/TMP": "20.0784", f"{DEVICE}/dbm": "-45", f"{OWN}/gateway": "online", f"{OWN}/learn": "OFF",
-            f"{OWN}/module": "online", f"{OWN}/orders": "level 5 40 10", f"{OWN}/status": "online"})
+            f"{DEVICE}/TMP": "20.0784", f"{DEVICE}/dbm": "-45", f"{TOPIC_ROOT}/gateway": "online",
+            f"{TOPIC_ROOT}/learn": "OFF", f"{TOPIC_ROOT}/module": "online", f"{TOPIC_ROOT}/orders": "level 5 40 10",
+            f"{TOPIC_ROOT}/status": "online"})
 
-    def torn(self) -> None:
+    def assert_torn_line(self) -> None:
         """The first part of a line is read, and then its end. The next line is not affected."""
-        self.gateway.append(TORN)
-        self.pass_a_cycle()
+        self.gateway.append(TORN_LINE)
+        self.wait_for_a_cycle()
         self.gateway.append("\n")
-        self.assert_logged(f"invalid line ignored: b'{TORN}'")
+        self.assert_logged(f"invalid line ignored: b'{TORN_LINE}'")
         self.bring_temperature("A5 00000008", "40")
 
     def bring_temperature(self, telegram: str, value: str) -> None:
@@ -110,5 +111,5 @@ class Lines(GatewayTest):
         self.bring("01800A02", telegram)
         self.assert_published(f"{DEVICE}/TMP {value}")
 
-    def reason_of_a_cut(self) -> str:
+    def reason_of_truncation(self) -> str:
         return f"{self.gateway.lines_path}: file truncated, continuing at its end"

@@ -1,7 +1,7 @@
 """The bridge at a broker: which messages are given to the gateway as orders, and what the gateway sends for them."""
 from __future__ import annotations
 
-from bridge_testcase import OWN, BridgeTest, GatewayTest
+from bridge_testcase import TOPIC_ROOT, BridgeTest, GatewayTest
 from oracle.esp3 import sent
 from programs import lines_of
 from services import BASE
@@ -20,7 +20,7 @@ COMMANDS = (
     ("01800ABD/POS/0", "CLOSE", "647F0001"),
 )
 # A topic and a payload, and why they are no command.
-NO_COMMANDS = (
+INVALID_COMMANDS = (
     ("0/OV/0", "ON", "the topic is not ID/OV/CHANNEL/set or ID/POS/0/set (with ID in upper case)"),
     ("01800ABC/OV/0", "101", "b'101' is not ON, OFF or 0 to 100"),
     ("01800ABC/OV/0", "toggle", "b'toggle' is not ON, OFF or 0 to 100"),
@@ -28,11 +28,11 @@ NO_COMMANDS = (
     ("01800ABC/TMP/0", "20", "the topic is not ID/OV/CHANNEL/set or ID/POS/0/set (with ID in upper case)"),
 )
 # The orders that the bridge gives by itself.
-OWN_ORDERS = ("list", "status", "base")
+ORDERS_OF_BRIDGE = ("list", "status", "base")
 OK = '{"type":"ok"}'
 
 
-class Queries(GatewayTest):
+class ActuatorQueries(GatewayTest):
     """Actuators are asked for their states."""
 
     def test_each_actuator_is_asked_once_after_a_start_of_the_gateway(self):
@@ -49,11 +49,11 @@ class Queries(GatewayTest):
         self.bridge.end()
         self.heard.forget()
         self.start_bridge(MQTT_QUERY="yes")
-        self.settle()
+        self.wait_until_handled()
         self.assert_seen(self.stick.sent(), 2 * packets)
 
 
-class Orders(GatewayTest):
+class PublishedOrders(GatewayTest):
     """Orders and commands to actuators that the gateway knows."""
 
     def setUp(self):
@@ -61,72 +61,72 @@ class Orders(GatewayTest):
         self.order("add 01800ABC D2-01-12", "add 01800A10 D2-01-02", "add 01800ABD D2-05-00")
         self.start_bridge()
 
-    def given(self) -> list[str]:
+    def orders_of_others(self) -> list[str]:
         """The orders at the desk, without those that the bridge gives by itself."""
-        return [order for order in lines_of(self.gateway.desk) if order not in OWN_ORDERS]
+        return [order for order in lines_of(self.gateway.desk) if order not in ORDERS_OF_BRIDGE]
 
-    def answers(self) -> list[str]:
+    def answer_lines(self) -> list[str]:
         """The lines that were published since messages were forgotten, without the status."""
         return [line for line in self.published_lines() if '"type":"status"' not in line]
 
     def test_commands_become_packets_and_invalid_orders_are_answered(self):
-        self.each_command()
+        self.assert_each_command()
         with self.subTest("invalid orders"):
-            self.invalid_orders()
+            self.assert_invalid_orders()
 
-    def each_command(self) -> None:
+    def assert_each_command(self) -> None:
         """Each is sent as one packet."""
         for place, command, packet in COMMANDS:
             if not packet.startswith("55"):
                 packet = sent(0xD2, bytes.fromhex(packet), int(BASE, 16), int(place[:8], 16)).hex()
             with self.subTest(place=place, command=command):
                 before = self.stick.sent()
-                self.broker.publish(f"{OWN}/{place}/set", command)
+                self.broker.publish(f"{TOPIC_ROOT}/{place}/set", command)
                 self.assert_soon(lambda: self.stick.sent().removeprefix(before), packet)
 
-    def invalid_orders(self) -> None:
+    def assert_invalid_orders(self) -> None:
         """The broker does not send a message of 1 MB to the bridge."""
         # the bridge gives no order by itself for some seconds after a telegram
         self.bring("01800A10", "D2 046064")
-        self.settle()
+        self.wait_until_handled()
         self.heard.forget()
-        before = len(self.given())
-        orders = f"{OWN}/orders"
+        before = len(self.orders_of_others())
+        orders = f"{TOPIC_ROOT}/orders"
         self.broker.publish(orders, "x" * 20000)
         self.broker.publish(orders, bytes(1000000))
         self.broker.publish(orders, "0" * 300 + "\nli\0st\nlearn on\r\nlearn off")
         self.assert_logged(f"message on '{orders}' ignored: 20000 bytes, the maximum is 16384")
         with self.subTest("the answers"):
             errors = [f'{{"error":"{error}","type":"error"}}' for error in ("too_long", "syntax")]
-            self.assert_soon(self.answers, [*errors, OK, OK])
+            self.assert_soon(self.answer_lines, [*errors, OK, OK])
         with self.subTest("the orders"):
-            self.assert_seen(self.given()[before:], ["0" * 202, "li\0st", "learn on", "learn off"])
+            self.assert_seen(self.orders_of_others()[before:], ["0" * 202, "li\0st", "learn on", "learn off"])
         with self.subTest("the journal"):
             self.assert_seen(self.bridge.journal()[2:], [])
 
 
-class LostOrders(GatewayTest):
+class OrdersLostByRestart(GatewayTest):
     """A gateway that is started again, as each day."""
 
     def test_orders_between_the_end_and_the_start_are_named(self):
         self.order("add 01800ABC D2-01-12")
         self.start_bridge()
-        self.broker.publish(f"{OWN}/01800ABC/OV/0/set", "ON")
+        self.broker.publish(f"{TOPIC_ROOT}/01800ABC/OV/0/set", "ON")
         self.assert_soon(lambda: lines_of(self.gateway.desk)[-1:], ["switch 01800ABC 0 on"])
-        self.settle()
+        self.wait_until_handled()
         self.gateway.end()
-        self.broker.publish(f"{OWN}/01800ABC/OV/0/set", "OFF")
-        self.broker.publish(f"{OWN}/orders", "list\nlevel 5 40 10")
+        self.broker.publish(f"{TOPIC_ROOT}/01800ABC/OV/0/set", "OFF")
+        self.broker.publish(f"{TOPIC_ROOT}/orders", "list\nlevel 5 40 10")
         self.assert_soon(lambda: lines_of(self.gateway.desk)[-1:], ["level 5 40 10"])
         before = self.stick.sent()
         self.gateway.start(self.stick)
         self.assert_logged("not answered before the gateway was started again, so probably lost: "
                            "'switch 01800ABC 0 off', 'level 5 40 10'")
-        self.settle()
+        self.wait_until_handled()
         self.assert_seen(self.stick.sent(), before)
 
 
-class NoOrders(BridgeTest):
+class IgnoredMessages(BridgeTest):
     """Messages that are not given as orders. There is a desk, but no gateway."""
 
     def setUp(self):
@@ -136,15 +136,15 @@ class NoOrders(BridgeTest):
         self.start_bridge()
 
     def test_messages_that_are_no_commands(self):
-        for place, command, why in NO_COMMANDS:
+        for place, command, why in INVALID_COMMANDS:
             with self.subTest(place=place, command=command):
-                topic = f"{OWN}/{place}/set"
+                topic = f"{TOPIC_ROOT}/{place}/set"
                 self.broker.publish(topic, command)
                 self.assert_logged(f"message on '{topic}' ignored: {why}")
-        given = [order for order in lines_of(self.bridge.desk) if order not in OWN_ORDERS]
+        given = [order for order in lines_of(self.bridge.desk) if order not in ORDERS_OF_BRIDGE]
         self.assert_seen(given, [])
 
     def test_an_order_without_a_desk_is_lost(self):
         self.bridge.desk.unlink()
-        self.broker.publish(f"{OWN}/orders", "status")
-        self.assert_logged(f"message on '{OWN}/orders' lost: {self.bridge.desk}: No such file or directory")
+        self.broker.publish(f"{TOPIC_ROOT}/orders", "status")
+        self.assert_logged(f"message on '{TOPIC_ROOT}/orders' lost: {self.bridge.desk}: No such file or directory")

@@ -13,7 +13,7 @@ COMMAND, MODULES, SHARED = CONTRIB / "enogate-mqtt", CONTRIB / "enogate_mqtt", C
 TESTS = ROOT / "tests" / "lines"
 
 
-class Sources(unittest.TestCase):
+class SourceChecks(unittest.TestCase):
     maxDiff = None
 
     def assert_prints_nothing(self, *words: str | pathlib.Path) -> None:

@@ -4,13 +4,13 @@ from __future__ import annotations
 import signal
 import time
 
-from bridge_testcase import OFFLINE, ONLINE, OWN, RESPONSE, GatewayTest
+from bridge_testcase import OFFLINE, ONLINE, TOPIC_ROOT, RESPONSE, GatewayTest
 from kinds import END_OF_LIST, KindsTest
 from programs import lines_of, wait_for
-from services import of_type
+from services import lines_of_type
 
 
-class Stops(KindsTest):
+class BridgeStops(KindsTest):
     """The bridge has published readings of a device of each kind."""
 
     def setUp(self):
@@ -21,7 +21,7 @@ class Stops(KindsTest):
         """Starts the bridge, and waits until it has published what it has to."""
         self.start_bridge()
         self.assert_lines(END_OF_LIST)
-        self.settle()
+        self.wait_until_handled()
 
     def test_a_bridge_that_was_stopped_or_killed_publishes_what_changed_once(self):
         with self.subTest("stopped"):
@@ -30,7 +30,7 @@ class Stops(KindsTest):
             self.kill_and_restart()
         with self.subTest("the broker publishes the last will of an earlier connection late"):
             self.heard.forget()
-            self.broker.publish(f"{OWN}/status", "offline", "-r")
+            self.broker.publish(f"{TOPIC_ROOT}/status", "offline", "-r")
             self.assert_published(ONLINE)
 
     def stop_and_restart(self) -> None:
@@ -47,20 +47,20 @@ class Stops(KindsTest):
         self.restart_bridge()
         with self.subTest("what changed"):
             self.assert_seen(self.published(), [
-                f"{OWN}/01800A01/CO open", f"{OWN}/01800A02/TMP 40", f"{OWN}/01800A0D/EB pressed",
-                f"{OWN}/01800A0D/R1 A0", f"{OWN}/01800A0D/buttons ", ONLINE])
+                f"{TOPIC_ROOT}/01800A01/CO open", f"{TOPIC_ROOT}/01800A02/TMP 40", f"{TOPIC_ROOT}/01800A0D/EB pressed",
+                f"{TOPIC_ROOT}/01800A0D/R1 A0", f"{TOPIC_ROOT}/01800A0D/buttons ", ONLINE])
         with self.subTest("the lines of then, each once"):
             self.assert_seen(self.published_lines("reading"), [*rotated[-2:], self.gateway.lines()[0]])
 
     def kill_and_restart(self) -> None:
         """Meanwhile nothing changes."""
-        self.assert_soon(lambda: f"{self.gateway.size() - self.bridge.saved()} bytes of lines are not saved",
+        self.assert_soon(lambda: f"{self.gateway.size() - self.bridge.saved_offset()} bytes of lines are not saved",
                          "0 bytes of lines are not saved")
         self.heard.forget()
         self.bridge.end(signal.SIGKILL)
         with self.subTest("its last will"):
             self.assert_published(OFFLINE)
-            self.assert_seen(self.retained()[f"{OWN}/status"], "offline")
+            self.assert_seen(self.retained()[f"{TOPIC_ROOT}/status"], "offline")
         self.restart_bridge()
         with self.subTest("what is published"):
             self.assert_seen(self.published(), [OFFLINE, ONLINE])
@@ -71,11 +71,11 @@ class Stops(KindsTest):
         """The lines have lost their end, the state has not."""
         self.bring("01800A0D", "F6 30 30")
         self.assert_lines(self.gateway.lines()[-1])
-        self.assert_soon(lambda: f"{self.gateway.size() - self.bridge.saved()} bytes of lines are not saved",
+        self.assert_soon(lambda: f"{self.gateway.size() - self.bridge.saved_offset()} bytes of lines are not saved",
                          "0 bytes of lines are not saved")
         self.bridge.end(signal.SIGKILL)
         self.gateway.end()
-        self.gateway.lose(100)
+        self.gateway.zero_end(100)
         self.heard.forget()
         self.bridge.start(BOOT="another-boot")
         self.assert_published(ONLINE)
@@ -83,13 +83,13 @@ class Stops(KindsTest):
         self.gateway.start(self.stick)
         self.assert_lines(RESPONSE)
         self.bring("01800A0D", "F6 10 30")
-        self.assert_published(f'{OWN}/01800A0D/press {{"event_type":"AI"}}')
-        self.settle()
+        self.assert_published(f'{TOPIC_ROOT}/01800A0D/press {{"event_type":"AI"}}')
+        self.wait_until_handled()
         with self.subTest("the lines that are published"):
-            self.assert_seen(self.published_lines("reading"), of_type(self.gateway.lines(), "reading")[-1:])
+            self.assert_seen(self.published_lines("reading"), lines_of_type(self.gateway.lines(), "reading")[-1:])
         with self.subTest("the presses"):
             self.assert_seen([message for message in self.heard.messages() if "/press " in message],
-                             [f'{OWN}/01800A0D/press {{"event_type":"AI"}}'])
+                             [f'{TOPIC_ROOT}/01800A0D/press {{"event_type":"AI"}}'])
 
     def test_a_broker_that_was_killed_gets_everything_again(self):
         """Meanwhile two devices send, and the bridge is started again. Its second start has no connection."""
@@ -108,11 +108,12 @@ class Stops(KindsTest):
         self.bridge.send(signal.SIGCONT)
         self.assert_published(ONLINE)
         self.assert_lines(line)
-        self.settle()
+        self.wait_until_handled()
         with self.subTest("what is retained"):
-            del before[f"{OWN}/01800A0D/buttons"]
+            del before[f"{TOPIC_ROOT}/01800A0D/buttons"]
             changed = {"01800A01/CO": "open", "01800A0D/EB": "pressed", "01800A0D/R1": "AI"}
-            self.assert_seen(self.retained(), before | {f"{OWN}/{place}": text for place, text in changed.items()})
+            now = {f"{TOPIC_ROOT}/{place}": text for place, text in changed.items()}
+            self.assert_seen(self.retained(), before | now)
         with self.subTest("no press of then"):
             self.assert_seen([message for message in self.heard.messages() if "/press " in message], [])
         with self.subTest("the journal has the reason once"):
@@ -121,10 +122,10 @@ class Stops(KindsTest):
     def test_what_somebody_removes_comes_back(self):
         """By the command of the guide, but without stopping the bridge first."""
         before = self.retained()
-        words = ("--retained-only", "--remove-retained", "-W", "2", "-t", f"{OWN}/#", "-t",
+        words = ("--retained-only", "--remove-retained", "-W", "2", "-t", f"{TOPIC_ROOT}/#", "-t",
                  "homeassistant/+/enogate_hall/+/config")
-        self.broker.client("sub", *words)
-        self.assert_soon(lambda: self.retained().get(f"{OWN}/status"), "online")
+        self.broker.run_client("sub", *words)
+        self.assert_soon(lambda: self.retained().get(f"{TOPIC_ROOT}/status"), "online")
         self.assert_soon(lambda: sorted(before.items() - self.retained().items()), [])
 
     def kill_broker(self) -> None:
@@ -136,7 +137,7 @@ class Stops(KindsTest):
         self.assert_logged(f"no connection to localhost:{self.broker.port}: ")
 
 
-class Silence(GatewayTest):
+class SilentGatewayOrModule(GatewayTest):
     """A gateway, and a bridge that is connected."""
 
     def assert_within_15_seconds(self, message: str) -> None:
@@ -150,22 +151,22 @@ class Silence(GatewayTest):
 
     def test_a_module_and_a_gateway_that_stop(self):
         self.start_bridge()
-        self.assert_published(f"{OWN}/module online")
+        self.assert_published(f"{TOPIC_ROOT}/module online")
         with self.subTest("the module"):
             self.stick.send(signal.SIGSTOP)
-            self.assert_within_15_seconds(f"{OWN}/module offline")
-            self.assert_seen(self.retained()[f"{OWN}/gateway"], "online")
+            self.assert_within_15_seconds(f"{TOPIC_ROOT}/module offline")
+            self.assert_seen(self.retained()[f"{TOPIC_ROOT}/gateway"], "online")
         with self.subTest("the module responds again"):
             self.heard.forget()
             self.stick.send(signal.SIGCONT)
-            self.assert_published(f"{OWN}/module online")
+            self.assert_published(f"{TOPIC_ROOT}/module online")
         with self.subTest("the gateway"):
             self.gateway.end(signal.SIGKILL)
-            self.assert_within_15_seconds(f"{OWN}/gateway offline")
+            self.assert_within_15_seconds(f"{TOPIC_ROOT}/gateway offline")
             self.assert_logged("the gateway does not answer: orders are lost until it runs")
 
 
-class LearnWindow(GatewayTest):
+class LearnWindowEnd(GatewayTest):
     """A gateway, and a bridge that closes the learn window after five seconds."""
 
     def learn_orders(self) -> list[str]:
@@ -174,18 +175,18 @@ class LearnWindow(GatewayTest):
     def test_it_is_closed_after_its_time(self):
         """Also if it was opened by one of several orders in a message."""
         self.start_bridge(MQTT_LEARN_SECONDS="5")
-        self.broker.publish(f"{OWN}/orders", "learn on answer\nstatus")
-        self.assert_published(f"{OWN}/learn ON")
+        self.broker.publish(f"{TOPIC_ROOT}/orders", "learn on answer\nstatus")
+        self.assert_published(f"{TOPIC_ROOT}/learn ON")
         self.assert_soon(self.learn_orders, ["learn on answer", "learn off"])
-        self.assert_soon(lambda: self.retained()[f"{OWN}/learn"], "OFF")
+        self.assert_soon(lambda: self.retained()[f"{TOPIC_ROOT}/learn"], "OFF")
 
     def test_it_is_closed_after_the_bridge_was_killed(self):
         """The bridge is killed as soon as the order is at the desk."""
         self.start_bridge(MQTT_LEARN_SECONDS="5")
-        self.broker.publish(f"{OWN}/orders", "learn as F6-02-01\nstatus")
+        self.broker.publish(f"{TOPIC_ROOT}/orders", "learn as F6-02-01\nstatus")
         self.assert_soon(self.learn_orders, ["learn as F6-02-01"])
         self.bridge.end(signal.SIGKILL)
         self.start_bridge(MQTT_LEARN_SECONDS="5")
         self.assert_soon(self.learn_orders, ["learn as F6-02-01", "learn off"])
-        self.assert_soon(lambda: self.retained()[f"{OWN}/learn"], "OFF")
+        self.assert_soon(lambda: self.retained()[f"{TOPIC_ROOT}/learn"], "OFF")
         self.assert_seen('"mode":"closed"' in self.published_lines("status")[-1], True)

@@ -12,7 +12,7 @@ words = {"%t": root + "/run", "%S": root + "/lib", "%L": root + "/log", "%i": na
 text = open(unit).read().replace("\\\n", "")
 
 
-def commands(setting):
+def setting_commands(setting):
     """The commands of a setting, in their order."""
     for command in re.findall(rf"^{setting}=(.*)$", text, re.MULTILINE):
         yield re.sub(r"%.|\$\$", lambda found: words[found[0]], command)
@@ -21,5 +21,5 @@ def commands(setting):
 print("umask", re.search(r"^UMask=(.*)$", text, re.MULTILINE)[1])
 # a signal to all its processes, as systemd sends it, ends those of the start first
 print("trap exit TERM")
-for command in commands("ExecStart(?:Pre)?"):
+for command in setting_commands("ExecStart(?:Pre)?"):
     print(command, "|| exit")

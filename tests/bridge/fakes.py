@@ -11,7 +11,7 @@ import unittest
 from enogate_lines.entities import Table
 from enogate_lines.follow import Follower
 from enogate_mqtt.bridge import Bridge
-from enogate_mqtt.connection import Lost, Received
+from enogate_mqtt.connection import ConnectionLost, ReceivedMessage
 from enogate_mqtt.desk import Desk
 from enogate_mqtt.devices import Devices
 from enogate_mqtt.queries import Queries
@@ -43,12 +43,12 @@ class Clock:
         self.now += seconds
 
 
-class Retaining:
+class FakeConnection:
     """A broker's memory, and one connection to it. It answers each request in the next turn."""
 
     def __init__(self, memory: dict[str, str]):
         self.memory = memory
-        self.received: list[Received] = []
+        self.received: list[ReceivedMessage] = []
         self.unacknowledged: set[int] = set()
         self.unanswered: set[int] = set()
         self.published: list[tuple[str, str, bool]] = []
@@ -68,19 +68,19 @@ class Retaining:
             if not message.payload:
                 del self.memory[message.topic]
         if message.topic in WATCHED and self.passes_on:
-            self.received.append(Received(message.topic, message.payload.encode(), False))
+            self.received.append(ReceivedMessage(message.topic, message.payload.encode(), False))
         self.unacknowledged.add(self.next_number())
         return self.number
 
-    def request(self, filters):
+    def request_retained(self, filters):
         self.requests.append(filters)
         for topic, text in list(self.memory.items()):
-            if any(matches(one, topic) for one in filters):
-                self.received.append(Received(topic, text.encode(), True))
+            if any(is_match(one, topic) for one in filters):
+                self.received.append(ReceivedMessage(topic, text.encode(), True))
         self.unanswered.add(self.next_number())
         return self.number
 
-    def cancel(self, _filters):
+    def cancel_request(self, _filters):
         self.unanswered.add(self.next_number())
         return self.number
 
@@ -89,7 +89,7 @@ class Retaining:
 
     def turn(self, _seconds):
         if self.is_lost:
-            raise Lost("it is lost")
+            raise ConnectionLost("it is lost")
         if self.acknowledges:
             self.unacknowledged.clear()
         if self.answers:
@@ -100,7 +100,7 @@ class Retaining:
         self.turn(0)
 
 
-def matches(shape: str, topic: str) -> bool:
+def is_match(shape: str, topic: str) -> bool:
     """Whether a filter of MQTT matches a topic."""
     parts, words = shape.split("/"), topic.split("/")
     return len(parts) == len(words) and all(part in ("+", word) for part, word in zip(parts, words))
@@ -111,16 +111,16 @@ class FakeBroker:
 
     def __init__(self) -> None:
         self.memory: dict[str, str] = {}
-        self.connection: Retaining | None = None
-        self.readers: list[Retaining] = []
+        self.connection: FakeConnection | None = None
+        self.readers: list[FakeConnection] = []
         self.lost: list[str] = []
         # what the bridge has reported about the connection
         self.said: list[str] = []
         self.due = 0.0
         self.is_new = False
 
-    def read(self) -> Retaining:
-        self.readers.append(Retaining(self.memory))
+    def open_reader(self) -> FakeConnection:
+        self.readers.append(FakeConnection(self.memory))
         return self.readers[-1]
 
     def report_connected(self) -> None:
@@ -129,8 +129,8 @@ class FakeBroker:
     def report_refused(self, topic: str) -> None:
         self.said.append(f"refused {topic}")
 
-    def join(self, passes_on: bool = True) -> Retaining:
-        self.connection, self.is_new = Retaining(self.memory), True
+    def accept_connection(self, passes_on: bool = True) -> FakeConnection:
+        self.connection, self.is_new = FakeConnection(self.memory), True
         self.connection.passes_on = passes_on
         return self.connection
 
@@ -188,12 +188,12 @@ class Site:
         self.bridge.is_stopped = True
         self.bridge.run()
 
-    def turns(self, count: int = 6, seconds: float = 0.1) -> None:
+    def run_turns(self, count: int = 6, seconds: float = 0.1) -> None:
         for _ in range(count):
             self.bridge.turn()
             self.clock.now += seconds
 
-    def tell(self, *lines) -> None:
+    def write_lines(self, *lines) -> None:
         """The gateway writes these lines."""
         with self.lines.open("a") as file:
             for line in lines:
@@ -205,7 +205,7 @@ class Site:
 
     def send(self, topic: str, payload: bytes, retained: bool = False) -> None:
         """Somebody publishes a message."""
-        self.broker.connection.received.append(Received(topic, payload, retained))
+        self.broker.connection.received.append(ReceivedMessage(topic, payload, retained))
 
     def remove_retained(self, start: str = "") -> None:
         """Somebody removes the retained messages on the topics that begin so."""
@@ -239,7 +239,7 @@ def status(mode: str = "closed", **counters: int) -> dict:
     return {**every, "mode": mode, "type": "status"}
 
 
-class Limited(unittest.TestCase):
+class TimeLimitedTest(unittest.TestCase):
     """A test that may not hang: after some time it ends the run, which fails, and prints what each thread was doing."""
 
     def run(self, result: unittest.TestResult | None = None) -> unittest.TestResult | None:
@@ -250,7 +250,7 @@ class Limited(unittest.TestCase):
             faulthandler.cancel_dump_traceback_later()
 
 
-class Case(Limited):
+class LogTest(TimeLimitedTest):
     """A test that sees what is logged."""
 
     def setUp(self) -> None:

@@ -12,7 +12,7 @@ import unittest
 COMMAND = pathlib.Path(__file__).resolve().parents[2] / "contrib" / "enogate-mqtt"
 PYTHON = "/usr/bin/python3"
 # In seconds. Only a run that hangs is stopped by this limit.
-HANGS = 60
+TIMEOUT = 60
 
 DEVICE = "enogate/hall/01800ABC"
 ACCEPTED = '{"eep":"D5-00-01","id":"01800ABC","maker":null,"result":"accepted","type":"teach"}'
@@ -28,20 +28,20 @@ def reading(eep, *readings, device="01800ABC"):
     return json.dumps({"dbm": None, "eep": eep, "id": device, "readings": list(readings), "type": "reading"})
 
 
-def number(text):
+def fraction_reading(text):
     """A reading with this fraction."""
     return dict(zip(("num", "den"), map(int, text.split("/"))), name="TMP", unit="C")
 
 
 @unittest.skipUnless(os.path.exists(PYTHON) or os.environ.get("SKIP_NOTHING"), f"{PYTHON} is not installed")
-class Command(unittest.TestCase):
+class CommandTest(unittest.TestCase):
     maxDiff = None
 
     def run_it(self, *words, lines=(), **variables):
         """Runs the command with these words, lines on its standard input, and environment variables."""
         text = "".join(f"{line}\n" for line in lines).encode(errors="surrogateescape")
         environment = {**os.environ, **variables}
-        return subprocess.run([COMMAND, *words], input=text, capture_output=True, env=environment, timeout=HANGS)
+        return subprocess.run([COMMAND, *words], input=text, capture_output=True, env=environment, timeout=TIMEOUT)
 
     def printed(self, *lines, **variables):
         """What the command prints of these lines, by line, and its journal."""
@@ -50,7 +50,7 @@ class Command(unittest.TestCase):
         return run.stdout.decode().splitlines(), run.stderr.decode().splitlines()
 
 
-class Print(Command):
+class PrintedMessages(CommandTest):
     """`--print` needs no broker."""
 
     def values(self, eep, subtopic, *readings):
@@ -79,7 +79,7 @@ class Print(Command):
             "999999999/1000": "999999.999", "1/3000000": "0.000000333333", "-100/1": "-100", "0/1": "0",
             "4294967295/1": "4294967295",
         }
-        self.assertEqual(self.values("A5-02-05", "TMP", *map(number, wanted)), [*wanted.values()])
+        self.assertEqual(self.values("A5-02-05", "TMP", *map(fraction_reading, wanted)), [*wanted.values()])
 
     def test_words_and_raw_numbers(self):
         for eep, value, text in (("A5-10-05", {"name": "SP", "raw": 255}, "255"),
@@ -92,7 +92,7 @@ class Print(Command):
         """They are reported and not published. A line that is not understood is only published as it is."""
         no_lines = ["[]", '{"type":', "\udcff", '{"type":"\udcfc"}', ""]
         not_understood = [
-            '{"type":"reading"}', '{"count":true,"type":"list"}', reading("A5-02-05", number("1/0")),
+            '{"type":"reading"}', '{"count":true,"type":"list"}', reading("A5-02-05", fraction_reading("1/0")),
             reading("A5-02-05", {"name": "../#", "word": "on"}), reading("A5-02-05", {"name": "TMP", "raw": 1.5}),
             reading("D5-00-01", {"name": "CO", "word": "closed"}, device="+"),
         ]
@@ -155,7 +155,7 @@ class Print(Command):
                 self.assertEqual([int(it) for it in re.findall('"expire_after":([0-9]+)', "\n".join(found))], wanted)
 
 
-class Refused(Command):
+class RefusedArguments(CommandTest):
     """A wrong setting or word ends the command with one line, and the status at which its unit is not restarted."""
 
     def assert_refused(self, wanted, *words, **variables):

@@ -8,10 +8,10 @@ import unittest
 import unittest.mock
 
 from enogate_mqtt import connection, outbox
-from enogate_mqtt.connection import Broker, Connection, Lost, Received, WrongProtocol
+from enogate_mqtt.connection import Broker, Connection, ConnectionLost, ReceivedMessage, WrongProtocol
 from enogate_mqtt.settings import Login
 from enogate_mqtt.topics import Message, Topics
-from fakes import OK, WATCHED, Case, Clock, Retaining, Site, reading, status
+from fakes import OK, WATCHED, LogTest, Clock, FakeConnection, Site, reading, status
 
 TOPICS = Topics("hall", "homeassistant")
 
@@ -72,7 +72,7 @@ class Properties:
         self.packet = packet
 
 
-def paho(version):
+def fake_paho(version):
     """A stand-in for the module paho.mqtt.client of this version."""
     module = types.SimpleNamespace(MQTTv5=5, MQTTv311=4, Properties=Properties, clients=[])
     module.connack_string = lambda code: f"connack {code}"
@@ -87,25 +87,25 @@ def paho(version):
     return module
 
 
-def subclasses(kind):
+def exceptions_of_kind(kind):
     """The kinds of exceptions that are built in, and those of this kind."""
     found = [one for one in kind.__subclasses__() if one.__module__ in ("builtins", "ssl", "struct", "socket")]
-    return found + [below for one in found for below in subclasses(one)]
+    return found + [below for one in found for below in exceptions_of_kind(one)]
 
 
 def message(topic, payload, retain=False):
     return types.SimpleNamespace(topic=topic, payload=payload, retain=retain)
 
 
-class Connecting(Case):
+class PahoConnection(LogTest):
     def setUp(self):
         super().setUp()
         self.clock = Clock()
 
     def connect(self, version=5, module=None, login=Login("h", 1883, None, None, None), is_reader=False):
-        self.paho = module or paho(1)
-        found = Connection(self.paho, login, TOPICS, version, self.clock, is_reader)
-        self.client = self.paho.clients[-1]
+        self.fake_paho = module or fake_paho(1)
+        found = Connection(self.fake_paho, login, TOPICS, version, self.clock, is_reader)
+        self.client = self.fake_paho.clients[-1]
         return found
 
     def accept(self, found, code=0, codes=(1, 1, 1, 1)):
@@ -116,7 +116,7 @@ class Connecting(Case):
         return number
 
     def test_the_client(self):
-        self.connect(module=paho(2))
+        self.connect(module=fake_paho(2))
         self.assertEqual(self.client.options, {"client_id": "enogate-hall", "protocol": 5, "callback_api_version": 2})
         (arguments, named), = self.client.called("connect")
         self.assertEqual((arguments, named["clean_start"]), (("h", 1883, 30), True))
@@ -147,7 +147,7 @@ class Connecting(Case):
         found.turn(0)
         found.publish(Message("b", "x", True))
         self.clock.now += 0.1
-        with self.assertRaisesRegex(Lost, "^the broker acknowledges nothing$"):
+        with self.assertRaisesRegex(ConnectionLost, "^the broker acknowledges nothing$"):
             found.turn(0)
         self.client.on_publish(self.client, None, number)
         found.turn(0)
@@ -192,7 +192,7 @@ class Connecting(Case):
                                     (4, 5, "connack 5")):
             found = self.connect(version)
             self.client.on_connect(self.client, None, {}, code)
-            with self.assertRaisesRegex(Lost, f"^rejected by the broker: {text}$") as lost:
+            with self.assertRaisesRegex(ConnectionLost, f"^rejected by the broker: {text}$") as lost:
                 found.turn(0)
             self.assertNotIsInstance(lost.exception, WrongProtocol)
 
@@ -204,12 +204,12 @@ class Connecting(Case):
                 found.turn(0)
         found = self.connect(version=4)
         self.client.on_connect(self.client, None, {}, 1)
-        with self.assertRaises(Lost) as lost:
+        with self.assertRaises(ConnectionLost) as lost:
             found.turn(0)
         self.assertNotIsInstance(lost.exception, WrongProtocol)
 
     def test_no_connection(self):
-        module = paho(1)
+        module = fake_paho(1)
         real = module.Client
 
         def client(**options):
@@ -217,14 +217,14 @@ class Connecting(Case):
             found.connect = unittest.mock.Mock(side_effect=ConnectionRefusedError(111, "Connection refused"))
             return found
         module.Client = client
-        with self.assertRaisesRegex(Lost, "^Connection refused$"):
+        with self.assertRaisesRegex(ConnectionLost, "^Connection refused$"):
             self.connect(module=module)
 
     def test_messages(self):
         found = self.connect()
         self.client.on_message(self.client, None, message("a", b"1", True))
         self.client.on_message(self.client, None, message("b", b"2"))
-        self.assertEqual(found.received, [Received("a", b"1", True), Received("b", b"2", False)])
+        self.assertEqual(found.received, [ReceivedMessage("a", b"1", True), ReceivedMessage("b", b"2", False)])
 
     def test_a_topic_that_is_no_text(self):
         class Bad:
@@ -251,7 +251,7 @@ class Connecting(Case):
 
     def test_requests(self):
         found = self.connect()
-        one, two = found.request(["a/+", "b"]), found.cancel(["a/+", "b"])
+        one, two = found.request_retained(["a/+", "b"]), found.cancel_request(["a/+", "b"])
         self.assertEqual(self.client.called("subscribe"), [(([("a/+", 0), ("b", 0)],), {})])
         self.assertEqual(self.client.called("unsubscribe"), [((["a/+", "b"],), {})])
         self.client.on_subscribe(self.client, None, one, [0])
@@ -263,8 +263,8 @@ class Connecting(Case):
         found = self.connect()
         self.client.subscribe = lambda _filters: (4, None)
         self.client.unsubscribe = lambda _filters: (4, None)
-        for call in (found.request, found.cancel):
-            with self.assertRaisesRegex(Lost, "^error 4$"):
+        for call in (found.request_retained, found.cancel_request):
+            with self.assertRaisesRegex(ConnectionLost, "^error 4$"):
                 call(["a"])
         self.assertEqual(found.unanswered, set())
 
@@ -291,7 +291,7 @@ class Connecting(Case):
     def test_a_loss(self):
         found = self.connect()
         self.client.steps = [lambda: 7]
-        with self.assertRaisesRegex(Lost, "^error 7$"):
+        with self.assertRaisesRegex(ConnectionLost, "^error 7$"):
             found.turn(0)
 
     def test_another_client_with_the_name(self):
@@ -299,11 +299,11 @@ class Connecting(Case):
                      (types.SimpleNamespace(is_disconnect_packet_from_server=True), Code(142), None)):
             found = self.connect()
             self.client.steps = [lambda: self.client.on_disconnect(self.client, None, *rest) or 7]
-            with self.assertRaisesRegex(Lost, "^another client has the name enogate-hall$"):
+            with self.assertRaisesRegex(ConnectionLost, "^another client has the name enogate-hall$"):
                 found.turn(0)
         found = self.connect()
         self.client.steps = [lambda: self.client.on_disconnect(self.client, None, 7) or 7]
-        with self.assertRaisesRegex(Lost, "^error 7$"):
+        with self.assertRaisesRegex(ConnectionLost, "^error 7$"):
             found.turn(0)
 
     def test_another_client_with_the_name_without_a_reason_code(self):
@@ -311,7 +311,8 @@ class Connecting(Case):
         found = self.connect()
         self.accept(found)
         self.client.steps = [lambda: self.client.on_disconnect(self.client, None, 7) or 7]
-        with self.assertRaisesRegex(Lost, "^broker or network closed the connection; perhaps another client has the "
+        with self.assertRaisesRegex(ConnectionLost,
+                                    "^broker or network closed the connection; perhaps another client has the "
                                     "name enogate-hall$"):
             found.turn(0)
 
@@ -320,7 +321,7 @@ class Connecting(Case):
         self.clock.now += connection.OPEN_WITHIN
         found.turn(0)
         self.clock.now += 0.1
-        with self.assertRaisesRegex(Lost, "^no answer from the broker$"):
+        with self.assertRaisesRegex(ConnectionLost, "^no answer from the broker$"):
             found.turn(0)
         self.accept(found)
         found.turn(0)
@@ -365,12 +366,12 @@ class Connecting(Case):
                             (RecursionError("deep"), "RecursionError: deep")):
             found = self.connect()
             self.client.steps = [self.raising(error)]
-            with self.assertRaisesRegex(Lost, f"^invalid packet from the broker \\({text}\\)$"):
+            with self.assertRaisesRegex(ConnectionLost, f"^invalid packet from the broker \\({text}\\)$"):
                 found.turn(0)
         for error in (ssl.SSLError(1, "certificate required"), OSError(1, "certificate required")):
             found = self.connect()
             self.client.steps = [self.raising(error)]
-            with self.assertRaisesRegex(Lost, "^certificate required$"):
+            with self.assertRaisesRegex(ConnectionLost, "^certificate required$"):
                 found.turn(0)
 
     def test_an_error_in_a_callback_is_not_a_loss(self):
@@ -395,18 +396,18 @@ class Connecting(Case):
         two, three = (found.publish(Message("b", "x", True)) for _ in range(2))
         self.client.on_publish(self.client, None, one)
         self.assertEqual((found.unacknowledged, self.client.publish.call_count), ({two, three}, 1))
-        with self.assertRaisesRegex(Lost, "^alert$"):
+        with self.assertRaisesRegex(ConnectionLost, "^alert$"):
             found.turn(0)
         self.assertEqual(self.client.called("loop"), [])
 
     def test_a_network_that_fails_during_requests(self):
         found = self.connect()
-        for name, call in (("subscribe", found.request), ("unsubscribe", found.cancel)):
+        for name, call in (("subscribe", found.request_retained), ("unsubscribe", found.cancel_request)):
             setattr(self.client, name, self.raising(ssl.SSLError(1, "alert")))
-            with self.assertRaisesRegex(Lost, "^alert$"):
+            with self.assertRaisesRegex(ConnectionLost, "^alert$"):
                 call(["a"])
         self.client.steps = [lambda: self.client.on_connect(self.client, None, {}, 0)]
-        with self.assertRaisesRegex(Lost, "^alert$"):
+        with self.assertRaisesRegex(ConnectionLost, "^alert$"):
             found.turn(0)
 
     def test_a_network_that_fails_at_the_end(self):
@@ -420,14 +421,14 @@ class Connecting(Case):
     def test_wrong_arguments_are_not_a_loss(self):
         found = self.connect()
         for name, call in (("publish", lambda: found.publish(Message("+", "x", True))),
-                           ("subscribe", lambda: found.request([]))):
+                           ("subscribe", lambda: found.request_retained([]))):
             setattr(self.client, name, self.raising(ValueError("Invalid topic.")))
             with self.assertRaisesRegex(ValueError, "^Invalid topic.$"):
                 call()
 
     def test_random_errors_of_paho(self):
         chance = random.Random(76)
-        kinds = [kind for kind in subclasses(Exception) if not issubclass(kind, ExceptionGroup)]
+        kinds = [kind for kind in exceptions_of_kind(Exception) if not issubclass(kind, ExceptionGroup)]
         self.assertGreater(len(kinds), 50)
         for _ in range(3000):
             found = self.connect(chance.choice((4, 5)))
@@ -436,7 +437,7 @@ class Connecting(Case):
             self.client.steps = [lambda: None, self.raising(error)]
             if chance.random() < 0.5:
                 self.client.steps[0] = lambda: self.client.on_connect(self.client, None, {}, 0)
-            with self.assertRaises(Lost) as lost:
+            with self.assertRaises(ConnectionLost) as lost:
                 found.turn(0)
                 found.turn(0)
             self.assertLess(len(str(lost.exception)), 250)
@@ -450,7 +451,7 @@ class Connecting(Case):
         found.close()
 
 
-class Session:
+class ScriptedConnection:
     """A connection that does what the test says."""
 
     def __init__(self, clock, lost=None, opens=True):
@@ -466,7 +467,7 @@ class Session:
         self.closed = True
 
 
-class Brokers(Case):
+class BrokerReconnection(LogTest):
     def setUp(self):
         super().setUp()
         self.clock, self.versions, self.sessions = Clock(), [], []
@@ -476,12 +477,12 @@ class Brokers(Case):
     def connect(self, version, is_reader):
         if is_reader:
             self.reader_version = version
-            raise Lost("no reader")
+            raise ConnectionLost("no reader")
         self.versions.append(version)
         self.times = getattr(self, "times", []) + [self.clock()]
-        self.session = Session(self.clock, *self.sessions.pop(0)) if self.sessions else Session(self.clock)
+        self.session = ScriptedConnection(self.clock, *(self.sessions.pop(0) if self.sessions else ()))
         if isinstance(self.session.lost, OSError):
-            raise Lost("cannot connect")
+            raise ConnectionLost("cannot connect")
         return self.session
 
     def turn(self):
@@ -495,21 +496,21 @@ class Brokers(Case):
 
     def test_a_reader_that_cannot_connect(self):
         self.turns(2)
-        self.assertIsNone(self.broker.read())
+        self.assertIsNone(self.broker.open_reader())
         self.assertIsNone(self.broker.connection)
         self.assert_logged("no connection to h:1883: no reader")
 
     def test_a_reader_has_the_protocol_of_the_broker(self):
         self.sessions = [(WrongProtocol("x"),)]
         self.turns(4)
-        self.broker.read()
+        self.broker.open_reader()
         self.assertEqual(self.reader_version, 4)
 
     def test_the_hint_at_another_bridge_is_given_once(self):
         for _ in range(3):
             while not (self.broker.connection and self.broker.connection.is_open):
                 self.turn()
-            self.session.lost = Lost("x")
+            self.session.lost = ConnectionLost("x")
             self.turn()
         self.sessions = [(OSError(),)] * 20
         while self.sessions:
@@ -556,7 +557,7 @@ class Brokers(Case):
         self.assert_logged("WARNING: no connection to h:1883: cannot connect")
 
     def test_another_reason_is_logged(self):
-        self.sessions = [(Lost("one"),), (Lost("two"),), (Lost("two"),), (Lost("one"),)]
+        self.sessions = [(ConnectionLost(reason),) for reason in ("one", "two", "two", "one")]
         for _ in range(1000):
             self.turn()
         self.assertEqual([line.rsplit(" ", 1)[1] for line in self.logged], ["one", "two"])
@@ -570,7 +571,7 @@ class Brokers(Case):
 
     def test_malformed_packets_have_growing_pauses(self):
         """The journal has the reason once."""
-        module = paho(1)
+        module = fake_paho(1)
 
         def connect(version, is_reader):
             self.times = getattr(self, "times", []) + [self.clock()]
@@ -598,7 +599,7 @@ class Brokers(Case):
         self.broker.pause = 32
         self.turns(2)
         self.clock.now += connection.MAX_PAUSE + 1
-        self.session.lost = Lost("x")
+        self.session.lost = ConnectionLost("x")
         self.turns(1)
         self.assertEqual(self.broker.due, self.clock() + 1)
         self.assertEqual((self.session.closed, self.broker.connection), (True, None))
@@ -607,7 +608,7 @@ class Brokers(Case):
         self.broker.pause = 32
         self.turns(2)
         self.clock.now += connection.MAX_PAUSE
-        self.session.lost = Lost("x")
+        self.session.lost = ConnectionLost("x")
         self.turns(1)
         self.assertEqual(self.broker.due, self.clock() + 32)
 
@@ -621,17 +622,17 @@ class Brokers(Case):
         for _ in range(4):
             while not (self.broker.connection and self.broker.connection.is_open):
                 self.turn()
-            self.session.lost = Lost("x")
+            self.session.lost = ConnectionLost("x")
             self.turn()
         self.assert_logged("is there another bridge with this name?")
-        self.assertEqual((connection.SHORT, connection.OFTEN), (10, 3))
+        self.assertEqual((connection.SHORT_CONNECTION, connection.OFTEN_SHORT), (10, 3))
 
     def test_a_long_connection_between_short_ones(self):
-        for seconds in (0, 0, connection.SHORT, 0, 0):
+        for seconds in (0, 0, connection.SHORT_CONNECTION, 0, 0):
             while not (self.broker.connection and self.broker.connection.is_open):
                 self.turn()
             self.clock.now += seconds
-            self.session.lost = Lost("x")
+            self.session.lost = ConnectionLost("x")
             self.turn()
         self.assert_logged("is there another bridge", 0)
 
@@ -639,7 +640,7 @@ class Brokers(Case):
         for _ in range(2):
             while not (self.broker.connection and self.broker.connection.is_open):
                 self.turn()
-            self.session.lost = Lost("x")
+            self.session.lost = ConnectionLost("x")
             self.turn()
         self.assert_logged("no connection to h:1883: x", 2)
 
@@ -650,17 +651,17 @@ class Brokers(Case):
         for _ in range(4):
             while not (self.broker.connection and self.broker.connection.is_open):
                 self.turn()
-            self.clock.now += connection.SHORT
-            self.session.lost = Lost("x")
+            self.clock.now += connection.SHORT_CONNECTION
+            self.session.lost = ConnectionLost("x")
             self.turn()
         self.assert_logged("is there another bridge", 0)
 
 
-class Day(Case):
+class DayWithoutBroker(LogTest):
     """The broker is away for a day, in which the gateway goes on. A turn takes two minutes, and has two lines: they are
     fewer than a bridge keeps, so this one keeps less."""
 
-    TURNS, KEPT = 720, 500
+    TURNS, KEPT_LINES = 720, 500
 
     def setUp(self):
         super().setUp()
@@ -668,7 +669,7 @@ class Day(Case):
         self.reasons = ["Connection refused"]
         # all pauses are as short as they may be
         self.site.broker = Broker(self.connect, "h:1883", self.site.clock, lambda: 0.0)
-        patch = unittest.mock.patch.object(outbox, "MAX_LINES", self.KEPT)
+        patch = unittest.mock.patch.object(outbox, "MAX_LINES", self.KEPT_LINES)
         patch.start()
         self.addCleanup(patch.stop)
 
@@ -676,22 +677,22 @@ class Day(Case):
         if self.session:
             return self.session
         self.attempts += 1
-        raise Lost(self.reasons[self.attempts % len(self.reasons)])
+        raise ConnectionLost(self.reasons[self.attempts % len(self.reasons)])
 
     def turns(self, count, answers=True):
         """Turns in which one of 50 devices sends, and the gateway answers the bridge, or does not."""
         for number in range(count):
-            self.site.tell(reading(f"018000{number % 50:02X}"), status() if answers else OK)
-            self.site.turns(1, 120)
+            self.site.write_lines(reading(f"018000{number % 50:02X}"), status() if answers else OK)
+            self.site.run_turns(1, 120)
 
     def returns(self):
         """The broker is there again."""
-        session = self.session = Retaining({})
+        session = self.session = FakeConnection({})
         session.is_open, session.complaint, session.began = False, "", self.site.clock()
         turn = session.turn
         session.turn = lambda seconds: setattr(session, "is_open", True) or turn(seconds)
-        self.site.tell(status())
-        self.site.turns(120, 0.05)
+        self.site.write_lines(status())
+        self.site.run_turns(120, 0.05)
 
     def test_the_journal(self):
         bridge = self.site.start()
@@ -700,10 +701,10 @@ class Day(Case):
             "WARNING: no connection to h:1883: Connection refused",
             "WARNING: broker unavailable or too slow: 500 lines kept, dropping the oldest"])
         self.assertGreaterEqual(self.attempts, self.TURNS // 2)
-        self.assertEqual(len(bridge.outbox.entries), self.KEPT)
+        self.assertEqual(len(bridge.outbox.entries), self.KEPT_LINES)
         self.returns()
         self.assertEqual(self.logged[2:], ["INFO: connected to h:1883"])
-        last = self.site.lines.read_text().split("\n")[-self.KEPT - 1:-1]
+        last = self.site.lines.read_text().split("\n")[-self.KEPT_LINES - 1:-1]
         self.assertEqual([text for topic, text, _ in self.session.published if topic == "enogate/hall/lines"], last)
 
     def test_the_journal_of_a_gateway_that_is_silent_too(self):
@@ -718,7 +719,7 @@ class Day(Case):
     def test_the_journal_of_reasons_that_change(self):
         self.reasons = ["No route to host", "Connection refused"]
         self.site.start()
-        self.turns(self.KEPT // 3)
+        self.turns(self.KEPT_LINES // 3)
         self.assertEqual(self.logged, ["WARNING: no connection to h:1883: Connection refused",
                                        "WARNING: no connection to h:1883: No route to host"])
 

@@ -7,12 +7,13 @@ import unittest
 from unittest import mock
 
 from enogate_lines.contents import Deleted, EndOfList, Learned, OkOrError, Status, Telegram
-from enogate_mqtt.desk import ANSWER_WITHIN, BYTES_PER_SECOND, LINE, MAX_BURST, MAX_SIZE, Desk, News
-from fakes import Case, Clock, Site
+from enogate_mqtt.desk import ANSWER_WITHIN, BYTES_PER_SECOND, COST_OF_LISTED_DEVICE, MAX_BURST, MAX_SIZE
+from enogate_mqtt.desk import Desk, DeskChange
+from fakes import LogTest, Clock, Site
 
 
 @contextlib.contextmanager
-def full_after(free):
+def full_disk_after(free):
     """A file system with so many bytes left."""
     real, left = os.write, [free]
 
@@ -30,7 +31,7 @@ OK, STATUS, LIST, LEARNED = OkOrError(), Status("closed", {}), EndOfList(2), Lea
 REMOVED, READING = Deleted("01800ABC"), Telegram("01800ABC", "D5-00-01", -45, ())
 
 
-class Desks(Case):
+class DeskOrders(LogTest):
     def setUp(self):
         super().setUp()
         self.site = Site(self)
@@ -62,13 +63,13 @@ class Desks(Case):
         self.setUp()
         self.give(orders.encode())
         for answer in answers:
-            self.desk.take(answer)
-        self.desk.news()
-        self.assertEqual(self.desk.take_lost(), [])
+            self.desk.handle_line(answer)
+        self.desk.take_change()
+        self.assertEqual(self.desk.take_lost_orders(), [])
         self.write("", "w")
-        self.assertIs(self.desk.news(), News.TRUNCATED)
-        found = [order.decode() for order in self.desk.take_lost()]
-        self.assertEqual((self.desk.take_lost(), len(self.desk.given)), ([], 0))
+        self.assertIs(self.desk.take_change(), DeskChange.TRUNCATED)
+        found = [order.decode() for order in self.desk.take_lost_orders()]
+        self.assertEqual((self.desk.take_lost_orders(), len(self.desk.given)), ([], 0))
         return found
 
     def test_orders_that_are_lost_by_a_start(self):
@@ -94,20 +95,20 @@ class Desks(Case):
         self.give(b"teach 5\n")
         self.write("", "w")
         self.give(b"teach 6\n")
-        self.assertIs(self.desk.news(), News.TRUNCATED)
-        self.assertEqual(self.desk.take_lost(), [b"teach 5"])
-        self.assertIs(self.desk.news(), News.NONE)
+        self.assertIs(self.desk.take_change(), DeskChange.TRUNCATED)
+        self.assertEqual(self.desk.take_lost_orders(), [b"teach 5"])
+        self.assertIs(self.desk.take_change(), DeskChange.NONE)
         self.write("", "w")
-        self.desk.news()
-        self.assertEqual(self.desk.take_lost(), [b"teach 6"])
+        self.desk.take_change()
+        self.assertEqual(self.desk.take_lost_orders(), [b"teach 6"])
 
     def test_a_start_before_an_order_of_the_bridge(self):
         self.give(b"teach 5\n")
-        self.desk.news()
+        self.desk.take_change()
         self.write("", "w")
         self.desk.append(b"list\nstatus\nbase\n")
-        self.assertIs(self.desk.news(), News.TRUNCATED)
-        self.assertEqual(self.desk.take_lost(), [b"teach 5"])
+        self.assertIs(self.desk.take_change(), DeskChange.TRUNCATED)
+        self.assertEqual(self.desk.take_lost_orders(), [b"teach 5"])
 
     def test_own_orders_are_not_lost(self):
         """But they show which orders before them were answered."""
@@ -116,10 +117,10 @@ class Desks(Case):
         self.desk.append(b"status\n")
         self.give(b"teach 6\n")
         self.desk.append(b"learn off\n")
-        self.desk.take(STATUS)
+        self.desk.handle_line(STATUS)
         self.write("", "w")
-        self.desk.news()
-        self.assertEqual(self.desk.take_lost(), [b"teach 6"])
+        self.desk.take_change()
+        self.assertEqual(self.desk.take_lost_orders(), [b"teach 6"])
 
     def test_a_list_after_a_start_that_was_not_noticed_is_not_answered_by_the_old_gateway(self):
         self.give(b"list\n")
@@ -140,7 +141,7 @@ class Desks(Case):
                 self.path.write_bytes(b"list\n")
                 left = [free, more, 99]
                 for text in (orders, b"status\n", b"base\n"):
-                    with full_after(left.pop(0)), contextlib.suppress(OSError):
+                    with full_disk_after(left.pop(0)), contextlib.suppress(OSError):
                         self.desk.append(text)
                 with self.subTest(free=free, more=more):
                     self.assert_orders(orders, b"status\n", b"list\n", b"base\n")
@@ -234,13 +235,13 @@ class Desks(Case):
                 self.assertEqual(self.lines(), [order.decode()])
                 self.assertEqual(self.give(order + b"\nbase\n" + order + b"\n"), 2)
                 self.assertEqual(self.lines()[1:], ["base"])
-                self.desk.unanswered.answer(order)
+                self.desk.unanswered.note_answer(order)
                 self.assertEqual(self.give(b"base\n" + order + b"\n"), 0)
                 self.assertEqual(self.lines()[2:], ["base", order.decode()])
 
     def test_list_and_status_do_not_wait_for_each_other(self):
         self.give(b"list\nstatus\n")
-        self.desk.unanswered.answer(b"status")
+        self.desk.unanswered.note_answer(b"status")
         self.assertEqual(self.give(b"status\nlist\n"), 1)
         self.assertEqual(self.lines(), ["list", "status", "status"])
 
@@ -262,13 +263,13 @@ class Desks(Case):
         self.desk.append(b"list\n")
         for _ in range(2):
             self.assertEqual(self.give(b"list\n"), 1)
-            self.desk.unanswered.answer(b"list")
+            self.desk.unanswered.note_answer(b"list")
         self.assertEqual(self.give(b"list\n"), 0)
         self.assertEqual(self.lines(), ["list"] * 4)
 
     def test_answers_to_orders_of_another_program(self):
         for _ in range(2):
-            self.desk.unanswered.answer(b"list")
+            self.desk.unanswered.note_answer(b"list")
         self.give(b"list\n")
         self.assertEqual(self.give(b"list\n"), 1)
 
@@ -288,22 +289,22 @@ class Desks(Case):
         self.assertEqual(len(self.desk.unanswered.given[b"status"]), 100)
 
     def test_a_gateway_that_was_started_answers_no_order_of_before(self):
-        self.desk.news()
+        self.desk.take_change()
         self.give(b"list\nstatus\n")
-        self.desk.news()
+        self.desk.take_change()
         self.assertEqual(self.give(b"list\n"), 1)
         self.write("", "w")
-        self.assertIs(self.desk.news(), News.TRUNCATED)
+        self.assertIs(self.desk.take_change(), DeskChange.TRUNCATED)
         self.assertEqual(self.give(b"list\nstatus\n"), 0)
 
     def test_a_list_counts_a_line_for_each_device(self):
         """Each line of its answer counts like the shortest order."""
-        self.assertEqual(LINE, 5)
+        self.assertEqual(COST_OF_LISTED_DEVICE, 5)
         passed = []
         for second in range(20):
             try:
                 self.give(b"list\n", devices=1000)
-                self.desk.unanswered.answer(b"list")
+                self.desk.unanswered.note_answer(b"list")
                 passed.append(second)
             except OSError as error:
                 self.assertEqual(str(error), "too many orders in a short time")
@@ -334,86 +335,87 @@ class Desks(Case):
 
     def test_a_word_that_was_seen(self):
         self.write("list\nlabel ")
-        self.assertIs(self.desk.news(), News.LABELLED)
+        self.assertIs(self.desk.take_change(), DeskChange.LABELLED)
         self.write("x")
-        self.assertIs(self.desk.news(), News.NONE)
+        self.assertIs(self.desk.take_change(), DeskChange.NONE)
 
     def test_news(self):
-        self.assertIs(self.desk.news(), News.NONE)
+        self.assertIs(self.desk.take_change(), DeskChange.NONE)
         self.write("list\nlabel 01800ABC x\n")
-        self.assertIs(self.desk.news(), News.LABELLED)
-        self.assertIs(self.desk.news(), News.NONE)
+        self.assertIs(self.desk.take_change(), DeskChange.LABELLED)
+        self.assertIs(self.desk.take_change(), DeskChange.NONE)
         self.write("list\n")
-        self.assertIs(self.desk.news(), News.NONE)
+        self.assertIs(self.desk.take_change(), DeskChange.NONE)
         self.write("", "w")
-        self.assertIs(self.desk.news(), News.TRUNCATED)
+        self.assertIs(self.desk.take_change(), DeskChange.TRUNCATED)
         self.write("x" * 30)
-        self.desk.news()
+        self.desk.take_change()
         self.write("x" * 29, "w")
-        self.assertIs(self.desk.news(), News.TRUNCATED)
+        self.assertIs(self.desk.take_change(), DeskChange.TRUNCATED)
 
     def test_a_file_that_replaces_another(self):
         self.write("list\n")
-        self.desk.news()
+        self.desk.take_change()
         new = self.site.folder / "new"
         new.write_text("list\nlist\n")
         new.rename(self.path)
-        self.assertIs(self.desk.news(), News.REPLACED)
-        self.assertIs(self.desk.news(), News.NONE)
+        self.assertIs(self.desk.take_change(), DeskChange.REPLACED)
+        self.assertIs(self.desk.take_change(), DeskChange.NONE)
 
     def test_a_desk_that_comes_and_goes(self):
         self.path.unlink()
-        self.assertIs(self.desk.news(), News.NONE)
-        self.assertIs(self.desk.news(), News.NONE)
+        self.assertIs(self.desk.take_change(), DeskChange.NONE)
+        self.assertIs(self.desk.take_change(), DeskChange.NONE)
         self.write("label 01800ABC x\n")
-        self.assertIs(self.desk.news(), News.CREATED)
-        self.assertIs(self.desk.news(), News.LABELLED)
+        self.assertIs(self.desk.take_change(), DeskChange.CREATED)
+        self.assertIs(self.desk.take_change(), DeskChange.LABELLED)
 
     def test_a_pipe_has_no_news(self):
         self.path.unlink()
         os.mkfifo(self.path)
         with mock.patch("builtins.open", side_effect=AssertionError("it would wait for a program that writes")):
-            self.assertIs(self.desk.news(), News.NONE)
-            self.assertIs(self.desk.news(), News.NONE)
+            self.assertIs(self.desk.take_change(), DeskChange.NONE)
+            self.assertIs(self.desk.take_change(), DeskChange.NONE)
 
     def test_labels(self):
         self.write("label 01800ABC at the beginning\n")
-        self.assertIs(self.desk.news(), News.LABELLED)
+        self.assertIs(self.desk.take_change(), DeskChange.LABELLED)
         self.write("label")
-        self.assertIs(self.desk.news(), News.NONE)
+        self.assertIs(self.desk.take_change(), DeskChange.NONE)
         self.write(" 01800ABC in two pieces\n")
-        self.assertIs(self.desk.news(), News.LABELLED)
+        self.assertIs(self.desk.take_change(), DeskChange.LABELLED)
         self.write("list label 01800ABC\nrelabel 01800ABC x\nlabels\n")
-        self.assertIs(self.desk.news(), News.NONE)
+        self.assertIs(self.desk.take_change(), DeskChange.NONE)
 
     def test_a_desk_that_is_longer_than_the_memory(self):
         """Another program has made it so long. The labels that follow are found, a part in each turn."""
         os.truncate(self.path, 1 << 36)
         with mock.patch.object(Desk, "read", return_value=b"") as read:
-            self.desk.news()
-            self.assertEqual(self.desk.orders(b"query "), set())
+            self.desk.take_change()
+            self.assertEqual(self.desk.appended_orders(b"query "), set())
         self.assertLessEqual(max(call.args[1] for call in read.mock_calls), 16 << 20)
         os.truncate(self.path, 0)
-        self.desk.news()
+        self.desk.take_change()
         os.truncate(self.path, (1 << 20) + 100)
         self.write("\nlabel 01800ABC x\n")
-        self.assertEqual([self.desk.news() for _ in range(3)], [News.NONE, News.LABELLED, News.NONE])
+        self.assertEqual([self.desk.take_change() for _ in range(3)],
+                         [DeskChange.NONE, DeskChange.LABELLED, DeskChange.NONE])
 
     def test_orders_that_were_given(self):
         self.write("query 01800ABC 1\nlist\nquery 01800ABC 30\nsubquery 01800ABC 2\nquery 01800ABC 1\nquery 0180")
-        self.assertEqual(self.desk.orders(b"query "), {b"query 01800ABC 1", b"query 01800ABC 30"})
+        self.assertEqual(self.desk.appended_orders(b"query "), {b"query 01800ABC 1", b"query 01800ABC 30"})
         self.path.unlink()
-        self.assertEqual(self.desk.orders(b"query "), set())
+        self.assertEqual(self.desk.appended_orders(b"query "), set())
 
     def test_what_was_there_before_is_no_news(self):
         self.write("label 01800ABC x\n")
-        self.assertIs(Desk(str(self.path), self.clock).news(), News.NONE)
+        self.assertIs(Desk(str(self.path), self.clock).take_change(), DeskChange.NONE)
 
     def test_a_desk_that_cannot_be_read(self):
         self.write("list")
         with mock.patch("builtins.open", side_effect=PermissionError):
             self.desk.append(b"list\n")
-            self.assertIs(self.desk.news(), News.NONE)
+            self.assertIs(self.desk.take_change(), DeskChange.NONE)
         self.assertEqual(self.path.read_bytes(), b"listlist\n")
 
 

@@ -15,17 +15,17 @@ ROCKER = [{"name": "R1", "word": "BI"}, {"name": "EB", "word": "pressed"}]
 RELEASED = [{"name": "buttons", "word": "none"}, {"name": "EB", "word": "released"}]
 
 
-class Known(unittest.TestCase):
+class DeviceMessages(unittest.TestCase):
     def setUp(self):
         self.devices = self.make()
 
     def make(self, discovery="homeassistant", **more):
         return Devices(Topics("hall", discovery), TABLE, **more)
 
-    def take(self, *lines, now=None):
+    def published_for(self, *lines, now=None):
         """What is published for these lines, without the discovery messages."""
         found = [message for line in lines
-                 for message in self.devices.take(content_of(json.dumps(line).encode()), now)]
+                 for message in self.devices.handle_line(content_of(json.dumps(line).encode()), now)]
         self.configs = [message for message in found if message.topic.startswith("homeassistant/")]
         return [(message.topic.removeprefix("enogate/hall/"), message.payload, message.retained)
                 for message in found if message not in self.configs]
@@ -36,54 +36,55 @@ class Known(unittest.TestCase):
                 {message.topic.split("/")[3] for message in self.configs if not message.payload})
 
     def test_a_reading(self):
-        self.assertEqual(self.take(reading("01800ABC")), [("01800ABC/TMP", "20", True), ("01800ABC/dbm", "-45", True)])
+        self.assertEqual(self.published_for(reading("01800ABC")),
+                         [("01800ABC/TMP", "20", True), ("01800ABC/dbm", "-45", True)])
 
     def test_the_time_of_a_reading(self):
-        self.assertEqual(self.take(reading("01800ABC"), now=NOW)[-1],
+        self.assertEqual(self.published_for(reading("01800ABC"), now=NOW)[-1],
                          ("01800ABC/last_seen", "2027-01-15T08:00:00+00:00", True))
-        self.take(reading("01800ABC"))
+        self.published_for(reading("01800ABC"))
         self.assertEqual(self.devices.known["01800ABC"].reported["last_seen"], "2027-01-15T08:00:00+00:00")
 
     def test_a_device_is_shown_when_it_is_learned(self):
-        self.take(reading("01800ABC"))
+        self.published_for(reading("01800ABC"))
         self.assertEqual(self.configs, [])
         self.assertTrue(self.devices.needs_list)
-        self.take(learned("01800ABC"))
+        self.published_for(learned("01800ABC"))
         self.assertIn("01800ABC_TMP", self.shown()[0])
-        self.take(learned("01800ABC"))
+        self.published_for(learned("01800ABC"))
         self.assertEqual(self.configs, [])
 
     def test_a_label_renames_it(self):
-        self.take(learned("01800ABC"))
-        self.take(*listing(("01800ABC", "A5-02-05", "Attic")))
+        self.published_for(learned("01800ABC"))
+        self.published_for(*listing(("01800ABC", "A5-02-05", "Attic")))
         self.assertTrue(self.configs and all("Attic" in message.payload for message in self.configs))
-        self.take(learned("01800ABC"))
+        self.published_for(learned("01800ABC"))
         self.assertEqual((self.configs, self.devices.known["01800ABC"].label), ([], "Attic"))
-        self.take(*listing(("01800ABC", "A5-02-05", "")))
+        self.published_for(*listing(("01800ABC", "A5-02-05", "")))
         self.assertEqual(self.devices.known["01800ABC"].label, "")
 
     def test_the_maker(self):
-        self.take(learned("01800ABC", maker=70))
+        self.published_for(learned("01800ABC", maker=70))
         self.assertEqual(self.devices.known["01800ABC"].maker, 70)
-        self.take(learned("01800ABC"))
+        self.published_for(learned("01800ABC"))
         self.assertIsNone(self.devices.known["01800ABC"].maker)
 
     def test_a_deleted_device(self):
-        self.take(learned("01800ABC"), reading("01800ABC"))
-        self.assertEqual(sorted(self.take(learned("01800ABC", result="deleted"))),
+        self.published_for(learned("01800ABC"), reading("01800ABC"))
+        self.assertEqual(sorted(self.published_for(learned("01800ABC", result="deleted"))),
                          [("01800ABC/TMP", "", True), ("01800ABC/dbm", "", True)])
         self.assertIn("01800ABC_TMP", self.shown()[1])
         self.assertEqual((self.devices.known, self.devices.shown), ({}, {}))
         self.assertTrue({"enogate/hall/01800ABC/TMP", "enogate/hall/01800ABC/dbm"} < self.devices.removed)
-        self.assertEqual(self.take(learned("01800ABC", result="deleted")), [])
+        self.assertEqual(self.published_for(learned("01800ABC", result="deleted")), [])
 
     def test_other_results_change_nothing(self):
-        self.assertEqual(self.take(learned("01800ABC", result="full"), {"type": "ok"}), [])
+        self.assertEqual(self.published_for(learned("01800ABC", result="full"), {"type": "ok"}), [])
         self.assertEqual(self.devices.known, {})
 
     def test_another_profile(self):
-        self.take(learned("01800ABC"), reading("01800ABC"))
-        reported = self.take(learned("01800ABC", "D5-00-01"))
+        self.published_for(learned("01800ABC"), reading("01800ABC"))
+        reported = self.published_for(learned("01800ABC", "D5-00-01"))
         self.assertEqual(sorted(reported), [("01800ABC/TMP", "", True), ("01800ABC/dbm", "", True)])
         added, removed = self.shown()
         self.assertIn("01800ABC_CO", added)
@@ -91,20 +92,20 @@ class Known(unittest.TestCase):
         self.assertEqual(self.devices.known["01800ABC"].reported, {})
 
     def test_a_reading_of_another_profile(self):
-        self.take(*listing(("01800ABC", "D5-00-01", "")))
+        self.published_for(*listing(("01800ABC", "D5-00-01", "")))
         self.assertFalse(self.devices.needs_list)
-        self.take(reading("01800ABC"))
+        self.published_for(reading("01800ABC"))
         self.assertTrue(self.devices.needs_list)
         self.assertEqual(self.devices.known["01800ABC"].eep, "A5-02-05")
 
     def test_a_topic_that_is_told_again_is_not_removed(self):
-        self.take(learned("01800ABC"), reading("01800ABC"), learned("01800ABC", result="deleted"), learned("01800ABC"),
-                  reading("01800ABC"))
+        self.published_for(learned("01800ABC"), reading("01800ABC"), learned("01800ABC", result="deleted"),
+                           learned("01800ABC"), reading("01800ABC"))
         self.assertEqual({topic for topic in self.devices.removed if "01800ABC" in topic}, set())
 
     def test_lists(self):
-        self.take(learned("01800ABC"), learned("01800ABD"), learned("01800ABE"))
-        self.take(*listing(("01800ABC", "A5-02-05", ""), ("01800ABE", "A5-02-05", "")))
+        self.published_for(learned("01800ABC"), learned("01800ABD"), learned("01800ABE"))
+        self.published_for(*listing(("01800ABC", "A5-02-05", ""), ("01800ABE", "A5-02-05", "")))
         self.assertEqual((sorted(self.devices.known), self.devices.lists, self.devices.needs_list),
                          (["01800ABC", "01800ABE"], 1, False))
 
@@ -115,93 +116,95 @@ class Known(unittest.TestCase):
                        [lines[0], lines[1], {"count": 1, "type": "list"}]):
             with self.subTest(broken):
                 self.devices = self.make()
-                self.take(learned("01800AAA"), *broken)
+                self.published_for(learned("01800AAA"), *broken)
                 self.assertEqual((self.devices.lists, self.devices.needs_list), (0, True))
                 self.assertIn("01800AAA", self.devices.known)
 
     def test_a_bad_line_within_a_list(self):
         lines = listing(("01800ABC", "A5-02-05", ""), ("01800ABD", "A5-02-05", ""))
-        self.take(learned("01800AAA"), lines[0], lines[1])
-        self.devices.skip()
-        self.take(lines[2])
+        self.published_for(learned("01800AAA"), lines[0], lines[1])
+        self.devices.drop_listing()
+        self.published_for(lines[2])
         self.assertIn("01800AAA", self.devices.known)
         self.assertEqual(self.devices.lists, 0)
 
     def test_a_switch(self):
-        self.take(learned("01800AC1", "F6-02-01"))
-        reported = self.take(reading("01800AC1", "F6-02-01", ROCKER))
+        self.published_for(learned("01800AC1", "F6-02-01"))
+        reported = self.published_for(reading("01800AC1", "F6-02-01", ROCKER))
         self.assertEqual(reported,
                          [("01800AC1/R1", "BI", True), ("01800AC1/EB", "pressed", True), ("01800AC1/dbm", "-45", True),
-                                ("01800AC1/press", '{"event_type":"BI"}', False)])
+                          ("01800AC1/press", '{"event_type":"BI"}', False)])
 
     def test_a_switch_that_is_released_is_not_retained_as_pressed(self):
-        self.take(learned("01800AC1", "F6-02-01"), reading("01800AC1", "F6-02-01", ROCKER, -50), now=NOW)
-        reported = self.take(reading("01800AC1", "F6-02-01", RELEASED, None))
+        self.published_for(learned("01800AC1", "F6-02-01"), reading("01800AC1", "F6-02-01", ROCKER, -50), now=NOW)
+        reported = self.published_for(reading("01800AC1", "F6-02-01", RELEASED, None))
         self.assertEqual(reported[0], ("01800AC1/R1", "", True))
         self.assertEqual(reported[-1], ("01800AC1/press", '{"event_type":"released"}', False))
         self.assertEqual(sorted(self.devices.known["01800AC1"].reported), ["EB", "buttons", "dbm", "last_seen"])
 
     def test_a_press_that_is_no_event(self):
-        self.take(learned("01800AC1", "F6-03-01"), reading("01800AC1", "F6-03-01", ROCKER))
-        self.take(reading("01800AC1", "F6-03-01", [{"name": "buttons", "raw": 3}, {"name": "EB", "word": "pressed"}]))
+        self.published_for(learned("01800AC1", "F6-03-01"), reading("01800AC1", "F6-03-01", ROCKER))
+        readings = [{"name": "buttons", "raw": 3}, {"name": "EB", "word": "pressed"}]
+        self.published_for(reading("01800AC1", "F6-03-01", readings))
         self.assertEqual(sorted(self.devices.known["01800AC1"].reported), ["EB", "buttons", "dbm"])
 
     def test_other_devices_keep_what_they_do_not_repeat(self):
-        self.take(reading("01800ABC"), reading("01800ABC", readings=[{"name": "X", "word": "y"}]))
+        self.published_for(reading("01800ABC"), reading("01800ABC", readings=[{"name": "X", "word": "y"}]))
         self.assertIn("TMP", self.devices.known["01800ABC"].reported)
 
     def test_a_list_that_repeats_what_is_known(self):
         """It makes no discovery messages: those of 1,000 devices take a second, and a press behind the list waits."""
         lines = listing(("01800ABC", "A5-02-05", "Attic"), ("01800ABD", "D2-01-12", ""))
-        self.take(*lines)
-        with mock.patch("enogate_mqtt.discovery.configs") as configs:
-            self.take(*lines, learned("01800ABC"))
+        self.published_for(*lines)
+        with mock.patch("enogate_mqtt.discovery.device_configs") as configs:
+            self.published_for(*lines, learned("01800ABC"))
             self.assertEqual((configs.call_count, self.configs, self.devices.lists), (0, [], 2))
         for changed in (("01800ABC", "A5-02-05", "Cellar"), ("01800ABC", "A5-04-01", "Cellar")):
-            self.take(*listing(changed, ("01800ABD", "D2-01-12", "")))
+            self.published_for(*listing(changed, ("01800ABD", "D2-01-12", "")))
             self.assertTrue(self.configs)
             self.assertTrue(all("Cellar" in message.payload for message in self.configs if message.payload))
 
     def test_what_is_retained(self):
-        self.take(learned("01800ABC"), reading("01800ABC"))
-        found = self.devices.retained("01800ABC")
+        self.published_for(learned("01800ABC"), reading("01800ABC"))
+        found = self.devices.retained_messages("01800ABC")
         self.assertEqual(found["enogate/hall/01800ABC/TMP"], "20")
         self.assertIn("homeassistant/sensor/enogate_hall/01800ABC_TMP/config", found)
 
     def test_without_discovery(self):
         self.devices = self.make("")
-        self.take(learned("01800ABC"), reading("01800ABC"))
-        self.assertEqual(set(self.devices.retained("01800ABC")),
+        self.published_for(learned("01800ABC"), reading("01800ABC"))
+        self.assertEqual(set(self.devices.retained_messages("01800ABC")),
                          {"enogate/hall/01800ABC/TMP", "enogate/hall/01800ABC/dbm"})
 
     def test_the_expiry(self):
         self.devices = self.make(expire_after=3600)
-        self.take(learned("01800ABC"))
+        self.published_for(learned("01800ABC"))
         self.assertIn('"expire_after":3600', self.devices.shown["01800ABC"][
             "homeassistant/sensor/enogate_hall/01800ABC_TMP/config"])
 
     def test_what_was_known_is_shown_without_lines(self):
         device = Device("01800ABC", "A5-02-05", "Attic", 70, {"TMP": "20"})
         self.devices = self.make(known=[device], removed={"x"})
-        self.assertIn("homeassistant/sensor/enogate_hall/01800ABC_TMP/config", self.devices.retained("01800ABC"))
+        self.assertIn("homeassistant/sensor/enogate_hall/01800ABC_TMP/config",
+                      self.devices.retained_messages("01800ABC"))
         self.assertEqual(self.devices.removed, {"x"})
 
     def test_adoption_without_a_state_file(self):
         self.devices = self.make(may_adopt=True)
-        self.take(*listing(("01800ABC", "A5-02-05", "")))
-        self.assertTrue(self.devices.adopt("enogate/hall/01800ABC/TMP", "20"))
-        self.assertTrue(self.devices.adopt("enogate/hall/01800ABC/last_seen", "2026"))
+        self.published_for(*listing(("01800ABC", "A5-02-05", "")))
+        self.assertTrue(self.devices.adopt_reading("enogate/hall/01800ABC/TMP", "20"))
+        self.assertTrue(self.devices.adopt_reading("enogate/hall/01800ABC/last_seen", "2026"))
         for subtopic in ("TMP", "nonsense", "OV/0", "TMP/0/1", "TMP/x"):
-            self.assertFalse(self.devices.adopt(f"enogate/hall/01800ABC/{subtopic}", "30"))
+            self.assertFalse(self.devices.adopt_reading(f"enogate/hall/01800ABC/{subtopic}", "30"))
         self.assertEqual(self.devices.known["01800ABC"].reported, {"TMP": "20", "last_seen": "2026"})
-        self.assertFalse(self.devices.adopt("enogate/hall/01800ABD/TMP", "20"))
+        self.assertFalse(self.devices.adopt_reading("enogate/hall/01800ABD/TMP", "20"))
 
     def test_adoption_after_another_start(self):
         """A device that has sent something keeps to that; of one that has not, the broker may know more."""
         known = [Device("01800ABC", "A5-04-01", "", None, {"TMP": "20"}), Device("01800ABD", "A5-04-01", "")]
         self.devices = self.make(may_adopt=True, known=known)
-        self.assertFalse(self.devices.adopt("enogate/hall/01800ABC/HUM", "50"))
-        self.assertTrue(self.devices.adopt("enogate/hall/01800ABD/HUM", "50"))
+        self.assertFalse(self.devices.adopt_reading("enogate/hall/01800ABC/HUM", "50"))
+        self.assertTrue(self.devices.adopt_reading("enogate/hall/01800ABD/HUM", "50"))
 
     def test_states_of_an_earlier_life_are_not_adopted(self):
         """A device that lines taught, deleted or gave another profile has no older states."""
@@ -215,21 +218,21 @@ class Known(unittest.TestCase):
                           {"den": 1, "name": "HUM", "num": 20, "unit": "%"}])]):
             with self.subTest(lines):
                 self.devices = self.make(may_adopt=True)
-                self.take(*lines)
-                self.assertFalse(self.devices.adopt("enogate/hall/01800ABC/TMP", "20"))
+                self.published_for(*lines)
+                self.assertFalse(self.devices.adopt_reading("enogate/hall/01800ABC/TMP", "20"))
 
     def test_with_a_state_file_nothing_is_adopted(self):
-        self.take(*listing(("01800ABC", "A5-02-05", "")))
-        self.assertFalse(self.devices.adopt("enogate/hall/01800ABC/TMP", "20"))
+        self.published_for(*listing(("01800ABC", "A5-02-05", "")))
+        self.assertFalse(self.devices.adopt_reading("enogate/hall/01800ABC/TMP", "20"))
         self.devices = self.make(known=[Device("01800ABC", "A5-02-05", "")])
-        self.assertFalse(self.devices.adopt("enogate/hall/01800ABC/TMP", "20"))
+        self.assertFalse(self.devices.adopt_reading("enogate/hall/01800ABC/TMP", "20"))
 
     def test_changes_are_noted(self):
         for _ in range(2):
-            self.take(reading("01800ABC"))
+            self.published_for(reading("01800ABC"))
             self.assertEqual(self.devices.changed, {"01800ABC"})
             self.devices.changed = set()
-        self.take(learned("01800ABC", result="deleted"))
+        self.published_for(learned("01800ABC", result="deleted"))
         self.assertEqual(self.devices.changed, {"01800ABC"})
 
 

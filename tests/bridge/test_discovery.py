@@ -33,13 +33,13 @@ def read(messages: dict[str, str]) -> dict[str, dict]:
 
 
 def about(eep: str, label: str = "", maker: int | None = None) -> dict:
-    return discovery.about_device(TOPICS, DEVICE, eep, label, maker)
+    return discovery.device_description(TOPICS, DEVICE, eep, label, maker)
 
 
 def configs(eep: str, *reported: str, expire_after: int | None = None) -> dict[str, dict]:
     """The messages of a device with this profile and readings on these subtopics."""
-    rows = TABLE.of_profile(eep).values()
-    return read(discovery.configs(TOPICS, DEVICE, about(eep), rows, reported, expire_after))
+    rows = TABLE.rows_of_profile(eep).values()
+    return read(discovery.device_configs(TOPICS, DEVICE, about(eep), rows, reported, expire_after))
 
 
 def result(template: str, value: str) -> str:
@@ -109,20 +109,20 @@ class Entities(unittest.TestCase):
     def test_a_switch(self):
         self.check("D2-01-12", "switch OV_1", {
             "name": "Channel 1", "state_topic": f"{OWN}/OV/1", "command_topic": f"{OWN}/OV/1/set",
-            "value_template": discovery.ON_OFF_OR_NONE})
+            "value_template": discovery.ON_OFF_OR_NONE_TEMPLATE})
 
     def test_a_dimmer(self):
         self.check("D2-01-02", "light OV_0", {
             "name": None, "state_topic": f"{OWN}/OV/0", "command_topic": f"{OWN}/OV/0/set",
-            "state_value_template": discovery.ON_OFF_OR_NONE, "brightness_state_topic": f"{OWN}/OV/0",
-            "brightness_value_template": discovery.NUMBER_OR_NOTHING, "brightness_command_topic": f"{OWN}/OV/0/set",
-            "brightness_scale": 100, "on_command_type": "brightness"})
+            "state_value_template": discovery.ON_OFF_OR_NONE_TEMPLATE, "brightness_state_topic": f"{OWN}/OV/0",
+            "brightness_value_template": discovery.NUMBER_OR_NOTHING_TEMPLATE,
+            "brightness_command_topic": f"{OWN}/OV/0/set", "brightness_scale": 100, "on_command_type": "brightness"})
 
     def test_a_blind(self):
         self.check("D2-05-00", "cover POS_0", {
             "name": None, "device_class": "blind", "state_topic": f"{OWN}/POS/0", "command_topic": f"{OWN}/POS/0/set",
-            "value_template": discovery.OPEN_CLOSED_OR_NONE, "position_topic": f"{OWN}/POS/0",
-            "position_template": discovery.NUMBER_OR_NOTHING, "set_position_topic": f"{OWN}/POS/0/set",
+            "value_template": discovery.OPEN_CLOSED_OR_NONE_TEMPLATE, "position_topic": f"{OWN}/POS/0",
+            "position_template": discovery.NUMBER_OR_NOTHING_TEMPLATE, "set_position_topic": f"{OWN}/POS/0/set",
             "position_open": 0, "position_closed": 100})
 
     def test_what_each_device_has(self):
@@ -166,8 +166,8 @@ class Devices(unittest.TestCase):
 
     def test_names_of_gateway_and_device_in_topics(self):
         topics = Topics("roof", "ha/found")
-        rows = TABLE.of_profile("F6-01-01").values()
-        found = discovery.configs(topics, "0000000A", {}, rows, [], None)
+        rows = TABLE.rows_of_profile("F6-01-01").values()
+        found = discovery.device_configs(topics, "0000000A", {}, rows, [], None)
         self.assertEqual(set(found), {
             "ha/found/event/enogate_roof/0000000A_press/config", "ha/found/sensor/enogate_roof/0000000A_dbm/config",
             "ha/found/sensor/enogate_roof/0000000A_last_seen/config",
@@ -179,8 +179,8 @@ class Devices(unittest.TestCase):
             [{"topic": f"enogate/roof/{name}"} for name in ("status", "gateway", "module")]))
 
     def test_the_text_of_a_message(self):
-        rows = TABLE.of_profile("F6-01-01").values()
-        found = discovery.configs(TOPICS, DEVICE, {"name": 'Tür "A" \\'}, rows, [], None)
+        rows = TABLE.rows_of_profile("F6-01-01").values()
+        found = discovery.device_configs(TOPICS, DEVICE, {"name": 'Tür "A" \\'}, rows, [], None)
         self.assertEqual(
             found[f"homeassistant/device_automation/enogate_hall/{DEVICE}_press_released/config"],
             '{"automation_type":"trigger","device":{"name":"Tür \\"A\\" \\\\"},'
@@ -257,7 +257,7 @@ class Gateway(unittest.TestCase):
 
     def setUp(self):
         self.maxDiff = None
-        self.found = read(discovery.gateway(TOPICS))
+        self.found = read(discovery.gateway_configs(TOPICS))
 
     def test_its_entities(self):
         device = {"identifiers": ["enogate_hall"], "name": "enogate hall", "model": "enogate", "sw_version": VERSION}
@@ -308,8 +308,8 @@ class Descriptions(unittest.TestCase):
         for label in ["Front door", 'Meter "A" \\', "Tür", "{{ 1 }}"]:
             self.assertEqual(about("D5-00-01", label)["name"], label)
             self.assertEqual(about("D5-00-01", label)["serial_number"], "01800ABC")
-            rows = TABLE.of_profile("D5-00-01").values()
-            for text in discovery.configs(TOPICS, DEVICE, about("D5-00-01", label), rows, [], None).values():
+            rows = TABLE.rows_of_profile("D5-00-01").values()
+            for text in discovery.device_configs(TOPICS, DEVICE, about("D5-00-01", label), rows, [], None).values():
                 self.assertEqual(json.loads(text)["device"]["name"], label)
                 self.assertNotIn("\n", text)
 
@@ -331,7 +331,7 @@ class Descriptions(unittest.TestCase):
     def test_models_of_actuators_are_those_of_their_entities(self):
         for number in range(0x13):
             eep = f"D2-01-{number:02X}"
-            rows = TABLE.of_profile(eep)
+            rows = TABLE.rows_of_profile(eep)
             kind = {"light": "Dimmer", "switch": "Electronic switch"}[rows["OV", "%"].entity]
             channels = {1: "1 channel", 2: "2 channels"}[rows["OV", "%"].count]
             self.assertEqual(about(eep)["model"], f"{kind}, {channels} ({eep})")
@@ -345,7 +345,7 @@ class Descriptions(unittest.TestCase):
             self.assertEqual(about("D5-00-01", maker=maker)["manufacturer"], name)
 
     def test_the_table_of_manufacturers(self):
-        rows = list(share.rows("manufacturers"))
+        rows = list(share.table_lines("manufacturers"))
         for line in rows:
             self.assertRegex(line, r"^[0-7][0-9A-F]{2}\t\S[^\t]*\S$")
         numbers = [line[:3] for line in rows]
@@ -362,21 +362,21 @@ class Templates(unittest.TestCase):
 
     def test_a_number(self):
         same = {value: value for value in ["0", "20.0784", "-40", "4294967295"]}
-        self.check(discovery.NUMBER_OR_NONE, {**same, "unknown": "None", "out_of_range": "None"})
-        self.check(discovery.NUMBER_OR_NOTHING, {**same, "unknown": "", "out_of_range": ""})
+        self.check(discovery.NUMBER_OR_NONE_TEMPLATE, {**same, "unknown": "None", "out_of_range": "None"})
+        self.check(discovery.NUMBER_OR_NOTHING_TEMPLATE, {**same, "unknown": "", "out_of_range": ""})
 
     def test_a_switch(self):
-        self.check(discovery.ON_OFF_OR_NONE, {
+        self.check(discovery.ON_OFF_OR_NONE_TEMPLATE, {
             "0": "OFF", "1": "ON", "100": "ON", "not_applicable": "None", "out_of_range": "None"})
 
     def test_a_cover(self):
-        self.check(discovery.OPEN_CLOSED_OR_NONE, {
+        self.check(discovery.OPEN_CLOSED_OR_NONE_TEMPLATE, {
             "0": "open", "99": "open", "100": "closed", "unknown": "None", "out_of_range": "None"})
 
 
 class Kinds(unittest.TestCase):
     def test_those_of_the_table(self):
-        self.assertEqual({row.entity for row in TABLE.rows}, {*discovery.KINDS, ""})
+        self.assertEqual({row.entity for row in TABLE.rows}, {*discovery.CONFIG_BY_COMPONENT, ""})
 
 
 class Manufacturers(unittest.TestCase):
@@ -393,7 +393,7 @@ class Manufacturers(unittest.TestCase):
             (0x04A, "Caleffi"), (0x053, "Oventrop"), (0x05C, "Hoppe"), (0x05D, "Siegenia-Aubi"), (0x7FF, None),
         ):
             with self.subTest(maker):
-                found = discovery.about_device(TOPICS, "01800ABC", "D5-00-01", "", maker)["manufacturer"]
+                found = discovery.device_description(TOPICS, "01800ABC", "D5-00-01", "", maker)["manufacturer"]
                 self.assertEqual(found, name or f"EnOcean manufacturer ID {maker}")
 
 

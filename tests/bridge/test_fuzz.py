@@ -5,7 +5,7 @@ import random
 import unittest
 
 from enogate_lines.contents import BadLine, Strange, content_of
-from fakes import OK, Case, Site, learned, listing, reading, status
+from fakes import OK, LogTest, Site, learned, listing, reading, status
 
 SEED, ROUNDS, LINES = 76, 40, 100
 RESPONSE = {"code": 0, "data": "FF800000", "name": "OK", "type": "response"}
@@ -56,7 +56,7 @@ def texts_of(value):
     return [text for member in members for text in texts_of(member)]
 
 
-class Lines(Case):
+class RandomLines(LogTest):
     def test_their_contents_are_bounded(self):
         chance, decoded = random.Random(SEED), 0
         for _ in range(ROUNDS * LINES):
@@ -75,11 +75,11 @@ class Lines(Case):
     def test_none_ends_the_bridge(self):
         site, chance = Site(self), random.Random(SEED)
         site.start()
-        site.broker.join()
+        site.broker.accept_connection()
         for _ in range(ROUNDS):
             with site.lines.open("ab") as file:
                 file.write(b"".join(random_line(chance) + b"\n" for _ in range(LINES)))
-            site.turns(30)
+            site.run_turns(30)
         self.assertEqual([line for line in self.logged if "state" in line], [])
         for topic, text, _ in site.broker.connection.published:
             self.assertLess(len(topic.encode()), 200)
@@ -88,9 +88,9 @@ class Lines(Case):
         site.stop()
         site.broker.lose()
         site.start()
-        site.broker.join()
-        site.tell(learned("01800AFF"))
-        site.turns(30)
+        site.broker.accept_connection()
+        site.write_lines(learned("01800AFF"))
+        site.run_turns(30)
         self.assertIn(json.dumps(learned("01800AFF")), [text for _, text in site.published("enogate/hall/lines")])
 
 

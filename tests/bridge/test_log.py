@@ -4,13 +4,13 @@ import logging
 import unittest
 
 from enogate_mqtt import log
-from fakes import Case, Clock
+from fakes import LogTest, Clock
 
 
-class Logs(unittest.TestCase):
+class LogFormat(unittest.TestCase):
     def lines(self, environment):
         stream = io.StringIO()
-        log.set_up(environment, stream)
+        log.set_up_logging(environment, stream)
         logging.info("one")
         logging.warning("two\nlines")
         logging.error("three %s", 3)
@@ -24,10 +24,10 @@ class Logs(unittest.TestCase):
                          "<6>enogate-mqtt: one\n<4>enogate-mqtt: two lines\n<3>enogate-mqtt: three 3\n")
 
 
-class Seldom(Case):
+class RateLimits(LogTest):
     def test_ten_of_a_kind_in_a_minute(self):
         clock = Clock()
-        seldom = log.Seldom(clock)
+        seldom = log.RateLimitedLog(clock)
         for number in range(15):
             seldom.warning("line", f"bad {number}")
         seldom.warning("other", "another")

@@ -6,12 +6,12 @@ from enogate_lines.follow import Position
 from enogate_mqtt import outbox
 from enogate_mqtt.outbox import Backlog, Outbox
 from enogate_mqtt.topics import Message
-from fakes import Case
+from fakes import LogTest
 
 END = Position(1, 99, b"")
 
 
-class Outboxes(Case):
+class OutboxLines(LogTest):
     def setUp(self):
         super().setUp()
         self.box, self.published = Outbox(), []
@@ -53,14 +53,14 @@ class Outboxes(Case):
         self.assertEqual([entry.line for entry in self.box.entries], ["ccc"])
 
     def test_the_place(self):
-        self.assertEqual(self.box.position(END), END)
+        self.assertEqual(self.box.acknowledged_position(END), END)
         self.fill("a", "bb")
         self.publish()
-        self.assertEqual(self.box.position(END), Position(1, 1, b""))
+        self.assertEqual(self.box.acknowledged_position(END), Position(1, 1, b""))
         self.box.drop_acknowledged({2})
-        self.assertEqual(self.box.position(END), Position(1, 2, b""))
+        self.assertEqual(self.box.acknowledged_position(END), Position(1, 2, b""))
         self.box.drop_acknowledged(set())
-        self.assertEqual(self.box.position(END), END)
+        self.assertEqual(self.box.acknowledged_position(END), END)
 
     def test_a_new_connection_gets_them_again(self):
         self.fill("a", "b")
@@ -81,7 +81,7 @@ class Outboxes(Case):
             self.assert_logged("dropping the oldest", 2)
 
 
-class Backlogs(Case):
+class BacklogMessages(LogTest):
     def test_the_sequence(self):
         """Events are first. Of each state only the newest is kept, at its place in the sequence."""
         backlog = Backlog()
@@ -89,7 +89,7 @@ class Backlogs(Case):
                                       ("press", "y", False), ("c", "", True)):
             backlog.add(Message(topic, text, retained))
         self.assertEqual(len(backlog), 5)
-        found = [backlog.next() for _ in range(5)]
+        found = [backlog.pop_next() for _ in range(5)]
         self.assertEqual([(message.topic, message.payload) for message in found],
                          [("press", "x"), ("press", "y"), ("a", "2"), ("b", "1"), ("c", "")])
         self.assertEqual(len(backlog), 0)
@@ -98,7 +98,7 @@ class Backlogs(Case):
         backlog = Backlog()
         for number in range(outbox.MAX_EVENTS + 5):
             backlog.add(Message("press", str(number), False))
-        self.assertEqual((len(backlog), backlog.next().payload, outbox.MAX_EVENTS), (1000, "5", 1000))
+        self.assertEqual((len(backlog), backlog.pop_next().payload, outbox.MAX_EVENTS), (1000, "5", 1000))
 
 
 if __name__ == "__main__":

@@ -14,7 +14,7 @@ DEFAULT = (ROOT / "contrib/enogate-mqtt.default").read_text(encoding="utf-8")
 GUIDE = " ".join((ROOT / "docs/guide/mqtt.md").read_text(encoding="utf-8").split())
 
 
-class Pages(unittest.TestCase):
+class DocumentedTopicsAndSettings(unittest.TestCase):
     def assert_said(self, *texts):
         for text in texts:
             with self.subTest(text):
@@ -34,7 +34,7 @@ class Pages(unittest.TestCase):
             f"({requests.START_WITHIN:.0f} seconds while it starts)",
             f"{requests.PROBE_AFTER:.0f} seconds after the last",
             "one actuator per second", "every minute", "within 15 seconds", "pauses that grow to a minute")
-        self.assertEqual(queries.EVERY, 1)
+        self.assertEqual(queries.QUERY_EVERY, 1)
         self.assertEqual((log.MAX_MESSAGES, log.PERIOD, requests.STATUS_EVERY, connection.MAX_PAUSE), (10, 60, 60, 60))
         self.assertLess(requests.PROBE_AFTER + requests.SILENT_FOR, 15)
 
@@ -56,7 +56,7 @@ class Pages(unittest.TestCase):
 
     def test_topics(self):
         """Each topic of the gateway is in the table."""
-        topics = [TOPICS.lines, TOPICS.orders, TOPICS.status, *TOPICS.reports, TOPICS.learn_command]
+        topics = [TOPICS.lines, TOPICS.orders, TOPICS.status, *TOPICS.report_topics, TOPICS.learn_command]
         self.assert_said(*(f"| `{topic.removeprefix('enogate/hall/')}`" for topic in topics))
 
     def test_settings(self):

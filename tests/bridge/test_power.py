@@ -7,9 +7,9 @@ import shutil
 import unittest
 from unittest import mock
 
-from enogate_lines.follow import Follower, silent
+from enogate_lines.follow import Follower, ignore_message
 from enogate_mqtt.store import Store
-from fakes import OK, Case, Site, listing, reading
+from fakes import OK, LogTest, Site, listing, reading
 
 HALL = "enogate/hall/"
 HISTORIES = 30
@@ -17,29 +17,29 @@ PRESS = reading("01800AC1", "F6-02-01", [{"name": "R1", "word": "BI"}, {"name": 
 RELEASE = reading("01800AC1", "F6-02-01", [{"name": "R1", "word": "none"}, {"name": "EB", "word": "released"}])
 
 
-def contact(word):
+def contact_reading(word):
     return reading("01800ABC", "D5-00-01", [{"name": "CO", "word": word}])
 
 
-class PowerFailures(Case):
+class PowerFailures(LogTest):
     """The bridge has published a press, and then two readings of a contact."""
 
     def setUp(self):
         super().setUp()
         self.site = Site(self)
-        self.site.tell(*listing(("01800ABC", "D5-00-01", "Door"), ("01800AC1", "F6-02-01", "Switch")))
+        self.site.write_lines(*listing(("01800ABC", "D5-00-01", "Door"), ("01800AC1", "F6-02-01", "Switch")))
         self.connect()
-        self.site.tell(PRESS, contact("closed"))
-        self.site.turns(30)
+        self.site.write_lines(PRESS, contact_reading("closed"))
+        self.site.run_turns(30)
         self.before_the_last = self.site.lines.stat().st_size
-        self.site.tell(contact("open"))
-        self.site.turns(30)
+        self.site.write_lines(contact_reading("open"))
+        self.site.run_turns(30)
         self.assertEqual(len(self.lines()), 3)
 
     def connect(self):
         self.site.start()
-        self.site.broker.join()
-        self.site.turns(30)
+        self.site.broker.accept_connection()
+        self.site.run_turns(30)
 
     def lose_power(self):
         """Ends the bridge. The next one is started at another boot."""
@@ -48,7 +48,7 @@ class PowerFailures(Case):
 
     def place_back(self, offset, boot="a boot"):
         """The state file gets an older position."""
-        follower = Follower(str(self.site.lines), None, silent)
+        follower = Follower(str(self.site.lines), None, ignore_message)
         positions = [position for _, position in follower.read()]
         store = Store(str(self.site.state), self.site.topics.discovery, boot)
         known = {device.name: device for device in store.devices}
@@ -63,8 +63,8 @@ class PowerFailures(Case):
         """Nothing that was written before the failure is published, and what comes after it is."""
         self.connect()
         self.assertEqual((self.lines(), self.site.published(HALL + "01800AC1/press")), ([], []))
-        self.site.tell(PRESS, OK)
-        self.site.turns(30)
+        self.site.write_lines(PRESS, OK)
+        self.site.run_turns(30)
         self.assertEqual(self.lines(), [json.dumps(PRESS), json.dumps(OK)])
         topic = HALL + "01800AC1/press"
         self.assertEqual(self.site.published(topic), [(topic, '{"event_type":"BI"}')])
@@ -78,7 +78,7 @@ class PowerFailures(Case):
                 self.setUp()
                 self.lose_power()
                 os.truncate(self.site.lines, size)
-                self.site.tell("")
+                self.site.write_lines("")
                 self.assert_nothing_old()
                 self.assertEqual(self.state(), "open")
 
@@ -92,7 +92,7 @@ class PowerFailures(Case):
                     file.seek(self.before_the_last - 20)
                     file.write(bytes(size + 1000 - file.tell()))
                 if ended:
-                    self.site.tell("")
+                    self.site.write_lines("")
                 self.assert_nothing_old()
                 self.assertEqual(self.state(), "open")
 
@@ -109,8 +109,8 @@ class PowerFailures(Case):
         os.truncate(self.site.lines, size + 1000)
         self.connect()
         os.truncate(self.site.lines, size)
-        self.site.tell(*[OK] * 100)
-        self.site.turns(30)
+        self.site.write_lines(*[OK] * 100)
+        self.site.run_turns(30)
         self.assertEqual(self.lines(), [json.dumps(OK)] * 100)
         self.assertEqual(self.logged, [])
 
@@ -129,7 +129,7 @@ class PowerFailures(Case):
                 text = self.site.lines.read_text()
                 self.site.lines.rename(self.site.lines.with_name("old"))
                 self.site.lines.write_text(text)
-                self.site.tell(contact("closed"))
+                self.site.write_lines(contact_reading("closed"))
                 self.assert_nothing_old()
                 self.assertEqual(self.state(), "closed")
                 self.assert_logged("previous file not found, reading from the beginning")
@@ -138,13 +138,13 @@ class PowerFailures(Case):
         """What was written since then sets the states."""
         self.site.kill()
         self.site.lines.write_text("")
-        self.site.tell(contact("closed"))
+        self.site.write_lines(contact_reading("closed"))
         self.assert_nothing_old()
         self.assertEqual(self.state(), "closed")
 
     def test_a_bridge_that_is_stopped_while_it_reads_earlier_lines(self):
         """The next one takes none of them for new."""
-        self.site.tell(*[PRESS] * 100)
+        self.site.write_lines(*[PRESS] * 100)
         self.lose_power()
         real = Follower.read
 
@@ -159,29 +159,29 @@ class PowerFailures(Case):
     def test_a_restart_at_the_same_boot(self):
         """The lines that were not acknowledged, or not saved as acknowledged, are published again."""
         self.site.kill()
-        self.site.tell(RELEASE)
+        self.site.write_lines(RELEASE)
         self.place_back(self.before_the_last)
         self.connect()
-        self.assertEqual(self.lines(), [json.dumps(contact("open")), json.dumps(RELEASE)])
+        self.assertEqual(self.lines(), [json.dumps(contact_reading("open")), json.dumps(RELEASE)])
 
     def test_a_restart_after_the_first_one_at_a_boot(self):
         """It is the same boot, even if nothing was written meanwhile. Lines of that time are published."""
         self.lose_power()
         self.connect()
         self.site.kill()
-        self.site.tell(PRESS)
+        self.site.write_lines(PRESS)
         self.connect()
         self.assertEqual((self.lines(), self.site.published(HALL + "01800AC1/press")), ([json.dumps(PRESS)], []))
 
     def test_a_state_without_a_boot(self):
         """The state file of a version that stored no boot ID."""
         self.site.kill()
-        self.site.tell(PRESS)
+        self.site.write_lines(PRESS)
         self.site.bridge.store.connection.executescript("DROP TABLE boot")
         self.assert_nothing_old()
 
 
-class Histories(Case):
+class RandomHistories(LogTest):
     """Random histories of a bridge and of a gateway. Each line is a press of another switch, whose ID is its number."""
 
     def begin(self, seed):
@@ -194,21 +194,21 @@ class Histories(Case):
         self.of_this_run = self.written
         self.site.lines.touch()
         self.site.start()
-        self.connections.append((self.of_this_boot, self.of_this_run, self.site.broker.join()))
-        self.site.turns(3)
+        self.connections.append((self.of_this_boot, self.of_this_run, self.site.broker.accept_connection()))
+        self.site.run_turns(3)
 
     def write(self):
         for _ in range(self.chance.randrange(1, 20)):
-            self.site.tell({**PRESS, "id": f"{self.written:08X}"})
+            self.site.write_lines({**PRESS, "id": f"{self.written:08X}"})
             self.written += 1
-        self.site.turns(self.chance.randrange(3), self.chance.choice((0.1, 3)))
+        self.site.run_turns(self.chance.randrange(3), self.chance.choice((0.1, 3)))
 
     def rotate(self):
         """The file of the position that is saved is not rotated twice: it would be compressed."""
         saved = self.site.bridge.saved
         if saved and self.site.lines.exists() and saved.inode == self.site.lines.stat().st_ino:
             self.site.lines.rename(f"{self.site.lines}.1")
-            self.site.turns(self.chance.randrange(6))
+            self.site.run_turns(self.chance.randrange(6))
 
     def stop(self):
         self.site.stop()
@@ -234,7 +234,7 @@ class Histories(Case):
                 os.truncate(self.site.lines, self.chance.randrange(left, size + 5000))
             if self.chance.random() < 0.5 or not self.site.lines.read_bytes().endswith(b"\0"):
                 # the start of the gateway ends the last line
-                self.site.tell("")
+                self.site.write_lines("")
         self.of_this_boot, self.site.boot = self.written, f"boot {self.written}"
         self.start()
 
@@ -265,7 +265,7 @@ class Histories(Case):
                 self.begin(seed)
                 for act in self.chance.choices(acts, k=12):
                     act()
-                self.site.turns(20)
+                self.site.run_turns(20)
                 self.check()
 
 

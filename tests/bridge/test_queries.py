@@ -1,7 +1,7 @@
 """Actuators are asked for their states after a start of the gateway."""
 import unittest
 
-from fakes import OK, Case, Site, learned, listing, reading, status
+from fakes import OK, LogTest, Site, learned, listing, reading, status
 
 RESPONSE = {"code": 0, "data": "FF800000", "name": "OK", "type": "response"}
 # A device of each kind, and how it is asked, if it is an actuator.
@@ -13,7 +13,7 @@ MANY = [(f"{0x01800000 + number:08X}", "D2-01-12", "") for number in range(1000)
 QUERIES = [query for _, _, query in KINDS if query]
 
 
-class Asking(Case):
+class ActuatorQueries(LogTest):
     """At a gateway that answers each order in the second after it; the actuators answer nothing."""
 
     def setUp(self):
@@ -26,18 +26,18 @@ class Asking(Case):
         self.seen = len(self.site.orders())
         self.site.start(asks_actuators=True)
         if has_broker:
-            self.site.broker.join()
+            self.site.broker.accept_connection()
 
     def run_for(self, seconds):
         """The queries that are given within these seconds, with their seconds."""
         found = []
         for second in range(seconds):
-            self.site.turns(1, 1)
+            self.site.run_turns(1, 1)
             orders, self.seen = self.site.orders()[self.seen:], len(self.site.orders())
             for order in orders:
                 if order.split()[0] not in self.silent:
                     answer = {"list": listing(*self.devices), "status": [status()], "base": [OK, RESPONSE]}
-                    self.site.tell(*answer.get(order, [OK]))
+                    self.site.write_lines(*answer.get(order, [OK]))
             found += [(second, order) for order in orders if order.startswith("query")]
         return found
 
@@ -70,7 +70,7 @@ class Asking(Case):
         self.start()
         self.run_for(2)
         before = len(self.site.orders())
-        self.site.turns(10, 0.1)
+        self.site.run_turns(10, 0.1)
         self.assertEqual(len(self.site.orders()) - before, 1)
 
     def test_not_before_the_list(self):
@@ -120,7 +120,7 @@ class Asking(Case):
         self.run_for(10)
         self.assertIs(self.site.bridge.requests.gateway.is_online, False)
         for _ in range(10):
-            self.site.tell(reading("01800000", "D2-01-12", [{"name": "IO", "raw": 0}]))
+            self.site.write_lines(reading("01800000", "D2-01-12", [{"name": "IO", "raw": 0}]))
             self.assertEqual(self.queries(3), [])
         self.assertIs(self.site.bridge.requests.module.is_online, True)
         self.silent = ()
@@ -151,11 +151,11 @@ class Asking(Case):
         self.devices = []
         self.start()
         self.assertEqual(self.queries(60), [])
-        self.site.tell(learned("01800A07", "D2-01-12"))
+        self.site.write_lines(learned("01800A07", "D2-01-12"))
         self.assertEqual(self.queries(10), ["query 01800A07 30"])
-        self.site.tell(learned("01800A07", "D2-01-12", result="deleted"))
+        self.site.write_lines(learned("01800A07", "D2-01-12", result="deleted"))
         self.assertEqual(self.queries(10), [])
-        self.site.tell(learned("01800A07", "D2-01-12"))
+        self.site.write_lines(learned("01800A07", "D2-01-12"))
         self.assertEqual(self.queries(60), [])
 
     def test_a_query_that_cannot_be_given(self):
@@ -173,13 +173,13 @@ class Asking(Case):
         for _ in range(10):
             self.site.send("enogate/hall/01800001/OV/0/set", b"ON")
             before = len(self.site.orders())
-            self.site.turns(1, 0.1)
+            self.site.run_turns(1, 0.1)
             self.assertEqual(self.site.orders()[before], "switch 01800001 0 on")
 
     def test_no_queries(self):
         self.seen = 0
         self.site.start()
-        self.site.broker.join()
+        self.site.broker.accept_connection()
         self.assertEqual(self.queries(120), [])
 
 

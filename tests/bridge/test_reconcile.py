@@ -2,11 +2,11 @@
 import unittest
 
 from enogate_mqtt import reconcile
-from enogate_mqtt.reconcile import MAX_PARTS, MAX_UNKNOWN, QUIET, Part, Reconciler
-from fakes import Case, Clock, Retaining
+from enogate_mqtt.reconcile import MAX_PARTS, MAX_UNKNOWN, QUIET_SECONDS, Part, Reconciler
+from fakes import LogTest, Clock, FakeConnection
 
 
-class Parts(unittest.TestCase):
+class ReconciledParts(unittest.TestCase):
     def test_filters(self):
         part = Part("x", ["enogate/hall/X/+", "enogate/hall/X/+/+", "a/b"])
         for topic, is_match in (("enogate/hall/X/TMP", True), ("enogate/hall/X/OV/0", True), ("a/b", True),
@@ -14,30 +14,30 @@ class Parts(unittest.TestCase):
                                 ("enogate/hall/X", False), ("enogate/hall/X/OV/0/set", False),
                                 ("enogate/hall/Y/TMP", False), ("enogateXhall/X/TMP", False), ("a/b/c", False)):
             with self.subTest(topic):
-                self.assertEqual(part.matches(topic), is_match)
+                self.assertEqual(part.has_topic(topic), is_match)
 
     def test_a_flood_is_not_stored(self):
         part = Part("x", ["a/+", "b"])
         for number in range(MAX_UNKNOWN + 10):
-            part.note(f"a/{number}", "x")
-        part.note("b", "y")
+            part.note_retained(f"a/{number}", "x")
+        part.note_retained("b", "y")
         self.assertEqual((len(part.retained), part.retained["b"]), (MAX_UNKNOWN + 1, "y"))
-        part.note("a/0", "new")
+        part.note_retained("a/0", "new")
         self.assertEqual(part.retained["a/0"], "new")
 
     def test_a_topic_that_comes_often_is_no_flood(self):
         part = Part("x", ["a/+"])
         for number in range(MAX_UNKNOWN + 10):
-            part.note("a/1", str(number))
-        part.note("a/2", "y")
+            part.note_retained("a/1", str(number))
+        part.note_retained("a/2", "y")
         self.assertEqual(part.retained, {"a/1": str(MAX_UNKNOWN + 9), "a/2": "y"})
 
 
-class Reconciling(Case):
+class ReconcilerTurns(LogTest):
     def setUp(self):
         super().setUp()
-        self.clock, self.connection, self.compared = Clock(), Retaining({"x/1": "one", "x/2": "two",
-                                                                         "y/1": "three"}), []
+        self.clock, self.connection, self.compared = Clock(), FakeConnection({"x/1": "one", "x/2": "two",
+                                                                              "y/1": "three"}), []
         self.reconciler = Reconciler(self.clock, self.compared.append)
 
     def turn(self, seconds=0.1):
@@ -45,7 +45,7 @@ class Reconciling(Case):
         self.connection.turn(0)
         received, self.connection.received = self.connection.received, []
         for message in received:
-            self.reconciler.take(message.topic, message.payload.decode())
+            self.reconciler.handle_retained(message.topic, message.payload.decode())
         self.clock.now += seconds
 
     def test_parts_are_compared(self):
@@ -86,11 +86,11 @@ class Reconciling(Case):
         self.connection.answers = False
         self.reconciler.add([Part("x", ["x/+"])])
         self.turn(0)
-        self.turn(QUIET - 0.1)
+        self.turn(QUIET_SECONDS - 0.1)
         self.turn(0)
         self.assertEqual(self.reconciler.active[0].is_cancelled, False)
         self.turn(0.2)
-        self.turn(QUIET - 0.1)
+        self.turn(QUIET_SECONDS - 0.1)
         self.assertEqual(self.reconciler.active[0].is_cancelled, True)
         self.turn(0.2)
         self.assertEqual(self.compared, [])
@@ -102,15 +102,15 @@ class Reconciling(Case):
         self.reconciler.add([Part("x", ["x/+"])])
         self.turn(0)
         for _ in range(10):
-            self.reconciler.take("x/3", "x")
-            self.turn(QUIET - 1)
+            self.reconciler.handle_retained("x/3", "x")
+            self.turn(QUIET_SECONDS - 1)
         self.assertFalse(self.reconciler.active[0].is_cancelled)
 
     def test_a_part_after_a_long_silence(self):
         self.connection.answers = False
         self.clock.now += 1000
         self.reconciler.add([Part("z", ["z/+"])])
-        self.turn(QUIET - 0.1)
+        self.turn(QUIET_SECONDS - 0.1)
         self.turn()
         self.assertFalse(self.reconciler.active[0].is_cancelled)
 
@@ -123,7 +123,7 @@ class Reconciling(Case):
         for _ in range(2):
             # the answer to the request, and then that to its cancellation
             self.connection.unanswered.discard(one.number)
-            self.turn(QUIET - 1)
+            self.turn(QUIET_SECONDS - 1)
         self.assertEqual((self.compared, other.is_cancelled), ([one], False))
         self.turn(0)
         self.assertFalse(other.is_cancelled)
@@ -131,16 +131,16 @@ class Reconciling(Case):
     def test_what_is_published_meanwhile_counts(self):
         self.reconciler.add([Part("x", ["x/+"])])
         self.turn()
-        self.reconciler.publish("x/1", "new")
-        self.reconciler.publish("y/1", "elsewhere")
-        self.reconciler.take("x/1", "old")
-        self.reconciler.take("x/2", "two")
+        self.reconciler.note_published("x/1", "new")
+        self.reconciler.note_published("y/1", "elsewhere")
+        self.reconciler.handle_retained("x/1", "old")
+        self.reconciler.handle_retained("x/2", "two")
         self.turn()
         self.turn()
         self.assertEqual(self.compared[0].retained, {"x/1": "new", "x/2": "two"})
 
     def test_constants(self):
-        self.assertEqual((reconcile.QUIET, reconcile.MAX_UNKNOWN), (5, 1000))
+        self.assertEqual((reconcile.QUIET_SECONDS, reconcile.MAX_UNKNOWN), (5, 1000))
 
 
 if __name__ == "__main__":

@@ -6,12 +6,12 @@ from enogate_mqtt.desk import Desk
 from enogate_mqtt.requests import ANSWER_WITHIN, MAX_PAUSE, PROBE_AFTER, SILENT_FOR, START_WITHIN, STATUS_EVERY
 from enogate_mqtt.requests import Requests
 from enogate_tools.desk import opens_window
-from fakes import Case, Site
+from fakes import LogTest, Site
 
 STATUS = Status("closed", {})
 
 
-class Asking(Case):
+class RequestTimes(LogTest):
     def setUp(self):
         super().setUp()
         self.site = Site(self)
@@ -46,36 +46,36 @@ class Asking(Case):
 
     def test_an_answer_ends_this(self):
         self.turn()
-        self.requests.list.answer()
+        self.requests.list.note_answer()
         self.assertEqual(self.times("list", 3000), [])
 
     def test_it_is_asked_for_again_when_it_may_have_changed(self):
         self.turn()
-        self.requests.list.answer()
+        self.requests.list.note_answer()
         self.assertEqual(self.turn(1000, needs_list=True)[0], "list")
-        self.requests.list.answer()
+        self.requests.list.note_answer()
         self.turn(1, needs_list=True)
         self.assertEqual(self.times("list", 60)[0], 3)
 
     def test_a_label_asks_for_the_list(self):
         self.turn()
-        self.requests.list.answer()
+        self.requests.list.note_answer()
         with self.site.desk.open("a") as file:
             file.write("label 01800ABC x\n")
         self.assertEqual(self.turn(100), ["list", "status"])
 
     def test_a_start_asks_for_all(self):
         self.turn()
-        self.requests.take(STATUS)
-        self.requests.take(Response(0, ""))
-        self.requests.list.answer()
+        self.requests.handle_line(STATUS)
+        self.requests.handle_line(Response(0, ""))
+        self.requests.list.note_answer()
         self.turn(20)
         self.site.desk.write_text("")
         self.assertEqual(self.turn(1), ["list", "status", "base"])
 
     def test_the_gateway_is_asked_each_minute(self):
         self.turn()
-        self.requests.take(STATUS)
+        self.requests.handle_line(STATUS)
         self.assertTrue(self.requests.gateway.is_online)
         self.assertEqual(self.turn(STATUS_EVERY - 1).count("status"), 0)
         self.assertEqual(self.turn(1).count("status"), 1)
@@ -90,7 +90,7 @@ class Asking(Case):
         self.assert_logged("WARNING: the gateway does not answer: orders are lost until it runs")
         self.times("status", 600)
         self.assert_logged("does not answer")
-        self.requests.take(STATUS)
+        self.requests.handle_line(STATUS)
         self.assertIs(self.requests.gateway.is_online, True)
         self.assert_logged("INFO: the gateway answers again")
 
@@ -103,20 +103,20 @@ class Asking(Case):
 
     def test_it_may_stop_answering_later(self):
         self.turn()
-        self.requests.take(STATUS)
+        self.requests.handle_line(STATUS)
         self.turn(STATUS_EVERY)
         self.turn(ANSWER_WITHIN)
         self.assertIs(self.requests.gateway.is_online, False)
 
     def test_the_first_answer_is_not_logged(self):
         self.turn()
-        self.requests.take(STATUS)
+        self.requests.handle_line(STATUS)
         self.assertEqual(self.logged, [])
 
     def test_a_truncated_desk(self):
         self.turn()
         self.turn()
-        self.requests.take(STATUS)
+        self.requests.handle_line(STATUS)
         self.site.desk.write_text("")
         self.turn(1)
         self.turn(ANSWER_WITHIN)
@@ -127,14 +127,14 @@ class Asking(Case):
         self.turn()
         self.site.desk.write_text("")
         self.turn(1)
-        self.requests.take(STATUS)
+        self.requests.handle_line(STATUS)
         self.turn(STATUS_EVERY)
         self.turn(ANSWER_WITHIN)
         self.assert_logged("was truncated", 0)
 
     def test_a_replaced_desk(self):
         self.turn()
-        self.requests.take(STATUS)
+        self.requests.handle_line(STATUS)
         new = self.site.folder / "new"
         new.write_text("")
         new.rename(self.site.desk)
@@ -150,11 +150,11 @@ class Asking(Case):
             given = self.turn(1)
             for order in given:
                 if order in answering:
-                    self.requests.take({"status": STATUS, "list": EndOfList(0)}.get(order, Other()))
+                    self.requests.handle_line({"status": STATUS, "list": EndOfList(0)}.get(order, Other()))
                 if order == "list":
-                    self.requests.list.answer()
+                    self.requests.list.note_answer()
                 if order == "base" and "module" in answering:
-                    self.requests.take(Response(0, "FF800000"))
+                    self.requests.handle_line(Response(0, "FF800000"))
             orders += given
         return orders
 
@@ -164,19 +164,19 @@ class Asking(Case):
     def test_the_module(self):
         self.turn()
         self.assertEqual(self.turn(5), ["list"])
-        self.requests.take(STATUS)
+        self.requests.handle_line(STATUS)
         self.assertEqual(self.turn(1), ["base"])
-        self.requests.take(Response(0, ""))
+        self.requests.handle_line(Response(0, ""))
         self.assertEqual(self.states(), (True, True))
-        self.requests.list.answer()
+        self.requests.list.note_answer()
         self.assertEqual(self.turn(PROBE_AFTER - 0.1), [])
         self.assertEqual(self.turn(0.1), ["base"])
 
     def test_telegrams_show_that_the_module_works(self):
         self.run_for(10, "list", "status", "base", "module")
         for _ in range(100):
-            self.requests.take(STATUS)
-            self.requests.take(Telegram("01800ABC", "A5-02-05", -45, ()))
+            self.requests.handle_line(STATUS)
+            self.requests.handle_line(Telegram("01800ABC", "A5-02-05", -45, ()))
             self.assertNotIn("base", self.turn(PROBE_AFTER - 1))
         self.assertIn("base", self.run_for(7))
 
@@ -211,7 +211,7 @@ class Asking(Case):
         """Readings do not show that it carries out orders."""
         self.run_for(70, "list", "status", "base", "module")
         for _ in range(int(STATUS_EVERY + ANSWER_WITHIN)):
-            self.requests.take(Telegram("01800ABC", "A5-02-05", -45, ()))
+            self.requests.handle_line(Telegram("01800ABC", "A5-02-05", -45, ()))
             self.turn(1)
         self.assertEqual(self.states()[0], False)
 
@@ -244,8 +244,8 @@ class Asking(Case):
         self.restart()
         self.run_for(int(START_WITHIN) - 1)
         self.assertEqual(self.states(), (True, True))
-        self.requests.take(STATUS)
-        self.requests.take(Response(0, ""))
+        self.requests.handle_line(STATUS)
+        self.requests.handle_line(Response(0, ""))
         self.run_for(70, "list", "status", "base", "module")
         self.assertEqual((self.states(), self.logged), ((True, True), []))
 
@@ -269,7 +269,7 @@ class Asking(Case):
         """It is unknown until it has responded."""
         self.run_for(70, "list", "status", "base", "module")
         self.run_for(100)
-        self.requests.take(STATUS)
+        self.requests.handle_line(STATUS)
         self.assertEqual(self.states(), (True, None))
         self.assertIn("base", self.run_for(1, "base"))
         self.run_for(6, "base")
@@ -279,45 +279,45 @@ class Asking(Case):
 
     def test_a_module_that_does_not_respond(self):
         self.turn()
-        self.requests.take(STATUS)
+        self.requests.handle_line(STATUS)
         self.turn(1)
-        self.requests.take(Other())
+        self.requests.handle_line(Other())
         self.turn(SILENT_FOR - 1)
         self.assertIsNone(self.requests.module.is_online)
         self.turn(1)
         self.assertIs(self.requests.module.is_online, False)
-        self.requests.take(Response(0, ""))
+        self.requests.handle_line(Response(0, ""))
         self.assertIs(self.requests.module.is_online, True)
 
     def test_a_learn_window_closes(self):
         self.turn()
-        self.requests.take(STATUS)
-        self.requests.command(b"learn on\n")
+        self.requests.handle_line(STATUS)
+        self.requests.note_window_orders(b"learn on\n")
         self.assertIn("status", self.turn(1))
         self.assertEqual(self.times("learn off", 300), [118])
 
     def test_the_status_is_asked_for_after_a_window_has_closed(self):
         self.turn()
-        self.requests.list.answer()
-        self.requests.take(STATUS)
-        self.requests.command(b"learn on\n")
+        self.requests.list.note_answer()
+        self.requests.handle_line(STATUS)
+        self.requests.note_window_orders(b"learn on\n")
         self.turn(1)
-        self.requests.take(Response(0, ""))
+        self.requests.handle_line(Response(0, ""))
         self.assertEqual(self.turn(60), ["status", "base"])
         self.assertEqual(self.turn(59), ["learn off"])
         self.assertEqual(self.turn(0.1), ["status"])
 
     def test_a_second_command_extends_the_window(self):
         self.turn()
-        self.requests.command(b"learn on\n")
+        self.requests.note_window_orders(b"learn on\n")
         self.turn(60)
-        self.requests.command(b"learn on\n")
+        self.requests.note_window_orders(b"learn on\n")
         self.assertEqual(self.times("learn off", 300), [119])
 
     def test_a_learn_window_that_was_closed(self):
         self.turn()
-        self.requests.command(b"learn on\n")
-        self.requests.command(b"learn off\n")
+        self.requests.note_window_orders(b"learn on\n")
+        self.requests.note_window_orders(b"learn off\n")
         self.assertEqual(self.times("learn off", 300), [])
         self.assertIsNone(self.requests.window)
 
@@ -328,9 +328,9 @@ class Asking(Case):
             with self.subTest(orders):
                 self.setUp()
                 self.turn()
-                self.requests.take(STATUS)
+                self.requests.handle_line(STATUS)
                 self.assertTrue(opens_window(orders))
-                self.requests.command(orders)
+                self.requests.note_window_orders(orders)
                 self.assertEqual(self.requests.window.end, self.site.wall() + 120)
                 self.assertIn("status", self.turn(1))
                 self.assertEqual(self.times("learn off", 300), [118])
@@ -342,8 +342,8 @@ class Asking(Case):
                        b"learn off x\n", b" learn on\n", b"relearn on\n", b"learn on\r\r\n", b"LEARN ON\n", b"list\n",
                        b"\n", b""):
             self.assertFalse(opens_window(orders))
-            self.requests.command(orders)
-        self.requests.command(b"learn on\nlearn as F6-02-01\nlearn off\nlist\n")
+            self.requests.note_window_orders(orders)
+        self.requests.note_window_orders(b"learn on\nlearn as F6-02-01\nlearn off\nlist\n")
         self.assertEqual(self.times("learn off", 300), [])
 
     def test_a_window_of_an_earlier_run(self):
@@ -361,13 +361,13 @@ class Asking(Case):
     def test_the_window_is_closed_at_the_end(self):
         self.requests.close_window()
         self.assertEqual(self.site.orders(), [])
-        self.requests.command(b"learn on\n")
+        self.requests.note_window_orders(b"learn on\n")
         self.requests.close_window()
         self.assertEqual(self.site.orders(), ["learn off"])
 
     def test_a_window_that_cannot_be_closed_is_closed_later(self):
         self.turn()
-        self.requests.command(b"learn on\n")
+        self.requests.note_window_orders(b"learn on\n")
         self.site.desk.unlink()
         self.turn(130)
         self.site.desk.touch()
@@ -380,8 +380,8 @@ class Asking(Case):
 
     def test_a_list_asks_for_the_status(self):
         self.turn()
-        self.requests.take(STATUS)
-        self.requests.take(EndOfList(0))
+        self.requests.handle_line(STATUS)
+        self.requests.handle_line(EndOfList(0))
         self.assertIn("status", self.turn(1))
 
 

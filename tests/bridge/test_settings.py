@@ -13,18 +13,18 @@ from enogate_lines import inotify
 from enogate_lines.entities import AUTO
 from enogate_mqtt import main, settings
 from enogate_mqtt.devices import Device
-from enogate_mqtt.settings import Login, Options, Words, WrongSetting, read_login, read_options, read_words
+from enogate_mqtt.settings import Login, Options, Arguments, WrongSetting, read_login, read_options, read_arguments
 from enogate_tools import VERSION
-from fakes import Case, Site, learned, reading
+from fakes import LogTest, Site, learned, reading
 
 PATHS = ["--lines", "l", "--desk", "d", "--state", "s"]
 
 
 class CommandLine(unittest.TestCase):
     def test_words(self):
-        self.assertEqual(read_words([*PATHS, "hall"]), Words("hall", "l", "d", "s", "", False))
-        self.assertEqual(read_words([*PATHS, "--boot", "b", "hall"]).boot, "b")
-        self.assertEqual(read_words(["--print", "Hall_2-b"]), Words("Hall_2-b", None, None, None, "", True))
+        self.assertEqual(read_arguments([*PATHS, "hall"]), Arguments("hall", "l", "d", "s", "", False))
+        self.assertEqual(read_arguments([*PATHS, "--boot", "b", "hall"]).boot, "b")
+        self.assertEqual(read_arguments(["--print", "Hall_2-b"]), Arguments("Hall_2-b", None, None, None, "", True))
 
     def test_wrong_words(self):
         for words, why in (([], "required"),
@@ -33,12 +33,12 @@ class CommandLine(unittest.TestCase):
                            (["--print", ""], "not the name"), (["--print", "hall", "x"], "unrecognized"),
                            (["--print", "häll"], "not the name"), (["--print", "mqtt-x"], "not the name")):
             with self.subTest(words), self.assertRaisesRegex(WrongSetting, why):
-                read_words(words)
+                read_arguments(words)
 
     def test_version(self):
         out = io.StringIO()
         with self.assertRaises(SystemExit) as end, contextlib.redirect_stdout(out):
-            read_words(["--version"])
+            read_arguments(["--version"])
         self.assertEqual((end.exception.code, out.getvalue()), (0, f"enogate-mqtt {VERSION}\n"))
 
 
@@ -125,20 +125,20 @@ class Environment(unittest.TestCase):
                 read_options(environment)
 
 
-class Program(Case):
+class Program(LogTest):
     def run_it(self, *arguments, environment=None):
         site = Site(self)
         files = ["--lines", str(site.lines), "--desk", str(site.desk), "--state", str(site.state)]
         with mock.patch("sys.argv", ["enogate-mqtt", *files, *arguments]), mock.patch("os.environ",
                                                                                       environment or {}), \
                 contextlib.redirect_stderr(io.StringIO()):
-            with mock.patch("enogate_mqtt.log.set_up"):
+            with mock.patch("enogate_mqtt.log.set_up_logging"):
                 return main.main(), site
 
     def test_a_wrong_setting(self):
         self.assertEqual(self.run_it("a/b")[0], 2)
         self.assertEqual(self.run_it("hall", environment={"MQTT_PORT": "x"})[0], 2)
-        self.assertEqual(settings.STATUS, 2)
+        self.assertEqual(settings.EXIT_STATUS, 2)
         self.assert_logged("ERROR: 'a/b' is not the name of a gateway")
         self.assert_logged("ERROR: invalid MQTT_PORT")
 
@@ -160,7 +160,7 @@ class Program(Case):
     def test_what_is_run(self):
         """The state file decides what is adopted, and what is to be deleted."""
         site = Site(self)
-        words = Words("hall", str(site.lines), str(site.desk), str(site.state), "", False)
+        words = Arguments("hall", str(site.lines), str(site.desk), str(site.state), "", False)
         options = Options("homeassistant", 60, 7200, 30, True)
         found = []
         for removed in (set(), {"x/y"}):
@@ -170,7 +170,7 @@ class Program(Case):
             topics, broker, devices, follower, desk, requests, store = bridge.call_args.args[:7]
             self.assertEqual(bridge.call_args.args[7:-1], (time.monotonic, time.time))
             self.assertEqual(bridge.call_args.args[-1].__self__.files.watches[:2], [
-                (os.fsencode(path), inotify.OF_FILE) for path in (site.lines, site.desk)])
+                (os.fsencode(path), inotify.FILE_EVENTS) for path in (site.lines, site.desk)])
             with mock.patch("enogate_mqtt.main.Connection") as connection:
                 broker.connect(4, True)
             self.assertEqual(connection.call_args.args[2:], (topics, 4, time.monotonic, True))
@@ -178,7 +178,7 @@ class Program(Case):
             self.assertIs(requests.queries.devices, devices)
             found.append((topics.name, broker.name, devices.may_adopt, devices.removed, devices.expire_after,
                           follower.path, desk.path, requests.learn_for))
-            store.save(main.NOWHERE, [], {}, {"x/y"})
+            store.save(main.START_OF_NO_FILE, [], {}, {"x/y"})
             store.connection.close()
         files = (str(site.lines), str(site.desk), 60)
         self.assertEqual(found, [("hall", "localhost:1883", True, set(), 7200, *files),
@@ -197,7 +197,7 @@ class Program(Case):
         with mock.patch("sys.argv", ["enogate-mqtt", "--print", "hall"]), mock.patch("signal.signal") as handler, \
                 mock.patch("os.environ", {"MQTT_DISCOVERY": "ha", "MQTT_EXPIRE_AFTER": "7200"}), \
                 mock.patch("sys.stdin", mock.Mock(buffer=io.BytesIO(lines))), \
-                mock.patch("enogate_mqtt.log.set_up"), contextlib.redirect_stdout(out):
+                mock.patch("enogate_mqtt.log.set_up_logging"), contextlib.redirect_stdout(out):
             self.assertEqual(main.main(), 0)
         # a pipe that is closed ends it without a message
         handler.assert_called_once_with(main.signal.SIGPIPE, main.signal.SIG_DFL)
@@ -215,13 +215,13 @@ class Program(Case):
         """The messages below the old prefix are deleted."""
         site = Site(self)
         store = main.Store(str(site.state), "old")
-        store.save(main.NOWHERE, ["01800ABC"], {"01800ABC": Device("01800ABC", "D5-00-01", "")}, set())
+        store.save(main.START_OF_NO_FILE, ["01800ABC"], {"01800ABC": Device("01800ABC", "D5-00-01", "")}, set())
         again = main.Store(str(site.state), "new")
-        topics = main.old_topics(main.Topics("hall", "new"), again)
+        topics = main.old_discovery_topics(main.Topics("hall", "new"), again)
         self.assertIn("old/binary_sensor/enogate_hall/01800ABC_CO/config", topics)
         self.assertIn("old/binary_sensor/enogate_hall/status/config", topics)
-        self.assertEqual(main.old_topics(main.Topics("hall", "old"), again), set())
-        self.assertEqual(main.old_topics(main.Topics("hall", ""), again), topics)
+        self.assertEqual(main.old_discovery_topics(main.Topics("hall", "old"), again), set())
+        self.assertEqual(main.old_discovery_topics(main.Topics("hall", ""), again), topics)
 
 
 if __name__ == "__main__":

@@ -7,12 +7,12 @@ from unittest import mock
 from enogate_lines.follow import Position
 from enogate_mqtt.devices import Device
 from enogate_mqtt.store import Store
-from fakes import Case, Site
+from fakes import LogTest, Site
 
 POSITION = Position(7, 42, b"x\n")
 
 
-class Stores(Case):
+class StateFile(LogTest):
     def setUp(self):
         super().setUp()
         self.path = Site(self).state
@@ -104,7 +104,7 @@ class Stores(Case):
                 self.setUp()
                 self.open()
                 self.sql(f"INSERT INTO learn VALUES ({value})")
-                self.is_replaced("learn window of an unknown form")
+                self.assert_replaced("learn window of an unknown form")
 
     def test_a_place_of_another_form(self):
         for values in ("NULL, 0, x''", "7, NULL, x''", "7, 0, NULL", "7, -1, x'00'", "7, 'x', x''", "7, 0, 'x'",
@@ -113,7 +113,7 @@ class Stores(Case):
                 self.setUp()
                 self.open()
                 self.sql(f"INSERT INTO place VALUES ({values}, '', 0)")
-                self.is_replaced("place of an unknown form")
+                self.assert_replaced("place of an unknown form")
 
     def test_the_boot(self):
         """A position is of the same boot if its ID is the same, also if there is none."""
@@ -140,7 +140,7 @@ class Stores(Case):
         store.save(POSITION, [], {}, removed)
         self.assertEqual(self.open().removed, {"a", "b"})
 
-    def is_replaced(self, reason):
+    def assert_replaced(self, reason):
         store = self.open()
         self.assert_logged(f"WARNING: {self.path}: {reason}")
         self.assertEqual((store.position, store.devices), (None, []))
@@ -149,7 +149,7 @@ class Stores(Case):
 
     def test_a_file_that_is_no_database(self):
         self.path.write_text("something else" * 100)
-        self.is_replaced("file is not a database; replacing the file; its state is lost")
+        self.assert_replaced("file is not a database; replacing the file; its state is lost")
 
     def test_a_damaged_file(self):
         self.open().save(POSITION, ["01800ABC"], {"01800ABC": self.device}, set())
@@ -159,7 +159,7 @@ class Stores(Case):
         with self.path.open("r+b") as file:
             file.seek(100)
             file.write(b"\xff" * 8000)
-        self.is_replaced("")
+        self.assert_replaced("")
 
     def test_a_damaged_file_with_a_log(self):
         """What a power failure may leave: a log of pages that belong to the damaged file."""
@@ -172,7 +172,7 @@ class Stores(Case):
         self.path.write_bytes(b"\xff" * 100 + left[""][100:])
         pathlib.Path(f"{self.path}-wal").write_bytes(left["-wal"])
         self.assertGreater(len(left["-wal"]), 1000)
-        self.is_replaced("file is not a database")
+        self.assert_replaced("file is not a database")
 
     def sql(self, text):
         connection = sqlite3.connect(self.path)
@@ -184,11 +184,11 @@ class Stores(Case):
             with self.subTest(version):
                 self.setUp()
                 self.sql(f"CREATE TABLE device (x); PRAGMA user_version = {version}")
-                self.is_replaced(f"version {version} of the state, expected 2")
+                self.assert_replaced(f"version {version} of the state, expected 2")
 
     def test_tables_of_another_form(self):
         self.sql("CREATE TABLE device (x); PRAGMA user_version = 2")
-        self.is_replaced("no such column")
+        self.assert_replaced("no such column")
 
     def test_readings_of_another_form(self):
         long = f'{{"{"x" * 70_000}": ""}}'
@@ -197,7 +197,7 @@ class Stores(Case):
                 self.setUp()
                 self.open()
                 self.sql(f"INSERT INTO device VALUES ('01800ABC', 'D5-00-01', '', NULL, '{reported}')")
-                self.is_replaced("")
+                self.assert_replaced("")
 
     def test_readings_of_each_form_are_kept(self):
         reported = {"CO": "open", "MR_l_s/0": "0.5", "OV/18446744073709551615": "1", "last_seen": "ä \U0001f600"}
@@ -257,7 +257,7 @@ class Stores(Case):
         self.open().save(POSITION, [], {}, set())
         other = sqlite3.connect(self.path, isolation_level=None)
         other.execute("BEGIN EXCLUSIVE")
-        with mock.patch("enogate_mqtt.store.WAIT", 0):
+        with mock.patch("enogate_mqtt.store.LOCK_WAIT", 0):
             store = self.open()
             self.assertFalse(store.save(POSITION, [], {}, {"b"}))
         self.assert_logged("database is locked; continuing without saving the state")

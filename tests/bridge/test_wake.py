@@ -10,20 +10,20 @@ import tempfile
 import types
 import unittest.mock
 
-from enogate_lines.inotify import LONGEST, TURN
+from enogate_lines.inotify import LONGEST_WAIT, POLL_PAUSE
 from enogate_mqtt import wake
 from enogate_mqtt.connection import Connection
 from enogate_mqtt.settings import Login
-from enogate_mqtt.wake import Wake
-from fakes import Case, Clock, Site, listing, reading, status
-from test_connection import TOPICS, paho
+from enogate_mqtt.wake import Waiter
+from fakes import LogTest, Clock, Site, listing, reading, status
+from test_connection import TOPICS, fake_paho
 
 HOUR = 3600
 RESPONSE = {"code": 0, "data": "FF800000", "name": "OK", "type": "response"}
 ANSWERS = {"status": [status()], "list": listing(("01800000", "D2-01-12", "lamp"))}
 
 
-class Waited:
+class FakeConnection:
     """A connection with these sockets."""
 
     def __init__(self, reading, writing, has_work=False):
@@ -36,7 +36,7 @@ class Waited:
         return self.works
 
 
-class Waits(Case):
+class FileWaits(LogTest):
     """A bridge with its lines and its desk in two directories."""
 
     def setUp(self):
@@ -63,7 +63,7 @@ class Waits(Case):
 
     def start(self):
         """A bridge that has waited before."""
-        self.wake = Wake([str(self.lines), str(self.desk)])
+        self.wake = Waiter([str(self.lines), str(self.desk)])
         self.addCleanup(lambda: [os.close(file) for file in (self.wake.stops, self.wake.files.file) if file >= 0])
         self.assertTrue(self.waits())
         self.assertFalse(self.waits())
@@ -75,7 +75,7 @@ class Waits(Case):
 
     def test_an_idle_wait(self):
         self.start()
-        self.assertEqual(self.seconds, LONGEST)
+        self.assertEqual(self.seconds, LONGEST_WAIT)
         self.waits(seconds=0.5)
         self.assertEqual(self.seconds, 0.5)
 
@@ -97,7 +97,7 @@ class Waits(Case):
         near, far = socket.socketpair()
         self.addCleanup(near.close)
         self.addCleanup(far.close)
-        connection = Waited([near], [])
+        connection = FakeConnection([near], [])
         self.assertFalse(self.waits(connection))
         far.send(b"x")
         self.assertTrue(self.waits(connection))
@@ -107,11 +107,11 @@ class Waits(Case):
         near, far = socket.socketpair()
         self.addCleanup(near.close)
         self.addCleanup(far.close)
-        self.assertTrue(self.waits(Waited([near], [near])))
+        self.assertTrue(self.waits(FakeConnection([near], [near])))
 
     def test_a_connection_with_work_ends_a_wait(self):
         self.start()
-        self.assertTrue(self.waits(Waited([], [], True)))
+        self.assertTrue(self.waits(FakeConnection([], [], True)))
 
     def test_a_signal_ends_all_waits(self):
         self.start()
@@ -121,19 +121,19 @@ class Waits(Case):
 
     def test_without_inotify(self):
         with unittest.mock.patch.object(ctypes, "CDLL", side_effect=OSError("none")):
-            waits = Wake(["/log/hall.lines"])
+            waits = Waiter(["/log/hall.lines"])
         self.addCleanup(os.close, waits.stops)
         with unittest.mock.patch.object(wake.select, "select", return_value=([], [], [])) as looked:
             waits.wait([], 1.0, True)
         looked.assert_called_once_with([waits.stops], [], [], 0.1)
 
 
-class Connections(Case):
+class ConnectionWaits(LogTest):
     """What is waited for of a connection."""
 
     def setUp(self):
         super().setUp()
-        module = paho(1)
+        module = fake_paho(1)
         self.connection = Connection(module, Login("h", 1883, None, None, None), TOPICS, 5, Clock())
         self.client, self.socket = module.clients[0], types.SimpleNamespace(fileno=lambda: 4)
         self.client.socket, self.client.want_write = lambda: self.socket, lambda: False
@@ -160,7 +160,7 @@ class Connections(Case):
             self.assertEqual((self.connection.sockets(), self.connection.has_work()), (([], []), True))
 
 
-class Turns(Case):
+class TurnWaits(LogTest):
     """How long a bridge waits. The clock goes on by each wait, as if nothing happened meanwhile."""
 
     def setUp(self):
@@ -176,21 +176,21 @@ class Turns(Case):
 
     def turn(self):
         """A turn, after which the gateway answers. Returns how long it has waited."""
-        self.site.turns(1, 0)
+        self.site.run_turns(1, 0)
         orders = self.site.orders() if self.answers else []
         for order in orders[self.answered:]:
-            self.site.tell(*ANSWERS.get(order, [RESPONSE]))
+            self.site.write_lines(*ANSWERS.get(order, [RESPONSE]))
         self.answered = len(orders)
         return round(self.site.waited[1], 6)
 
     def connect(self, **options):
         self.site.start(**options)
-        self.site.broker.join()
+        self.site.broker.accept_connection()
         for _ in range(100):
             self.turn()
         # from now on it is silent, until more is wanted
         self.answers = False
-        while self.turn() != LONGEST:
+        while self.turn() != LONGEST_WAIT:
             pass
         self.site.bridge.saved_at = self.site.clock()
 
@@ -205,7 +205,7 @@ class Turns(Case):
     def test_an_idle_bridge(self):
         for asks in (False, True):
             self.connect(asks_actuators=asks)
-            self.assertTrue(self.site.bridge.requests.can_ask())
+            self.assertTrue(self.site.bridge.requests.may_ask_actuators())
             waits = self.waits()
             self.assertLess(len(waits), 2 * HOUR)
             self.assertGreater(len(waits), HOUR)
@@ -246,23 +246,23 @@ class Turns(Case):
     def test_what_is_due_but_cannot_be_done(self):
         """It is tried again, but not without a pause."""
         self.connect()
-        self.site.bridge.requests.open_window(0)
+        self.site.bridge.requests.schedule_window_end(0)
         self.site.desk.unlink()
         self.site.desk.mkdir()
         self.turn()
-        self.assertEqual([self.turn() for _ in range(3)], [TURN] * 3)
+        self.assertEqual([self.turn() for _ in range(3)], [POLL_PAUSE] * 3)
 
     def test_something_under_way(self):
         self.connect()
         self.site.broker.connection.acknowledges = False
-        self.site.tell(reading("01800000"))
+        self.site.write_lines(reading("01800000"))
         self.turn()
-        self.assertEqual([self.turn() for _ in range(3)], [0.0, TURN, TURN])
+        self.assertEqual([self.turn() for _ in range(3)], [0.0, POLL_PAUSE, POLL_PAUSE])
 
     def test_more_to_read(self):
         """After lines there may be more."""
         self.connect()
-        self.site.tell(reading("01800000"))
+        self.site.write_lines(reading("01800000"))
         self.turn()
         self.assertEqual(self.turn(), 0.0)
         self.assertGreater(self.turn(), 0.0)
@@ -274,7 +274,7 @@ class Turns(Case):
         self.site.lines.touch()
         self.turn()
         self.turn()
-        self.assertEqual(self.site.waited[1:], (TURN, False))
+        self.assertEqual(self.site.waited[1:], (POLL_PAUSE, False))
         self.turn()
         self.turn()
         self.assertIs(self.site.waited[2], True)
@@ -284,9 +284,9 @@ class Turns(Case):
         self.connect()
         old = self.site.lines.with_suffix(".lines.1")
         self.site.lines.rename(old)
-        self.site.tell(reading("01800002"))
+        self.site.write_lines(reading("01800002"))
         self.ends_at_once = True
-        self.site.turns(5, 0)
+        self.site.run_turns(5, 0)
         self.ends_at_once = False
         append(old, json.dumps(reading("01800001")).encode() + b"\n")
         for _ in range(10):
@@ -296,10 +296,10 @@ class Turns(Case):
 
     def test_both_connections_are_waited_for(self):
         self.site.start()
-        publishing = self.site.broker.join()
+        publishing = self.site.broker.accept_connection()
         self.turn()
         self.turn()
-        self.assertEqual(self.site.waited, ([publishing, self.site.broker.readers[0]], TURN, True))
+        self.assertEqual(self.site.waited, ([publishing, self.site.broker.readers[0]], POLL_PAUSE, True))
 
 
 def append(path, text):

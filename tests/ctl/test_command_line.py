@@ -1,18 +1,20 @@
 """The command line, and what the program does without a gateway."""
 import contextlib
 import io
+import os
 import pathlib
 import re
+import shlex
 import subprocess
 import sys
 import unittest
 from unittest import mock
 
-from enogate_ctl import command_line, following, grammar, main as program
+from enogate_ctl import command_line, following, grammar, main as program, running
 from enogate_ctl.answers import Answer, line_of
 from enogate_ctl.client import NoAnswer, Unreadable
-from enogate_ctl.command_line import AskBase, Export, Give, Import, Serve, ShowLines, ShowPaths, ShowRecorded
-from enogate_ctl.command_line import parsed
+from enogate_ctl.command_line import AskBase, Export, Give, Import, Serve, ShowHelp, ShowLines, ShowPaths
+from enogate_ctl.command_line import ShowRecorded, parsed
 from enogate_tools.gateways import Paths, paths_of
 from enogate_ctl.stops import Stopped
 from enogate_tools import VERSION, port as ports
@@ -22,12 +24,24 @@ ROOT = pathlib.Path(__file__).parents[2]
 HALL, DEVICES = paths_of("hall"), paths_of("devices")
 
 
-def run(*arguments, text="", is_terminal=False):
-    """The status of the program, what it printed, and its errors."""
-    out, err = io.StringIO(), io.StringIO()
+class Output(io.StringIO):
+    """A standard output that may be a terminal."""
+    is_terminal = False
+
+    def isatty(self):
+        return self.is_terminal
+
+    def fileno(self):
+        return 77
+
+
+def run(*arguments, text="", is_terminal=False, why_not=""):
+    """The status of the program, what it printed, and its errors. `why_not` says why no gateway runs."""
+    out, err = Output(), io.StringIO()
     stdin = mock.Mock(buffer=io.BytesIO(text.encode("utf-8", "surrogateescape")), isatty=lambda: is_terminal)
     with contextlib.redirect_stdout(out), contextlib.redirect_stderr(err), mock.patch("sys.stdin", stdin), \
-            mock.patch.object(program.Stops, "install"):
+            mock.patch.object(program.Stops, "install"), mock.patch.object(running, "why_not", return_value=why_not), \
+            mock.patch.object(running, "why_unknown", return_value=why_not):
         try:
             status = program.main(arguments)
         except SystemExit as end:
@@ -70,9 +84,10 @@ class CommandLines(Limited):
             ("hall /dev/enocean", "'/dev/enocean' is not an order"), ("hall base x", "the form is base"),
             ("../x list", "'../x' is not the name of a gateway"), ("mqtt list", "'mqtt' is not the name of a gateway"),
             ("hall list --for 5", "--for needs an order that opens the learn window"),
-            ("hall learn off --for 5", "--for needs an order"), ("hall learn on --for 0", "invalid number of seconds"),
-            ("hall learn on --for inf", "invalid number of seconds value: 'inf'"),
-            ("hall list --timeout nan", "argument --timeout: invalid"),
+            ("hall learn off --for 5", "--for needs an order"),
+            *((f"hall learn on --for {text}", f"argument --for: '{text}' is not a number of seconds greater than 0")
+              for text in ("0", "-0", "-1", "inf", "x")),
+            ("hall list --timeout nan", "argument --timeout: 'nan' is not a number of seconds greater than 0"),
             ("hall devices --export --import", "--export and --import cannot be used together"),
             ("mqtt devices --export", "is not the name"),
             ("hall devices --export --json", "--json cannot be used with devices"),
@@ -84,7 +99,7 @@ class CommandLines(Limited):
             ("base /dev/x --json", "--json cannot be used with base"), ("base /dev/x --for 5", "--for cannot be used"),
             ("base /dev/x --export", "--export cannot be used"), ("base /dev/x --import", "--import cannot be used"),
             ("base /dev/x --desk d", "--desk cannot be used"), ("base /dev/x --lines d", "--lines cannot be used"),
-            ("status", "error: the name of the gateway comes first: enogatectl GATEWAY status .."),
+            ("status", "enogatectl: the name of the gateway comes first: enogatectl GATEWAY status .."),
             ("learn on", "the name of the gateway comes first: enogatectl GATEWAY learn .."),
             ("devices --export", "the name of the gateway comes first: enogatectl GATEWAY devices .."),
             ("base", "the name of the gateway comes first: enogatectl GATEWAY base .."),
@@ -96,7 +111,7 @@ class CommandLines(Limited):
             ("paths --json", "--json cannot be used with paths"), ("paths --for 5", "--for cannot be used with paths"),
             ("paths --export", "--export cannot be used with paths"), ("paths --import", "--import cannot be used"),
             ("paths --desk d", "--desk cannot be used with paths"), ("paths --lines d", "--lines cannot be used"),
-            ("--time 5 hall list", "unrecognized arguments: --time"), ("-- hall list", "required: GATEWAY"),
+            ("--time 5 hall list", "there is no option --time"), ("-- hall list", "required: GATEWAY"),
         ):
             self.assert_bad(words, text)
 
@@ -113,8 +128,46 @@ class CommandLines(Limited):
         with self.subTest(words):
             status, out, err = run(*filter(None, words.split(" ")))
             self.assertEqual((status, out), (2, ""))
-            self.assertIn("usage: enogatectl [--timeout SECONDS]", err)
+            self.assertRegex(err, r"\Aenogatectl: [^\n]+\n\Z")
             self.assertIn(text, err)
+
+    def test_what_may_be_meant(self):
+        for words, text in (
+            ("hall swich 01800ABC 0 on", "'swich 01800ABC 0 on' is not an order: did you mean `switch`?"),
+            ("hall devcies", "'devcies' is not an order: did you mean `devices`?"),
+            ("hall lnes", "'lnes' is not an order: did you mean `lines`?"),
+            ("hall hepl", "'hepl' is not an order: did you mean `help`?"),
+            ("help swtch", "'swtch' is not an order: did you mean `switch`?"),
+            ("hall --jsn list", "there is no option --jsn: did you mean `--json`?"),
+            ("hall --no-wiat list x", "there is no option --no-wiat: did you mean `--no-wait`?"),
+        ):
+            self.assertEqual(run(*words.split(" ")), (2, "", f"enogatectl: {text}\n"))
+        for words, text in (("hall frob", "'frob' is not an order: the orders are learn, add, "),
+                            ("help devices", "'devices' is not an order: the orders are learn, "),
+                            ("hall --frobnicate list", "there is no option --frobnicate\n")):
+            self.assert_bad(words, text)
+        self.assertEqual(run("hall", "list", "--\x1b[2J")[2], "enogatectl: there is no option --?[2J\n")
+
+    def test_help_about_orders(self):
+        for words, wanted in (("hall help", ""), ("help", ""), ("help switch", "switch"), ("hall help stop", "stop"),
+                              ("nosuch help", "")):
+            self.assertEqual(parsed(words.split(" ")), ShowHelp(wanted))
+        self.assertEqual(run("help", "meter"), (0, """\
+meter ID CH energy  asks for the energy that a channel has measured
+meter ID CH power   asks for the power that a channel measures
+ID                  8 hexadecimal digits
+CH                  a channel, 0 to 30
+""", ""))
+        self.assertEqual(run("hall", "help", "list"), (0, "list  lists all learned devices\n", ""))
+        status, out, err = run("hall", "help")
+        self.assertEqual((status, err), (0, ""))
+        self.assertEqual([line.split("  ")[0] for line in out.splitlines()],
+                         [*(form for forms in grammar.FORMS.values() for form, _ in forms), *grammar.SHAPES])
+        self.assertLessEqual(max(map(len, out.splitlines())), 80)
+        for words, text in (("hall help stop x", "'help stop x' is not an order"), ("help list x", "not an order"),
+                            ("help --json", "--json cannot be used with help"),
+                            ("hall help --for 5", "--for cannot be used with help")):
+            self.assert_bad(words, text)
 
     def test_help_and_version(self):
         self.assertEqual(run("--version"), (0, f"enogatectl {VERSION}\n", ""))
@@ -130,7 +183,7 @@ class CommandLines(Limited):
         forms, examples = re.findall(r"(?ms)^\.EX\n(.*?)^\.EE$", page)
         self.assertEqual(forms.splitlines(), [form for order in grammar.FORMS.values() for form, _ in order])
         for line in examples.splitlines():
-            name, *words = line.partition(" >")[0].split(" ")
+            name, *words = shlex.split(line.partition(" >")[0])
             self.assertEqual((name, parsed(words).paths), ("enogatectl", HALL))
 
 
@@ -173,6 +226,19 @@ class Programs(Limited):
             self.assertEqual(run("hall", "devices", "--import")[0], 1)
             self.assertEqual(run("hall", "learn", "on", "--for", "1")[0], 1)
 
+    def test_no_gateway_runs(self):
+        """Each command that gives an order says so, and gives none. The others only need the name of a gateway."""
+        why = "enogate@hall is stopped"
+        for words in ("list", "status", "base", "switch 01800ABC 0 on", "learn on --for 5", "devices --export",
+                      "devices --import"):
+            with self.ask(['{"type":"ok"}']), self.subTest(words):
+                self.assertEqual(run("hall", *words.split(" "), why_not=why), (3, "", f"enogatectl: {why}\n"))
+                self.assertEqual(self.orders, [])
+                run("--desk", "d", "--lines", "l", "hall", *words.split(" "), why_not=why)
+                self.assertNotEqual(self.orders, [])
+        for words in ("devices", "lines", "devices --json"):
+            self.assertEqual(run("hall", *words.split(" "), why_not=why), (1, "", f"enogatectl: {why}\n"))
+
     def test_devices(self):
         lines = ['{"eep":"D5-00-01","id":"01800ABC","label":"Door","maker":null,"type":"device"}',
                  '{"count":1,"type":"list"}']
@@ -191,6 +257,17 @@ class Programs(Limited):
         with self.ask(lines, ['{"error":"full","type":"error"}']):
             status, out, _ = run("hall", "devices", "--import", text="01800ABE,D5-00-01\n")
             self.assertEqual((status, out[:57]), (1, "line 1: 01800ABE: `add 01800ABE D5-00-01` was refused: fu"))
+
+    def test_the_width_of_a_table(self):
+        """That of a terminal on which it is printed; without one, it has no limit."""
+        lines = ['{"eep":"D2-01-12","id":"01800ABC","label":"%s","maker":null,"type":"device"}' % ("x" * 32),
+                 '{"count":1,"type":"list"}']
+        for is_terminal, columns, wanted in ((True, 50, 50), (True, 0, 83), (True, 200, 83), (False, 50, 83)):
+            with self.ask(lines), mock.patch.object(Output, "is_terminal", is_terminal), \
+                    mock.patch("os.get_terminal_size", return_value=os.terminal_size((columns, 24))) as asked:
+                status, out, _ = run("--desk", "d", "--lines", "l", "hall", "list")
+            self.assertEqual((status, max(map(len, out.splitlines()))), (0, wanted))
+            self.assertEqual([call.args for call in asked.call_args_list if call.args != (1,)], [(77,)] * is_terminal)
 
     def test_an_import_gives_orders_together(self):
         """If one of them fails with an error that telegrams have too, they are given again, one by one."""
@@ -240,7 +317,8 @@ class Programs(Limited):
         for why, status in ((None, 0), (Unreadable("why"), 1)):
             with mock.patch.object(following, "print_lines", side_effect=why) as printed, \
                     mock.patch.object(following, "Reader") as reader, mock.patch("sys.stdout", mock.Mock(buffer=7)), \
-                    mock.patch.object(program.Stops, "install"), contextlib.redirect_stderr(io.StringIO()) as err:
+                    mock.patch.object(program.Stops, "install"), contextlib.redirect_stderr(io.StringIO()) as err, \
+                    mock.patch.object(running, "why_unknown", return_value=""):
                 self.assertEqual(program.main(["hall", "lines"]), status)
             self.assertEqual(err.getvalue(), "enogatectl: why\n" if why else "")
             reader.assert_called_once_with(HALL.lines, 7)
@@ -253,7 +331,7 @@ class Programs(Limited):
     def test_nobody_reads(self):
         with self.ask(['{"type":"ok"}']), mock.patch("builtins.print", side_effect=BrokenPipeError), \
                 mock.patch("os.dup2") as dup2, mock.patch("sys.stdout", mock.Mock(fileno=lambda: 1)):
-            self.assertEqual(program.main(["hall", "list", "--json"]), 0)
+            self.assertEqual(program.main(["--desk", "d", "--lines", "l", "hall", "list", "--json"]), 0)
         self.assertEqual(dup2.call_args.args[1], 1)
 
     def test_a_full_disk(self):

@@ -121,7 +121,7 @@ class Reader(Site):
         """Otherwise it takes a second, in which nothing is looked at."""
         for change in (lambda: self.write("a"), lambda: self.write("b"),
                        lambda: self.lines.rename(self.folder / "hall.lines.1"), lambda: self.write("c")):
-            while self.reader.files.longest() == 0 or select.select([self.reader.files.file], [], [], 0)[0]:
+            while self.reader.files.longest_wait() == 0 or select.select([self.reader.files.file], [], [], 0)[0]:
                 self.assertTrue(self.reader.wait(True))
             with self.poll:
                 self.reader.wait(True)

@@ -6,7 +6,7 @@ import tempfile
 import unittest
 from unittest import mock
 
-from enogate_tools.gateways import NoName, Paths, all_paths, is_name, names, paths_of
+from enogate_tools.gateways import InvalidName, Paths, all_paths, gateway_names, is_name, paths_of
 from fakes import Limited
 
 CONTRIB = pathlib.Path(__file__).parents[2] / "contrib"
@@ -15,14 +15,15 @@ CONTRIB = pathlib.Path(__file__).parents[2] / "contrib"
 class Names(Limited):
     def test_files(self):
         self.assertEqual(paths_of("an-attic_2"), Paths("/run/enogate/an-attic_2/desk",
-                         "/var/log/enogate/an-attic_2.lines", "/var/lib/enogate-mqtt/an-attic_2.db"))
+                         "/var/log/enogate/an-attic_2.lines", "/var/lib/enogate-mqtt/an-attic_2.db", "an-attic_2"))
+        self.assertEqual(paths_of("hall").unit, "enogate@hall")
         self.assertEqual(paths_of("hall", "/x").desk, "/x/run/enogate/hall/desk")
 
     def test_they_are_those_of_the_units(self):
         words = {"%t": "/run", "%L": "/var/log", "%S": "/var/lib", "%i": "hall"}
         text = "".join((CONTRIB / f"{unit}@.service").read_text() for unit in ("enogate", "enogate-mqtt"))
         text = re.sub("%[tLSi]", lambda found: words[found[0]], text)
-        for path in paths_of("hall"):
+        for path in paths_of("hall")[:3]:
             self.assertIn(f" {path}", text)
 
     def test_names(self):
@@ -31,7 +32,8 @@ class Names(Limited):
             paths_of(name)
         for name in ("", "a/b", "../x", "mqtt", "mqtt-hall", "mqttx", "hall\n", "h ll", "ö", "hall.", "-", "-hall"):
             self.assertFalse(is_name(name), name)
-            self.assertRaisesRegex(NoName, "^'.*' is not the name of a gateway: use letters, digits, - and _, and do "
+            self.assertRaisesRegex(InvalidName,
+                                   "^'.*' is not the name of a gateway: use letters, digits, - and _, and do "
                                    "not begin it with - or mqtt$", paths_of, name)
 
 
@@ -60,7 +62,7 @@ class Machine(Limited):
             (self.databases / f"{name}.db").touch()
 
     def names(self):
-        return names(str(self.root))
+        return gateway_names(str(self.root))
 
     def test_each_that_left_a_trace_is_there_once(self):
         self.make()
@@ -122,7 +124,7 @@ class Machine(Limited):
             self.assertIn(f"\n{line}\n", unit)
         self.assertIn("--db %S/enogate/%i.db", unit)
         with mock.patch.object(os, "listdir", return_value=[]) as listed:
-            names()
+            gateway_names()
         self.assertEqual([call.args for call in listed.call_args_list],
                          [("/etc/default",), ("/run/enogate",), ("/var/lib/enogate",), ("/etc/systemd/system",)])
 

@@ -44,6 +44,15 @@ class Imports(Site):
         self.assertEqual(self.imported("switch", "01800ABC", "0", "on", lines=ANSWERED), (ALWAYS | SHOWN, set()))
         self.assertEqual(self.imported("--json", "status", lines=[status()]), (ALWAYS, set()))
 
+    def test_whether_the_gateway_runs(self):
+        """This is asked before each order to the gateway of a unit."""
+        program = f"import sys; sys.path.insert(0, {str(CONTRIB)!r}); import enogate_ctl.running"
+        done = subprocess.run([sys.executable, "-S", "-B", "-X", "importtime", "-c", program], text=True,
+                              stderr=subprocess.PIPE, check=True)
+        names = {line.rpartition("|")[2].strip() for line in done.stderr.splitlines()}
+        self.assertIn("enogate_tools.system", names)
+        self.assertEqual(names & (LARGE | {"enogate_tools.check"}), set())
+
     def test_devices(self):
         large = {"dataclasses", "decimal", "inspect", "pathlib", "shlex", "sqlite3", "urllib.parse"}
         self.assertEqual(self.imported("list", lines=LISTED), (ALWAYS | TABLE, large))

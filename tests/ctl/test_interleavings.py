@@ -7,7 +7,7 @@ import unittest
 from dataclasses import dataclass
 
 from enogate_ctl.answers import SHARED, AnswerFinder, line_of
-from enogate_ctl.client import Client, TooLate
+from enogate_ctl.client import Client, Lines, TooLate
 from enogate_ctl.desk_file import Unusable
 from enogate_ctl.fence import is_longest, needed
 from enogate_tools.gateways import paths_of
@@ -178,6 +178,8 @@ class Case:
     def sleep(self, _seconds: float) -> None:
         """After the last piece, time passes."""
         self.now += 0.0 if self.left else 99.0
+
+    first = Lines.first
 
     def read(self) -> list[bytes]:
         """The next piece of the lines."""

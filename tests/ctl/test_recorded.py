@@ -10,7 +10,7 @@ from unittest import mock
 
 from enogate_ctl import main as program, recent, recorded
 from enogate_ctl.client import Unreadable
-from enogate_lines.follow import end_of
+from enogate_lines.follow import position_at_end
 from enogate_mqtt.devices import Device
 from enogate_mqtt.state import last_seen
 from enogate_mqtt.store import Store
@@ -94,8 +94,8 @@ class Recorded(Site):
         store = Store(str(self.state), "")
         self.addCleanup(store.connection.close)
         state = {"last_seen": SEEN.isoformat(timespec="seconds")}
-        store.save(end_of(str(self.lines)), names, {name: Device(name, "D5-00-01", "", None, state) for name in names},
-                   set())
+        devices = {name: Device(name, "D5-00-01", "", None, state) for name in names}
+        store.save(position_at_end(str(self.lines)), names, devices, set())
 
     def test_json(self):
         self.write(device("01800ABC", 'A "b"'), device("01800ABD"), end_of_list(2))

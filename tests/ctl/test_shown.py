@@ -15,7 +15,7 @@ from enogate_ctl.readings import readings
 from enogate_ctl.shown import shown
 from enogate_ctl.tables import table
 from enogate_lines.entities import Table
-from enogate_lines.follow import Position, end_of
+from enogate_lines.follow import Position, position_at_end
 from enogate_mqtt.devices import Device
 from enogate_mqtt.store import Store
 from fakes import OK, Limited, Site, device, end_of_list, packet, reading, status, teach, within
@@ -99,6 +99,26 @@ class Tables(Limited):
         self.assertEqual(table(rows), "A    LONG  C\naaa  x\n           c")
         self.assertEqual(table([("A", "B")]), "A  B")
 
+    def test_the_widest_columns_are_cut(self):
+        rows = [("LABEL", "ID", "NAME"), ("Living room, left", "01800ABC", "Electronic switch, 2 channels"),
+                ("Door", "01800ABD", "Contact")]
+        whole = table(rows)
+        self.assertEqual(max(map(len, whole.splitlines())), 58)
+        for most in (0, 58, 59, 500):
+            self.assertEqual(table(rows, most), whole)
+        self.assertEqual(table(rows, 57).splitlines()[1], "Living room, left  01800ABC  Electronic switch, 2 chann..")
+        self.assertEqual(table(rows, 40), """\
+LABEL           ID        NAME
+Living room,..  01800ABC  Electronic s..
+Door            01800ABD  Contact""")
+
+    def test_no_column_is_narrower_than_an_id(self):
+        rows = [("A", "ID", "PROFILE"), ("x" * 9, "01800ABC", "D5-00-01")]
+        for most in (28, 27, 5, 1):
+            self.assertEqual(table(rows, most).splitlines()[1], "xxxxxx..  01800ABC  D5-00-01")
+        self.assertEqual(table(rows, 29).splitlines()[1], "xxxxxxxxx  01800ABC  D5-00-01")
+        self.assertEqual(table([("A", "B"), ("abc", "d")], 1), "A    B\nabc  d")
+
 
 class Shown(Site):
     def shown(self, *lines):
@@ -117,13 +137,19 @@ class Shown(Site):
         self.write(reading("01800ABC"), reading("01800ABD", "A5-02-05", TEMPERATURE, None), reading("01800ABE"))
         bridge(self, "01800ABC", NOW - timedelta(minutes=5))
         # no label that a gateway writes has control characters
-        self.enterContext(mock.patch("enogate_lines.contents.TEXT_OR_NOTHING", ".*"))
+        self.enterContext(mock.patch("enogate_lines.contents.OPTIONAL_TEXT_PATTERN", ".*"))
         self.assertEqual(self.shown(device("01800ABC", "Do\x1bor"), device("01800ABD", eep="A5-02-05"),
                                     device("01800ABE", eep="F6-02-01"), end_of_list(3)), """\
 LABEL  ID        PROFILE   NAME                      LAST READINGS         SIGNAL   LAST SEEN
 Do?or  01800ABC  D5-00-01  Contact                   Contact closed        -45 dBm  5 min ago
        01800ABD  A5-02-05  Temperature sensor        Temperature 20.08 °C
        01800ABE  F6-02-01  Rocker switch, 2 rockers                        -45 dBm""")
+
+    def test_the_width(self):
+        listed = Answer(lines_of(device("01800ABC", "x" * 32), end_of_list(1))).devices
+        self.assertEqual(device_table(listed, self.paths, NOW, 40).splitlines()[1],
+                         "xxxxxxxxx..  01800ABC  D5-00-01  Contact")
+        self.assertIn("x" * 32, device_table(listed, self.paths, NOW))
 
     def test_columns_without_a_source_are_left_out(self):
         self.assertEqual(self.shown(device("01800ABC"), end_of_list(1)),
@@ -138,7 +164,7 @@ def bridge(site, name, time, position=None):
     reported = {"CO": "closed", "last_seen": time.isoformat(timespec="seconds")}
     devices = {device: Device(device, "D5-00-01", "", None, readings)
                for device, readings in ((name, reported), ("01800AFF", {}))}
-    store.save(position or end_of(str(site.lines)), list(devices), devices, set())
+    store.save(position or position_at_end(str(site.lines)), list(devices), devices, set())
     return store
 
 

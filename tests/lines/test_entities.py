@@ -33,7 +33,7 @@ def state(channel: int, output: str = "100") -> list[Reading]:
 
 
 def row(eep: str, reading: str, unit: str = ""):
-    return TABLE.of_profile(eep)[reading, unit]
+    return TABLE.rows_of_profile(eep)[reading, unit]
 
 
 def table_of(text: str) -> Table:
@@ -79,16 +79,16 @@ class Lines(unittest.TestCase):
     def test_the_first_line_that_matches_applies(self):
         table = table_of("A5-02-05 TMP C TMP - sensor First\nA5-02-?? TMP C TMP - sensor Second\n"
                          "A5-02-?? TMP K TMP_K - sensor Third\n")
-        self.assertEqual([found.name for found in table.of_profile("A5-02-05").values()], ["First", "Third"])
-        self.assertEqual([found.name for found in table.of_profile("A5-02-06").values()], ["Second", "Third"])
-        self.assertEqual(table.of_profile("a5-02-05"), {})
-        self.assertEqual(table.of_profile("A5-02-050"), {})
+        self.assertEqual([found.name for found in table.rows_of_profile("A5-02-05").values()], ["First", "Third"])
+        self.assertEqual([found.name for found in table.rows_of_profile("A5-02-06").values()], ["Second", "Third"])
+        self.assertEqual(table.rows_of_profile("a5-02-05"), {})
+        self.assertEqual(table.rows_of_profile("A5-02-050"), {})
 
     def test_the_rows_of_a_profile_are_kept(self):
-        self.assertIs(TABLE.of_profile("D2-01-12"), TABLE.of_profile("D2-01-12"))
+        self.assertIs(TABLE.rows_of_profile("D2-01-12"), TABLE.rows_of_profile("D2-01-12"))
 
     def test_rows_of_one_and_of_two_channels_are_alike(self):
-        one, two = TABLE.of_profile("D2-01-00"), TABLE.of_profile("D2-01-12")
+        one, two = TABLE.rows_of_profile("D2-01-00"), TABLE.rows_of_profile("D2-01-12")
         self.assertEqual(list(one), list(two))
         for key, found in one.items():
             other = two[key]
@@ -99,7 +99,7 @@ class Lines(unittest.TestCase):
 
     def test_names_differ_within_a_profile(self):
         for eep in ["A5-08-01", "A5-10-05", "A5-12-01", "D2-01-00", "D2-01-02", "D2-01-12", "D2-05-00"]:
-            names = [found.name for found in TABLE.of_profile(eep).values() if found.entity]
+            names = [found.name for found in TABLE.rows_of_profile(eep).values() if found.entity]
             self.assertEqual(len(names), len(set(names)), eep)
 
     def test_how_entities_are_shown(self):
@@ -107,7 +107,7 @@ class Lines(unittest.TestCase):
             ("D2-01-12", {"PF", "LC"}, {"PFD", "OC", "EL"}), ("D2-05-00", set(), {"LOCK"}),
             ("A5-06-01", set(), {"SVC"}), ("A5-07-01", set(), {"SVC"}), ("A5-08-01", set(), {"SVC"}),
         ]:
-            rows = TABLE.of_profile(eep).values()
+            rows = TABLE.rows_of_profile(eep).values()
             self.assertEqual({found.reading for found in rows if "hidden" in found.more}, hidden, eep)
             self.assertEqual({found.reading for found in rows if "diagnostic" in found.more}, diagnostic, eep)
 
@@ -192,33 +192,33 @@ class Entities(unittest.TestCase):
         self.assertEqual(row("D2-01-12", "EL").words("options"), ["ok", "warning", "failure", "not_supported"])
 
     def test_numbers_from_the_start(self):
-        self.assertEqual(row("A5-02-05", "TMP", "C").numbers(["TMP"]), [None])
-        self.assertEqual(row("D2-01-0F", "OV", "%").numbers([]), [0])
-        self.assertEqual(row("D2-01-12", "OV", "%").numbers([]), [0, 1])
-        self.assertEqual(row("A5-12-01", "MR", "kWh").numbers([]), [0])
+        self.assertEqual(row("A5-02-05", "TMP", "C").entity_numbers(["TMP"]), [None])
+        self.assertEqual(row("D2-01-0F", "OV", "%").entity_numbers([]), [0])
+        self.assertEqual(row("D2-01-12", "OV", "%").entity_numbers([]), [0, 1])
+        self.assertEqual(row("A5-12-01", "MR", "kWh").entity_numbers([]), [0])
 
     def test_numbers_of_measurements_when_they_are_reported(self):
         found = row("D2-01-12", "MV", "W")
-        self.assertEqual(found.numbers([]), [])
-        self.assertEqual(found.numbers(["MV_W/1", "MV_kWh/0", "MV"]), [1])
+        self.assertEqual(found.entity_numbers([]), [])
+        self.assertEqual(found.entity_numbers(["MV_W/1", "MV_kWh/0", "MV"]), [1])
 
     def test_numbers_that_are_reported_later(self):
         found = row("A5-12-01", "MR", "kWh")
-        self.assertEqual(found.numbers(["MR_kWh/9", "MR_kWh/10", "MR_kWh/2", "MR_W/5", "MR_kWh"]), [0, 2, 9, 10])
+        self.assertEqual(found.entity_numbers(["MR_kWh/9", "MR_kWh/10", "MR_kWh/2", "MR_W/5", "MR_kWh"]), [0, 2, 9, 10])
 
     def test_a_subtopic_that_is_no_number(self):
         found = row("A5-12-01", "MR", "kWh")
         for end in ["", "x", "-1", "01", "100", "1/2", "1 ", "\u0661"]:
-            self.assertEqual(found.numbers([f"MR_kWh/{end}", "5"]), [0], end)
+            self.assertEqual(found.entity_numbers([f"MR_kWh/{end}", "5"]), [0], end)
 
     def test_channels_that_take_no_commands(self):
         self.assertEqual(GREATEST_CHANNEL, {"switch": 29, "light": 29, "cover": 0})
         reported = ["OV/29", "OV/30", "PF/30"]
-        self.assertEqual(row("D2-01-12", "OV", "%").numbers(reported), [0, 1, 29])
-        self.assertEqual(row("D2-01-02", "OV", "%").numbers(reported), [0, 29])
-        self.assertEqual(row("D2-01-12", "PF").numbers(reported), [0, 1, 30])
-        self.assertEqual(row("D2-05-00", "POS", "%").numbers(["POS/0", "POS/1", "ANG/1"]), [0])
-        self.assertEqual(row("D2-05-00", "ANG", "%").numbers(["POS/0", "POS/1", "ANG/1"]), [0, 1])
+        self.assertEqual(row("D2-01-12", "OV", "%").entity_numbers(reported), [0, 1, 29])
+        self.assertEqual(row("D2-01-02", "OV", "%").entity_numbers(reported), [0, 29])
+        self.assertEqual(row("D2-01-12", "PF").entity_numbers(reported), [0, 1, 30])
+        self.assertEqual(row("D2-05-00", "POS", "%").entity_numbers(["POS/0", "POS/1", "ANG/1"]), [0])
+        self.assertEqual(row("D2-05-00", "ANG", "%").entity_numbers(["POS/0", "POS/1", "ANG/1"]), [0, 1])
 
 
 class Readings(unittest.TestCase):
@@ -230,14 +230,14 @@ class Readings(unittest.TestCase):
             ("A5-04-01", word("HUM", "out_of_range"), "HUM"), ("D2-05-00", word("POS", "unknown"), "POS"),
             ("D2-01-12", word("MV", "out_of_range"), ""), ("D5-00-01", word("CO", "open"), "CO"),
         ]:
-            self.assertEqual(TABLE.of_reading(eep, reading).topic, topic, reading)
+            self.assertEqual(TABLE.row_of_reading(eep, reading).topic, topic, reading)
 
     def test_readings_without_a_row(self):
         for eep, reading in [
             ("A5-12-01", word("MR", "out_of_range")), ("A5-02-05", value("TMP", "1", "K")),
             ("A5-02-05", word("XYZ", "on")), ("A5-FF-FF", value("TMP", "1", "C")),
         ]:
-            self.assertIsNone(TABLE.of_reading(eep, reading), reading)
+            self.assertIsNone(TABLE.row_of_reading(eep, reading), reading)
 
     def test_subtopics_of_readings(self):
         for eep, readings, reported in [
@@ -251,22 +251,23 @@ class Readings(unittest.TestCase):
             ("D2-01-12", [raw("IO", 0), raw("UN", 3), value("MV", "1234", "W")],
              {"IO": "0", "UN": "3", "MV": "1234", "MV_W/0": "1234"}),
         ]:
-            self.assertEqual(TABLE.reported_by(telegram(eep, *readings)), reported, eep)
+            self.assertEqual(TABLE.readings_by_subtopic(telegram(eep, *readings)), reported, eep)
 
     def test_channels_of_readings(self):
         reported = {"PF": "0", "PF/1": "0", "EL": "ok", "EL/1": "ok", "IO": "1", "OV": "100", "OV/1": "100"}
-        self.assertEqual(TABLE.reported_by(telegram("D2-01-12", *state(1))), reported)
-        self.assertEqual(TABLE.reported_by(telegram("D2-01-12", *reversed(state(1)))), reported)
+        self.assertEqual(TABLE.readings_by_subtopic(telegram("D2-01-12", *state(1))), reported)
+        self.assertEqual(TABLE.readings_by_subtopic(telegram("D2-01-12", *reversed(state(1)))), reported)
 
     def test_a_reading_without_its_channel(self):
-        self.assertEqual(TABLE.reported_by(telegram("D2-01-12", value("OV", "0", "%"))), {"OV": "0"})
-        self.assertEqual(TABLE.reported_by(telegram("D2-01-12", value("OV", "0", "%"), word("IO", "out_of_range"))),
+        self.assertEqual(TABLE.readings_by_subtopic(telegram("D2-01-12", value("OV", "0", "%"))), {"OV": "0"})
+        found = telegram("D2-01-12", value("OV", "0", "%"), word("IO", "out_of_range"))
+        self.assertEqual(TABLE.readings_by_subtopic(found),
                          {"OV": "0", "IO": "out_of_range"})
 
     def test_the_signal_strength(self):
-        self.assertEqual(TABLE.reported_by(telegram("D5-00-01", dbm=-45)), {"dbm": "-45"})
-        self.assertEqual(TABLE.reported_by(telegram("D5-00-01", dbm=0)), {"dbm": "0"})
-        self.assertEqual(TABLE.reported_by(telegram("D5-00-01")), {})
+        self.assertEqual(TABLE.readings_by_subtopic(telegram("D5-00-01", dbm=-45)), {"dbm": "-45"})
+        self.assertEqual(TABLE.readings_by_subtopic(telegram("D5-00-01", dbm=0)), {"dbm": "0"})
+        self.assertEqual(TABLE.readings_by_subtopic(telegram("D5-00-01")), {})
 
     def test_reports_each_subtopic_that_is_reported(self):
         for one in [telegram("D2-01-12", *state(1), dbm=-45), telegram("D5-00-01", word("CO", "open"), dbm=-45),
@@ -274,8 +275,8 @@ class Readings(unittest.TestCase):
                     telegram("A5-12-01", value("MR", "7", "W"), raw("TI", 15)),
                     telegram("A5-06-01", value("ILL1", "1", "lx")),
                     telegram("F6-02-01", word("R1", "AI"), word("EB", "pressed"))]:
-            for subtopic in TABLE.reported_by(one):
-                self.assertTrue(TABLE.reports(one.eep, subtopic), (one.eep, subtopic))
+            for subtopic in TABLE.readings_by_subtopic(one):
+                self.assertTrue(TABLE.may_report(one.eep, subtopic), (one.eep, subtopic))
 
     def test_reports_nothing_else(self):
         for eep, subtopic in [
@@ -286,7 +287,7 @@ class Readings(unittest.TestCase):
             ("D2-01-12", "nonsense/0"), ("D2-01-12", "/0"), ("D2-01-12", "IO/0"), ("F6-02-01", "press"),
             ("A5-FF-FF", "TMP"),
         ]:
-            self.assertFalse(TABLE.reports(eep, subtopic), (eep, subtopic))
+            self.assertFalse(TABLE.may_report(eep, subtopic), (eep, subtopic))
 
 
 class Events(unittest.TestCase):
@@ -322,7 +323,7 @@ class Events(unittest.TestCase):
         self.assertEqual(self.events("A5-10-05", word("OCC", "pressed")), [])
 
 
-class Golden(unittest.TestCase):
+class GoldenRows(unittest.TestCase):
     """Rows of each kind as EnOcean Equipment Profiles 2.6 and Home Assistant's documents require them: the place of the
     entity, the count of its numbers, its kind, and its device class, state class and unit."""
 

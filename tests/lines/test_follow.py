@@ -6,7 +6,7 @@ import tempfile
 import unittest
 from unittest import mock
 
-from enogate_lines.follow import MAX_READ, NOWHERE, Follower, Position, end_of, files_of
+from enogate_lines.follow import MAX_READ, START_OF_NO_FILE, Follower, Position, position_at_end, rotated_files
 
 # How long these tests may take, in seconds. One that waits for a pipe ends the run, which fails.
 LONGEST = 120
@@ -17,7 +17,7 @@ def setUpModule():
     unittest.addModuleCleanup(faulthandler.cancel_dump_traceback_later)
 
 
-class Counted:
+class CountedCalls:
     """The module os, which notes the names of its functions that are called."""
 
     def __init__(self, calls):
@@ -34,7 +34,7 @@ class Counted:
         return call
 
 
-class Following(unittest.TestCase):
+class FollowedFiles(unittest.TestCase):
     def setUp(self):
         self.path = pathlib.Path(self.enterContext(tempfile.TemporaryDirectory()), "hall.lines")
         self.path.touch()
@@ -239,7 +239,7 @@ class Following(unittest.TestCase):
         self.assertFalse(self.follower(position).is_found)
         self.path.unlink()
         gone = Follower(str(self.path), position, self.logged.append, is_same_boot=False)
-        self.assertEqual((gone.is_found, gone.position), (False, NOWHERE))
+        self.assertEqual((gone.is_found, gone.position), (False, START_OF_NO_FILE))
 
     def test_a_file_that_is_truncated(self):
         """What is left of it is not read again."""
@@ -291,7 +291,8 @@ class Following(unittest.TestCase):
                 self.path.unlink()
                 make(self.path)
                 follower = self.follower()
-                self.assertEqual((self.read(follower), follower.fault, end_of(str(self.path))), ([], why, None))
+                self.assertEqual((self.read(follower), follower.fault), ([], why))
+                self.assertIsNone(position_at_end(str(self.path)))
                 self.path.rmdir() if self.path.is_dir() else self.path.unlink()
                 self.assertEqual(self.read(follower), [])
                 self.write("a\n")
@@ -328,7 +329,7 @@ class Following(unittest.TestCase):
         follower = self.follower()
         self.read(follower)
         calls = []
-        with mock.patch("enogate_lines.follow.os", Counted(calls)):
+        with mock.patch("enogate_lines.follow.os", CountedCalls(calls)):
             for _ in range(3):
                 follower.read()
         self.assertEqual(len(calls) / 3, 4, calls)
@@ -417,12 +418,12 @@ class Following(unittest.TestCase):
     def test_the_end_of_a_file(self):
         for text in ("", "a\n", "x" * 100 + "\nhalf"):
             self.path.write_text(text)
-            position = end_of(str(self.path))
+            position = position_at_end(str(self.path))
             self.assertEqual(position, Position(self.path.stat().st_ino, len(text), text[-64:].encode()))
             self.write("b\n")
             self.assertEqual(self.read(self.follower(position)), ["b"])
         self.path.unlink()
-        self.assertIsNone(end_of(str(self.path)))
+        self.assertIsNone(position_at_end(str(self.path)))
 
     def test_the_end_of_a_file_that_grows_meanwhile(self):
         """What was written after the end was noted is new, and what was there before it is not read again."""
@@ -434,7 +435,7 @@ class Following(unittest.TestCase):
         for old in ("", "a\n", "x" * 100 + "\n"):
             self.path.write_text(old)
             with mock.patch("enogate_lines.follow.os.pread", grows):
-                position = end_of(str(self.path))
+                position = position_at_end(str(self.path))
             self.assertEqual((position.offset, position.last), (len(old), old[-64:].encode()))
             self.assertEqual(self.read(self.follower(position)), ["new"])
         self.assertEqual(self.logged, [])
@@ -442,7 +443,7 @@ class Following(unittest.TestCase):
     def test_the_names_of_rotated_files(self):
         for end in (".2", ".10", "-20261127", "-20261126", ".1.gz", ".bak"):
             self.write("x\n", self.path.with_name(self.path.name + end))
-        ends = [path.removeprefix(str(self.path)) for path in files_of(str(self.path))]
+        ends = [path.removeprefix(str(self.path)) for path in rotated_files(str(self.path))]
         self.assertEqual(ends, ["-20261126", "-20261127", ".10", ".2", ""])
 
 

@@ -9,10 +9,10 @@ import types
 import unittest
 from unittest import mock
 
-from enogate_lines.inotify import LONGEST, TURN, WatchedFiles
+from enogate_lines.inotify import LONGEST_WAIT, POLL_PAUSE, WatchedFiles
 
 
-class Waits(unittest.TestCase):
+class WatchedFileWaits(unittest.TestCase):
     """The lines and the desk of a gateway, in two directories."""
 
     def setUp(self):
@@ -35,9 +35,9 @@ class Waits(unittest.TestCase):
 
     def waits(self):
         """Whether a wait would end at once."""
-        self.seconds = self.files.longest()
+        self.seconds = self.files.longest_wait()
         if is_noticed := self.is_noticed():
-            self.files.drop()
+            self.files.drop_events()
         return self.seconds == 0 or is_noticed
 
     def assert_notices(self, change):
@@ -51,7 +51,7 @@ class Waits(unittest.TestCase):
 
     def test_an_idle_wait(self):
         self.start()
-        self.assertEqual(self.seconds, LONGEST)
+        self.assertEqual(self.seconds, LONGEST_WAIT)
 
     def test_lines_end_a_wait(self):
         self.start()
@@ -92,7 +92,7 @@ class Waits(unittest.TestCase):
         while self.waits():
             pass
         self.lines.touch()
-        self.files.drop()
+        self.files.drop_events()
         append(self.lines, b"line\n")
         self.assertTrue(self.waits())
 
@@ -111,22 +111,22 @@ class Waits(unittest.TestCase):
         self.lines.unlink()
         self.log.rmdir()
         self.start()
-        self.assertEqual(self.seconds, TURN)
+        self.assertEqual(self.seconds, POLL_PAUSE)
         self.log.mkdir()
         self.assertTrue(self.waits())
         self.assertFalse(self.waits())
-        self.assertEqual(self.seconds, LONGEST)
+        self.assertEqual(self.seconds, LONGEST_WAIT)
         self.assert_notices(self.lines.touch)
 
     def test_a_directory_that_is_replaced(self):
         self.start()
         self.assert_notices(lambda: self.log.rename(self.log.with_name("old")))
-        self.assertEqual(self.seconds, TURN)
+        self.assertEqual(self.seconds, POLL_PAUSE)
         self.log.mkdir()
         self.lines.touch()
         while self.waits():
             pass
-        self.assertEqual(self.seconds, LONGEST)
+        self.assertEqual(self.seconds, LONGEST_WAIT)
         self.assert_notices(lambda: append(self.lines, b"line\n"))
 
 
@@ -142,8 +142,8 @@ class WithoutInotify(unittest.TestCase):
         with mock.patch.object(ctypes, "CDLL", lambda *_, **__: library), \
              mock.patch.object(ctypes, "get_errno", lambda: number):
             files = WatchedFiles(["/log/hall.lines", "/run/desk"], self.logged.append)
-            files.longest()
-            return files.longest()
+            files.longest_wait()
+            return files.longest_wait()
 
     def test_no_function(self):
         self.assertEqual(self.longest(0), 0.1)

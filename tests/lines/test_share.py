@@ -25,10 +25,10 @@ def names(rows):
     return [row[0].strip("`") for row in rows]
 
 
-class Tables(unittest.TestCase):
+class GuideTables(unittest.TestCase):
     def test_profiles(self):
-        self.assertEqual(sorted(share.profiles()), sorted(map(eep_of, IN_TABLES)))
-        self.assertEqual(share.kind("A5-38-08"), "")
+        self.assertEqual(sorted(share.kinds_by_profile()), sorted(map(eep_of, IN_TABLES)))
+        self.assertEqual(share.device_kind("A5-38-08"), "")
 
     def test_the_kinds_of_the_guide(self):
         kinds, start = {}, ""
@@ -36,20 +36,28 @@ class Tables(unittest.TestCase):
             for first, last in re.findall(r"`([0-9A-F-]+)`(?: to `-([0-9A-F]{2})`)?", cell):
                 start = first if len(first) == 8 else start[:5] + first
                 for number in range(int(start[6:], 16), int(last or start[6:], 16) + 1):
-                    kinds.setdefault(kind, set()).add(share.kind(f"{start[:6]}{number:02X}"))
+                    kinds.setdefault(kind, set()).add(share.device_kind(f"{start[:6]}{number:02X}"))
         self.assertEqual({kind: "; ".join(sorted(found, key=kind.find)) for kind, found in kinds.items()},
                          {kind: kind for kind in kinds})
 
     def test_forms_of_orders(self):
-        forms = [form for order in share.orders().values() for form, _ in order]
+        forms = [form for order in share.order_forms().values() for form, _ in order]
         self.assertEqual(forms, [form for form, *_ in ORDERS if not re.search("[0-9]", form)])
         self.assertEqual({word for form in forms for word in form.split(" ") if word.isupper()},
-                         share.parameters().keys())
+                         share.parameter_meanings().keys())
         ranges = {row[0].strip("`"): row[-1] for row in table("orders.md", "Word | Meaning | Range")}
-        self.assertEqual(ranges.keys(), share.parameters().keys())
+        self.assertEqual(ranges.keys(), share.parameter_meanings().keys())
         for name, greatest in GREATEST.items():
-            self.assertTrue(share.parameters()[name].endswith(f"0 to {greatest}"), name)
+            self.assertTrue(share.parameter_meanings()[name].endswith(f"0 to {greatest}"), name)
             self.assertEqual(re.match(r"0 to (\d+)", ranges[name])[1], str(greatest), name)
+
+    def test_what_orders_do(self):
+        """In a line of a terminal, next to the longest form."""
+        forms = [form for order in share.order_forms().values() for form, _ in order]
+        self.assertEqual(list(share.effects()), forms)
+        self.assertEqual(len(set(share.effects().values())), len(forms))
+        for text in share.effects().values():
+            self.assertRegex(text, "^[a-z]+s [^.]{1,56}[^. ]$")
 
     def test_errors_of_orders(self):
         for row in table("orders.md", "Order | What it does | Answer | Possible errors"):
@@ -61,18 +69,19 @@ class Tables(unittest.TestCase):
             if verb == "status":
                 wanted |= {"memory"}
             with self.subTest(forms[0]):
-                mine = dict(share.orders()[verb])
+                mine = dict(share.order_forms()[verb])
                 self.assertEqual(set().union(*(mine[form] for form in forms)), wanted)
 
     def test_words(self):
-        self.assertEqual(list(share.words("error")), names(table("output.md", "Error | When")))
-        self.assertEqual(sorted(share.words("result")), sorted(names(table("output.md", "Result | Meaning"))))
-        self.assertEqual(sorted(share.words("reason")), sorted(["refused", *reasons.COUNTS]))
-        self.assertEqual(list(share.words("reason")), names(table("devices.md", "`why` | Meaning | What to do")))
-        self.assertEqual(list(share.words("rorg")), ["F6", "D5", "A5", "D2", "D4"])
-        for errors in share.orders().values():
+        self.assertEqual(list(share.texts_by_word("error")), names(table("output.md", "Error | When")))
+        self.assertEqual(sorted(share.texts_by_word("result")), sorted(names(table("output.md", "Result | Meaning"))))
+        self.assertEqual(sorted(share.texts_by_word("reason")), sorted(["refused", *reasons.COUNTS]))
+        self.assertEqual(list(share.texts_by_word("reason")),
+                         names(table("devices.md", "`why` | Meaning | What to do")))
+        self.assertEqual(list(share.texts_by_word("rorg")), ["F6", "D5", "A5", "D2", "D4"])
+        for errors in share.order_forms().values():
             for _, found in errors:
-                self.assertLessEqual(found, share.words("error").keys())
+                self.assertLessEqual(found, share.texts_by_word("error").keys())
 
 
 if __name__ == "__main__":

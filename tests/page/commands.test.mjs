@@ -47,14 +47,29 @@ beforeEach(() => {
 
 const last = () => started.at(-1);
 
-test("orders are given with administrative rights only, and by one process", () => {
-    commands.give("hall", ["label", "01800ABC", "a b"]);
-    commands.openWindow("hall", ["learn", "on"], 120);
-    assert.deepEqual(started, [{ words: ["enogatectl", "--serve"],
-                                 options: { superuser: "require", err: "message" } }]);
+test("orders are given with the rights that are named, and by one process for each of them", () => {
+    commands.give("hall", ["label", "01800ABC", "a b"], "root");
+    commands.openWindow("hall", ["learn", "on"], 120, "root");
+    commands.give("hall", ["list"], "user");
+    const process = superuser => ({ words: ["enogatectl", "--serve"], options: { superuser, err: "message" } });
+    assert.deepEqual(started, [process("require"), process(null)]);
     assert.deepEqual(requests.map(request => request.arguments), [
         ["--json", "hall", "--", "label", "01800ABC", "a b"], ["--for", "120", "hall", "--", "learn", "on"],
+        ["--json", "hall", "--", "list"],
     ]);
+});
+
+test("the desk is looked at with the rights of the user", async () => {
+    assert.equal(await commands.mayWrite("hall"), true);
+    assert.deepEqual(last(), { words: ["test", "-w", "/run/enogate/hall/desk"], options: { err: "ignore" } });
+    failure = { exit_status: 1 };
+    assert.equal(await commands.mayWrite("hall"), false);
+});
+
+test("a service is started and restarted as root", async () => {
+    await commands.serve("start", "hall");
+    assert.deepEqual(last(), { words: ["systemctl", "start", "enogate@hall.service"],
+                               options: { superuser: "require", err: "message" } });
 });
 
 test("what only reads needs no administrative rights", async () => {

@@ -1,11 +1,14 @@
 import assert from "node:assert/strict";
 import { mock, test } from "node:test";
 
-import { byId, machine, permission, settle, started } from "./page.mjs";
-import { DEVICE, RESPONSE, STATUS, TAUGHT } from "./samples.mjs";
+import { byId, jumps, machine, permission, settle, started, view } from "./page.mjs";
+import { DEVICE, HOSTILE, READING, RESPONSE, STATUS, TAUGHT } from "./samples.mjs";
 
+const SECTIONS = ["overview", "devices", "device", "groups", "add", "packets"];
 const [LIST, BASE] = ["list", "base"].map(order => ["enogatectl", "--json", "hall", "--", order]);
 let run = 1;
+// Whether the user may write the desk without becoming root.
+let hasDesk = false;
 
 /** A machine with two gateways, whose service runs. The lines are followed until the test is over. */
 machine.outputOf = ([name, ...words]) => {
@@ -13,6 +16,8 @@ machine.outputOf = ([name, ...words]) => {
         return null;
     if (words[0] === "paths")
         return '{"hall":{},"yard":{}}\n';
+    if (words[0] === "-w")
+        return hasDesk ? "" : Error("no");
     return name === "systemctl" ? `ActiveState=active\nSubState=running\nInvocationID=${run}\n` : "";
 };
 
@@ -25,10 +30,80 @@ async function pass(seconds) {
 }
 
 mock.timers.enable({ apis: ["setTimeout", "setInterval", "Date"], now: 1000 });
-byId("tab-teach").dataset.section = "teach";
-document.querySelectorAll = () => [byId("tab-teach")];
+const tabs = ["overview", "devices", "add", "packets"].map(section => {
+    const tab = byId(`tab-${section}`);
+    tab.dataset.section = section;
+    return tab;
+});
+const states = ["all", "silent", "weak", "actuators"].map(state => {
+    const link = document.createElement("a");
+    link.dataset.state = state;
+    link.append(document.createElement("span"));
+    return link;
+});
+document.querySelectorAll = selector =>
+    selector === "#sections a" ? tabs : selector === "#devices-states a" ? states : [];
 await import("../../contrib/cockpit/enogate/main.js");
 await settle();
+
+/** The section that is shown, and its tab. */
+function shown() {
+    const current = tabs.filter(tab => tab.attributes.get("aria-current") === "true");
+    return [SECTIONS.filter(name => !byId(name).hidden).join(), current.map(({ dataset }) => dataset.section).join()];
+}
+
+/** Brings new lines of the gateway that is shown. An empty line ends the earlier ones. */
+async function bring(...lines) {
+    const name = byId("gateways").children.find(tab => tab.attributes.get("aria-selected") === "true").dataset.gateway;
+    const text = lines.map(line => `${JSON.stringify(line)}\n`).join("");
+    started("enogatectl", name, "lines").at(-1).write(`\n${text}`);
+    await pass(1);
+}
+
+test("the Overview is shown first, and the section of an address after that", () => {
+    assert.deepEqual(shown(), ["overview", "overview"]);
+    for (const [address, section, tab] of [
+        ["#/devices/silent", "devices", "devices"], ["#/device/01800ABC", "device", "devices"],
+        ["#/groups", "groups", "devices"], ["#/add", "add", "add"], ["#/packets", "packets", "packets"],
+    ]) {
+        view.open(address);
+        assert.deepEqual(shown(), [section, tab], address);
+    }
+    for (const text of HOSTILE) {
+        view.open("#/packets");
+        view.open(`#/${text}`);
+        assert.deepEqual(shown(), ["overview", "overview"], text);
+    }
+});
+
+test("a click on a tab opens its section at once, unless it opens another window", () => {
+    const [, devices, , packets] = tabs;
+    [devices.hash, packets.hash] = ["#/devices", "#/packets"];
+    view.open("#/overview");
+    packets.click();
+    assert.deepEqual(shown(), ["packets", "packets"]);
+    assert.equal(location.hash, "#/packets");
+    for (const key of ["ctrlKey", "metaKey", "shiftKey"]) {
+        devices.listeners.get("click")({ target: devices, [key]: true });
+        assert.deepEqual(shown(), ["packets", "packets"], key);
+    }
+    devices.click();
+    assert.deepEqual(shown(), ["devices", "devices"]);
+    view.open("#/overview");
+});
+
+test("a search in a section without a list leads to the devices", () => {
+    for (const [address, wanted] of [["#/overview", "#/devices"], ["#/device/01800ABC", "#/devices"],
+                                     ["#/packets", "#/packets"], ["#/add", "#/add"]]) {
+        view.open(address);
+        byId("search").enterValue("x");
+        assert.equal(location.hash, wanted);
+        byId("search").enterValue("");
+    }
+    view.open("#/overview");
+    byId("search").enterValue("");
+    assert.equal(location.hash, "#/overview");
+});
 
 test("the devices are asked for once after each start of the gateway, and not at each look", async () => {
     assert.equal(started(...LIST).length, 1);
@@ -52,15 +127,12 @@ test("a page that is hidden does not look at the service", async () => {
 });
 
 test("a base ID of the module that differs is reported while it does, and asked for after each start", async () => {
-    const [lines] = started("enogatectl", "hall", "lines");
-    const reports = async data => {
-        // An empty line ends the earlier ones.
-        lines.write(`\n${JSON.stringify({ ...RESPONSE, data })}\n`);
-        await pass(1);
-    };
+    const reports = data => bring({ ...RESPONSE, data });
+    view.open("#/devices");
     const asked = started(...BASE).length;
     await reports("FFA1B280");
-    assert.match(byId("trouble").textContent, /^BASE is FF800000, but the base ID of the radio module is FFA1B280: /);
+    assert.match(byId("trouble-text").textContent,
+                 /^BASE is FF800000, but the base ID of the radio module is FFA1B280\. Correct or remove BASE in /);
     assert.equal(byId("trouble").hidden, false);
     run = 3;
     await pass(20);
@@ -96,7 +168,93 @@ test("orders are given once the user is an administrator, and not before", async
     permission.changed();
     await settle();
     assert.equal(started(...LIST).length, asked + 1);
+    assert.equal(started(...LIST).at(-1).options.superuser, "require");
     assert.equal(byId("read-only").hidden, true);
+});
+
+test("who may write the desk gives orders without becoming root, but starts no service", async () => {
+    permission.allowed = false;
+    permission.changed();
+    const asked = started(...LIST).length;
+    hasDesk = true;
+    await pass(3);
+    assert.equal(byId("read-only").hidden, true);
+    assert.equal(started(...LIST).length, asked + 1);
+    assert.equal(started(...LIST).at(-1).options.superuser, null);
+    assert.deepEqual(started("test", "-w").at(-1).words, ["test", "-w", "/run/enogate/hall/desk"]);
+    assert.equal(started("test", "-w").at(-1).options.superuser, undefined);
+    view.open("#/overview");
+    assert.deepEqual([byId("gateway-refresh").disabled, byId("gateway-restart").disabled], [false, true]);
+    await bring({ ...RESPONSE, data: "FFA1B280" });
+    const [problem] = byId("attention").children;
+    assert.match(problem.textContent, /BASE is FF800000, .* is FFA1B280.*Restart$/);
+    assert.equal(problem.lastElementChild.disabled, true);
+    await bring({ ...RESPONSE, data: "FF800000" });
+    permission.allowed = true;
+    permission.changed();
+    await settle();
+    assert.equal(byId("gateway-restart").disabled, false);
+    byId("gateway-restart").click();
+    await settle();
+    const { words, options } = started("systemctl", "restart").at(-1);
+    assert.deepEqual([words, options.superuser], [["systemctl", "restart", "enogate@hall.service"], "require"]);
+    hasDesk = false;
+});
+
+test("a service that is stopped can be started, and gets no orders", async () => {
+    const { outputOf } = machine;
+    machine.outputOf = words => words[1] === "show" ? "ActiveState=inactive\n" : outputOf(words);
+    await pass(3);
+    assert.match(byId("verdict-title").textContent, /attention/);
+    assert.equal(byId("verdict").dataset.level, "bad");
+    assert.match(byId("attention").textContent, /The gateway hall is stopped/);
+    assert.equal(byId("gateway-refresh").disabled, true);
+    view.open("#/devices");
+    assert.deepEqual([byId("trouble").hidden, byId("trouble-help").textContent], [false, "Start"]);
+    assert.equal(byId("trouble-help").disabled, false);
+    byId("trouble-help").click();
+    await settle();
+    assert.deepEqual(started("systemctl", "start").at(-1).words, ["systemctl", "start", "enogate@hall.service"]);
+    machine.outputOf = outputOf;
+    await pass(3);
+    assert.equal(byId("trouble").hidden, true);
+    byId("gateway-journal").click();
+    assert.deepEqual(jumps, ["/system/services#/enogate%40hall.service"]);
+});
+
+test("an order to a device is shown as sent, and then as not answered, also in the Overview", async () => {
+    const { outputOf } = machine;
+    machine.outputOf = words => words.includes("switch") ? null : outputOf(words);
+    const output = { den: 1, name: "OV", num: 0, unit: "%" };
+    const actuator = channel =>
+        ({ ...READING, eep: "D2-01-12", id: "01800AD1", readings: [{ name: "IO", raw: channel }, output] });
+    await bring(actuator(0));
+    view.open("#/devices");
+    await pass(1);
+    const row = byId("devices-rows").children.find(({ dataset }) => dataset.id === "01800AD1");
+    const [on] = row.querySelectorAll("button");
+    const answer = () => row.textContent.match(/sent …|…|✓ answered|no answer|$/)[0];
+    on.click();
+    await settle();
+    const given = started("enogatectl", "--json", "hall", "--", "switch").at(-1);
+    assert.deepEqual([given.words.slice(4), answer()], [["switch", "01800AD1", "0", "on"], "…"]);
+    given.resolve();
+    await pass(2);
+    assert.equal(answer(), "sent …");
+    await bring(actuator(1));
+    await pass(1);
+    assert.equal(answer(), "no answer");
+    view.open("#/overview");
+    assert.match(byId("attention").textContent, /01800AD1 did not answer an order/);
+    await bring(actuator(0));
+    assert.doesNotMatch(byId("attention").textContent, /01800AD1/);
+    assert.equal(byId("devices-rows").children.length, 0);
+    on.click();
+    started("enogatectl", "--json", "hall", "--", "switch").at(-1).reject({ message: "enogatectl: why" });
+    view.open("#/device/01800AD1");
+    await pass(1);
+    assert.match(byId("device-act").textContent, /why$/);
+    machine.outputOf = outputOf;
 });
 
 test("the error of a button stays until it is closed, whatever the page asks by itself", async () => {
@@ -105,6 +263,7 @@ test("the error of a button stays until it is closed, whatever the page asks by 
     byId("teach-close").click();
     started("enogatectl", "--json", "hall", "--", "learn", "off").at(-1).reject({ message: "enogatectl: why" });
     await settle();
+    view.open("#/overview");
     byId("gateway-refresh").click();
     await settle();
     assert.deepEqual([byId("problem").hidden, byId("problem-text").textContent], [false, "why"]);
@@ -124,6 +283,7 @@ test("a click on the tab of another gateway ends the reading of the first one's 
 test("devices that are read late are not those of the gateway that was opened meanwhile", async () => {
     const { outputOf } = machine;
     machine.outputOf = words => words.at(-1) === "devices" ? null : outputOf(words);
+    view.open("#/devices");
     const [hall, yard] = byId("gateways").children;
     const device = { ...DEVICE, seen: null, dbm: null, readings: [] };
     const read = async name => {
@@ -150,14 +310,14 @@ test("a state that is read late is not that of the gateway that was opened meanw
         process.write("ActiveState=failed\n");
         process.resolve();
         await pass(1);
-        return byId("trouble").textContent;
+        return byId("trouble-text").textContent;
     };
     hall.click();
     await settle();
     yard.click();
     await settle();
     assert.equal(await fails("hall"), "");
-    assert.match(await fails("yard"), /^The gateway yard is stopped\./);
+    assert.match(await fails("yard"), /^The gateway yard is stopped\.$/);
     machine.outputOf = outputOf;
 });
 
@@ -178,12 +338,13 @@ test("the learn window of a gateway is closed when another one is opened", async
 test("a learn window is counted down once a line reports that it is open", async () => {
     const { outputOf } = machine;
     machine.outputOf = words => words.includes("--for") ? null : outputOf(words);
-    byId("tab-teach").click();
+    view.open("#/add");
     byId("gateways").children[0].click();
     await settle();
     byId("teach-open").click();
     assert.equal(byId("teach-left").textContent, "opening …");
     started("enogatectl", "hall", "lines").at(-1).write(`\n${JSON.stringify({ ...STATUS, mode: "on" })}\n`);
     await pass(1);
-    assert.equal(byId("teach-left").textContent, "open for 119 s");
+    assert.equal(byId("teach-left").textContent, "1:59");
+    assert.equal(byId("window").textContent, "Learn window open 1:59");
 });

@@ -191,7 +191,8 @@ test("an unknown sender has its strongest signal, its count and its last reason"
     const query = { ...PACKET, dbm: null, why: "window_closed", eep: "F6-02-01" };
     const model = modelOf({ ...PACKET, dbm: -80 }, { ...PACKET, dbm: -50 }, query, PACKET);
     assert.deepEqual(model.unknown.get("01800AC1"),
-                     { rorg: "F6", why: "unknown_sender", best: -45, eep: "F6-02-01", count: 4, received: 4000 });
+                     { rorg: "F6", why: "unknown_sender", best: -45, eep: "F6-02-01", count: 4, received: 4000,
+                       number: 4 });
 });
 
 test("a learned sender is not unknown, and is none after it was learned", () => {
@@ -240,4 +241,29 @@ test("a teach line without a profile, an error and ok change no device", () => {
     const model = modelOf({ ...TAUGHT, eep: null, result: "no_profile" }, { ...TAUGHT, eep: null }, ERROR, OK);
     assert.equal(model.devices.size, 0);
     assert.equal(model.taught.length, 2);
+});
+
+test("a packet has the readings of the line that directly follows it", () => {
+    const packet = { ...PACKET, id: READING.id, why: "read" };
+    const model = modelOf(packet, READING, packet, { ...READING, id: "01800AFF" }, packet, STATUS, READING, packet);
+    const value = { reading: READING.readings[0], channel: null };
+    assert.deepEqual(model.packets.map(({ readings }) => readings), [[value], undefined, undefined, undefined]);
+    const output = { ...READING, eep: "D2-01-12", readings: [{ name: "IO", raw: 1 }, { name: "OV", raw: 0 }] };
+    assert.deepEqual(modelOf(packet, output).packets[0].readings.map(({ channel }) => channel), [1, 1]);
+});
+
+test("each reading has the time at which it was received", () => {
+    const model = new Model(0);
+    const times = () => [...model.devices.get(READING.id).readings.values()].map(({ received }) => received);
+    model.take(READING, null);
+    assert.deepEqual(times(), [null]);
+    model.take({ ...READING, readings: [...READING.readings, { name: "HUM", raw: 1 }] }, 5);
+    model.take({ ...READING, readings: [{ name: "HUM", raw: 1 }] }, 7);
+    assert.deepEqual(times(), [5, 7]);
+});
+
+test("the learn window is open in each mode but one, and not if no mode is known", () => {
+    const isOpen = mode => modelOf({ ...STATUS, mode }).isOpen;
+    assert.deepEqual([isOpen("on"), isOpen("answer"), isOpen("as F6-02-01"), isOpen("closed"), new Model(0).isOpen],
+                     [true, true, true, false, false]);
 });

@@ -41,6 +41,10 @@ test("enogatectl takes each command of the page for the order that is meant", ()
         ["query 01800ABC 0", orders.queryOrder(ID, 0)],
         ["blind 01800ABC 100", orders.blindOrder(ID, 100)],
         ["stop 01800ABC", orders.stopOrder(ID)],
+        ["meter 01800ABC 1 energy", orders.meterOrder(ID, 1, "energy")],
+        ["meter 01800ABC 30 power", orders.meterOrder(ID, orders.ALL_CHANNELS, "power")],
+        ["central 0 on", orders.centralOrder(0, true)], ["central 127 off", orders.centralOrder(127, false)],
+        ["level 3 100 255", orders.levelOrder(3, 100, 255)], ["teach 5", orders.teachOrder(5)],
         ["list", ["list"]], ["base", ["base"]], ["learn off", ["learn", "off"]],
     ]);
     const commands = [...wanted.values()].map(order => orders.command("hall", order));
@@ -83,9 +87,20 @@ test("the fields for a label take no longer one", () => {
     assert.deepEqual([0, 1].map(more => orders.isLabel("x".repeat(orders.LONGEST_LABEL + more))), [true, false]);
 });
 
-test("percentages", () => {
-    assert.deepEqual(["0", "50", "100", "007"].map(orders.percentOf), [0, 50, 100, 7]);
-    assert.deepEqual(["", " 5", "-1", "101", "1e2", "5.0", "x"].map(orders.percentOf), Array(7).fill(null));
+test("numbers in fields", () => {
+    const number = (text, greatest = 100) => orders.numberIn(text, greatest);
+    assert.deepEqual(["0", "50", "100", "007"].map(text => number(text)), [0, 50, 100, 7]);
+    assert.deepEqual(["", " 5", "-1", "101", "1e2", "5.0", "x"].map(text => number(text)), Array(7).fill(null));
+    assert.deepEqual([number("127", 127), number("128", 127)], [127, null]);
+});
+
+test("the fields for groups have the ranges of the orders", () => {
+    const file = readFileSync(new URL("../../contrib/share/orders", import.meta.url), "utf8");
+    const greatest = name => Number(file.match(new RegExp(`^${name} .* 0 to ([0-9]+)$`, "m"))[1]);
+    const page = readFileSync(new URL("../../contrib/cockpit/enogate/index.html", import.meta.url), "utf8");
+    const fields = [...page.matchAll(/id="groups-[a-z]+" type="number" min="0" max="([0-9]+)"/g)];
+    assert.deepEqual(fields.map(([, most]) => Number(most)), ["OFF", "VAL", "RAMP"].map(greatest));
+    assert.equal(orders.ALL_CHANNELS, greatest("CH"));
 });
 
 test("the sentence of an error", () => {

@@ -4,9 +4,9 @@ const elements = new Map();
 
 /** An element. One with an ID appears when the page first looks for it. */
 class Element {
-    constructor() {
-        Object.assign(this, { children: [], parent: null, text: "", dataset: {}, attributes: new Map(),
-                              listeners: new Map(), hidden: false, disabled: false, open: false, value: "" });
+    constructor(name = "") {
+        Object.assign(this, { name, children: [], parent: null, text: "", dataset: {}, attributes: new Map(),
+                              listeners: new Map(), hidden: false, disabled: false, open: false });
         const classes = new Set();
         this.classList = {
             contains: name => classes.has(name),
@@ -23,8 +23,29 @@ class Element {
         this.text = text;
     }
 
+    /** What was entered. In a list, the first option is chosen at first. */
+    get value() {
+        return this.entered ?? this.children[0]?.value ?? "";
+    }
+
+    set value(value) {
+        this.entered = value;
+    }
+
     get firstChild() {
         return this.children[0] ?? null;
+    }
+
+    get firstElementChild() {
+        return this.firstChild;
+    }
+
+    get lastElementChild() {
+        return this.children.at(-1) ?? null;
+    }
+
+    get parentElement() {
+        return this.parent;
     }
 
     get nextSibling() {
@@ -58,12 +79,25 @@ class Element {
         this.attributes.set(name, value);
     }
 
+    toggleAttribute(name, isSet) {
+        if (isSet)
+            this.attributes.set(name, "");
+        else
+            this.attributes.delete(name);
+    }
+
     addEventListener(name, listener) {
         this.listeners.set(name, listener);
     }
 
     click() {
-        this.listeners.get("click")();
+        this.listeners.get("click")({ target: this });
+    }
+
+    /** Somebody enters a value. */
+    enterValue(value, event = "input") {
+        this.value = value;
+        this.listeners.get(event)({ target: this });
     }
 
     /** Somebody presses Enter in it. */
@@ -95,8 +129,10 @@ class Element {
         return null;
     }
 
-    querySelectorAll() {
-        return [];
+    /** The elements below it with these names, which are separated by commas. */
+    querySelectorAll(names) {
+        return this.children.flatMap(child =>
+            [...names.split(", ").includes(child.name) ? [child] : [], ...child.querySelectorAll(names)]);
     }
 }
 
@@ -158,7 +194,9 @@ class Serve extends Process {
 }
 
 export const processes = [];
-/** What a process prints before it ends; null if it does not end by itself. The test sets it. */
+/**
+ * What a process prints before it ends; null if it does not end by itself, and an Error if it fails. The test sets it.
+ */
 export const machine = { outputOf: () => null };
 
 function start(process) {
@@ -166,6 +204,8 @@ function start(process) {
     const output = process instanceof Serve ? null : machine.outputOf(process.words);
     if (output !== null) {
         setImmediate(() => {
+            if (output instanceof Error)
+                return process.reject(output);
             process.write?.(output);
             process.resolve(output);
         });
@@ -191,20 +231,42 @@ export const permission = {
     addEventListener: (_, listener) => { permission.changed = listener; },
 };
 
+/** The pages of Cockpit that the page has opened. */
+export const jumps = [];
+/** What somebody has done with the window: it has an address, and listeners of events. */
+export const view = {
+    listeners: new Map(),
+    open: hash => {
+        location.hash = hash;
+        view.listeners.get("hashchange")();
+    },
+};
+
 globalThis.window = {
     cockpit: {
         spawn,
         file: () => ({ read: () => Promise.resolve("SERIAL=/dev/enocean\nBASE=ff800000\n") }),
         permission: () => permission,
+        jump: path => jumps.push(path),
     },
 };
 globalThis.document = {
     hidden: false,
     getElementById: byId,
-    createElement: () => new Element(),
-    createElementNS: () => new Element(),
+    createElement: name => new Element(name),
+    createElementNS: (_, name) => new Element(name),
     querySelectorAll: () => [],
 };
-globalThis.localStorage = { getItem: () => null, setItem: () => {} };
+/** A store of the browser. */
+function storage() {
+    const values = new Map();
+    return { getItem: key => values.get(key) ?? null, setItem: (key, value) => values.set(key, value) };
+}
+globalThis.localStorage = storage();
+globalThis.sessionStorage = storage();
+globalThis.location = { hash: "" };
+globalThis.addEventListener = (name, listener) => view.listeners.set(name, listener);
+globalThis.matchMedia = () => ({ matches: false });
+globalThis.scrollTo = () => {};
 globalThis.requestAnimationFrame = frame => setTimeout(frame, 16);
 globalThis.cancelAnimationFrame = clearTimeout;

@@ -1,4 +1,5 @@
 import assert from "node:assert/strict";
+import { execFileSync } from "node:child_process";
 import { test } from "node:test";
 
 import * as places from "../../contrib/cockpit/enogate/places.js";
@@ -39,25 +40,37 @@ test("each start of a gateway that can answer is another run", () => {
         assert.equal(places.runOf({ ActiveState: state }, hasStick), null, state);
 });
 
-test("what is wrong with a gateway", () => {
+test("what is wrong with a gateway, and which button helps", () => {
     const trouble = (ActiveState, SubState, hasStick) =>
         places.trouble("hall", ActiveState && { ActiveState, SubState }, hasStick, "/dev/enocean");
-    assert.equal(trouble("active", "running", true), "");
-    assert.equal(trouble(null, null, null), "");
-    assert.match(trouble("inactive", "dead", true), /stopped.*systemctl start enogate@hall/);
-    assert.match(trouble("failed", "failed", true), /stopped/);
-    assert.match(trouble("active", "running", false), /No stick at \/dev\/enocean/);
-    assert.match(trouble("activating", "auto-restart", true), /restarting/);
+    const stopped = { text: "The gateway hall is stopped", detail: "", action: "Start" };
+    assert.deepEqual([trouble("active", "running", true), trouble("activating", "start-pre", true),
+                      trouble(null, null, null)], [null, null, null]);
+    assert.deepEqual([trouble("inactive", "dead", true), trouble("failed", "failed", false)], [stopped, stopped]);
+    assert.deepEqual(trouble("active", "running", false), {
+        text: "No stick at /dev/enocean", detail: "Plug it in. The gateway continues by itself.", action: "Journal",
+    });
+    assert.deepEqual(trouble("activating", "auto-restart", true), {
+        text: "The gateway hall is restarting", detail: "The journal has the reason.", action: "Journal",
+    });
 });
 
 test("a base ID of the module that differs from the setting", () => {
     const trouble = (base, baseTime, BASE) =>
         places.baseTrouble("hall", new Map(BASE === undefined ? [] : [["BASE", BASE]]), { base, baseTime });
-    assert.equal(trouble("FFA1B280", 1000, "ff800000"),
-                 "BASE is FF800000, but the base ID of the radio module is FFA1B280: correct or remove BASE in " +
-                 "/etc/default/enogate-hall, and restart the gateway with: systemctl restart enogate@hall.service");
-    assert.equal(trouble("FFA1B280", 1000, "ffa1b280"), "");
+    assert.deepEqual(trouble("FFA1B280", 1000, "ff800000"), {
+        text: "BASE is FF800000, but the base ID of the radio module is FFA1B280", action: "Restart",
+        detail: "Correct or remove BASE in /etc/default/enogate-hall, and restart the gateway.",
+    });
+    assert.equal(trouble("FFA1B280", 1000, "ffa1b280"), null);
     // It is not set, not reported, or was reported before the page was opened.
     assert.deepEqual([trouble("FFA1B280", 1000), trouble("FFA1B280", 1000, ""), trouble(null, null, "FF800000"),
-                      trouble("FFA1B280", null, "FF800000")], ["", "", "", ""]);
+                      trouble("FFA1B280", null, "FF800000")], [null, null, null, null]);
+});
+
+test("the desk of a gateway is where enogatectl has it", () => {
+    const program = "from enogate_tools.gateways import paths_of; print(*paths_of('hall')[:2])";
+    const env = { ...process.env, PYTHONPATH: new URL("../../contrib", import.meta.url).pathname };
+    const shown = String(execFileSync("python3", ["-B", "-c", program], { env }));
+    assert.equal(shown, `${places.deskOf("hall")} ${places.linesOf("hall")}\n`);
 });

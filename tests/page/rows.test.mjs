@@ -3,6 +3,13 @@ import { test } from "node:test";
 
 import { Rows } from "../../contrib/cockpit/enogate/dom.js";
 
+// Whether the browser has a touch screen.
+let isTouched = false;
+globalThis.matchMedia = query => {
+    assert.equal(query, "(pointer: coarse)");
+    return { matches: isTouched };
+};
+
 /** A stand-in for the elements of a table: a body with rows. */
 class Body {
     constructor() {
@@ -53,9 +60,9 @@ class Row {
     }
 }
 
-function table() {
+function table(...hasTargets) {
     const body = new Body();
-    const rows = new Rows(body, key => new Row(body, key));
+    const rows = new Rows(body, key => new Row(body, key), ...hasTargets);
     const fill = (text, find = null) => rows.fill([...text].map(key => [key, `${key}${text.length}`]), find);
     return { body, rows, fill, seen: () => body.children.map(({ key }) => key).join("") };
 }
@@ -102,4 +109,16 @@ test("an empty table is filled even if the pointer is on it, and all rows can be
     assert.equal(seen(), "ab");
     rows.clear();
     assert.equal(seen(), "");
+});
+
+test("rows without anything to click, and rows below the last tap, are not in use", () => {
+    for (const [hasTargets, touches, wanted] of [[false, false, "x"], [true, true, "x"], [true, false, "a"]]) {
+        const { body, fill, seen } = table(hasTargets);
+        isTouched = touches;
+        fill("a");
+        body.isPointedAt = true;
+        fill("x");
+        assert.equal(seen(), wanted);
+    }
+    isTouched = false;
 });

@@ -1,12 +1,12 @@
 import assert from "node:assert/strict";
 import { test } from "node:test";
 
-import { isQuiet, selected } from "../../contrib/cockpit/enogate/devices.js";
-import { reportedBase } from "../../contrib/cockpit/enogate/gateway.js";
-import { profilesFor } from "../../contrib/cockpit/enogate/learn.js";
-import { Model } from "../../contrib/cockpit/enogate/model.js";
-import { filtered } from "../../contrib/cockpit/enogate/packets.js";
-import { DEVICE, LIST, PACKET, READING, RESPONSE } from "./samples.mjs";
+import "./page.mjs";
+import { DEVICE, HOSTILE, LIST, PACKET, READING, RESPONSE } from "./samples.mjs";
+
+const page = name => import(`../../contrib/cockpit/enogate/${name}.js`);
+const [{ COLUMNS: SENDER_COLUMNS, senders }, { COLUMNS, matching }, { profilesFor }, { Model }, { reportedBase }, { filtered }, { Sorting }] =
+    await Promise.all(["add", "devices", "learn", "model", "overview", "packets", "sorting"].map(page));
 
 /** A contact with a label and the weaker signal, and a sensor that was received later. */
 function devices() {
@@ -20,8 +20,13 @@ function devices() {
     return model.devices;
 }
 
-const ids = (filter, column, isReverse = false) =>
-    selected(devices(), filter, column, isReverse).map(([id]) => id.slice(-2));
+function sorted(entries, columns, column, isReverse = false) {
+    const sorting = new Sorting(columns, document.createElement("select"), [], () => {});
+    sorting.mark(column, isReverse);
+    return sorting.sorted(entries);
+}
+const selected = (found, filter, ...order) => sorted(matching(found, filter), COLUMNS, ...order);
+const ids = (filter, column, isReverse) => selected(devices(), filter, column, isReverse).map(([id]) => id.slice(-2));
 
 test("devices are sorted by each column, in both directions", () => {
     const [contact, sensor] = [["BC", "C0"], ["C0", "BC"]];
@@ -37,7 +42,7 @@ test("a device that was heard before the page was opened is sorted by the record
     found.get("01800ABC").received = null;
     for (const [recorded, order] of [[3000, ["01800ABC", "01800AC0"]], [1000, ["01800AC0", "01800ABC"]]]) {
         found.get("01800ABC").recorded = recorded;
-        assert.deepEqual(selected(found, "", "received", false).map(([id]) => id), order);
+        assert.deepEqual(selected(found, "", "received").map(([id]) => id), order);
     }
 });
 
@@ -48,13 +53,31 @@ test("devices are filtered by label, ID, and profile with its name", () => {
     assert.deepEqual(ids("<b>", "id"), []);
 });
 
-test("a device that was not received since the page was opened is quiet after the same time", () => {
-    assert.ok(!isQuiet({ received: 60000 }, 0, 120000, 1));
-    assert.ok(isQuiet({ received: 60000 }, 0, 120001, 1));
-    assert.ok(isQuiet({ received: null, recorded: null }, 0, 60001, 1));
-    assert.ok(!isQuiet({ received: null, recorded: null }, 0, 1e12, Infinity));
-    assert.ok(isQuiet({ received: null, recorded: 500000 }, 600000, 600001, 1));
-    assert.ok(!isQuiet({ received: null, recorded: 570000 }, 600000, 600001, 1));
+test("devices that a column does not distinguish have the order of their IDs, in both directions", () => {
+    const found = devices();
+    found.forEach(device => { device.dbm = null; });
+    assert.deepEqual([false, true].map(isReverse => selected(found, "", "signal", isReverse).map(([id]) => id)),
+                     [["01800ABC", "01800AC0"], ["01800ABC", "01800AC0"]]);
+});
+
+test("senders are found by ID, kind and the profile that they have sent", () => {
+    const model = new Model(0);
+    model.take(PACKET, 0);
+    model.take({ ...PACKET, id: "01800AC2", rorg: "D4", eep: "D2-05-00" }, 0);
+    const found = text => senders(model.unknown, text).map(([id]) => id.slice(-2)).join();
+    assert.deepEqual(["", "ac1", "SWITCH", "ute", "blind"].map(found), ["C1,C2", "C1", "C1", "C2", "C2"]);
+    for (const text of HOSTILE.filter(one => one.trim()))
+        assert.equal(found(text), "", text);
+});
+
+test("senders are sorted by their last packet, their signal, the number of packets, or their IDs", () => {
+    const model = new Model(0);
+    for (const [id, dbm] of [["02", -50], ["02", -50], ["01", -40], ["02", -50], ["03", null]])
+        model.take({ ...PACKET, id: `01800A${id}`, dbm }, 0);
+    const order = column =>
+        sorted(senders(model.unknown, ""), SENDER_COLUMNS, column).map(([id]) => id.slice(-1)).join("");
+    assert.deepEqual(["received", "signal", "count", "id"].map(order), ["321", "123", "213", "123"]);
+    assert.deepEqual([...SENDER_COLUMNS.keys()][0], "received");
 });
 
 test("the profiles of the kind of a sender are offered", () => {
@@ -74,8 +97,29 @@ test("the base ID of the module is shown with the age of its report", () => {
     assert.equal(reportedBase(model, 5000), "FFA1B280, reported 3 s ago");
 });
 
-test("packets are filtered by ID and label", () => {
+test("packets are filtered by ID, label and profile", () => {
     const packets = [PACKET, { ...PACKET, id: "01800ABC" }, { kind: 4, why: "other_type" }].map(line => ({ line }));
     const found = text => filtered(packets, devices(), text).map(packet => packets.indexOf(packet));
-    assert.deepEqual([found(""), found("0ac1"), found("front"), found("<b>")], [[0, 1, 2], [0], [1], []]);
+    assert.deepEqual([found(""), found("0ac1"), found("front"), found("contact"), found("<b>")],
+                     [[0, 1, 2], [0], [1], [1], []]);
+});
+
+test("a list is sorted by a click on a heading, a second time in the other direction, and by the field", () => {
+    const field = document.createElement("select");
+    const headings = ["label", "signal"].map(column => {
+        const heading = document.createElement("th");
+        heading.dataset.column = column;
+        heading.append(document.createElement("button"));
+        return heading;
+    });
+    let changes = 0;
+    const sorting = new Sorting(COLUMNS, field, headings, () => changes++);
+    const directions = () => [field.value, ...headings.map(({ attributes }) => attributes.get("aria-sort"))];
+    assert.deepEqual([directions(), changes], [["label", "ascending", "none"], 0]);
+    headings[1].firstChild.click();
+    assert.deepEqual(directions(), ["signal", "none", "ascending"]);
+    headings[1].firstChild.click();
+    assert.deepEqual([directions(), sorting.isReverse], [["signal", "none", "descending"], true]);
+    field.enterValue("id", "change");
+    assert.deepEqual([directions(), sorting.isReverse, changes], [["id", "none", "none"], false, 3]);
 });

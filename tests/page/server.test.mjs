@@ -16,7 +16,7 @@ const requests = () => last().requests.trimEnd().split("\n").map(JSON.parse);
 
 /** Runs a command for each of these words. `ends` has the output or the error of each command that has ended. */
 function running(...words) {
-    const server = new Server();
+    const server = new Server("require");
     const ends = {};
     const run = word => {
         const ended = server.run(command(word));
@@ -30,7 +30,7 @@ beforeEach(() => {
     processes.length = 0;
 });
 
-test("the process is started with the first command, once, and with administrative rights", () => {
+test("the process is started with the first command, once, and with the rights of its server", () => {
     const { run } = running();
     assert.equal(all().length, 0);
     run("list");
@@ -38,10 +38,12 @@ test("the process is started with the first command, once, and with administrati
     assert.deepEqual(all().map(({ words, options }) => [words, options]),
                      [[["enogatectl", "--serve"], { superuser: "require", err: "message" }]]);
     assert.deepEqual(requests(), [{ id: 1, arguments: ["hall", "list"] }, { id: 2, arguments: ["hall", "base"] }]);
+    new Server(null).run(command("list"));
+    assert.deepEqual(last().options, { superuser: null, err: "message" });
 });
 
 test("a request is one line of ASCII, and has each text as it is", () => {
-    const server = new Server();
+    const server = new Server("require");
     const words = [...HOSTILE, "Tür 😀"];
     server.run(["enogatectl", ...words]);
     assert.match(last().requests, /^[ -~]+\n$/);

@@ -5,27 +5,29 @@ import { Model } from "../../contrib/cockpit/enogate/model.js";
 import { byId, processes, settle, started } from "./page.mjs";
 import { OK, STATUS, TAUGHT } from "./samples.mjs";
 
-const { TeachSection } = await import("../../contrib/cockpit/enogate/teach.js");
+const { openWindow } = await import("../../contrib/cockpit/enogate/commands.js");
+const { TeachCard } = await import("../../contrib/cockpit/enogate/teach.js");
 
 const WINDOW = ["enogatectl", "--for", "120", "hall", "--"];
 const OPEN = { ...STATUS, mode: "on" };
 const CLOSED = { ...STATUS, mode: "closed" };
 
-/** The section of a page whose user may act. */
-function section() {
+/** The card of a page whose user may act. */
+function card() {
     const page = {
         gateway: "hall", mayAct: true, model: new Model(0), painter: { now: () => {} }, complaints: [], given: [],
         refreshed: 0, complain: text => page.complaints.push(text), refresh: () => page.refreshed++,
         act: order => page.given.push(order.join(" ")),
+        openWindow: (order, seconds) => openWindow("hall", order, seconds, "user"),
     };
-    const made = new TeachSection(page);
+    const made = new TeachCard(page);
     made.paint();
     return { made, page };
 }
 
 const left = made => {
     made.paint();
-    return byId("teach-left").textContent;
+    return byId("teach-opened").hidden ? "" : byId("teach-left").textContent;
 };
 
 /** The commands that open a learn window. */
@@ -33,12 +35,13 @@ const windows = () => started("enogatectl", "--for");
 
 beforeEach(() => {
     processes.length = 0;
+    byId("teach-answer").checked = byId("teach-as").checked = false;
     mock.timers.reset();
     mock.timers.enable({ apis: ["setTimeout", "Date"], now: 1000 });
 });
 
 test("the learn window is opened for two minutes, which are counted down once it is open", () => {
-    const { made } = section();
+    const { made } = card();
     const take = line => made.take(line, Date.now());
     take(OPEN);
     byId("teach-open").click();
@@ -47,16 +50,16 @@ test("the learn window is opened for two minutes, which are counted down once it
     [CLOSED, OK, TAUGHT].forEach(take);
     assert.equal(left(made), "opening …");
     take(OPEN);
-    assert.equal(left(made), "open for 120 s");
+    assert.equal(left(made), "2:00");
     mock.timers.tick(1000);
     take(OPEN);
-    assert.equal(left(made), "open for 119 s");
+    assert.equal(left(made), "1:59");
     mock.timers.tick(200000);
-    assert.equal(left(made), "open for 0 s");
+    assert.equal(left(made), "0:00");
 });
 
 test("a window that closes by itself is shown as closed, and can be opened again", async () => {
-    const { made, page } = section();
+    const { made, page } = card();
     byId("teach-open").click();
     made.take(OPEN, 1000);
     windows()[0].resolve();
@@ -67,8 +70,21 @@ test("a window that closes by itself is shown as closed, and can be opened again
     assert.equal(windows().length, 2);
 });
 
+test("the window says what has to be pressed, also if another program has opened it", () => {
+    const { made, page } = card();
+    const shown = mode => {
+        page.model.take({ ...STATUS, mode }, 0);
+        made.paint();
+        return [byId("teach-opened").hidden, byId("teach-left").textContent, byId("teach-mode").textContent];
+    };
+    assert.deepEqual(shown("on"), [false, "open", "Press the learn button of the device now."]);
+    assert.deepEqual(shown("as F6-02-01"),
+                     [false, "open", "Press any button of the device (F6-02-01 Rocker switch, 2 rockers)."]);
+    assert.equal(shown("closed")[0], true);
+});
+
 test("a window that cannot be opened is explained", async () => {
-    const { made, page } = section();
+    const { made, page } = card();
     byId("teach-open").click();
     windows()[0].reject({ message: "enogatectl: why" });
     await settle();
@@ -76,9 +92,11 @@ test("a window that cannot be opened is explained", async () => {
 });
 
 test("the window of a gateway is closed when another gateway is shown, and its end is not shown there", async () => {
-    const { made, page } = section();
-    byId("teach-answer").click();
+    const { made, page } = card();
+    byId("teach-answer").checked = true;
+    byId("teach-open").click();
     const [window] = windows();
+    assert.deepEqual(window.words, [...WINDOW, "learn", "on", "answer"]);
     assert.equal(window.isClosed, false);
     made.clear();
     assert.equal(window.isClosed, true);
@@ -89,7 +107,7 @@ test("the window of a gateway is closed when another gateway is shown, and its e
 });
 
 test("a second click opens no second window, and none is opened before the first one is closed", async () => {
-    const { made, page } = section();
+    const { made, page } = card();
     byId("teach-open").click();
     byId("teach-open").click();
     assert.equal(windows().length, 1);
@@ -100,14 +118,16 @@ test("a second click opens no second window, and none is opened before the first
     assert.equal(windows().length, 1);
     windows()[0].resolve();
     await settle();
-    byId("teach-profile").value = "F6-02-01";
-    byId("teach-as").click();
+    // Who chooses a profile means it.
+    byId("teach-profile").enterValue("F6-02-01");
+    assert.equal(byId("teach-as").checked, true);
+    byId("teach-open").click();
     assert.equal(started(...WINDOW, "learn", "as", "F6-02-01").length, 1);
     assert.equal(left(made), "opening …");
 });
 
 test("a window that is closed before it was open leaves the errors of other orders", async () => {
-    const { made, page } = section();
+    const { made, page } = card();
     byId("teach-open").click();
     byId("teach-close").click();
     windows()[0].reject({ message: "", status: 143 });

@@ -49,9 +49,25 @@ test("named states, numbers without a unit, and numbers without a meaning", () =
     assert.equal(words.reading("__proto__", reading({ name: "CO", raw: 1 })), "CO 1");
 });
 
+test("the parts of a reading are its name with its channel, its value and its unit", () => {
+    const output = { reading: { name: "OV", num: 1, den: 3, unit: "%" }, channel: 1 };
+    assert.deepEqual(words.parts("D2-01-12", output, true), { name: "channel 1: Output", value: "0.33", unit: "%" });
+    assert.deepEqual(words.parts("D2-01-12", output), { name: "Output", value: "0.33", unit: "%" });
+    assert.deepEqual(words.parts("D5-00-01", reading({ name: "CO", word: "open" })),
+                     { name: "Contact", value: "open", unit: "" });
+    assert.deepEqual(words.parts("A5-02-05", reading({ name: "TMP", out_of_range: 1 })),
+                     { name: "Temperature", value: "out of range", unit: "" });
+});
+
+test("the usual intervals are those of the shared table", () => {
+    const intervals = ["D5-00-01", "A5-02-05", "A5-08-01", "F6-02-01", "D2-01-12", "A5-12-01"]
+            .map(eep => words.PROFILES.get(eep).interval);
+    assert.deepEqual(intervals, [1800, 1200, 1800, null, null, null]);
+});
+
 test("details are left out if there is more", () => {
     const state = (channel, ...items) => items.map(item => ({ reading: item, channel }));
-    const text = items => words.readingsText(device("D2-01-12", items));
+    const text = items => words.stateText(device("D2-01-12", items));
     const output = percent => ({ name: "OV", num: percent, den: 1, unit: "%" });
     const numbers = ["PFD", "IO"].map(name => ({ name, raw: 0 }));
     const details = [...numbers, { name: "EL", word: "ok" }, { name: "LC", raw: 1 }];
@@ -63,27 +79,26 @@ test("details are left out if there is more", () => {
     assert.equal(text([...normal, ...state(1, output(0))]), "channel 0: Output 100 %, channel 1: Output 0 %");
     assert.equal(text(state(0, { name: "IO", raw: 0 })), "Channel 0");
     assert.equal(text([]), "");
-    assert.equal(words.readingsText(device("A5-99-99", state(null, { name: "NEW", raw: 0 }))), "NEW 0");
+    assert.equal(words.stateText(device("A5-99-99", state(null, { name: "NEW", raw: 0 }))), "NEW 0");
 });
 
 test("ages and times", () => {
     assert.deepEqual([0, 59, 60, 3599, 3600, 86399, 86400, 900000].map(seconds => words.age(0, seconds * 1000)),
                      ["0 s ago", "59 s ago", "1 min ago", "59 min ago", "1 h ago", "23 h ago", "1 d ago", "10 d ago"]);
     assert.equal(words.age(2000, 1000), "0 s ago");
+    assert.deepEqual([0, 9, 60, 119, 120].map(words.countdown), ["0:00", "0:09", "1:00", "1:59", "2:00"]);
     assert.equal(words.age(null, 1000), "earlier");
     assert.equal(words.clock(null), "earlier");
     assert.match(words.clock(0), /^\d\d:\d\d:\d\d$/);
 });
 
-test("the state of a service, the learn window, signals, kinds", () => {
+test("the state of a service, signals, kinds", () => {
     const service = (ActiveState, SubState = "") => words.service({ ActiveState, SubState });
     assert.deepEqual(["active", "inactive", "failed", "<b>"].map(state => service(state)),
                      ["running", "stopped", "failed", "unknown"]);
     assert.equal(service("activating", "auto-restart"), "restarting");
     assert.equal(service("activating", "start-pre"), "starting");
     assert.equal(words.service(null), "unknown");
-    assert.equal(words.learnWindow("on"), "learn window: on");
-    assert.equal(words.learnWindow(null), "learn window: not known yet");
     assert.deepEqual([words.signal(-45), words.signal(0), words.signal(null)], ["-45 dBm", "0 dBm", ""]);
     assert.deepEqual([words.kind("F6"), words.kind("30")], ["switch (RPS)", "telegram 30"]);
     assert.equal(words.profileWithKind("D5-00-01"), "D5-00-01 Contact");

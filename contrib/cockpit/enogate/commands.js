@@ -40,13 +40,26 @@ export function hasStick(serial) {
 /** The devices as the lines record them; none if this user may not read the lines. */
 export const recorded = async gateway => recordedIn(await outputOf(orders.recordedCommand(gateway)));
 
-const server = new Server();
+/** Whether this user may give orders to a gateway without becoming root. */
+export const mayWrite = name => cockpit.spawn(["test", "-w", places.deskOf(name)], { err: "ignore" })
+        .then(() => true, () => false);
 
-/** Gives an order. The promise is rejected if the gateway refuses it or does not answer. */
-export const give = (gateway, order) => server.run(orders.command(gateway, order));
+// One process gives orders with the rights of this user, and one as root.
+const servers = { user: new Server(null), root: new Server("require") };
+
+/** Gives an order as `user` or `root`. The promise is rejected if the gateway refuses it or does not answer. */
+export const give = (gateway, order, as) => servers[as].run(orders.command(gateway, order));
 
 /**
  * Opens the learn window for a time. The returned promise is settled when the window is closed. Its `close` closes the
  * window earlier, and so does leaving the page.
  */
-export const openWindow = (gateway, order, seconds) => server.run(orders.windowCommand(gateway, order, seconds));
+export const openWindow = (gateway, order, seconds, as) =>
+    servers[as].run(orders.windowCommand(gateway, order, seconds));
+
+/** Starts or restarts the service of a gateway, as root. @param {"start"|"restart"} verb */
+export const serve = (verb, name) =>
+    cockpit.spawn(["systemctl", verb, places.unitOf(name)], { superuser: "require", err: "message" });
+
+/** Opens the service of a gateway in Cockpit, with its journal. */
+export const openService = name => cockpit.jump(`/system/services#/${encodeURIComponent(places.unitOf(name))}`);

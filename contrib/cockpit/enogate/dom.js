@@ -73,20 +73,25 @@ export class Painter {
 }
 
 /**
- * The rows of a table, each with a key. A row is made once and then filled again. While the pointer or the focus is
+ * The rows of a list, each with a key. A row is made once and then filled again. While the pointer or the focus is
  * among them, no row moves or disappears: a click must mean the row that was there.
  */
 export class Rows {
     /**
      * @param {Element} body
      * @param {function(string, Object): {element: Element, fill: function(Object): void}} make
+     * @param {boolean} hasTargets - whether there is something to click in the rows
      */
-    constructor(body, make) {
-        Object.assign(this, { body, make, rows: new Map(), shown: [] });
+    constructor(body, make, hasTargets = true) {
+        Object.assign(this, { body, make, hasTargets, rows: new Map(), shown: [] });
     }
 
     isInUse() {
-        return this.body.matches(":hover") || this.body.querySelector(":focus-visible") !== null;
+        if (!this.hasTargets)
+            return false;
+        // After a tap on a touch screen, `:hover` remains where the finger was.
+        return this.body.matches(":hover") && !matchMedia("(pointer: coarse)").matches ||
+            this.body.querySelector(":focus-visible") !== null;
     }
 
     /**
@@ -141,8 +146,8 @@ export class Rows {
     }
 }
 
-/** A row with this number of cells. */
-export function cells(count) {
-    const made = Array.from({ length: count }, () => element("td"));
+/** A row with a cell for each of these names, which are the classes of the cell. */
+export function cells(...names) {
+    const made = names.map(className => element("td", { className }));
     return [element("tr", {}, ...made), made];
 }

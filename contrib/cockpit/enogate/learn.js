@@ -56,6 +56,6 @@ export class LearnDialog {
     paint() {
         const device = this.isLearned && this.dialog.open ? this.page.model.devices.get(this.id) : null;
         if (device && device.readings.size)
-            setText(byId("learn-result"), `Learned. Its reading: ${words.readingsText(device)}`);
+            setText(byId("learn-result"), `Learned. Its reading: ${words.stateText(device)}`);
     }
 }

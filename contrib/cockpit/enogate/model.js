@@ -17,6 +17,7 @@ const BY_UNIT = new Set(["MR", "MV"]);
  * @typedef {Object} Value          the last value of a reading
  * @property {Object} reading       as the line has it
  * @property {?number} channel      of an actuator with channels
+ * @property {?number} received     the time in ms; null if it was before the page was opened
  * @property {number[][]} values    the numbers since the page was opened, each with its time
  *
  * @typedef {Object} Device
@@ -32,6 +33,7 @@ const BY_UNIT = new Set(["MR", "MV"]);
  * @property {?string} eep          which it has sent itself
  * @property {number} count
  * @property {?number} best         its strongest signal
+ * @property {number} number        of the line of its last packet
  * @property {?number} received
  * @property {string} why
  */
@@ -54,7 +56,7 @@ function addReadings(device, readings, now) {
     for (const reading of readings) {
         const key = keyOf(reading, channel);
         const value = device.readings.get(key) || { values: [] };
-        Object.assign(value, { reading, channel });
+        Object.assign(value, { reading, channel, received: now });
         if (now !== null && reading.num !== undefined) {
             value.values.push([now, reading.num / reading.den]);
             limit(value.values, MOST_VALUES);
@@ -128,6 +130,16 @@ export class Model {
         }
     }
 
+    /** Whether the learn window is open, as far as the lines say. */
+    get isOpen() {
+        return this.mode !== null && this.mode !== "closed";
+    }
+
+    /** Whether all devices are known. */
+    get isKnown() {
+        return this.isListed || this.isRecorded;
+    }
+
     /** The device with this ID, which is new if it is not known; undefined if there are too many. */
     device(id, eep) {
         let device = this.devices.get(id);
@@ -153,13 +165,16 @@ export class Model {
         addReadings(device, readings, now);
         device.dbm = dbm;
         device.received = now;
+        // The line of a packet comes directly before that of its readings.
+        const packet = this.packets.at(-1);
+        if (packet?.number === this.taken - 1 && packet.line.id === id)
+            packet.readings = readings.map(reading => ({ reading, channel: channelOf(readings) }));
     }
 
     takePacket(line, now) {
         this.hasPackets = true;
         this.packets.push({ number: this.taken, line, time: now });
-        if (this.packets.length > 2 * MOST_PACKETS)
-            limit(this.packets, MOST_PACKETS);
+        limit(this.packets, MOST_PACKETS);
         if (LEARNABLE.has(line.why) && !this.devices.has(line.id))
             this.takeUnknown(line, now);
     }
@@ -170,6 +185,7 @@ export class Model {
         const best = dbm === null ? before?.best ?? null : Math.max(dbm, before?.best ?? dbm);
         this.unknown.set(id, {
             rorg, why, best, eep: eep || before?.eep || null, count: (before?.count ?? 0) + 1, received: now,
+            number: this.taken,
         });
         if (this.unknown.size > MOST_UNKNOWN) {
             this.unknown.delete(this.unknown.keys().next().value);

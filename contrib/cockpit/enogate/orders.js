@@ -28,15 +28,22 @@ export const isLabel = text => /^(?:[!-~](?:[ -~]{0,30}[!-~])?)?$/.test(text);
 export const switchOrder = (id, channel, isOn) => ["switch", id, String(channel), isOn ? "on" : "off"];
 export const dimOrder = (id, channel, percent) => ["dim", id, String(channel), String(percent)];
 export const queryOrder = (id, channel) => ["query", id, String(channel)];
+/** Asks for a measurement: `energy` or `power`. */
+export const meterOrder = (id, channel, what) => ["meter", id, String(channel), what];
 
 /** Orders for a blind. It is open at 0 % and closed at 100 %. */
 export const blindOrder = (id, percent) => ["blind", id, String(percent)];
 export const stopOrder = id => ["stop", id];
 
-/** A value in percent that an order accepts, or null. */
-export function percentOf(text) {
+/** Orders to all actuators that have learned a group, which is an offset from the base ID. */
+export const centralOrder = (group, isOn) => ["central", String(group), isOn ? "on" : "off"];
+export const levelOrder = (group, percent, seconds) => ["level", String(group), String(percent), String(seconds)];
+export const teachOrder = group => ["teach", String(group)];
+
+/** The number in a field that an order accepts, from 0 to the greatest one; null if there is none. */
+export function numberIn(text, greatest) {
     const number = Number(text);
-    return /^[0-9]{1,3}$/.test(text) && number <= 100 ? number : null;
+    return /^[0-9]{1,3}$/.test(text) && number <= greatest ? number : null;
 }
 
 /**
@@ -45,7 +52,7 @@ export function percentOf(text) {
  */
 export function sentence(error) {
     if (error.problem === "access-denied")
-        return "You have no administrative access: turn it on at the top of Cockpit.";
+        return "You have no administrative access: turn it on in Cockpit.";
     if (error.problem === "not-found")
         return "The command enogatectl is not installed: install the package enogate.";
     const lines = String(error.message || error).trim().split("\n");

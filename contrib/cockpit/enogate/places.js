@@ -13,6 +13,7 @@ export function namesIn(output) {
 }
 
 export const linesOf = name => `/var/log/enogate/${name}.lines`;
+export const deskOf = name => `/run/enogate/${name}/desk`;
 export const unitOf = name => `enogate@${name}.service`;
 
 /** The files with the settings of a gateway. The second one overrides the first one. */
@@ -33,15 +34,15 @@ export function settingsIn(texts) {
 export const baseOf = settings => (settings.get("BASE") || "").toUpperCase();
 
 /**
- * Why actuators do not obey although the gateway works, in a sentence; empty if there is no such reason. A base ID that
- * was reported before the page was opened does not count: it may be that of another stick.
+ * Why actuators do not obey although the gateway works; null if there is no such reason. A base ID that was reported
+ * before the page was opened does not count: it may be that of another stick.
  */
 export function baseTrouble(name, settings, { base, baseTime }) {
     const set = baseOf(settings);
     if (!set || baseTime === null || base === set)
-        return "";
-    return `BASE is ${set}, but the base ID of the radio module is ${base}: correct or remove BASE in ` +
-        `${settingsFiles(name)[1]}, and restart the gateway with: systemctl restart ${unitOf(name)}`;
+        return null;
+    return { text: `BASE is ${set}, but the base ID of the radio module is ${base}`, action: "Restart",
+             detail: `Correct or remove BASE in ${settingsFiles(name)[1]}, and restart the gateway.` };
 }
 
 /** The command that asks systemd for the state of a service. */
@@ -65,13 +66,18 @@ export function runOf(states, hasStick) {
     return states.ActiveState === "active" ? `run ${states.InvocationID || ""}` : null;
 }
 
-/** Why a gateway does not work, in a sentence; empty if it does. */
+/**
+ * Why a gateway does not work, and the button that helps; null if it works.
+ * @returns {?{text: string, detail: string, action: string}}
+ */
 export function trouble(name, states, hasStick, serial) {
     if (states && states.ActiveState && states.ActiveState !== "active" && states.ActiveState !== "activating")
-        return `The gateway ${name} is stopped. Start it with: systemctl start ${unitOf(name)}`;
-    if (hasStick === false)
-        return `No stick at ${serial}: plug it in. The gateway continues by itself.`;
+        return { text: `The gateway ${name} is stopped`, detail: "", action: "Start" };
+    if (hasStick === false) {
+        return { text: `No stick at ${serial}`, detail: "Plug it in. The gateway continues by itself.",
+                 action: "Journal" };
+    }
     if (states && states.SubState === "auto-restart")
-        return `The gateway ${name} is restarting. The journal of ${unitOf(name)} has the reason.`;
-    return "";
+        return { text: `The gateway ${name} is restarting`, detail: "The journal has the reason.", action: "Journal" };
+    return null;
 }

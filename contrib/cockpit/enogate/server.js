@@ -32,8 +32,9 @@ const failure = ({ error, status }) => ({
 });
 
 export class Server {
-    constructor() {
-        Object.assign(this, { process: null, rest: "", lastId: 0 });
+    /** @param {?string} superuser - how the process becomes root, as cockpit.spawn has it; null if it does not */
+    constructor(superuser) {
+        Object.assign(this, { superuser, process: null, rest: "", lastId: 0 });
         /** @type {Map<number, {resolve: Function, reject: Function}>} the commands that have not ended, by their IDs */
         this.open = new Map();
     }
@@ -52,7 +53,7 @@ export class Server {
     }
 
     start() {
-        const process = cockpit.spawn(COMMAND, { superuser: "require", err: "message" });
+        const process = cockpit.spawn(COMMAND, { superuser: this.superuser, err: "message" });
         process.stream(text => this.take(text));
         // A process that was killed has no message.
         process.then(() => this.end(ENDED), error => this.end(error.message ? error : ENDED));

@@ -1,31 +1,36 @@
-// The section of the learn window.
+// The learn window: it is opened for a time, which is counted down.
 
-import { openWindow } from "./commands.js";
 import { byId, cells, Rows, setOptions, setText } from "./dom.js";
-import { MOST_TAUGHT } from "./model.js";
 import { sentence } from "./orders.js";
 import * as words from "./words.js";
 
 const SECONDS = 120;
 
-export class TeachSection {
+export class TeachCard {
     constructor(page) {
         this.page = page;
-        this.rows = new Rows(byId("teach-rows"), (_, item) => new TaughtRow(item));
+        this.rows = new Rows(byId("teach-rows"), (_, item) => new TaughtRow(item), false);
         this.forget();
         const profiles = [...words.PROFILES.keys()].map(eep => [eep, words.profileWithKind(eep)]);
         setOptions(byId("teach-profile"), profiles, words.USUAL_SWITCH);
-        byId("teach-open").addEventListener("click", () => this.open(["learn", "on"]));
-        byId("teach-answer").addEventListener("click", () => this.open(["learn", "on", "answer"]));
-        byId("teach-as").addEventListener("click", () => this.open(["learn", "as", byId("teach-profile").value]));
+        byId("teach-profile").addEventListener("input", () => { byId("teach-as").checked = true; });
+        byId("teach-open").addEventListener("click", () => this.open());
         byId("teach-close").addEventListener("click", () => this.close());
+        byId("teach-bar").max = SECONDS;
+    }
+
+    /** The order that opens the window as the user has chosen. */
+    order() {
+        if (byId("teach-as").checked)
+            return ["learn", "as", byId("teach-profile").value];
+        return byId("teach-answer").checked ? ["learn", "on", "answer"] : ["learn", "on"];
     }
 
     /** Opens the window. The command closes it after the time, and then ends. */
-    open(order) {
+    open() {
         if (this.process)
             return;
-        const process = openWindow(this.page.gateway, order, SECONDS);
+        const process = this.page.openWindow(this.order(), SECONDS);
         this.process = process;
         process.then(() => this.end(process, null), error => this.end(process, error));
         this.page.painter.now();
@@ -58,40 +63,48 @@ export class TeachSection {
         this.page.act(["learn", "off"], byId("teach-close"));
     }
 
+    leave() {
+        this.rows.clear();
+    }
+
     /** Forgets the gateway: the window that the page has opened there is closed. */
     clear() {
         this.process?.close();
         this.forget();
-        this.rows.clear();
+    }
+
+    /** For how many seconds the window remains open; null if this is not known. */
+    left() {
+        return this.until === null ? null : Math.max(0, Math.ceil((this.until - Date.now()) / 1000));
     }
 
     paint() {
         const { model, mayAct } = this.page;
-        for (const name of ["teach-open", "teach-answer", "teach-as"])
-            byId(name).disabled = !mayAct || Boolean(this.process);
-        byId("teach-close").disabled = !mayAct;
-        setText(byId("teach-left"), this.left());
+        const isOpen = this.process !== null || model.isOpen;
+        byId("teach-closed").hidden = isOpen;
+        byId("teach-opened").hidden = !isOpen;
+        byId("teach-open").disabled = byId("teach-close").disabled = !mayAct;
+        const seconds = this.left();
+        const unknown = this.process ? "opening …" : "open";
+        setText(byId("teach-left"), seconds === null ? unknown : words.countdown(seconds));
+        byId("teach-bar").hidden = seconds === null;
+        byId("teach-bar").value = seconds ?? SECONDS;
+        const [, profile] = model.mode?.match(/^as (.*)/) ?? [];
+        setText(byId("teach-mode"), profile ? `Press any button of the device (${words.profileWithKind(profile)}).`
+            : "Press the learn button of the device now.");
         this.rows.fill(model.taught.map(item => [item.number, item]).reverse());
-        const isFull = model.taught.length === MOST_TAUGHT;
-        setText(byId("teach-note"), isFull ? `The last ${MOST_TAUGHT} results are shown.` : "");
-    }
-
-    left() {
-        if (!this.process)
-            return "";
-        const seconds = this.until === null ? null : Math.max(0, Math.ceil((this.until - Date.now()) / 1000));
-        return seconds === null ? "opening …" : `open for ${seconds} s`;
+        byId("teach-results").hidden = !model.taught.length;
     }
 }
 
 class TaughtRow {
     constructor({ line, time }) {
-        const [row, [clock, id, profile, result]] = cells(4);
+        const [row, [clock, id, profile, result]] = cells("time mono", "device mono", "profile", "why");
         this.element = row;
-        id.className = "mono";
+        row.dataset.why = line.result;
         setText(clock, words.clock(time));
         setText(id, line.id);
-        setText(profile, line.eep === null ? "not sent" : words.profileWithKind(line.eep));
+        setText(profile, line.eep === null ? "profile not sent" : words.profileWithKind(line.eep));
         setText(result, words.result(line.result));
     }
 

@@ -11,6 +11,8 @@ export const USUAL_SWITCH = "F6-02-01";
 const KINDS = new Map(TABLES.rorg);
 const REASONS = new Map(TABLES.reason);
 const EARLIER = "earlier";
+export const NO_PACKETS = "No packet lines have arrived. If none arrives when you press a button of a device, set " +
+    "EXPLAIN=--explain for this gateway, and restart it.";
 
 /** A profile and the kind of its devices. */
 export const profileWithKind = eep => [eep, PROFILES.get(eep)?.kind].filter(Boolean).join(" ");
@@ -32,21 +34,25 @@ function rowOf(eep, { name, unit }) {
     return row || unit ? row : rows.length === 1 ? rows[0] : undefined;
 }
 
-/** The value of a reading, with its unit. */
-function value(reading, row) {
+/** The value of a reading as text, and its unit. */
+function valueOf(reading, row) {
     if (reading.num !== undefined)
-        return `${decimal(reading.num / reading.den)} ${row?.shownUnit ?? reading.unit}`;
+        return [decimal(reading.num / reading.den), row?.shownUnit ?? reading.unit];
     if (reading.word !== undefined)
-        return reading.word;
-    return reading.raw !== undefined ? String(reading.raw) : "out of range";
+        return [reading.word, ""];
+    return [reading.raw !== undefined ? String(reading.raw) : "out of range", ""];
 }
 
-/** A reading with its name, and with its channel if the device has several. */
-export function reading(eep, { reading: members, channel }, hasChannels = false) {
+/** A reading as texts: its name, with its channel if the device has several, its value, and its unit or nothing. */
+export function parts(eep, { reading: members, channel }, hasChannels = false) {
     const before = hasChannels && channel !== null ? `channel ${channel}: ` : "";
     const row = rowOf(eep, members);
-    return `${before}${row?.said ?? members.name} ${value(members, row)}`;
+    const [value, unit] = valueOf(members, row);
+    return { name: `${before}${row?.said ?? members.name}`, value, unit };
 }
+
+/** A reading as one text. */
+export const reading = (...item) => Object.values(parts(...item)).filter(Boolean).join(" ");
 
 /** Whether people need not see a reading, if the device has others. */
 function isDetail(eep, { reading: members }) {
@@ -60,27 +66,34 @@ export function shownReadings(eep, readings) {
     return shown.length ? shown : readings;
 }
 
-/** The readings of a device as text. */
-export function readingsText({ eep, readings }) {
-    const all = [...readings.values()];
-    const channels = new Set(all.map(({ channel }) => channel));
-    return shownReadings(eep, all).map(one => reading(eep, one, channels.size > 1)).join(", ");
-}
+/** Whether these readings are of several channels. */
+export const hasChannels = readings => new Set(readings.map(({ channel }) => channel)).size > 1;
+
+/** Readings of this profile as one text. */
+export const readingsText = (eep, readings) =>
+    shownReadings(eep, readings).map(one => reading(eep, one, hasChannels(readings))).join(", ");
+
+/** The readings of a device as one text. */
+export const stateText = ({ eep, readings }) => readingsText(eep, [...readings.values()]);
 
 export const signal = dbm => dbm === null ? "" : `${dbm} dBm`;
 
-/** How long ago something was; null is before the page was opened. */
-export function age(time, now) {
-    if (time === null)
-        return EARLIER;
-    const seconds = Math.max(0, Math.floor((now - time) / 1000));
-    if (seconds < 60)
-        return `${seconds} s ago`;
+/** A time in the greatest unit that it fills. */
+export function duration(seconds) {
     const [minutes, hours, days] = [60, 3600, 86400].map(length => Math.floor(seconds / length));
     if (days)
-        return `${days} d ago`;
-    return hours ? `${hours} h ago` : `${minutes} min ago`;
+        return `${days} d`;
+    if (hours)
+        return `${hours} h`;
+    return minutes ? `${minutes} min` : `${seconds} s`;
 }
+
+/** How long ago something was; null is before the page was opened. */
+export const age = (time, now) =>
+    time === null ? EARLIER : `${duration(Math.max(0, Math.floor((now - time) / 1000)))} ago`;
+
+/** A countdown in minutes and seconds. */
+export const countdown = seconds => `${Math.floor(seconds / 60)}:${String(seconds % 60).padStart(2, "0")}`;
 
 /** The time of day; null is before the page was opened. */
 export const clock = time => time === null ? EARLIER : new Date(time).toLocaleTimeString("en-GB");
@@ -94,6 +107,3 @@ export function service(states) {
         return states.SubState === "auto-restart" ? "restarting" : "starting";
     return words[states.ActiveState] || "unknown";
 }
-
-/** The mode of the learn window in words. */
-export const learnWindow = mode => mode === null ? "learn window: not known yet" : `learn window: ${mode}`;

@@ -1,0 +1,47 @@
+// The view of the groups: orders to all actuators that have learned one. No actuator answers these.
+
+import { byId, setText } from "./dom.js";
+import * as orders from "./orders.js";
+import * as words from "./words.js";
+
+/** The order of each button, made of the group, the percentage and the time. */
+const ORDERS = new Map([
+    ["on", group => orders.centralOrder(group, true)], ["off", group => orders.centralOrder(group, false)],
+    ["level", orders.levelOrder], ["teach", orders.teachOrder],
+]);
+
+/** The number in a field; null if it is out of its range, which the browser then shows. */
+function numberIn(field) {
+    const number = orders.numberIn(field.value, Number(field.max));
+    field.setCustomValidity(number === null ? `Enter a whole number from 0 to ${field.max}.` : "");
+    field.reportValidity();
+    return number;
+}
+
+export class GroupsSection {
+    constructor(page) {
+        this.page = page;
+        this.fields = ["number", "percent", "ramp"].map(name => byId(`groups-${name}`));
+        for (const [name, order] of ORDERS)
+            byId(`groups-${name}`).addEventListener("click", () => this.give(order));
+    }
+
+    /** Gives the order that this function makes of the numbers that it needs. */
+    async give(orderOf) {
+        const numbers = this.fields.slice(0, orderOf === orders.levelOrder ? 3 : 1).map(numberIn);
+        if (numbers.includes(null))
+            return;
+        setText(byId("groups-result"), "…");
+        const error = await this.page.errorOf(orderOf(...numbers));
+        setText(byId("groups-result"), error || `Sent at ${words.clock(Date.now())}.`);
+    }
+
+    clear() {
+        setText(byId("groups-result"), "");
+    }
+
+    paint() {
+        for (const name of ORDERS.keys())
+            byId(`groups-${name}`).disabled = !this.page.mayAct;
+    }
+}

@@ -1,0 +1,52 @@
+"""What a device reports after an order. The answer `ok` says only that the order was sent; the next reading of the
+device shows that it arrived."""
+from __future__ import annotations
+
+from typing import NamedTuple
+
+from enogate_lines.contents import Telegram
+from enogate_lines.entities import ALL_CHANNELS, Table
+
+from .client import LONG_PAUSE, Client, Lines
+from .readings import readings
+from .recent import telegram_in
+
+# One of these values is asked for by an order. After other orders, any report shows that they arrived.
+ASKED = {"query": {"OV", "POS"}, "meter": {"MV"}}
+# The profiles whose readings have a channel.
+WITH_CHANNELS, CHANNEL = "D2-01-", "IO"
+
+
+class Report(NamedTuple):
+    """A telegram of a device, and the line that has it."""
+    telegram: Telegram
+    line: bytes
+
+    @property
+    def text(self) -> str:
+        """Its readings, for people."""
+        return readings(self.telegram, Table())
+
+
+def is_report(telegram: Telegram, order: str) -> bool:
+    """Whether this telegram, which came after the order, reports what the order did."""
+    verb, device, *numbers = order.split(" ")
+    found = {reading.name: reading.number for reading in telegram.readings}
+    if telegram.device != device.upper() or not ASKED.get(verb, found.keys()) & found.keys():
+        return False
+    return not telegram.eep.startswith(WITH_CHANNELS) or int(numbers[0]) in (ALL_CHANNELS, found.get(CHANNEL))
+
+
+def report_in(line: bytes, order: str) -> Report | None:
+    """The report on the order, if this line has it."""
+    telegram = telegram_in(line)
+    return Report(telegram, line) if telegram and is_report(telegram, order) else None
+
+
+def wait(client: Client, lines: Lines, order: str, seconds: float) -> Report | None:
+    """The report on an order, if it is in these lines within this time. The lines begin after the answer to the order.
+    The desk is not locked meanwhile."""
+    limit = client.clock() + seconds
+    while not (found := lines.first(lambda line: report_in(line, order))) and client.clock() < limit:
+        client.sleep(LONG_PAUSE)
+    return found

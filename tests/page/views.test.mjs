@@ -1,0 +1,153 @@
+import assert from "node:assert/strict";
+import { beforeEach, test } from "node:test";
+
+import { groupsOf } from "../../contrib/cockpit/enogate/health.js";
+import { Model } from "../../contrib/cockpit/enogate/model.js";
+import { byId } from "./page.mjs";
+import { DEVICE, HOSTILE, LIST, PACKET, READING, RESPONSE, STATUS } from "./samples.mjs";
+
+const states = ["all", "silent", "weak", "actuators"].map(state => {
+    const link = document.createElement("a");
+    link.dataset.state = state;
+    link.append(document.createElement("span"));
+    return link;
+});
+document.querySelectorAll = selector => selector === "#devices-states a" ? states : [];
+const load = name => import(`../../contrib/cockpit/enogate/${name}.js`);
+const [{ DeviceSection }, { DevicesSection }, { OverviewSection }, { PacketsSection }] =
+    await Promise.all(["device", "devices", "overview", "packets"].map(load));
+
+const [CONTACT, ACTUATOR] = ["01800A01", "01800A02"];
+let page = null;
+
+/** The page with a contact and a weak actuator, each with a packet. */
+beforeEach(() => {
+    const model = new Model(0);
+    const open = { name: "CO", word: "open" };
+    for (const [id, eep, dbm, reading] of [
+        [CONTACT, "D5-00-01", -45, open], [ACTUATOR, "D2-01-12", -90, { name: "OV", num: 100, den: 1, unit: "%" }],
+    ]) {
+        model.take({ ...PACKET, id, why: "read", payload: id.slice(-2) }, 1000);
+        model.take({ ...READING, id, eep, dbm, readings: [reading] }, 1000);
+    }
+    page = {
+        model, groups: groupsOf(model, new Map(), 2000, Infinity), sent: new Map(), query: "", part: "",
+        minutes: Infinity, mayAct: true, isQuiet: () => false, painter: { now: () => {} }, gateway: "hall", feedState: { why: "" },
+        health: { states: { ActiveState: "active" }, hasStick: true }, settings: new Map([["BASE", "FFA1B280"]]),
+        rights: { isAdmin: false }, mayHelp: () => false,
+    };
+});
+
+const text = id => byId(id).textContent.trim();
+
+test("the list has the devices of the state that the address names, and says how many each has", () => {
+    const section = new DevicesSection(page);
+    for (const [part, ids, state] of [["", [CONTACT, ACTUATOR], "all"], ["weak", [ACTUATOR], "weak"],
+                                      ["silent", [], "silent"], ["actuators", [ACTUATOR], "actuators"]]) {
+        page.part = part;
+        section.paint();
+        assert.deepEqual(byId("devices-rows").children.map(({ dataset }) => dataset.id), ids, part);
+        assert.deepEqual(states.filter(({ attributes }) => attributes.get("aria-current") === "true")
+                .map(({ dataset }) => dataset.state), [state]);
+        assert.equal(byId("devices-none").hidden, ids.length > 0);
+        assert.equal(byId("devices-table").hidden, ids.length === 0);
+    }
+    assert.deepEqual(states.map(({ textContent }) => textContent), ["2", "0", "1", "1"]);
+    assert.deepEqual([text("devices-none-title"), byId("devices-none-add").hidden], ["No device matches", true]);
+    section.leave();
+    assert.equal(byId("devices-rows").children.length, 0);
+});
+
+test("an empty list says whether the devices are known", () => {
+    const section = new DevicesSection(page);
+    page.model = new Model(0);
+    page.groups = groupsOf(page.model, new Map(), 0, 1);
+    section.paint();
+    assert.equal(text("devices-none-title"), "The devices are not known yet");
+    page.model.take({ ...LIST, count: 0 }, 0);
+    section.paint();
+    assert.deepEqual([text("devices-none-title"), byId("devices-none-add").hidden], ["No device is learned yet", false]);
+});
+
+test("a label stays a text, whatever it contains", () => {
+    const section = new DevicesSection(page);
+    for (const label of HOSTILE) {
+        page.model.devices.get(CONTACT).label = label;
+        section.paint();
+        const row = byId("devices-rows").children.find(({ dataset }) => dataset.id === CONTACT);
+        const [name] = row.children;
+        assert.deepEqual([name.textContent, name.children[0].href], [`${label || "(no label)"}${CONTACT}`,
+                                                                     `#/device/${CONTACT}`]);
+    }
+});
+
+test("the view of a device has its readings, its packets and all its orders", () => {
+    const section = new DeviceSection(page);
+    page.part = ACTUATOR;
+    section.paint();
+    assert.deepEqual(["device-id", "device-profile", "device-readings", "device-packets"].map(text), [
+        ACTUATOR, "D2-01-12 Electronic switch, 2 channels", "Output 100 %",
+        `${byId("device-packets").children[0].children[0].textContent}${ACTUATOR}Output 100 %switch (RPS)02 30-45 dBm`,
+    ]);
+    assert.match(text("device-act"), /Ask for its power/);
+    assert.deepEqual([byId("device-act").hidden, byId("device-interval").hidden, byId("device-log").hidden],
+                     [false, true, false]);
+    page.part = CONTACT;
+    section.paint();
+    assert.deepEqual([text("device-id"), text("device-readings"), text("device-interval"), byId("device-act").hidden],
+                     [CONTACT, "Contact open", "usually sends at least every 30 min", true]);
+    assert.equal(byId("device-packets").children.length, 1);
+});
+
+test("a device that is not learned is reported once the devices are known", () => {
+    const section = new DeviceSection(page);
+    page.part = "0180FFFF";
+    section.paint();
+    assert.deepEqual([byId("device-card").hidden, byId("device-gone").hidden], [true, true]);
+    page.model.take(DEVICE, 0);
+    page.model.take(LIST, 0);
+    section.paint();
+    assert.deepEqual([byId("device-card").hidden, byId("device-gone").hidden], [true, false]);
+});
+
+test("the Overview has the numbers, the gateway and the counters", () => {
+    const section = new OverviewSection(page);
+    page.model.take(STATUS, 1000);
+    section.paint();
+    assert.deepEqual(["heard", "silent", "weak", "unknown"].map(name => text(`count-${name}`)), ["2", "0", "1", "0"]);
+    assert.deepEqual(["heard", "silent", "weak"].map(name => byId(`count-${name}`).dataset.level), ["", "", "warn"]);
+    assert.deepEqual(["readings", "teach", "responses", "ignored", "refused"].map(name => text(`counter-${name}`)),
+                     ["2", "5", "4", "1", "3"]);
+    assert.deepEqual(["service", "stick", "base", "module", "window"].map(name => text(`gateway-${name}`)),
+                     ["running", "plugged in", "FFA1B280", "not known yet", "as F6-02-01"]);
+    const levels = () => ["service", "stick", "module"].map(name => byId(`gateway-${name}`).dataset.level);
+    assert.deepEqual(levels(), ["good", "good", ""]);
+    page.model.take(RESPONSE, 1000);
+    page.health = { states: { ActiveState: "failed" }, hasStick: false };
+    section.paint();
+    assert.deepEqual(levels(), ["bad", "bad", "good"]);
+    page.settings.set("BASE", "FF800000");
+    page.health = { states: null, hasStick: null };
+    section.paint();
+    assert.deepEqual(levels(), ["", "", "bad"]);
+});
+
+test("packets have the readings of learned devices, and only the newest are shown", () => {
+    const section = new PacketsSection(page);
+    section.paint();
+    const shown = () => byId("packets-rows").children.map(({ children }) => children[2].textContent);
+    assert.deepEqual(shown(), ["Output 100 %", "Contact open"]);
+    page.query = "contact";
+    section.paint();
+    assert.deepEqual(shown(), ["Contact open"]);
+    page.query = "";
+    page.model.devices.delete(CONTACT);
+    for (let number = 0; number < 100; number++)
+        page.model.take({ ...PACKET, payload: "AA" }, 2000);
+    section.paint();
+    assert.deepEqual([shown().length, new Set(shown())], [100, new Set(["not learned"])]);
+    page.model.packets.splice(2);
+    page.model.take({ ...PACKET, id: ACTUATOR, why: "wrong_length" }, 2000);
+    section.paint();
+    assert.deepEqual(shown(), ["its length does not fit its profile", "Output 100 %", "decoded"]);
+});
