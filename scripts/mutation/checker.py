@@ -34,6 +34,12 @@ def kit_name():
     return record.file_content(f"{KIT}/KIT-ID").decode()
 
 
+def kit_logic():
+    """The logic of the kit. Versions that only search or compile in another way have the same one. If the kit's name
+    does not have it, each version counts as another one."""
+    return kit_name().partition(" logic ")[2] or kit_name()
+
+
 def link_or_copy(one, other):
     """Copies a kept file, or links it if it holds a proof: a check replaces such a file and never changes it."""
     if one.endswith(".oantt"):

@@ -63,14 +63,14 @@ def digest_of_files(files):
 
 
 class CheckInputs:
-    """What the checks of a crate's mutants read. `kit_name` is the kit's name."""
+    """What the checks of a crate's mutants read, in this logic of the kit."""
 
-    def __init__(self, crate, root, kit_name):
+    def __init__(self, crate, root, logic):
         crates = sorted([crate, *crate.below()], key=lambda it: it.name)
         uses = [repr((it.name, sorted(dep.name for dep in it.deps), sorted(it.of_kit))).encode() for it in crates]
         self.files = checked_files(crate)
         shared = [digest_of_files(shared_inputs(self.files if it is crate else checked_files(it))) for it in crates]
-        self.shared = digest_of(kit_name.encode(), file_content(f"{root}/HANDLES"), *uses, *shared).encode()
+        self.shared = digest_of(logic.encode(), file_content(f"{root}/HANDLES"), *uses, *shared).encode()
         self.whole = digest_of_files(self.files)
         # (functions that call each other have one proof, which reads all their bodies)
         self.has_cycles = any(b"#[cycle(" in text for _, text in self.files)

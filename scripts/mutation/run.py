@@ -52,7 +52,7 @@ class MutantRun:
         self.tried, self.faults = {}, []
 
     def digests_of(self, crate):
-        reads = record.CheckInputs(crate, self.root, checker.kit_name())
+        reads = record.CheckInputs(crate, self.root, checker.kit_logic())
         return {it.name: reads.digests(it) for it in self.mutants[crate.name]}
 
     def map_in_lanes(self, function, items):

@@ -7,7 +7,7 @@ from mutation.sources import split_functions
 from mutation.verdicts import CheckReport
 
 # `twice` calls `once`, and `thrice` calls both; `other` and Pair::sum call nothing.
-SOURCES = {
+CRATE_SOURCES = {
     "src/lib.rt": """\
 pub mod pairs;
 
@@ -38,8 +38,8 @@ impl Pair {
 }
 """,
 }
-NAMES = ["tiny::once", "tiny::twice", "tiny::thrice", "tiny::other", "tiny::pairs::Pair::sum"]
-CALLEES = {"tiny::twice": ["tiny::once"], "tiny::thrice": ["tiny::once", "tiny::twice"]}
+FUNCTION_NAMES = ["tiny::once", "tiny::twice", "tiny::thrice", "tiny::other", "tiny::pairs::Pair::sum"]
+CALLEES_BY_FUNCTION = {"tiny::twice": ["tiny::once"], "tiny::thrice": ["tiny::once", "tiny::twice"]}
 
 
 def mutant_text(path, *pairs):
@@ -69,9 +69,9 @@ class FakeChecker:
             return CheckReport(1, "src/lib.rt:1:1: error[syntax]: what is this\n")
         if "DEEP" in whole:
             return CheckReport(3, "src/lib.rt:1:1: error: antt ran out of steps\nantt ran out of the steps\n")
-        said = {name: "proved" for name in NAMES}
+        said = {name: "proved" for name in FUNCTION_NAMES}
         functions = [it for path, text in texts.items() for it in split_functions(path, text)[0]]
-        for name, function in zip(NAMES, functions):
+        for name, function in zip(FUNCTION_NAMES, functions):
             if "HIDDEN" in function.body:
                 del said[name]
             elif "WRONG" in function.body or "STEP: u64 = WRONG" in whole:
@@ -79,12 +79,12 @@ class FakeChecker:
         for word, name in (("WORSE", "tiny::other"), ("WORST", "tiny::once")):
             if word in whole:
                 said[name] = "not proved"
-        for name, callees in CALLEES.items():
+        for name, callees in CALLEES_BY_FUNCTION.items():
             refused = [it for it in callees if said.get(it, "proved") != "proved"]
             if refused and said.get(name) == "proved":
                 said[name] = f"no proof: it calls {refused[0]}, which is not proved"
         if only:
-            reached = {*only, *(callee for name in only for callee in CALLEES.get(name, []))}
+            reached = {*only, *(callee for name in only for callee in CALLEES_BY_FUNCTION.get(name, []))}
             said = {name: text for name, text in said.items() if name in reached}
         proved = all(it == "proved" for it in said.values())
         lines = [f"fn {name}: {text}" for name, text in said.items()]
@@ -99,10 +99,10 @@ class CrateFolderTest(unittest.TestCase):
         room = tempfile.TemporaryDirectory()
         self.addCleanup(room.cleanup)
         self.folder = f"{room.name}/tiny"
-        for path, text in SOURCES.items():
-            self.write(path, text)
+        for path, text in CRATE_SOURCES.items():
+            self.write_file(path, text)
 
-    def write(self, path, text):
+    def write_file(self, path, text):
         os.makedirs(os.path.dirname(f"{self.folder}/{path}"), exist_ok=True)
         with open(f"{self.folder}/{path}", "w", encoding="utf-8") as it:
             it.write(text)

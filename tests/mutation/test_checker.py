@@ -5,12 +5,12 @@ import types
 import unittest
 from unittest import mock
 
-from fakes import SOURCES, CrateFolderTest
+from fakes import CRATE_SOURCES, CrateFolderTest
 from mutation import checker
 
 # It prints what was passed, and each file that it finds, adds one to what it keeps, and ends with the status in
 # src/status.
-PROVER = """\
+FAKE_PROVER_SCRIPT = """\
 #!/bin/sh
 echo "words: $*"
 for kept in "$@"; do :; done
@@ -23,10 +23,10 @@ exit ${status:-0}
 """
 
 
-class CheckerRuns(CrateFolderTest):
+class CheckerTest(CrateFolderTest):
     def setUp(self):
         super().setUp()
-        prover = self.write("../prover", PROVER)
+        prover = self.write_file("../prover", FAKE_PROVER_SCRIPT)
         os.chmod(prover, 0o755)
         words = lambda flags, keeps: ["words", *flags, f"keeps={keeps}"]  # noqa: E731
         crate = types.SimpleNamespace(name="tiny", folder=self.folder, below=lambda: [], words=words)
@@ -56,10 +56,10 @@ class CheckerRuns(CrateFolderTest):
         self.assertNotIn("impl Pair", check.printed)
         self.assertEqual([*check.edited], ["src/pairs.rt"])
         with open(f"{self.folder}/src/pairs.rt", encoding="utf-8") as it:
-            self.assertEqual(it.read(), SOURCES["src/pairs.rt"])
+            self.assertEqual(it.read(), CRATE_SOURCES["src/pairs.rt"])
 
     def test_each_check_begins_with_the_seed(self):
-        self.write("out/incremental/before", "")
+        self.write_file("out/incremental/before", "")
         self.assertEqual(self.kept_results(self.checker.check_unchanged()), ["kept: before"])
         for _ in range(2):
             self.assertEqual(self.kept_results(self.checker.check({})), ["kept: added1", "kept: before"])
@@ -67,7 +67,7 @@ class CheckerRuns(CrateFolderTest):
         self.assertEqual(os.listdir(f"{self.folder}/out/incremental"), ["before"])
 
     def test_a_change_of_the_seed_is_seen(self):
-        self.write("out/incremental/before", "one")
+        self.write_file("out/incremental/before", "one")
         self.checker.check_unchanged()
         path = f"{self.checker.seed}/before"
         for change in (
@@ -82,7 +82,7 @@ class CheckerRuns(CrateFolderTest):
             self.assertFalse(self.checker.is_seed_unchanged())
 
     def test_another_time_is_no_change_of_the_seed(self):
-        self.write("out/incremental/before", "one")
+        self.write_file("out/incremental/before", "one")
         self.checker.check_unchanged()
         os.utime(f"{self.checker.seed}/before", (1, 1))
         self.assertTrue(self.checker.is_seed_unchanged())
@@ -106,11 +106,11 @@ class CheckerRuns(CrateFolderTest):
 
     def test_a_file_with_a_proof_is_linked_and_others_are_copied(self):
         for name, is_one in (("a.oantt", True), ("a.antt", False), ("index", False)):
-            made = checker.link_or_copy(self.write(f"kept/{name}", ""), f"{self.folder}/{name}")
+            made = checker.link_or_copy(self.write_file(f"kept/{name}", ""), f"{self.folder}/{name}")
             self.assertEqual(os.path.samefile(f"{self.folder}/kept/{name}", made or f"{self.folder}/{name}"), is_one)
 
 
-class CheckedFolders(unittest.TestCase):
+class CheckerHelpersTest(unittest.TestCase):
     def test_lanes(self):
         with mock.patch.dict(os.environ, {"RT_JOBS": "3"}):
             self.assertEqual(checker.lane_count(), 3)

@@ -8,10 +8,10 @@ from fakes import CrateFolderTest
 from mutation import libraries
 
 # A shell script that builds no library, and ends with its status.
-COMMAND = ["sh", "-c", "exit $0"]
+EXIT_COMMAND = ["sh", "-c", "exit $0"]
 
 
-class BuiltLibraries(CrateFolderTest):
+class BuiltLibrariesTest(CrateFolderTest):
     def setUp(self):
         super().setUp()
         self.root = os.path.dirname(self.folder)
@@ -21,13 +21,13 @@ class BuiltLibraries(CrateFolderTest):
 
     def make_crate(self, name, *deps):
         folder = f"{self.root}/{name}"
-        self.write(f"../{name}/src/lib.rt", name)
-        self.write(f"../{name}/out/rlib/{name}.rlib/format", name)
+        self.write_file(f"../{name}/src/lib.rt", name)
+        self.write_file(f"../{name}/out/rlib/{name}.rlib/format", name)
         of = {"name": name, "folder": folder, "rlib": f"{folder}/out/rlib/{name}.rlib", "of_kit": ["std"]}
         return types.SimpleNamespace(**of, deps=[*deps], is_built=lambda: False)
 
     def build_and_note(self, *words, kit_name="kit 1"):
-        return libraries.run_and_note(self.root, self.crates, kit_name, [*words] or [*COMMAND, "0"])
+        return libraries.run_and_note(self.root, self.crates, kit_name, [*words] or [*EXIT_COMMAND, "0"])
 
     def are_built(self, kit_name="kit 1"):
         return libraries.are_built(self.root, self.crates, kit_name)
@@ -50,7 +50,7 @@ class BuiltLibraries(CrateFolderTest):
     def test_a_stamp_and_a_note_are_not_taken_together(self):
         self.build_and_note()
         self.low.is_built = lambda: True
-        self.write("../low/out/rlib/low.rlib/format", "built again")
+        self.write_file("../low/out/rlib/low.rlib/format", "built again")
         self.assertFalse(self.are_built())
 
     def test_a_change_after_the_note(self):
@@ -65,7 +65,7 @@ class BuiltLibraries(CrateFolderTest):
         ):
             self.build_and_note()
             self.assertTrue(self.are_built())
-            self.write(f"../{path}", "another")
+            self.write_file(f"../{path}", "another")
             self.assertFalse(self.are_built(), path)
 
     def test_a_file_with_another_name(self):
@@ -94,13 +94,13 @@ class BuiltLibraries(CrateFolderTest):
             os.utime(self.low.rlib, (library, library))
             os.utime(f"{self.low.rlib}/format", (library, library))
             self.assertTrue(self.are_built(), at)
-        self.write("../low/src/lib.rt", "another")
+        self.write_file("../low/src/lib.rt", "another")
         os.utime(f"{self.low.folder}/src/lib.rt", (1, 1))
         self.assertFalse(self.are_built())
 
     def test_a_command_that_fails_leaves_no_note(self):
         self.build_and_note()
-        self.assertEqual(self.build_and_note(*COMMAND, "3"), 3)
+        self.assertEqual(self.build_and_note(*EXIT_COMMAND, "3"), 3)
         self.assertFalse(self.are_built())
         self.assertEqual(self.build_and_note("sh", "-c", "kill -9 $$"), 128 + 9)
 
@@ -112,7 +112,7 @@ class BuiltLibraries(CrateFolderTest):
     def test_a_source_that_changes_while_the_command_runs(self):
         self.assertEqual(self.build_and_note("sh", "-c", f"echo >{self.low.folder}/src/lib.rt"), 0)
         self.assertFalse(self.are_built())
-        self.write("../low/src/lib.rt", "low")
+        self.write_file("../low/src/lib.rt", "low")
         self.assertFalse(self.are_built())
 
 

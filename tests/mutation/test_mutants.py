@@ -1,28 +1,32 @@
 """Unit tests of scripts/mutation/mutants.py."""
 import unittest
 
-from fakes import SOURCES, CrateFolderTest, mutant_text
+from fakes import CRATE_SOURCES, CrateFolderTest, mutant_text
 from mutation.mutants import read_mutant, combined_texts
 
 
-class ReadMutants(CrateFolderTest):
-    def mutant(self, text, name="turns"):
-        return read_mutant(self.folder, self.write(f"mutants/{name}.edit", text))
+class ReadMutantTest(CrateFolderTest):
+    def mutant_of_text(self, text, name="turns"):
+        return read_mutant(self.folder, self.write_file(f"mutants/{name}.edit", text))
 
     def test_the_function_is_the_one_whose_body_changes(self):
-        it = self.mutant("-- A comment.\n" + mutant_text("src/lib.rt", ("    a + STEP", "    a")))
+        it = self.mutant_of_text("-- A comment.\n" + mutant_text("src/lib.rt", ("    a + STEP", "    a")))
         self.assertEqual((it.name, it.function.name, it.fault), ("turns.edit", "once", ""))
 
     def test_a_method(self):
-        it = self.mutant(mutant_text("src/pairs.rt", ("self.first + ", "")))
+        it = self.mutant_of_text(mutant_text("src/pairs.rt", ("self.first + ", "")))
         self.assertEqual((it.function.type, it.function.name), ("Pair", "sum"))
 
     def test_several_pairs_in_one_function(self):
-        it = self.mutant(mutant_text("src/lib.rt", ("let b = twice(a)", "let c = twice(a)"), ("once(b)", "once(c)")))
+        it = self.mutant_of_text(
+            mutant_text("src/lib.rt", ("let b = twice(a)", "let c = twice(a)"), ("once(b)", "once(c)"))
+        )
         self.assertEqual(it.function.name, "thrice")
 
     def test_two_functions_are_no_single_one(self):
-        it = self.mutant(mutant_text("src/lib.rt", ("    a + STEP", "    a"), ("    once(once(a))", "    once(a)")))
+        it = self.mutant_of_text(
+            mutant_text("src/lib.rt", ("    a + STEP", "    a"), ("    once(once(a))", "    once(a)"))
+        )
         self.assertEqual((it.function, it.fault), (None, ""))
 
     def test_a_constant_and_a_head_are_no_body(self):
@@ -31,7 +35,7 @@ class ReadMutants(CrateFolderTest):
             ("pub fn other(a", "pub fn other(mut a"),
             ("fn other", "fn others"),
         ):
-            it = self.mutant(mutant_text("src/lib.rt", pair))
+            it = self.mutant_of_text(mutant_text("src/lib.rt", pair))
             self.assertEqual((it.function, it.fault), (None, ""))
 
     def test_a_body_and_something_else_are_no_single_body(self):
@@ -39,12 +43,12 @@ class ReadMutants(CrateFolderTest):
             (("STEP: u64 = 1", "STEP: u64 = 2"), ("    a + STEP", "    a")),
             (("pub fn once(a", "pub fn once(mut a"), ("    a + STEP", "    a")),
         ):
-            it = self.mutant(mutant_text("src/lib.rt", *pairs))
+            it = self.mutant_of_text(mutant_text("src/lib.rt", *pairs))
             self.assertEqual((it.function, it.fault), (None, ""))
 
     def test_a_definition_is_tried_but_belongs_to_no_function(self):
-        self.write("specs/Lib.antt", "def a := 1\n")
-        it = self.mutant(mutant_text("specs/Lib.antt", ("def a := 1", "def a := 2")))
+        self.write_file("specs/Lib.antt", "def a := 1\n")
+        it = self.mutant_of_text(mutant_text("specs/Lib.antt", ("def a := 1", "def a := 2")))
         self.assertEqual((it.function, it.fault), (None, ""))
 
     def test_what_cannot_be_applied(self):
@@ -66,58 +70,58 @@ class ReadMutants(CrateFolderTest):
             (mutant_text("src/lib.rt", ("once", "twice")), "times, and not once"),
             (mutant_text("src/lib.rt", ("a + STEP", "a + STEP")), "changes no code"),
         ):
-            self.assertIn(fault, self.mutant(text).fault, text)
+            self.assertIn(fault, self.mutant_of_text(text).fault, text)
 
     def test_clauses_ghosts_and_comments_are_no_code(self):
-        self.write(
+        self.write_file(
             "src/lib.rt",
             "pub fn f(a: u64) -> u64\n    ensures { result ≡ a }\n{\n    ghost let b = a;\n    // one\n    a\n}\n",
         )
-        self.write("proofs/f/Proof.antt", "a\n")
+        self.write_file("proofs/f/Proof.antt", "a\n")
         for path, pair in (
             ("src/lib.rt", ("result ≡ a", "result ≤ a")),
             ("src/lib.rt", ("ghost let b = a;", "ghost let b = 2;")),
             ("src/lib.rt", ("// one", "// two")),
             ("proofs/f/Proof.antt", ("a", "b")),
         ):
-            self.assertIn("changes no code", self.mutant(mutant_text(path, pair)).fault, pair)
+            self.assertIn("changes no code", self.mutant_of_text(mutant_text(path, pair)).fault, pair)
 
     def test_a_ghost_member_is_a_definition(self):
-        self.write("src/lib.rt", "impl A for B {\n    ghost state = { held };\n\n    fn f(&self) {}\n}\n")
-        it = self.mutant(mutant_text("src/lib.rt", ("{ held }", "{ lost }")))
+        self.write_file("src/lib.rt", "impl A for B {\n    ghost state = { held };\n\n    fn f(&self) {}\n}\n")
+        it = self.mutant_of_text(mutant_text("src/lib.rt", ("{ held }", "{ lost }")))
         self.assertEqual((it.function, it.fault), (None, ""))
 
     def test_an_empty_new_text_removes(self):
-        it = self.mutant("file: src/lib.rt\nold:     once(once(a))\nnew:\n")
+        it = self.mutant_of_text("file: src/lib.rt\nold:     once(once(a))\nnew:\n")
         self.assertEqual((it.function.name, it.edits), ("twice", (("src/lib.rt", "    once(once(a))", ""),)))
 
     def test_one_space_after_new_is_no_part_of_the_text(self):
-        it = self.mutant("file: src/lib.rt\nold:     a + STEP\nnew:     a\n")
+        it = self.mutant_of_text("file: src/lib.rt\nold:     a + STEP\nnew:     a\n")
         self.assertEqual(it.edits, (("src/lib.rt", "    a + STEP", "    a"),))
 
 
-class CombinedTexts(CrateFolderTest):
-    def combined(self, *texts):
-        found = [read_mutant(self.folder, self.write(f"mutants/{at}.edit", text)) for at, text in enumerate(texts)]
+class CombinedTextsTest(CrateFolderTest):
+    def combined_texts_of(self, *texts):
+        found = [read_mutant(self.folder, self.write_file(f"mutants/{at}.edit", text)) for at, text in enumerate(texts)]
         self.assertEqual([it.fault for it in found], [""] * len(texts))
         return combined_texts(self.folder, found)
 
     def test_one_mutant(self):
-        text = SOURCES["src/lib.rt"].replace("a + STEP", "a")
-        self.assertEqual(self.combined(mutant_text("src/lib.rt", ("a + STEP", "a"))), {"src/lib.rt": text})
+        text = CRATE_SOURCES["src/lib.rt"].replace("a + STEP", "a")
+        self.assertEqual(self.combined_texts_of(mutant_text("src/lib.rt", ("a + STEP", "a"))), {"src/lib.rt": text})
 
     def test_several_files_and_functions(self):
-        found = self.combined(
+        found = self.combined_texts_of(
             mutant_text("src/lib.rt", ("    once(once(a))", "    once(a)")),
             mutant_text("src/lib.rt", ("    a + STEP", "    a")),
             mutant_text("src/pairs.rt", ("self.first + ", "")),
         )
-        text = SOURCES["src/lib.rt"].replace("once(once(a))", "once(a)").replace("    a + STEP", "    a")
+        text = CRATE_SOURCES["src/lib.rt"].replace("once(once(a))", "once(a)").replace("    a + STEP", "    a")
         self.assertEqual(found["src/lib.rt"], text)
-        self.assertEqual(found["src/pairs.rt"], SOURCES["src/pairs.rt"].replace("self.first + ", ""))
+        self.assertEqual(found["src/pairs.rt"], CRATE_SOURCES["src/pairs.rt"].replace("self.first + ", ""))
 
     def test_the_new_text_of_one_may_hold_the_old_text_of_another(self):
-        found = self.combined(
+        found = self.combined_texts_of(
             mutant_text("src/lib.rt", ("    a + STEP", "    once(once(a))")),
             mutant_text("src/lib.rt", ("    once(once(a))", "    a + STEP")),
         )
@@ -125,8 +129,10 @@ class CombinedTexts(CrateFolderTest):
         self.assertIn("pub fn twice(a: u64) -> u64 {\n    a + STEP\n}", found["src/lib.rt"])
 
     def test_texts_of_other_numbers_of_lines(self):
-        self.write("src/lib.rt", SOURCES["src/lib.rt"] + "\npub fn late(a: u64) -> u64 {\n    let b = a;\n    b\n}\n")
-        found = self.combined(
+        self.write_file(
+            "src/lib.rt", CRATE_SOURCES["src/lib.rt"] + "\npub fn late(a: u64) -> u64 {\n    let b = a;\n    b\n}\n"
+        )
+        found = self.combined_texts_of(
             "file: src/lib.rt\nold:     a + STEP\nnew:\n",
             mutant_text("src/lib.rt", ("    let b = a;", "    let b = 0;")),
         )
@@ -136,8 +142,10 @@ class CombinedTexts(CrateFolderTest):
     def test_twin_functions_of_two_types(self):
         form = "impl {} {{\n    fn f(&self) -> u64 {{\n        {}\n    }}\n}}\n"
         twins = form.format("One", "1") + "\n" + form.format("Two", "1 + 0")
-        self.write("src/twins.rt", twins)
-        found = self.combined(mutant_text("src/twins.rt", ("1 + 0", "2")), mutant_text("src/lib.rt", ("a + STEP", "a")))
+        self.write_file("src/twins.rt", twins)
+        found = self.combined_texts_of(
+            mutant_text("src/twins.rt", ("1 + 0", "2")), mutant_text("src/lib.rt", ("a + STEP", "a"))
+        )
         self.assertEqual(found["src/twins.rt"], twins.replace("1 + 0", "2"))
 
 

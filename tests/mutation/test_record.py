@@ -17,7 +17,7 @@ def fake_crate(folder, name, *deps, of_kit=("std",)):
     return types.SimpleNamespace(name=name, folder=folder, deps=list(deps), of_kit=of_kit, below=lambda: below)
 
 
-SOURCE = """\
+CRATE_SOURCE = """\
 const STEP: u64 = 1;
 
 // Adds one.
@@ -34,92 +34,92 @@ pub fn other(a: u64) -> u64 {
 pub fn law()
     ensures { StepIs 1 };
 """
-OTHER_BODY = SOURCE.replace("    a\n", "    a + 0\n")
+SOURCE_WITH_OTHER_BODY = CRATE_SOURCE.replace("    a\n", "    a + 0\n")
 
 
 class DigestTest(CrateFolderTest):
     def setUp(self):
         super().setUp()
         self.root = os.path.dirname(self.folder)
-        self.write("../HANDLES", "Handles allowed: none.\n")
-        self.write("../low/src/lib.rt", SOURCE)
-        self.write("src/lib.rt", SOURCE)
+        self.write_file("../HANDLES", "Handles allowed: none.\n")
+        self.write_file("../low/src/lib.rt", CRATE_SOURCE)
+        self.write_file("src/lib.rt", CRATE_SOURCE)
         self.low = fake_crate(f"{self.root}/low", "low")
         self.tiny = fake_crate(self.folder, "tiny", self.low)
 
-    def digests(self, text="old: a\nnew: b\n", kit_name="kit 1", of=None, function="once"):
+    def mutant_digests(self, text="old: a\nnew: b\n", logic="a1", of=None, function="once"):
         """The digests of a mutant of this function, or of one that changes more than a body if it is None."""
         with open(f"{self.folder}/src/lib.rt", encoding="utf-8") as it:
             found = {it.name: it for it in split_functions("src/lib.rt", it.read())[0]}
-        reads = record.CheckInputs(of or self.tiny, self.root, kit_name)
+        reads = record.CheckInputs(of or self.tiny, self.root, logic)
         return reads.digests(Mutant("a.edit", text, (), found.get(function), ""))
 
-    def same_and_others(self, *changes):
+    def digests_after_changes(self, *changes):
         """For each of these changes of a file, made by itself, whether each digest stays the same."""
-        before, same = self.digests(), []
+        before, same = self.mutant_digests(), []
         for path, text in changes:
-            old = self.read(path)
-            self.write(path, text)
-            now = self.digests()
+            old = self.read_file(path)
+            self.write_file(path, text)
+            now = self.mutant_digests()
             same.append(tuple(one == other for one, other in zip(before, now)))
-            self.write(path, old) if old is not None else os.remove(f"{self.folder}/{path}")
-        self.assertEqual(self.digests(), before)
+            self.write_file(path, old) if old is not None else os.remove(f"{self.folder}/{path}")
+        self.assertEqual(self.mutant_digests(), before)
         return same
 
-    def read(self, path):
+    def read_file(self, path):
         if not os.path.exists(f"{self.folder}/{path}"):
             return None
         with open(f"{self.folder}/{path}", encoding="utf-8") as it:
             return it.read()
 
 
-class DigestDependencies(DigestTest):
+class DigestDependenciesTest(DigestTest):
     def test_their_form(self):
-        for it in self.digests():
+        for it in self.mutant_digests():
             self.assertRegex(it, "^[0-9a-f]{16}$")
-        self.assertNotEqual(*self.digests())
+        self.assertNotEqual(*self.mutant_digests())
 
     def test_what_no_check_reads(self):
-        changes = ("mutants/b.edit", "old: c\n"), ("out/kept", "1"), ("../high/src/lib.rt", SOURCE)
-        self.assertEqual(self.same_and_others(*changes), [(True, True)] * 3)
+        changes = ("mutants/b.edit", "old: c\n"), ("out/kept", "1"), ("../high/src/lib.rt", CRATE_SOURCE)
+        self.assertEqual(self.digests_after_changes(*changes), [(True, True)] * 3)
 
     def test_what_only_the_proofs_of_other_functions_read(self):
         changes = (
-            ("src/lib.rt", OTHER_BODY),
+            ("src/lib.rt", SOURCE_WITH_OTHER_BODY),
             ("proofs/other/Answers.antt", "a"),
             ("proofs/other/Invariants.antt", "a"),
             ("proofs/fn/other/loops/Proof.antt", "a"),
             ("proofs/law/Answers.antt", "a"),
-            ("src/lib.rt", SOURCE.replace("Adds one", "Adds 1")),
+            ("src/lib.rt", CRATE_SOURCE.replace("Adds one", "Adds 1")),
         )
-        self.assertEqual(self.same_and_others(*changes), [(True, False)] * len(changes))
+        self.assertEqual(self.digests_after_changes(*changes), [(True, False)] * len(changes))
 
     def test_proofs_of_a_function_whose_name_begins_alike(self):
-        self.write("src/more.rt", "fn once_more() {\n}\n")
-        self.assertEqual(self.same_and_others(("proofs/once_more/Answers.antt", "a")), [(True, False)])
+        self.write_file("src/more.rt", "fn once_more() {\n}\n")
+        self.assertEqual(self.digests_after_changes(("proofs/once_more/Answers.antt", "a")), [(True, False)])
 
     def test_bodies_of_others_in_a_folder_of_its_name(self):
-        self.write("src/once/more.rt", SOURCE)
-        self.assertEqual(self.same_and_others(("src/once/more.rt", OTHER_BODY)), [(True, False)])
+        self.write_file("src/once/more.rt", CRATE_SOURCE)
+        self.assertEqual(self.digests_after_changes(("src/once/more.rt", SOURCE_WITH_OTHER_BODY)), [(True, False)])
 
     def test_bodies_and_proofs_of_functions_below(self):
         changes = (
-            ("../low/src/lib.rt", OTHER_BODY),
-            ("../low/src/lib.rt", SOURCE.replace("a + STEP", "STEP + a")),
+            ("../low/src/lib.rt", SOURCE_WITH_OTHER_BODY),
+            ("../low/src/lib.rt", CRATE_SOURCE.replace("a + STEP", "STEP + a")),
             ("../low/proofs/once/Answers.antt", "a"),
             ("../low/proofs/+once/Invariants.antt", "a"),
         )
-        self.assertEqual(self.same_and_others(*changes), [(True, True)] * len(changes))
+        self.assertEqual(self.digests_after_changes(*changes), [(True, True)] * len(changes))
 
     def test_only_a_source_has_the_names_of_functions(self):
-        self.write("specs/Lists.antt", "-- as fn lists\n")
-        self.assertEqual(self.same_and_others(("proofs/lists/Answers.antt", "a")), [(False, False)])
+        self.write_file("specs/Lists.antt", "-- as fn lists\n")
+        self.assertEqual(self.digests_after_changes(("proofs/lists/Answers.antt", "a")), [(False, False)])
 
     def test_what_all_proofs_read(self):
         changes = (
-            ("src/lib.rt", SOURCE.replace("STEP: u64 = 1", "STEP: u64 = 2")),
-            ("src/lib.rt", SOURCE.replace("pub fn other(a: u64)", "pub fn other(b: u64)")),
-            ("src/lib.rt", f"{SOURCE}\nstruct New {{}}\n"),
+            ("src/lib.rt", CRATE_SOURCE.replace("STEP: u64 = 1", "STEP: u64 = 2")),
+            ("src/lib.rt", CRATE_SOURCE.replace("pub fn other(a: u64)", "pub fn other(b: u64)")),
+            ("src/lib.rt", f"{CRATE_SOURCE}\nstruct New {{}}\n"),
             ("src/new.rt", ""),
             ("specs/Lib.antt", "a"),
             ("specs/other/Answers.antt", "a"),
@@ -134,67 +134,69 @@ class DigestDependencies(DigestTest):
             ("proofs/other/Lib.antt", "a"),
             ("proofs/other/ForCallers.antt", "a"),
             ("c/a.c", "a"),
-            ("../low/src/lib.rt", SOURCE.replace("result ≡ a + 1", "result ≡ a + 2")),
-            ("../low/src/lib.rt", SOURCE.replace("STEP: u64 = 1", "STEP: u64 = 2")),
-            ("../low/src/lib.rt", SOURCE.replace("fn once", "fn lower")),
+            ("../low/src/lib.rt", CRATE_SOURCE.replace("result ≡ a + 1", "result ≡ a + 2")),
+            ("../low/src/lib.rt", CRATE_SOURCE.replace("STEP: u64 = 1", "STEP: u64 = 2")),
+            ("../low/src/lib.rt", CRATE_SOURCE.replace("fn once", "fn lower")),
             ("../low/specs/Lib.antt", "a"),
             ("../low/proofs/Lemmas.antt", "a"),
             ("../low/proofs/ForCallers.antt", "a"),
             ("../low/c/a.c", "a"),
             ("../HANDLES", "Handles allowed: Threads.\n"),
         )
-        self.assertEqual(self.same_and_others(*changes), [(False, False)] * len(changes))
+        self.assertEqual(self.digests_after_changes(*changes), [(False, False)] * len(changes))
 
     def test_what_the_proof_of_its_own_function_reads(self):
         changes = (
-            ("src/lib.rt", SOURCE.replace("a + STEP", "STEP + a")),
-            ("src/lib.rt", SOURCE.replace("result ≡ a + 1", "result ≡ a + 2")),
+            ("src/lib.rt", CRATE_SOURCE.replace("a + STEP", "STEP + a")),
+            ("src/lib.rt", CRATE_SOURCE.replace("result ≡ a + 1", "result ≡ a + 2")),
             ("proofs/once/Answers.antt", "a"),
             ("proofs/once/Invariants.antt", "a"),
             ("proofs/once/Proof.antt", "a"),
             ("proofs/fn/once/loops/Answers.antt", "a"),
             ("proofs/+both/Invariants.antt", "a"),
         )
-        self.assertEqual(self.same_and_others(*changes), [(False, False)] * len(changes))
+        self.assertEqual(self.digests_after_changes(*changes), [(False, False)] * len(changes))
 
     def test_the_bodies_of_a_macro(self):
-        self.write("../low/src/macros.rt", f"macro_rules! many {{}}\n{SOURCE}")
-        changes = [("../low/src/macros.rt", f"macro_rules! many {{}}\n{OTHER_BODY}")]
-        self.assertEqual(self.same_and_others(*changes), [(False, False)])
+        self.write_file("../low/src/macros.rt", f"macro_rules! many {{}}\n{CRATE_SOURCE}")
+        changes = [("../low/src/macros.rt", f"macro_rules! many {{}}\n{SOURCE_WITH_OTHER_BODY}")]
+        self.assertEqual(self.digests_after_changes(*changes), [(False, False)])
 
     def test_what_looks_like_a_body_in_another_file_than_a_source(self):
         for path in ("specs/Lib.antt", "proofs/Lemmas.antt", "../low/specs/Lib.antt", "c/a.c"):
-            self.write(path, SOURCE)
-            self.assertEqual(self.same_and_others((path, OTHER_BODY)), [(False, False)], path)
+            self.write_file(path, CRATE_SOURCE)
+            self.assertEqual(self.digests_after_changes((path, SOURCE_WITH_OTHER_BODY)), [(False, False)], path)
 
     def test_functions_that_call_each_other_have_one_proof(self):
-        self.write("src/both.rt", "#[cycle(around)]\npub fn one() {\n}\n")
-        self.assertEqual(self.same_and_others(("src/lib.rt", OTHER_BODY)), [(False, False)])
+        self.write_file("src/both.rt", "#[cycle(around)]\npub fn one() {\n}\n")
+        self.assertEqual(self.digests_after_changes(("src/lib.rt", SOURCE_WITH_OTHER_BODY)), [(False, False)])
 
-    def test_another_kit_graph_or_mutant(self):
-        seen = [self.digests(), self.digests(text="old: a\nnew: c\n"), self.digests(kit_name="kit 2")]
-        seen.append(self.digests(of=fake_crate(self.folder, "tiny")))
-        seen.append(self.digests(of=fake_crate(self.folder, "tiny", self.low, of_kit=("std", "hex"))))
-        seen.append(self.digests(of=fake_crate(self.folder, "little", self.low)))
-        seen.append(self.digests(of=fake_crate(self.folder, "tinier", self.low)))
+    def test_another_logic_graph_or_mutant(self):
+        seen = [
+            self.mutant_digests(), self.mutant_digests(text="old: a\nnew: c\n"), self.mutant_digests(logic="b2")
+        ]
+        seen.append(self.mutant_digests(of=fake_crate(self.folder, "tiny")))
+        seen.append(self.mutant_digests(of=fake_crate(self.folder, "tiny", self.low, of_kit=("std", "hex"))))
+        seen.append(self.mutant_digests(of=fake_crate(self.folder, "little", self.low)))
+        seen.append(self.mutant_digests(of=fake_crate(self.folder, "tinier", self.low)))
         middle = fake_crate(f"{self.root}/middle", "middle", self.low)
         for deps in ([middle], [self.low, middle]):
             of = fake_crate(self.folder, "tiny", *deps)
             of.below = lambda: [self.low, middle]
-            seen.append(self.digests(of=of))
+            seen.append(self.mutant_digests(of=of))
         self.assertEqual(len({it.own for it in seen}), len(seen))
         self.assertEqual(len({it.whole for it in seen}), len(seen))
 
     def test_a_mutant_of_more_than_a_body_depends_on_all(self):
-        before = self.digests(function=None)
+        before = self.mutant_digests(function=None)
         self.assertEqual(before.own, before.whole)
-        self.write("src/lib.rt", OTHER_BODY)
-        self.assertNotEqual(self.digests(function=None).own, before.own)
+        self.write_file("src/lib.rt", SOURCE_WITH_OTHER_BODY)
+        self.assertNotEqual(self.mutant_digests(function=None).own, before.own)
 
     def test_the_order_of_crates_does_not_matter(self):
         lowest, found = fake_crate(f"{self.root}/lowest", "lowest"), set()
         for below, of_kit in (([self.low, lowest], ("std", "hex")), ([lowest, self.low], ("hex", "std"))):
-            found.add(self.digests(of=fake_crate(self.folder, "tiny", *below, of_kit=of_kit)))
+            found.add(self.mutant_digests(of=fake_crate(self.folder, "tiny", *below, of_kit=of_kit)))
         self.assertEqual(len(found), 1)
 
     def test_the_order_of_files_does_not_matter(self):
@@ -203,11 +205,11 @@ class DigestDependencies(DigestTest):
                 self.assertEqual(record.files_below(""), ["a/e", "b/c", "b/d"])
 
     def test_the_name_of_a_file(self):
-        self.write("specs/a.antt", "a")
-        before = self.digests()
+        self.write_file("specs/a.antt", "a")
+        before = self.mutant_digests()
         os.rename(f"{self.folder}/specs/a.antt", f"{self.folder}/specs/b.antt")
-        self.assertNotEqual(self.digests().own, before.own)
-        self.assertNotEqual(self.digests().whole, before.whole)
+        self.assertNotEqual(self.mutant_digests().own, before.own)
+        self.assertNotEqual(self.mutant_digests().whole, before.whole)
 
     def test_a_body_that_another_function_of_its_name_has(self):
         for one, two in (
@@ -219,7 +221,7 @@ class DigestDependencies(DigestTest):
             for bodies in (("a", "b"), ("b", "a")):
                 methods = (f"    fn once(&self) {{\n        {it}\n    }}\n" for it in bodies)
                 text = "".join(f"{head} {{\n{it}}}\n" for head, it in zip((one, two), methods))
-                self.write("src/lib.rt", text)
+                self.write_file("src/lib.rt", text)
                 changed = split_functions("src/lib.rt", text)[0][bodies.index("a")]
                 reads = record.CheckInputs(self.tiny, self.root, "kit 1")
                 found.append(reads.digests(Mutant("a.edit", "old: a\n", (), changed, "")).own)
@@ -228,32 +230,32 @@ class DigestDependencies(DigestTest):
     def test_a_line_of_a_text_that_looks_like_a_comment(self):
         for start in ('"a', """(b'"', "a""", '("\\"", "a'):
             text = f'const A: T = {start}\n// one\nb;"\n// Two.\n'
-            self.write("src/text.rt", text)
+            self.write_file("src/text.rt", text)
             changes = ("src/text.rt", text.replace("one", "1")), ("src/text.rt", text.replace("Two", "2"))
-            self.assertEqual(self.same_and_others(*changes), [(False, False), (True, False)])
+            self.assertEqual(self.digests_after_changes(*changes), [(False, False), (True, False)])
 
     def test_after_a_function_no_text_goes_on(self):
         # (the backslash of a raw text is no escape)
         text = 'const A: &str = r"\\";\nfn most() {\n}\n// Two.\n'
-        self.write("src/text.rt", text)
-        self.assertEqual(self.same_and_others(("src/text.rt", text.replace("Two", "2"))), [(True, False)])
+        self.write_file("src/text.rt", text)
+        self.assertEqual(self.digests_after_changes(("src/text.rt", text.replace("Two", "2"))), [(True, False)])
 
     def test_bytes_do_not_move_between_files(self):
-        self.write("specs/a.antt", "ab")
-        self.write("specs/b.antt", "c")
-        before = self.digests()
-        self.write("specs/a.antt", "a")
-        self.write("specs/b.antt", "bc")
-        self.assertNotEqual(self.digests().own, before.own)
-        self.assertNotEqual(self.digests().whole, before.whole)
+        self.write_file("specs/a.antt", "ab")
+        self.write_file("specs/b.antt", "c")
+        before = self.mutant_digests()
+        self.write_file("specs/a.antt", "a")
+        self.write_file("specs/b.antt", "bc")
+        self.assertNotEqual(self.mutant_digests().own, before.own)
+        self.assertNotEqual(self.mutant_digests().whole, before.whole)
 
     def test_a_sum_of_several_texts_depends_on_where_each_ends(self):
         self.assertNotEqual(record.digest_of(b"ab", b"c"), record.digest_of(b"a", b"bc"))
         self.assertNotEqual(record.digest_of(b"ab"), record.digest_of(b"ab", b""))
 
 
-class RecordFiles(CrateFolderTest):
-    def digests(self, **sums):
+class RecordFilesTest(CrateFolderTest):
+    def mutant_digests(self, **sums):
         return {name: record.MutantDigests(sum, sum.upper()) for name, sum in sums.items()}
 
     def write_record(self, digests, **results):
@@ -263,7 +265,7 @@ class RecordFiles(CrateFolderTest):
             return it.read()
 
     def test_refusals_with_their_function(self):
-        digests = self.digests(b="bbbb", a="aaaa", c="cccc")
+        digests = self.mutant_digests(b="bbbb", a="aaaa", c="cccc")
         own, alone = (Outcome.OWN, "batch", "tiny::once"), (Outcome.ALONE, "alone", "tiny::once, tiny::twice")
         limit = (Outcome.LIMIT, "alone", "no")
         text = self.write_record(digests, b=own, a=alone, c=limit)
@@ -272,25 +274,25 @@ class RecordFiles(CrateFolderTest):
 
     def test_no_other_outcome_is_recorded(self):
         for it in (Outcome.MISSED, Outcome.UNUSABLE, Outcome.LOST, Outcome.UNKNOWN):
-            self.assertEqual(self.write_record(self.digests(a="aaaa"), a=(it, "alone", "")), "")
+            self.assertEqual(self.write_record(self.mutant_digests(a="aaaa"), a=(it, "alone", "")), "")
 
     def test_earlier_refusals_stay_while_their_digest_does(self):
         own = (Outcome.OWN, "batch", "tiny::once")
-        self.write_record(self.digests(a="aaaa", b="bbbb", c="cccc"), a=own, b=own, c=own)
-        text = self.write_record(self.digests(a="aaaa", b="dddd", c="cccc"), c=(Outcome.MISSED, "alone", ""))
+        self.write_record(self.mutant_digests(a="aaaa", b="bbbb", c="cccc"), a=own, b=own, c=own)
+        text = self.write_record(self.mutant_digests(a="aaaa", b="dddd", c="cccc"), c=(Outcome.MISSED, "alone", ""))
         self.assertEqual(text, "aaaa a tiny::once\n")
 
     def test_lines_that_hold(self):
-        digests = self.digests(a="aaaa", b="bbbb", c="cccc", d="dddd", e="eeee", f="ffff")
+        digests = self.mutant_digests(a="aaaa", b="bbbb", c="cccc", d="dddd", e="eeee", f="ffff")
         lines = ["aaaa a f", "BBBB b -", "CCCC c f", "dddd d -", "eeee e", "ffff f ", "gggg g f", "aaaa b f", ""]
-        self.write("tests/mutant-records/tiny", "".join(f"{it}\n" for it in lines))
+        self.write_file("tests/mutant-records/tiny", "".join(f"{it}\n" for it in lines))
         self.assertEqual(record.valid_records(self.folder, "tiny", digests), {"a": "aaaa a f", "b": "BBBB b -"})
 
     def test_no_record(self):
         self.assertEqual(record.valid_records(self.folder, "none", {}), {})
 
 
-class SampledMutants(unittest.TestCase):
+class SampledMutantsTest(unittest.TestCase):
     NAMES = {"b": [*"123456789"], "a": [*"12"], "c": []}
 
     def test_a_sample_is_of_one_crate(self):
@@ -312,9 +314,9 @@ class SampledMutants(unittest.TestCase):
         self.assertEqual(record.sample_for_turn({"a": []}, 4, 7), ("", []))
 
 
-class ExpectedCounts(CrateFolderTest):
+class ExpectedCountsTest(CrateFolderTest):
     def test_lines_and_comments(self):
-        self.write("tests/mutant-counts", "# How many.\n\ntiny 3\nlow 12\n")
+        self.write_file("tests/mutant-counts", "# How many.\n\ntiny 3\nlow 12\n")
         self.assertEqual(record.expected_counts(self.folder), {"tiny": 3, "low": 12})
 
 

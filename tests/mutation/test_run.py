@@ -8,7 +8,7 @@ import types
 import unittest
 from unittest import mock
 
-from fakes import SOURCES, FakeChecker, CrateFolderTest, mutant_text
+from fakes import CRATE_SOURCES, FakeChecker, CrateFolderTest, mutant_text
 from mutation import checker, record
 from mutation.run import SAMPLE_SIZE, MutantRun, count_faults
 from mutation.verdicts import CheckReport
@@ -21,7 +21,7 @@ class FakeRunChecker(FakeChecker):
 
     def __init__(self, crate, root):
         assert root and crate.folder.startswith(root)
-        super().__init__(crate.folder, SOURCES)
+        super().__init__(crate.folder, CRATE_SOURCES)
         FakeRunChecker.opened += 1
 
     def is_seed_unchanged(self):
@@ -31,17 +31,17 @@ class FakeRunChecker(FakeChecker):
         FakeRunChecker.opened -= 1
 
 
-class LibrariesNotBuilt(FakeRunChecker):
+class CheckerWithoutLibraries(FakeRunChecker):
     def check_unchanged(self):
         raise checker.LibrariesNotBuilt("the libraries below tiny are not built")
 
 
-class UnprovedChecker(FakeRunChecker):
+class CheckerOfUnprovedCrate(FakeRunChecker):
     def check_unchanged(self):
         return CheckReport(1, "fn tiny::once: not proved\nlogic=not-proved\n")
 
 
-class UnsoundChecker(FakeRunChecker):
+class CheckerWithChangedSeed(FakeRunChecker):
     sound = False
 
 
@@ -60,11 +60,11 @@ class CountingChecker(FakeRunChecker):
         return super().check(texts, only)
 
 
-class MutantRuns(CrateFolderTest):
+class MutantRunTest(CrateFolderTest):
     def setUp(self):
         super().setUp()
         self.root = os.path.dirname(self.folder)
-        self.write("../HANDLES", "Handles allowed: none.\n")
+        self.write_file("../HANDLES", "Handles allowed: none.\n")
         of = {
             "name": "tiny",
             "folder": self.folder,
@@ -75,10 +75,10 @@ class MutantRuns(CrateFolderTest):
         }
         self.crate = types.SimpleNamespace(**of)
 
-    def add(self, name, old, new, path="src/lib.rt", folder="mutants"):
-        self.write(f"{folder}/{name}.edit", mutant_text(path, (old, new)))
+    def add_mutant(self, name, old, new, path="src/lib.rt", folder="mutants"):
+        self.write_file(f"{folder}/{name}.edit", mutant_text(path, (old, new)))
 
-    def run_with(self, made=FakeRunChecker):
+    def make_run(self, made=FakeRunChecker):
         return MutantRun(self.root, [self.crate], 2, made)
 
     def valid_records(self, run):
@@ -92,10 +92,10 @@ class MutantRuns(CrateFolderTest):
         return printed.getvalue()
 
     def test_all_mutants(self):
-        self.add("one", "    a + STEP", "    WRONG")
-        self.add("pair", "self.first", "WRONG", "src/pairs.rt")
-        self.add("same", "    once(b)", "    once(b + 0)")
-        run = self.run_with()
+        self.add_mutant("one", "    a + STEP", "    WRONG")
+        self.add_mutant("pair", "self.first", "WRONG", "src/pairs.rt")
+        self.add_mutant("same", "    once(b)", "    once(b + 0)")
+        run = self.make_run()
         printed = self.run_tries(run, run.mutants)
         want = "tiny: 1 NOT REFUSED (alone), 2 refused at its own function (batch); 2 checks, 3 processor seconds\n"
         self.assertEqual(printed, want)
@@ -111,35 +111,35 @@ class MutantRuns(CrateFolderTest):
 
     def test_only_new_mutants_and_a_sample(self):
         for at in range(SAMPLE_SIZE + 3):
-            self.add(f"one{at:02}", "    a + STEP", f"    WRONG {at}")
-        run = self.run_with()
+            self.add_mutant(f"one{at:02}", "    a + STEP", f"    WRONG {at}")
+        run = self.make_run()
         self.assertEqual(len(run.new_and_sample()["tiny"]), SAMPLE_SIZE + 3)
         self.run_tries(run, run.mutants)
         run.write_records()
-        self.add("new", "    a + STEP", "    WRONG at last")
-        self.add("one00", "    a + STEP", "    WRONG again")
-        run = self.run_with()
+        self.add_mutant("new", "    a + STEP", "    WRONG at last")
+        self.add_mutant("one00", "    a + STEP", "    WRONG again")
+        run = self.make_run()
         chosen = [it.name for it in run.new_and_sample()["tiny"]]
         self.assertEqual(chosen, ["new.edit", "one00.edit", *(f"one{at:02}.edit" for at in range(1, SAMPLE_SIZE + 1))])
         self.run_tries(run, run.new_and_sample())
         self.assertEqual(run.untried_count, 2)
 
     def test_a_record_keeps_what_was_not_tried(self):
-        self.add("one", "    a + STEP", "    WRONG")
-        self.add("two", "    once(once(a))", "    WRONG")
-        run = self.run_with()
+        self.add_mutant("one", "    a + STEP", "    WRONG")
+        self.add_mutant("two", "    once(once(a))", "    WRONG")
+        run = self.make_run()
         self.run_tries(run, run.mutants)
         run.write_records()
         self.assertEqual({*self.valid_records(run)}, {"one.edit", "two.edit"})
         os.remove(f"{self.folder}/mutants/two.edit")
-        run = self.run_with()
+        run = self.make_run()
         self.run_tries(run, {"tiny": []})
         run.write_records()
         self.assertEqual({*self.valid_records(run)}, {"one.edit"})
 
     def test_no_more_checks_at_a_time_than_lanes(self):
-        self.add("one", "    a + STEP", "    WRONG")
-        self.add("const", "STEP: u64 = 1", "STEP: u64 = WRONG")
+        self.add_mutant("one", "    a + STEP", "    WRONG")
+        self.add_mutant("const", "STEP: u64 = 1", "STEP: u64 = WRONG")
         crates = [types.SimpleNamespace(**{**vars(self.crate), "name": f"tiny{at}"}) for at in range(5)]
         for lanes in (2, 3):
             CountingChecker.peak = 0
@@ -147,117 +147,118 @@ class MutantRuns(CrateFolderTest):
             self.run_tries(run, run.mutants)
             self.assertEqual(CountingChecker.peak, lanes)
 
-    def two_crates(self):
+    def two_copies_of_crate(self):
         needs = {"tiny1": lambda: 1, "tiny2": lambda: 2}
         return [types.SimpleNamespace(**{**vars(self.crate), "name": name, "need": it}) for name, it in needs.items()]
 
     def test_the_crate_that_costs_more_begins_first(self):
-        self.add("one", "    a + STEP", "    WRONG")
-        run = MutantRun(self.root, self.two_crates(), 2, FakeRunChecker)
+        self.add_mutant("one", "    a + STEP", "    WRONG")
+        run = MutantRun(self.root, self.two_copies_of_crate(), 2, FakeRunChecker)
         self.assertRegex(self.run_tries(run, run.mutants), "^tiny2: .*\ntiny1: ")
 
     def test_a_sample_is_of_its_crate_if_another_has_the_same_mutant(self):
-        self.add("one", "    a + STEP", "    WRONG")
-        run = MutantRun(self.root, self.two_crates(), 2, FakeRunChecker)
+        self.add_mutant("one", "    a + STEP", "    WRONG")
+        run = MutantRun(self.root, self.two_copies_of_crate(), 2, FakeRunChecker)
         for name, found in run.digests.items():
-            self.write(f"../tests/mutant-records/{name}", f"{found['one.edit'].own} one.edit {name}::once\n")
+            self.write_file(f"../tests/mutant-records/{name}", f"{found['one.edit'].own} one.edit {name}::once\n")
         with mock.patch("mutation.record.sample_for_turn", lambda names, *_: ("tiny1", names["tiny1"])):
             chosen = run.new_and_sample()
         self.assertEqual({name: len(it) for name, it in chosen.items()}, {"tiny1": 1, "tiny2": 0})
 
     def test_a_crate_without_mutants_has_no_record(self):
-        run = self.run_with()
+        run = self.make_run()
         self.run_tries(run, run.mutants)
         run.write_records()
         self.assertFalse(os.path.exists(f"{self.root}/tests/mutant-records"))
 
-    def test_another_kit_has_other_digests(self):
-        self.add("one", "    a + STEP", "    WRONG")
+    def test_a_kit_with_another_logic_has_other_digests(self):
+        self.add_mutant("one", "    a + STEP", "    WRONG")
         found = []
-        for name in ("1", "2"):
-            self.write("../kit/KIT-ID", name)
+        for name in ("kit-1 logic a1\n", "kit-2 logic a1\n", "kit-2 logic b2\n", "kit-1\n", "kit-2\n"):
+            self.write_file("../kit/KIT-ID", name)
             with mock.patch.object(checker, "KIT", f"{self.root}/kit"):
-                found.append(self.run_with().digests["tiny"]["one.edit"])
-        self.assertNotEqual(*(it.own for it in found))
+                found.append(self.make_run().digests["tiny"]["one.edit"].own)
+        self.assertEqual(found[0], found[1])
+        self.assertEqual(len(set(found[1:])), 4)
 
     def test_a_crate_whose_libraries_are_not_built(self):
-        self.add("one", "    a + STEP", "    WRONG")
-        run = self.run_with(LibrariesNotBuilt)
+        self.add_mutant("one", "    a + STEP", "    WRONG")
+        run = self.make_run(CheckerWithoutLibraries)
         self.assertIn("tiny: no result", self.run_tries(run, run.mutants))
         self.assertEqual((run.faults, run.untried_count), (["the libraries below tiny are not built"], 1))
 
     def test_a_crate_that_is_not_proved_as_it_is(self):
-        self.add("one", "    a + STEP", "    WRONG")
-        run = self.run_with(UnprovedChecker)
+        self.add_mutant("one", "    a + STEP", "    WRONG")
+        run = self.make_run(CheckerOfUnprovedCrate)
         self.run_tries(run, run.mutants)
         self.assertEqual((len(run.faults), run.untried_count), (1, 1))
         self.assertIn("tiny is not proved as it is", run.faults[0])
 
     def test_checks_that_change_what_they_began_with(self):
-        self.add("one", "    a + STEP", "    WRONG")
-        run = self.run_with(UnsoundChecker)
+        self.add_mutant("one", "    a + STEP", "    WRONG")
+        run = self.make_run(CheckerWithChangedSeed)
         self.run_tries(run, run.mutants)
         self.assertEqual(run.faults, ["tiny: a check changed what the others began with"])
         run.write_records()
         self.assertEqual(self.valid_records(run), {})
 
     def test_files_that_change_during_the_run(self):
-        self.add("one", "    a + STEP", "    WRONG")
-        run = self.run_with()
-        self.write("src/new.rt", "")
+        self.add_mutant("one", "    a + STEP", "    WRONG")
+        run = self.make_run()
+        self.write_file("src/new.rt", "")
         self.run_tries(run, run.mutants)
         run.write_records()
         self.assertEqual(run.faults, ["tiny: a file that the checks read was changed during the run"])
         self.assertEqual(self.valid_records(run), {})
 
     def test_a_file_that_is_lost_during_the_run(self):
-        self.add("pair", "self.first", "WRONG", "src/pairs.rt")
-        run = self.run_with()
+        self.add_mutant("pair", "self.first", "WRONG", "src/pairs.rt")
+        run = self.make_run()
         with mock.patch("mutation.tries.CrateTries.try_all", lambda *_: os.remove(f"{self.folder}/src/pairs.rt")):
             self.run_tries(run, run.mutants)
         self.assertEqual(run.faults, ["tiny: a file that the checks read was changed during the run"])
 
     def test_a_mutant_without_a_result(self):
-        self.add("one", "    a + STEP", "    WRONG")
-        self.add("two", "    once(once(a))", "    WRONG")
-        run = self.run_with()
+        self.add_mutant("one", "    a + STEP", "    WRONG")
+        self.add_mutant("two", "    once(once(a))", "    WRONG")
+        run = self.make_run()
         with mock.patch("mutation.tries.CrateTries.try_alone", lambda tries, it: (run.mutants["tiny"][0], None)):
             with contextlib.suppress(AttributeError):
                 self.run_tries(run, run.mutants)
         self.assertEqual(run.faults, ["tiny: two.edit was not tried"])
 
     def test_an_exception_in_a_check_ends_the_run(self):
-        self.add("one", "    a + STEP", "    WRONG")
-        run = self.run_with()
+        self.add_mutant("one", "    a + STEP", "    WRONG")
+        run = self.make_run()
         with mock.patch("mutation.tries.CrateTries.try_alone", side_effect=OSError("no space left")):
             with self.assertRaises(OSError):
                 self.run_tries(run, run.mutants)
 
     def test_a_recorded_mutant_that_cannot_be_applied_is_tried(self):
-        self.add("one", "    a + STAP", "    WRONG")
-        run = self.run_with()
-        self.write("../tests/mutant-records/tiny", f"{run.digests['tiny']['one.edit'].own} one.edit tiny::once\n")
+        self.add_mutant("one", "    a + STAP", "    WRONG")
+        run = self.make_run()
+        self.write_file("../tests/mutant-records/tiny", f"{run.digests['tiny']['one.edit'].own} one.edit tiny::once\n")
         with mock.patch("mutation.record.sample_for_turn", lambda *_: ("", [])):
             self.run_tries(run, run.new_and_sample())
         self.assertEqual([is_refused for is_refused, _ in run.result_lines()], [False])
 
     def test_the_counts(self):
-        self.add("one", "    a + STEP", "    WRONG")
-        self.add("two", "    a + STEP", "    WRONG", folder="must-fail")
+        self.add_mutant("one", "    a + STEP", "    WRONG")
+        self.add_mutant("two", "    a + STEP", "    WRONG", folder="must-fail")
         for text, faults in (
             ("tiny 2\n", []),
             ("tiny 1\n", ["tiny has 2 mutants, and tests/mutant-counts says 1"]),
             ("", ["tiny has 2 mutants, and tests/mutant-counts says 0"]),
             ("tiny 2\nlow 3\n", ["low has 0 mutants, and tests/mutant-counts says 3"]),
         ):
-            self.write("../tests/mutant-counts", text)
+            self.write_file("../tests/mutant-counts", text)
             self.assertEqual(count_faults(self.root, [self.crate]), faults)
 
     def test_a_file_that_is_no_mutant(self):
-        self.write("../tests/mutant-counts", "tiny 1\n")
-        self.add("one", "    a + STEP", "    WRONG")
+        self.write_file("../tests/mutant-counts", "tiny 1\n")
+        self.add_mutant("one", "    a + STEP", "    WRONG")
         for path in ("two.edti", ".three.edit", "more/four.edit"):
-            self.write(f"mutants/{path}", "")
+            self.write_file(f"mutants/{path}", "")
         names = (".three.edit", "more/four.edit", "two.edti")
         want = [f"tiny/mutants/{it} has another name than mutants have" for it in names]
         self.assertEqual(count_faults(self.root, [self.crate]), want)

@@ -8,17 +8,17 @@ import types
 import unittest
 from unittest import mock
 
-PATH = os.path.realpath(f"{__file__}/../../../scripts/mutants")
+SCRIPT_PATH = os.path.realpath(f"{__file__}/../../../scripts/mutants")
 
 
 def load_script():
-    loader = importlib.machinery.SourceFileLoader("mutants_script", PATH)
+    loader = importlib.machinery.SourceFileLoader("mutants_script", SCRIPT_PATH)
     module = importlib.util.module_from_spec(importlib.util.spec_from_loader("mutants_script", loader))
     loader.exec_module(module)
     return module
 
 
-class FakeRun:
+class FakeMutantRun:
     """The functions that scripts/mutants needs of a run."""
 
     untried_count, mutants = 5, "all"
@@ -39,15 +39,15 @@ class FakeRun:
         yield from self.found
 
 
-class MutantsScript(unittest.TestCase):
-    def run_main(self, *words, found=((True, "low/a: refused"),), faults=(), count_faults=(), script=None):
+class MutantsScriptTest(unittest.TestCase):
+    def run_script(self, *words, found=((True, "low/a: refused"),), faults=(), count_faults=(), script=None):
         """The status of a run with these words, what it printed, and what it did."""
         script, done, printed = script or load_script(), [], io.StringIO()
         crates = [types.SimpleNamespace(name=it) for it in ("low", "high")]
 
         def made(_root, chosen, lane_count):
             done.append(f"{' '.join(it.name for it in chosen)} in {lane_count}")
-            return FakeRun(found, [*faults], done)
+            return FakeMutantRun(found, [*faults], done)
 
         with (
             mock.patch.object(script.checker, "crates", lambda _: crates),
@@ -65,15 +65,15 @@ class MutantsScript(unittest.TestCase):
 
     def test_all_mutants_of_all_crates(self):
         want = (0, "mutants: 1 refused in this run, 5 not tried, 0 faults\n", ["low high in 3", "tried all"])
-        self.assertEqual(self.run_main(), want)
+        self.assertEqual(self.run_script(), want)
 
     def test_new_mutants(self):
-        status, printed, done = self.run_main("--new")
+        status, printed, done = self.run_script("--new")
         self.assertEqual((status, done), (0, ["low high in 3", "tried new and a sample"]))
         self.assertTrue(printed.endswith("1 refused in this run, 5 recorded, 0 faults\n"), printed)
 
     def test_a_record_is_written_on_request(self):
-        self.assertEqual(self.run_main("--record")[2], ["low high in 3", "tried all", "recorded"])
+        self.assertEqual(self.run_script("--record")[2], ["low high in 3", "tried all", "recorded"])
 
     def test_ci_only_runs_rt_and_notes_the_libraries(self):
         script = load_script()
@@ -84,20 +84,20 @@ class MutantsScript(unittest.TestCase):
             return 3
 
         with mock.patch.object(script.libraries, "run_and_note", run_and_note):
-            self.assertEqual(self.run_main("--ci", script=script), (3, "", []))
+            self.assertEqual(self.run_script("--ci", script=script), (3, "", []))
         self.assertEqual(noted, [(["low", "high"], script.checker.kit_name(), ["ci"])])
 
     def test_crates_by_name(self):
-        self.assertEqual(self.run_main("high")[2], ["high in 3", "tried all"])
-        status, printed, done = self.run_main("high", "none")
+        self.assertEqual(self.run_script("high")[2], ["high in 3", "tried all"])
+        status, printed, done = self.run_script("high", "none")
         self.assertEqual((status, done), (2, []))
         self.assertIn("no crate has the name none", printed)
 
     def test_a_line_for_each_mutant(self):
         found = ((True, "low/a: refused"), (False, "low/b: NOT REFUSED"))
         last = "mutants: low/b: NOT REFUSED\nmutants: 1 refused in this run, 5 not tried, 1 faults\n"
-        self.assertEqual(self.run_main("--list", found=found)[:2], (1, f"low/a: refused\n{last}"))
-        self.assertEqual(self.run_main(found=found)[:2], (1, last))
+        self.assertEqual(self.run_script("--list", found=found)[:2], (1, f"low/a: refused\n{last}"))
+        self.assertEqual(self.run_script(found=found)[:2], (1, last))
 
     def test_each_fault_fails_the_run(self):
         for given in (
@@ -105,7 +105,7 @@ class MutantsScript(unittest.TestCase):
             {"faults": ["a fault"]},
             {"count_faults": ["a fault"]},
         ):
-            status, printed, _ = self.run_main(**given)
+            status, printed, _ = self.run_script(**given)
             self.assertEqual(status, 1, given)
             self.assertIn("mutants: a fault\n", printed)
             self.assertIn(" 1 faults\n", printed)

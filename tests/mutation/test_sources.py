@@ -67,7 +67,7 @@ fn last() {
 """
 
 
-class SplitFunctions(unittest.TestCase):
+class SplitFunctionsTest(unittest.TestCase):
     def functions_in(self, text):
         return split_functions("src/a.rt", text)[0]
 

@@ -1,32 +1,34 @@
 """Unit tests of scripts/mutation/tries.py, with a prover that knows only words."""
 import unittest
 
-from fakes import SOURCES, FakeChecker, CrateFolderTest, mutant_text
+from fakes import CRATE_SOURCES, FakeChecker, CrateFolderTest, mutant_text
 from mutation.mutants import read_mutant
 from mutation.tries import CrateTries
 from mutation.verdicts import CheckReport, Outcome
 
-ONCE, TWICE, THRICE, SUM = "    a + STEP", "    once(once(a))", "    once(b)", "self.first"
+ONCE_BODY, TWICE_BODY, THRICE_BODY, SUM_BODY = "    a + STEP", "    once(once(a))", "    once(b)", "self.first"
 
 
-class TriesOfACrate(CrateFolderTest):
+class CrateTriesTest(CrateFolderTest):
     def setUp(self):
         super().setUp()
-        self.checker = FakeChecker(self.folder, SOURCES)
-        self.tries = CrateTries("tiny", SOURCES, self.checker)
+        self.checker = FakeChecker(self.folder, CRATE_SOURCES)
+        self.tries = CrateTries("tiny", CRATE_SOURCES, self.checker)
         self.assertEqual(self.tries.check_unchanged(), "")
         self.mutants = []
 
     def add_mutant(self, name, *pairs, path="src/lib.rt"):
-        self.mutants.append(read_mutant(self.folder, self.write(f"mutants/{name}.edit", mutant_text(path, *pairs))))
+        self.mutants.append(
+            read_mutant(self.folder, self.write_file(f"mutants/{name}.edit", mutant_text(path, *pairs)))
+        )
 
     def try_mutants(self):
         self.tries.try_all(self.mutants)
         return {name.removesuffix(".edit"): (it.outcome, it.where) for name, it in self.tries.results.items()}
 
     def test_a_batch(self):
-        self.add_mutant("one", (ONCE, "    WRONG"))
-        self.add_mutant("pair", (SUM, "WRONG"), path="src/pairs.rt")
+        self.add_mutant("one", (ONCE_BODY, "    WRONG"))
+        self.add_mutant("pair", (SUM_BODY, "WRONG"), path="src/pairs.rt")
         self.assertEqual(self.try_mutants(), {"one": (Outcome.OWN, "batch"), "pair": (Outcome.OWN, "batch")})
         self.assertEqual(self.tries.results["pair.edit"].text, "tiny::pairs::Pair::sum")
         # (one check of the unchanged crate, and one of both, in which no other function is checked)
@@ -34,37 +36,37 @@ class TriesOfACrate(CrateFolderTest):
         self.assertEqual(self.checker.only, [[], ["tiny::once", "tiny::pairs::Pair::sum"]])
 
     def test_a_mutant_alone_is_checked_with_its_own_function_first(self):
-        self.add_mutant("one", (ONCE, "    WRONG"))
+        self.add_mutant("one", (ONCE_BODY, "    WRONG"))
         self.add_mutant("const", ("STEP: u64 = 1", "STEP: u64 = WRONG"))
         self.assertEqual(self.try_mutants(), {"one": (Outcome.OWN, "alone"), "const": (Outcome.ALONE, "alone")})
         self.assertEqual(self.checker.only, [[], [], ["tiny::once"]])
 
     def test_if_its_own_function_is_not_refused_the_whole_crate_decides(self):
-        self.add_mutant("worse", (SUM, "WORSE"), path="src/pairs.rt")
+        self.add_mutant("worse", (SUM_BODY, "WORSE"), path="src/pairs.rt")
         self.assertEqual(self.try_mutants(), {"worse": (Outcome.ALONE, "alone")})
         self.assertEqual(self.checker.only, [[], ["tiny::pairs::Pair::sum"], []])
 
     def test_if_only_a_function_that_it_calls_is_refused_the_whole_crate_decides(self):
-        self.add_mutant("worst", (TWICE, "    WORST"))
+        self.add_mutant("worst", (TWICE_BODY, "    WORST"))
         self.assertEqual(self.try_mutants(), {"worst": (Outcome.ALONE, "alone")})
         self.assertEqual(self.checker.only, [[], ["tiny::twice"], []])
 
     def test_a_mutant_that_is_proved_is_not_refused(self):
-        self.add_mutant("one", (ONCE, "    WRONG"))
-        self.add_mutant("same", (SUM, "self.second"), path="src/pairs.rt")
+        self.add_mutant("one", (ONCE_BODY, "    WRONG"))
+        self.add_mutant("same", (SUM_BODY, "self.second"), path="src/pairs.rt")
         self.assertEqual(self.try_mutants(), {"one": (Outcome.OWN, "batch"), "same": (Outcome.MISSED, "alone")})
 
     def test_one_that_only_calls_a_refused_function_is_not_refused(self):
         # (the graph does not see that `twice` calls `once`, so both come into one batch)
-        self.add_mutant("one", (ONCE, "    WRONG"))
-        self.add_mutant("same", (TWICE, "    once(once(a + 0))"))
+        self.add_mutant("one", (ONCE_BODY, "    WRONG"))
+        self.add_mutant("same", (TWICE_BODY, "    once(once(a + 0))"))
         self.tries.graph.reached = {key: set() for key in self.tries.graph.reached}
         self.assertEqual(self.try_mutants(), {"one": (Outcome.OWN, "batch"), "same": (Outcome.MISSED, "alone")})
 
     def test_what_a_batch_leaves_open_is_tried_in_another(self):
-        self.add_mutant("one", (ONCE, "    WRONG"))
-        self.add_mutant("open", (TWICE, "    once(once(a + 0))"))
-        self.add_mutant("open-too", (SUM, "HIDDEN"), path="src/pairs.rt")
+        self.add_mutant("one", (ONCE_BODY, "    WRONG"))
+        self.add_mutant("open", (TWICE_BODY, "    once(once(a + 0))"))
+        self.add_mutant("open-too", (SUM_BODY, "HIDDEN"), path="src/pairs.rt")
         self.tries.graph.reached = {key: set() for key in self.tries.graph.reached}
         self.assertEqual(self.try_mutants()["open"], (Outcome.MISSED, "alone"))
 
@@ -74,9 +76,9 @@ class TriesOfACrate(CrateFolderTest):
             return check({path: text.replace("MAYBE", word) for path, text in texts.items()}, only)
 
         self.checker.check = unknown_beside_another
-        self.add_mutant("one", (ONCE, "    WRONG"))
-        self.add_mutant("two", (TWICE, "    MAYBE"))
-        self.add_mutant("three", (THRICE, "    MAYBE"))
+        self.add_mutant("one", (ONCE_BODY, "    WRONG"))
+        self.add_mutant("two", (TWICE_BODY, "    MAYBE"))
+        self.add_mutant("three", (THRICE_BODY, "    MAYBE"))
         self.tries.graph.reached = {key: set() for key in self.tries.graph.reached}
         self.assertEqual(self.try_mutants(), {name: (Outcome.OWN, "batch") for name in ("one", "two", "three")})
 
@@ -95,27 +97,27 @@ class TriesOfACrate(CrateFolderTest):
 
     def test_a_closure_in_a_batch(self):
         self.refuse_closures("tiny::fn::once::closure0")
-        self.add_mutant("one", (ONCE, "    CLOSURE"))
-        self.add_mutant("pair", (SUM, "WRONG"), path="src/pairs.rt")
+        self.add_mutant("one", (ONCE_BODY, "    CLOSURE"))
+        self.add_mutant("pair", (SUM_BODY, "WRONG"), path="src/pairs.rt")
         self.assertEqual(self.try_mutants(), {"one": (Outcome.OWN, "batch"), "pair": (Outcome.OWN, "batch")})
         self.assertEqual(self.tries.results["one.edit"].text, "tiny::fn::once::closure0")
         self.assertEqual(self.checker.only, [[], ["tiny::once", "tiny::pairs::Pair::sum"]])
 
     def test_a_closure_alone(self):
         self.refuse_closures("tiny::fn::once::closure0")
-        self.add_mutant("one", (ONCE, "    CLOSURE"))
+        self.add_mutant("one", (ONCE_BODY, "    CLOSURE"))
         self.assertEqual(self.try_mutants(), {"one": (Outcome.OWN, "alone")})
         self.assertEqual(self.tries.results["one.edit"].text, "tiny::fn::once::closure0")
         self.assertEqual(self.checker.only, [[], ["tiny::once"]])
 
     def test_of_mutants_of_one_function_each_is_tried(self):
-        self.add_mutant("one", (ONCE, "    WRONG"))
-        self.add_mutant("other", (ONCE, "    a"))
+        self.add_mutant("one", (ONCE_BODY, "    WRONG"))
+        self.add_mutant("other", (ONCE_BODY, "    a"))
         self.assertEqual(self.try_mutants(), {"one": (Outcome.OWN, "alone"), "other": (Outcome.MISSED, "alone")})
 
     def test_one_that_does_not_compile_does_not_decide_for_the_others(self):
-        self.add_mutant("one", (ONCE, "    WRONG"))
-        self.add_mutant("bad", (SUM, "GIBBERISH"), path="src/pairs.rt")
+        self.add_mutant("one", (ONCE_BODY, "    WRONG"))
+        self.add_mutant("bad", (SUM_BODY, "GIBBERISH"), path="src/pairs.rt")
         self.assertEqual(self.try_mutants(), {"one": (Outcome.OWN, "alone"), "bad": (Outcome.UNUSABLE, "alone")})
 
     def test_one_that_cannot_be_read_does_not_decide_for_itself_or_others(self):
@@ -125,8 +127,8 @@ class TriesOfACrate(CrateFolderTest):
             return found if is_read else CheckReport(found.status, line + found.printed)
 
         self.checker.check = unreadable
-        self.add_mutant("one", (ONCE, "    WRONG"))
-        self.add_mutant("bad", (SUM, "WRONG b"), path="src/pairs.rt")
+        self.add_mutant("one", (ONCE_BODY, "    WRONG"))
+        self.add_mutant("bad", (SUM_BODY, "WRONG b"), path="src/pairs.rt")
         self.assertEqual(self.try_mutants(), {"one": (Outcome.OWN, "alone"), "bad": (Outcome.UNUSABLE, "alone")})
 
     def test_a_batch_whose_check_names_no_function_is_halved_at_once(self):
@@ -135,27 +137,27 @@ class TriesOfACrate(CrateFolderTest):
             return CheckReport(0, "logic=proved\n") if len(only) > 1 else found
 
         self.checker.check = silent_in_batches
-        self.add_mutant("one", (ONCE, "    WRONG"))
-        self.add_mutant("pair", (SUM, "WRONG"), path="src/pairs.rt")
+        self.add_mutant("one", (ONCE_BODY, "    WRONG"))
+        self.add_mutant("pair", (SUM_BODY, "WRONG"), path="src/pairs.rt")
         self.assertEqual(self.try_mutants(), {"one": (Outcome.OWN, "alone"), "pair": (Outcome.OWN, "alone")})
         self.assertEqual([len(it) for it in self.checker.only], [0, 2, 1, 1])
 
     def test_one_that_makes_another_function_fail(self):
-        self.add_mutant("one", (ONCE, "    WRONG"))
-        self.add_mutant("worse", (SUM, "WORSE"), path="src/pairs.rt")
+        self.add_mutant("one", (ONCE_BODY, "    WRONG"))
+        self.add_mutant("worse", (SUM_BODY, "WORSE"), path="src/pairs.rt")
         self.assertEqual(self.try_mutants(), {"one": (Outcome.OWN, "batch"), "worse": (Outcome.ALONE, "alone")})
         self.assertEqual(self.tries.results["worse.edit"].text, "tiny::other")
 
     def test_one_that_makes_a_function_fail_that_another_one_calls(self):
-        self.add_mutant("two", (TWICE, "    WRONG"))
-        self.add_mutant("worst", (SUM, "WORST"), path="src/pairs.rt")
+        self.add_mutant("two", (TWICE_BODY, "    WRONG"))
+        self.add_mutant("worst", (SUM_BODY, "WORST"), path="src/pairs.rt")
         self.assertEqual(self.try_mutants(), {"two": (Outcome.OWN, "alone"), "worst": (Outcome.ALONE, "alone")})
         self.assertEqual(self.tries.results["worst.edit"].text, "tiny::once")
 
     def test_what_changes_more_than_one_body_is_tried_alone(self):
         self.add_mutant("const", ("STEP: u64 = 1", "STEP: u64 = WRONG"))
         self.add_mutant("const-too", ("STEP: u64 = 1", "STEP: u64 = 0 + 1"))
-        self.add_mutant("one", (ONCE, "    WRONG"))
+        self.add_mutant("one", (ONCE_BODY, "    WRONG"))
         want = {
             "const": (Outcome.ALONE, "alone"),
             "const-too": (Outcome.MISSED, "alone"),
@@ -171,8 +173,8 @@ class TriesOfACrate(CrateFolderTest):
             return CheckReport(-9, lines) if "WRONG" in "".join(texts.values()) and len(texts) > 1 else found
 
         self.checker.check = killed_in_batches
-        self.add_mutant("one", (ONCE, "    WRONG"))
-        self.add_mutant("same", (SUM, "self.second"), path="src/pairs.rt")
+        self.add_mutant("one", (ONCE_BODY, "    WRONG"))
+        self.add_mutant("same", (SUM_BODY, "self.second"), path="src/pairs.rt")
         self.assertEqual(self.try_mutants(), {"one": (Outcome.OWN, "alone"), "same": (Outcome.MISSED, "alone")})
 
     def test_a_mutant_with_a_proof_is_tried_alone(self):
@@ -182,14 +184,14 @@ class TriesOfACrate(CrateFolderTest):
             return check({path: text.replace("WRONG", "") if is_new else text for path, text in texts.items()}, only)
 
         self.checker.check = proved_with_it
-        self.write("proofs/sum/Proof.antt", "old\n")
-        self.add_mutant("one", (ONCE, "    WRONG"))
-        text = mutant_text("src/pairs.rt", (SUM, "WRONG")) + mutant_text("proofs/sum/Proof.antt", ("old", "new"))
-        self.mutants.append(read_mutant(self.folder, self.write("mutants/proof.edit", text)))
+        self.write_file("proofs/sum/Proof.antt", "old\n")
+        self.add_mutant("one", (ONCE_BODY, "    WRONG"))
+        text = mutant_text("src/pairs.rt", (SUM_BODY, "WRONG")) + mutant_text("proofs/sum/Proof.antt", ("old", "new"))
+        self.mutants.append(read_mutant(self.folder, self.write_file("mutants/proof.edit", text)))
         self.assertEqual(self.try_mutants()["proof"], (Outcome.MISSED, "alone"))
 
     def test_a_limit_of_the_prover(self):
-        self.add_mutant("deep", (ONCE, "    DEEP"))
+        self.add_mutant("deep", (ONCE_BODY, "    DEEP"))
         self.assertEqual(self.try_mutants(), {"deep": (Outcome.LIMIT, "alone")})
         self.assertEqual(self.checker.only, [[], ["tiny::once"], []])
 
@@ -199,14 +201,14 @@ class TriesOfACrate(CrateFolderTest):
         self.assertEqual(len(self.checker.labels), 1)
 
     def test_a_function_that_is_not_reported(self):
-        self.write("src/unused.rt", "fn unused() {\n    0\n}\n")
-        self.tries = CrateTries("tiny", {**SOURCES, "src/unused.rt": "fn unused() {\n    0\n}\n"}, self.checker)
+        self.write_file("src/unused.rt", "fn unused() {\n    0\n}\n")
+        self.tries = CrateTries("tiny", {**CRATE_SOURCES, "src/unused.rt": "fn unused() {\n    0\n}\n"}, self.checker)
         self.tries.check_unchanged()
         self.add_mutant("unused", ("    0", "    WRONG"), path="src/unused.rt")
         self.assertEqual(self.try_mutants(), {"unused": (Outcome.LOST, "")})
 
     def test_a_crate_that_is_not_proved_has_no_results(self):
-        wrong = {**SOURCES, "src/lib.rt": SOURCES["src/lib.rt"].replace(ONCE, "    WRONG")}
+        wrong = {**CRATE_SOURCES, "src/lib.rt": CRATE_SOURCES["src/lib.rt"].replace(ONCE_BODY, "    WRONG")}
         tries = CrateTries("tiny", wrong, FakeChecker(self.folder, wrong))
         self.assertIn("not proved as it is", tries.check_unchanged())
 
@@ -215,7 +217,7 @@ class TriesOfACrate(CrateFolderTest):
         self.assertIn("not proved as it is", self.tries.check_unchanged())
 
     def test_every_mutant_has_a_result(self):
-        for at, text in enumerate((ONCE, TWICE, THRICE)):
+        for at, text in enumerate((ONCE_BODY, TWICE_BODY, THRICE_BODY)):
             self.add_mutant(f"wrong{at}", (text, f"    WRONG{text}"))
             self.add_mutant(f"same{at}", (text, f"{text} + 0"))
         found = self.try_mutants()

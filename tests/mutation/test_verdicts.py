@@ -3,7 +3,7 @@ import unittest
 
 from mutation.verdicts import CheckReport, Outcome
 
-REFUSED = """\
+REFUSED_OUTPUT = """\
 src/lib.rt:4:5: error: `tiny::once`: 1 of 3 parts is not proved
 fn tiny::once: not proved
 fn tiny::twice: no proof: it calls tiny::once, which is not proved
@@ -14,9 +14,9 @@ logic=not-proved
 """
 
 
-class CheckReports(unittest.TestCase):
+class CheckReportTest(unittest.TestCase):
     def test_only_own_proofs_that_fail_are_refusals(self):
-        self.assertEqual(CheckReport(1, REFUSED).refused, ["tiny::once", "tiny::thrice"])
+        self.assertEqual(CheckReport(1, REFUSED_OUTPUT).refused, ["tiny::once", "tiny::thrice"])
 
     def test_a_proof_that_another_one_lacks_is_no_refusal(self):
         for reason in ("it calls `f`", "it passes `f`, which has no proof", "a call of a function without a proof"):
@@ -25,14 +25,14 @@ class CheckReports(unittest.TestCase):
     def test_a_check_that_is_whole_has_a_verdict(self):
         proved = "fn tiny::once: proved\nlogic=proved functions=1\n"
         only, refused = "fn tiny::once: proved\nonly=1 proved=1\n", "fn tiny::once: not proved\nonly=1 proved=0\n"
-        for status, printed in ((1, REFUSED), (0, proved), (0, only), (1, refused)):
+        for status, printed in ((1, REFUSED_OUTPUT), (0, proved), (0, only), (1, refused)):
             self.assertTrue(CheckReport(status, printed).has_verdict)
         for status, printed in (
-            (-9, REFUSED),
-            (3, REFUSED),
-            (0, REFUSED),
-            (1, REFUSED.removesuffix("logic=not-proved\n")),
-            (1, "error: module M is another. Run the lower steps again\n" + REFUSED),
+            (-9, REFUSED_OUTPUT),
+            (3, REFUSED_OUTPUT),
+            (0, REFUSED_OUTPUT),
+            (1, REFUSED_OUTPUT.removesuffix("logic=not-proved\n")),
+            (1, "error: module M is another. Run the lower steps again\n" + REFUSED_OUTPUT),
             (1, proved),
             (1, ""),
             (0, refused),
@@ -42,45 +42,50 @@ class CheckReports(unittest.TestCase):
             self.assertFalse(CheckReport(status, printed).has_verdict, (status, printed))
 
     def test_proved_means_each_name(self):
-        it = CheckReport(1, REFUSED)
+        it = CheckReport(1, REFUSED_OUTPUT)
         self.assertTrue(it.is_proved(["tiny::other"]))
         for names in (["tiny::other", "tiny::once"], ["tiny::last"], ["tiny::none"]):
             self.assertFalse(it.is_proved(names))
 
-    def outcome(self, status, printed, *names):
+    def report_outcome(self, status, printed, *names):
         return CheckReport(status, printed).outcome(names)
 
     def test_refused_at_its_own_function(self):
-        self.assertEqual(self.outcome(1, REFUSED, "tiny::once"), (Outcome.OWN, "tiny::once"))
+        self.assertEqual(self.report_outcome(1, REFUSED_OUTPUT, "tiny::once"), (Outcome.OWN, "tiny::once"))
         self.assertEqual(
-            self.outcome(1, REFUSED, "tiny::fn::a::closure0", "tiny::thrice"), (Outcome.OWN, "tiny::thrice")
+            self.report_outcome(1, REFUSED_OUTPUT, "tiny::fn::a::closure0", "tiny::thrice"),
+            (Outcome.OWN, "tiny::thrice"),
         )
 
     def test_refused_elsewhere(self):
-        self.assertEqual(self.outcome(1, REFUSED, "tiny::other"), (Outcome.ALONE, "tiny::once, tiny::thrice"))
-        self.assertEqual(self.outcome(1, REFUSED), (Outcome.ALONE, "tiny::once, tiny::thrice"))
+        self.assertEqual(
+            self.report_outcome(1, REFUSED_OUTPUT, "tiny::other"), (Outcome.ALONE, "tiny::once, tiny::thrice")
+        )
+        self.assertEqual(self.report_outcome(1, REFUSED_OUTPUT), (Outcome.ALONE, "tiny::once, tiny::thrice"))
         only = "specs/Lib.antt:3:1: error: `a`: false\nfn tiny::once: proved\nlogic=not-proved\n"
-        self.assertEqual(self.outcome(1, only), (Outcome.ALONE, "specs/Lib.antt:3:1: error: `a`: false"))
+        self.assertEqual(self.report_outcome(1, only), (Outcome.ALONE, "specs/Lib.antt:3:1: error: `a`: false"))
 
     def test_proved_is_missed(self):
         printed = "fn tiny::once: proved\nlogic=proved functions=1\n"
-        self.assertEqual(self.outcome(0, printed, "tiny::once"), (Outcome.MISSED, "tiny::once"))
+        self.assertEqual(self.report_outcome(0, printed, "tiny::once"), (Outcome.MISSED, "tiny::once"))
 
     def test_a_limit(self):
         for text in ("antt ran out of stack", "antt ran out of the steps that the check of one declaration may take"):
-            self.assertIs(self.outcome(3, f"src/lib.rt:1:1: error: {text}\nrattle: no verdict\n")[0], Outcome.LIMIT)
+            self.assertIs(
+                self.report_outcome(3, f"src/lib.rt:1:1: error: {text}\nrattle: no verdict\n")[0], Outcome.LIMIT
+            )
 
     def test_no_verdict_for_another_reason(self):
         for status, printed in (
             (3, "rattle: no verdict: a bug\n"),
             (2, "rattle: what is this\n"),
             (-9, ""),
-            (3, REFUSED),
+            (3, REFUSED_OUTPUT),
         ):
-            self.assertIs(self.outcome(status, printed, "tiny::once")[0], Outcome.UNKNOWN)
+            self.assertIs(self.report_outcome(status, printed, "tiny::once")[0], Outcome.UNKNOWN)
 
     def test_what_does_not_compile(self):
-        kind, text = self.outcome(1, "src/lib.rt:4:5: error[types]: no\nhelp: none\n", "tiny::once")
+        kind, text = self.report_outcome(1, "src/lib.rt:4:5: error[types]: no\nhelp: none\n", "tiny::once")
         self.assertEqual((kind, text), (Outcome.UNUSABLE, "src/lib.rt:4:5: error[types]: no"))
 
     def test_what_the_prover_cannot_read(self):
@@ -89,22 +94,22 @@ class CheckReports(unittest.TestCase):
             "./specs/Lib.antt:4:5: error: an unclosed brace",
             "specs/Lib.antt:4:5: error: `a`: `b` has no field `c`",
         ):
-            self.assertIs(self.outcome(1, f"{line}\n{REFUSED}", "tiny::once")[0], Outcome.UNUSABLE, line)
+            self.assertIs(self.report_outcome(1, f"{line}\n{REFUSED_OUTPUT}", "tiny::once")[0], Outcome.UNUSABLE, line)
         for line in (
             "src/lib.rt:4:5: error: `tiny::once`: 1 of 3 parts is not proved",
             "proofs/once/Proof.antt:4:5: error: `tiny::once`: `b` is not in scope",
         ):
-            self.assertIs(self.outcome(1, f"{line}\n{REFUSED}", "tiny::once")[0], Outcome.OWN, line)
+            self.assertIs(self.report_outcome(1, f"{line}\n{REFUSED_OUTPUT}", "tiny::once")[0], Outcome.OWN, line)
 
     def test_an_edited_proof_has_to_be_read(self):
         path = "proofs/once/Proof.antt"
-        printed = f"{path}:4:5: error: `tiny::once`: `b` is not in scope\n{REFUSED}"
+        printed = f"{path}:4:5: error: `tiny::once`: `b` is not in scope\n{REFUSED_OUTPUT}"
         self.assertIs(CheckReport(1, printed, {path: "b"}).outcome(["tiny::once"])[0], Outcome.UNUSABLE)
         self.assertIs(CheckReport(1, printed, {"src/lib.rt": "b"}).outcome(["tiny::once"])[0], Outcome.OWN)
 
     def test_kept_work_that_cannot_be_used(self):
-        printed = "error: module M of .Rattle-below-specs is another. Run the lower steps again\n" + REFUSED
-        self.assertIs(self.outcome(1, printed, "tiny::once")[0], Outcome.UNKNOWN)
+        printed = "error: module M of .Rattle-below-specs is another. Run the lower steps again\n" + REFUSED_OUTPUT
+        self.assertIs(self.report_outcome(1, printed, "tiny::once")[0], Outcome.UNKNOWN)
 
     def test_which_outcomes_are_refusals(self):
         refusals = [it for it in Outcome if it.is_refusal]

@@ -23,8 +23,8 @@ is_profile_of_actuator actuator.Blind eep = eep.rorg == 0xD2 && eep.func == 0x05
 -- The message of an order: to the device with an ID, a payload by the device's profile, or none if that has no such
 -- order; or to all, from the sender with this offset from the base ID.
 pub data AddressedPayload : Type 0 where
-  ToOne : (id : ℕ) → (payload_of : Eep → Option (List ℕ)) → AddressedPayload
-  ToAll : (offset : ℕ) → (payload : List ℕ) → AddressedPayload
+  PayloadToDevice : (id : ℕ) → (payload_of : Eep → Option (List ℕ)) → AddressedPayload
+  PayloadToAll : (offset : ℕ) → (payload : List ℕ) → AddressedPayload
 
 -- a payload to these actuators, and none to other devices
 abbrev pub payload_for : ActuatorKind → (payload : List ℕ) → Eep → Option (List ℕ)
@@ -47,30 +47,31 @@ meter_query_byte channel Power = channel + 128
 abbrev pub message_of : Order → Option AddressedPayload
 -- "D2-01", command 1: the channel, and the value in percent. The bits DV are 0: immediately
 message_of (Switch id channel on) =
-    Some (ToOne id (payload_for actuator.SwitchOrDimmer (0x01 ∷ channel ∷ (if on then 0x64 else 0x00) ∷ [])))
-message_of (Dim id channel value) = Some (ToOne id (payload_for actuator.SwitchOrDimmer (0x01 ∷ channel ∷ value ∷ [])))
-message_of (Query id channel) = Some (ToOne id (query_payload channel))
+    Some (PayloadToDevice id (payload_for actuator.SwitchOrDimmer (0x01 ∷ channel ∷ (if on then 0x64 else 0x00) ∷ [])))
+message_of (Dim id channel value) =
+    Some (PayloadToDevice id (payload_for actuator.SwitchOrDimmer (0x01 ∷ channel ∷ value ∷ [])))
+message_of (Query id channel) = Some (PayloadToDevice id (query_payload channel))
 -- "D2-01", command 6
 message_of (Meter id channel quantity) =
-    Some (ToOne id (payload_for actuator.SwitchOrDimmer (0x06 ∷ meter_query_byte channel quantity ∷ [])))
+    Some (PayloadToDevice id (payload_for actuator.SwitchOrDimmer (0x06 ∷ meter_query_byte channel quantity ∷ [])))
 -- "D2-05-00", command 1: the position in percent; the angle, which 127 leaves unchanged; REPO and LOCK, which are 0;
 -- and the channel 0 with the command
-message_of (Blind id value) = Some (ToOne id (payload_for actuator.Blind (value ∷ 0x7F ∷ 0x00 ∷ 0x01 ∷ [])))
+message_of (Blind id value) = Some (PayloadToDevice id (payload_for actuator.Blind (value ∷ 0x7F ∷ 0x00 ∷ 0x01 ∷ [])))
 -- "D2-05-00", command 2
-message_of (Stop id) = Some (ToOne id (payload_for actuator.Blind (0x02 ∷ [])))
+message_of (Stop id) = Some (PayloadToDevice id (payload_for actuator.Blind (0x02 ∷ [])))
 -- "A5-38-08", command 1, without a time: bit 3 of DB0 marks it as data, not teach-in, and bit 0 is on
-message_of (Central offset on) = Some (ToAll offset (0x01 ∷ 0x00 ∷ 0x00 ∷ (if on then 0x09 else 0x08) ∷ []))
+message_of (Central offset on) = Some (PayloadToAll offset (0x01 ∷ 0x00 ∷ 0x00 ∷ (if on then 0x09 else 0x08) ∷ []))
 -- "A5-38-08", command 2: the value and the ramp; bit 2 of DB0 says that the value is in percent, and bit 0 is on. Own
 -- choice: it is off for the value 0
 message_of (Level offset value ramp) =
-    Some (ToAll offset (0x02 ∷ value ∷ ramp ∷ (if value == 0 then 0x0C else 0x0D) ∷ []))
+    Some (PayloadToAll offset (0x02 ∷ value ∷ ramp ∷ (if value == 0 then 0x0C else 0x0D) ∷ []))
 -- "4BS Telegram", variation 2: teach-in of the profile A5-38-08, with the manufacturer ID 7FF, which stands for any
-message_of (Teach offset) = Some (ToAll offset (0xE0 ∷ 0x47 ∷ 0xFF ∷ 0x80 ∷ []))
+message_of (Teach offset) = Some (PayloadToAll offset (0xE0 ∷ 0x47 ∷ 0xFF ∷ 0x80 ∷ []))
 message_of order = None
 
 -- the device of a message, if it is for one
 abbrev pub recipient_of : Option AddressedPayload → Option ℕ
-recipient_of (Some (ToOne id payload_of)) = Some id
+recipient_of (Some (PayloadToDevice id payload_of)) = Some id
 recipient_of message = None
 
 -- an order is for the device of its message, and is for devices if it has a message
@@ -98,9 +99,9 @@ four_bs_to_all base offset payload =
     })
 
 abbrev pub telegram_for : AddressedPayload → Option Device → (base : ℕ) → Result Telegram OrderFault
-telegram_for (ToOne id payload_of) None base = Err UnknownDevice
-telegram_for (ToOne id payload_of) (Some device) base = telegram_to_one base id (payload_of device.eep)
-telegram_for (ToAll offset payload) device base = four_bs_to_all base offset payload
+telegram_for (PayloadToDevice id payload_of) None base = Err UnknownDevice
+telegram_for (PayloadToDevice id payload_of) (Some device) base = telegram_to_one base id (payload_of device.eep)
+telegram_for (PayloadToAll offset payload) device base = four_bs_to_all base offset payload
 
 -- the telegram of an order to devices, or why there is none, given its device, if learned, and this base ID
 abbrev pub order_telegram : Order → Option Device → (base : ℕ) → Option (Result Telegram OrderFault)

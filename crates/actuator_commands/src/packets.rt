@@ -6,7 +6,8 @@ ghost use Rattle.erp1_telegrams.specs.Telegram.{payload_length_fits};
 ghost use Rattle.desk_orders.specs.Limits.{max_channel};
 ghost use Rattle.desk_orders.specs.Orders.{IsInRange};
 ghost use Rattle.desk_orders.specs.Recipients.{sends};
-ghost use Rattle.actuator_commands.specs.Packets.{ToOne, is_profile_of_actuator, meter_query_byte, order_telegram};
+ghost use Rattle.actuator_commands.specs.Packets.{PayloadToDevice, is_profile_of_actuator, meter_query_byte};
+ghost use Rattle.actuator_commands.specs.Packets.{order_telegram};
 ghost use Rattle.actuator_commands.specs.Packets.{payload_for};
 ghost use Rattle.actuator_commands.specs.Packets.{query_payload, telegram_for, four_bs_to_all, telegram_to_one};
 
@@ -44,18 +45,19 @@ impl ActuatorKind {
         base: u32,
     ) -> Result<Telegram, OrderFault>
         requires { IsTrue (payload_length_fits 0xD2 (length payload.now)) }
-        ensures { result ≡ telegram_for (ToOne id (payload_for self payload.now)) (option_copied device.entry) base }
+        ensures { result
+            ≡ telegram_for (PayloadToDevice id (payload_for self payload.now)) (option_copied device.entry) base }
     {
         let known = device.ok_or(OrderFault::UnknownDevice)?;
         if !self.is_profile_of_actuator(known.eep) {
             return Err(OrderFault::WrongProfile);
         }
-        Ok(to_one(id, payload, base))
+        Ok(telegram_to_device(id, payload, base))
     }
 }
 
 // A VLD telegram from the base ID to a device.
-fn to_one(id: u32, payload: &[u8], base: u32) -> Telegram
+fn telegram_to_device(id: u32, payload: &[u8], base: u32) -> Telegram
     requires { IsTrue (payload_length_fits 0xD2 (length payload.now)) }
     ensures { Ok result ≡ telegram_to_one base id (Some payload.now) }
 {
@@ -72,13 +74,13 @@ fn query_telegram(
     base: u32,
 ) -> Result<Telegram, OrderFault>
     requires { channel ≤ max_channel }
-    ensures { result ≡ telegram_for (ToOne id (query_payload channel)) (option_copied device.entry) base }
+    ensures { result ≡ telegram_for (PayloadToDevice id (query_payload channel)) (option_copied device.entry) base }
 {
     let device = device.ok_or(OrderFault::UnknownDevice)?;
     if ActuatorKind::SwitchOrDimmer.is_profile_of_actuator(device.eep) {
-        Ok(to_one(id, &[0x03, channel as u8], base))
+        Ok(telegram_to_device(id, &[0x03, channel as u8], base))
     } else if ActuatorKind::Blind.is_profile_of_actuator(device.eep) && channel == 0 {
-        Ok(to_one(id, &[0x03], base))
+        Ok(telegram_to_device(id, &[0x03], base))
     } else {
         Err(OrderFault::WrongProfile)
     }
@@ -96,7 +98,7 @@ fn meter_query_byte(channel: u32, quantity: Quantity) -> u8
 }
 
 // A 4BS telegram to all.
-fn to_all(offset: u32, payload: [u8; 4], base: u32) -> Result<Telegram, OrderFault>
+fn telegram_to_all(offset: u32, payload: [u8; 4], base: u32) -> Result<Telegram, OrderFault>
     requires { base + offset < 2 ^ 32 }
     ensures { result ≡ four_bs_to_all base offset payload }
 {
@@ -155,7 +157,7 @@ pub fn packet_of(order: &Order, device: Option<&Device>, base: u32) -> Result<Te
         Order::Stop { id } => ActuatorKind::Blind.telegram(id, &[0x02], device, base),
         Order::Central { offset, on } => {
             let bits = if on { 0x09 } else { 0x08 };
-            to_all(offset, [0x01, 0x00, 0x00, bits], base)
+            telegram_to_all(offset, [0x01, 0x00, 0x00, bits], base)
         }
         Order::Level {
             offset,
@@ -163,9 +165,9 @@ pub fn packet_of(order: &Order, device: Option<&Device>, base: u32) -> Result<Te
             ramp,
         } => {
             let bits = if value == 0 { 0x0C } else { 0x0D };
-            to_all(offset, [0x02, value as u8, ramp as u8, bits], base)
+            telegram_to_all(offset, [0x02, value as u8, ramp as u8, bits], base)
         }
-        Order::Teach { offset } => to_all(offset, [0xE0, 0x47, 0xFF, 0x80], base),
+        Order::Teach { offset } => telegram_to_all(offset, [0xE0, 0x47, 0xFF, 0x80], base),
         _ => unreachable!(),
     }
 }

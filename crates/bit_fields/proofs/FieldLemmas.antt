@@ -51,9 +51,9 @@ WithField-part f p p' b offset len value below l begins ends fits e =
     bits-append f (p' ++ b) ∙ ap (λ l. bits f ++ l) (bits-append p' b) in
     record {
       same_length = simp length-append (omega arith);
-      field_is = rw (new, ← place) all.field_is;
-      before = rw (new, old, ← place) all.before;
-      behind = rw (new, old, ← place) all.behind;
+      field_has_value = rw (new, ← place) all.field_has_value;
+      bits_before_kept = rw (new, old, ← place) all.bits_before_kept;
+      bits_after_kept = rw (new, old, ← place) all.bits_after_kept;
     }
 
 -- the same for the part of count bytes from first on
@@ -94,10 +94,10 @@ pub apart : (bytes changed : List ℕ) (offset len value : ℕ) → WithField by
     (o + l ≤ offset) ⊎ (offset + len ≤ o) → field changed o l ≡ field bytes o l
 apart bytes changed offset len value h o l (inl q) =
     field_of_front changed offset o l q
-    ∙ (ap (λ bs. number (take l (drop o bs))) h.before ∙ sym (field_of_front bytes offset o l q))
+    ∙ (ap (λ bs. number (take l (drop o bs))) h.bits_before_kept ∙ sym (field_of_front bytes offset o l q))
 apart bytes changed offset len value h o l (inr q) =
     field_of_back changed (offset + len) o l q
-    ∙ (ap (λ bs. number (take l (drop (o - (offset + len)) bs))) h.behind
+    ∙ (ap (λ bs. number (take l (drop (o - (offset + len)) bs))) h.bits_after_kept
     ∙ sym (field_of_back bytes (offset + len) o l q))
 
 pub one : (bytes a b : List ℕ) (offset len value : ℕ) → All (λ byte. byte < 2 ^ 8) a → All (λ byte. byte < 2 ^ 8) b
@@ -108,10 +108,12 @@ one bytes a b offset len value ha hb within sa sb =
     let ca = cut (bits a) offset len (AreBits-bits a) (omega (arith, length-bits a, sa.same_length)) in
     let cb = cut (bits b) offset len (AreBits-bits b) (omega (arith, length-bits b, sb.same_length)) in
     let middle : take len (drop offset (bits a)) ≡ take len (drop offset (bits b)) =
-    same_from_number _ _ ca.middle cb.middle (ca.len_middle ∙ sym cb.len_middle) (sa.field_is ∙ sym sb.field_is) in
+    same_from_number _ _ ca.middle cb.middle (ca.len_middle ∙ sym cb.len_middle)
+    (sa.field_has_value ∙ sym sb.field_has_value) in
     same_from_bits a b ha hb
     (sym ca.whole ∙ (ap (λ l. l ++ (take len (drop offset (bits a)) ++ drop (offset + len) (bits a)))
-    (sa.before ∙ sym sb.before)
+    (sa.bits_before_kept ∙ sym sb.bits_before_kept)
     ∙ (ap (λ l. take offset (bits b) ++ (l ++ drop (offset + len) (bits a))) middle
-    ∙ (ap (λ l. take offset (bits b) ++ (take len (drop offset (bits b)) ++ l)) (sa.behind ∙ sym sb.behind)
+    ∙ (ap (λ l. take offset (bits b) ++ (take len (drop offset (bits b)) ++ l))
+    (sa.bits_after_kept ∙ sym sb.bits_after_kept)
     ∙ cb.whole))))

@@ -17,9 +17,9 @@ number-with_middle number below len value =
 
 -- a number with new bits in its middle has the same bits before and after them
 pub record Keeps (xs : List ℕ) (offset len value : ℕ) (ys : List ℕ) : Type 0 where
-  pub field_is : number (take len (drop offset ys)) ≡ value
-  pub before : take offset ys ≡ take offset xs
-  pub behind : drop (offset + len) ys ≡ drop (offset + len) xs
+  pub field_has_value : number (take len (drop offset ys)) ≡ value
+  pub bits_before_kept : take offset ys ≡ take offset xs
+  pub bits_after_kept : drop (offset + len) ys ≡ drop (offset + len) xs
 
 -- a number with a new middle has the bits with a new middle
 pub keeps : (xs ys : List ℕ) (offset len value : ℕ) → AreBits xs → AreBits ys → length ys ≡ length xs
@@ -53,9 +53,9 @@ keeps xs ys offset len value hx hy l within fits e =
     let outer = same_from_place _ _ _ _ (2 ^ below) back_y back_x e' in
     let inner = same_from_place _ _ _ _ (2 ^ len) (middle-below ys offset len ky) fits outer.0 in
     record {
-      field_is = inner.1;
-      before = same_from_number _ _ ky.front kx.front (ky.len_front ∙ sym kx.len_front) inner.0;
-      behind =
+      field_has_value = inner.1;
+      bits_before_kept = same_from_number _ _ ky.front kx.front (ky.len_front ∙ sym kx.len_front) inner.0;
+      bits_after_kept =
           same_from_number _ _ ky.back kx.back (ky.len_back ∙ (ap (λ k. k - (offset + len)) l ∙ sym kx.len_back))
           outer.1;
     }
@@ -70,17 +70,18 @@ keeps-inside f p p' b offset len value l within h =
     let rest : len ≤ length (drop offset p') = omega (arith, length-drop offset p') in
     let sum : length f + offset + len ≡ length f + (offset + len) = omega arith in
     record {
-      field_is =
+      field_has_value =
           ap number (ap (take len) (drop-append-add f (p' ++ b) offset ∙ drop-append-le offset p' b short')
-          ∙ take-append-le len (drop offset p') b rest) ∙ h.field_is;
-      before =
+          ∙ take-append-le len (drop offset p') b rest) ∙ h.field_has_value;
+      bits_before_kept =
           take-append-add f (p' ++ b) offset
-          ∙ (ap (λ l. f ++ l) (take-append-le offset p' b short' ∙ (h.before ∙ sym (take-append-le offset p b short)))
+          ∙ (ap (λ l. f ++ l) (take-append-le offset p' b short'
+          ∙ (h.bits_before_kept ∙ sym (take-append-le offset p b short)))
           ∙ sym (take-append-add f (p ++ b) offset));
-      behind =
+      bits_after_kept =
           rw sum (drop-append-add f (p' ++ b) (offset + len)
           ∙ (drop-append-le (offset + len) p' b (omega arith)
-          ∙ (ap (λ l. l ++ b) h.behind
+          ∙ (ap (λ l. l ++ b) h.bits_after_kept
           ∙ (sym (drop-append-le (offset + len) p b within) ∙ sym (drop-append-add f (p ++ b) (offset + len))))));
     }
 

@@ -27,6 +27,6 @@ field bytes offset len = number (take len (drop offset (bits bytes)))
 -- field are those of bytes (own choice: the profiles do not say that a sender keeps the other bits)
 pub record WithField (bytes : List ℕ) (offset len value : ℕ) (changed : List ℕ) : Type 0 where
   pub same_length : length changed ≡ length bytes
-  pub field_is : field changed offset len ≡ value
-  pub before : take offset (bits changed) ≡ take offset (bits bytes)
-  pub behind : drop (offset + len) (bits changed) ≡ drop (offset + len) (bits bytes)
+  pub field_has_value : field changed offset len ≡ value
+  pub bits_before_kept : take offset (bits changed) ≡ take offset (bits bytes)
+  pub bits_after_kept : drop (offset + len) (bits changed) ≡ drop (offset + len) (bits bytes)

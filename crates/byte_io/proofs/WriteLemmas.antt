@@ -26,15 +26,15 @@ pub writes_part-trans : (old mid new : SinkValue) (first front text : List ℕ) 
     → WritesPart mid new front text → WritesPart old new (first ++ front) text
 writes_part-trans old mid new first front text a b = record {
   part = b.part;
-  missing = b.missing;
+  unwritten = b.unwritten;
   whole = b.whole;
-  proper = b.proper;
+  unwritten_is_not_empty = b.unwritten_is_not_empty;
   earlier = a.writes ++ b.earlier;
   last = b.last;
   accepts = rw (append_assoc a.writes b.earlier (b.last ∷ []), append_assoc first front b.part)
       (accepts-trans old mid new a.writes (b.earlier ++ b.last ∷ []) first (front ++ b.part) a.accepts b.accepts);
   each = All-append MovesBytes a.writes b.earlier a.each b.each;
-  stuck = b.stuck;
+  last_write_moves_nothing = b.last_write_moves_nothing;
 }
 
 -- what is written so far, and what remains

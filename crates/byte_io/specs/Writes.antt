@@ -23,14 +23,14 @@ pub record WritesText (old new : SinkValue) (text : List ℕ) : Type 0 where
 -- the front was written, and then some proper prefix of the text: only the last write failed or accepted 0 bytes
 pub record WritesPart (old new : SinkValue) (front text : List ℕ) : Type 0 where
   pub part : List ℕ
-  pub missing : List ℕ
-  pub whole : text ≡ part ++ missing
-  pub proper : 0 < length missing
+  pub unwritten : List ℕ
+  pub whole : text ≡ part ++ unwritten
+  pub unwritten_is_not_empty : 0 < length unwritten
   pub earlier : List Transfer
   pub last : Transfer
   pub accepts : Accepts old new (earlier ++ last ∷ []) (front ++ part)
   pub each : All MovesBytes earlier
-  pub stuck : MovesNothing last
+  pub last_write_moves_nothing : MovesNothing last
 
 -- all of the text for `Ok`, and a proper prefix of it for `Err`
 abbrev pub Writes : {A E : Type 0} → (old new : SinkValue) → Result A E → (text : List ℕ) → Type 0

@@ -24,7 +24,7 @@ impl History {
     }
 
     // The history with one more read or write: its result, and its buffer or its text.
-    pub(crate) fn with(&self, _answer: &Result<usize, Failed>, _bytes: &[u8]) -> History
+    pub(crate) fn with_transfer(&self, _answer: &Result<usize, Failed>, _bytes: &[u8]) -> History
         ensures { result.transfers ≡ self.now.transfers ++ transfer_of _answer.now _bytes.now ∷ [] }
     {
         History {}

@@ -51,7 +51,7 @@ impl<W: Write> Sink for OverWrite<W> {
 
     fn write(&mut self, text: &[u8]) -> Result<usize, Failed> {
         let answer = self.writer.write(text).map_err(|_| Failed);
-        self.history = self.history.with(&answer, text);
+        self.history = self.history.with_transfer(&answer, text);
         answer
     }
 }

@@ -53,7 +53,7 @@ impl<R: Read> Source for OverRead<R> {
 
     fn read(&mut self, buffer: &mut [u8]) -> Result<usize, Failed> {
         let answer = self.reader.read(buffer).map_err(|_| Failed);
-        self.history = self.history.with(&answer, buffer);
+        self.history = self.history.with_transfer(&answer, buffer);
         answer
     }
 }

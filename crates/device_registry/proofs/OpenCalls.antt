@@ -14,7 +14,8 @@ use Rattle.device_registry.specs.declared.fault.OpenFault.TheVariants.{NotARegis
 use Rattle.device_registry.specs.Stored.{AreVersion2Trees, AdmitsRegistry}
 use Rattle.device_registry.specs.Holding.{RewritesVersion}
 use Rattle.device_registry.specs.Opening.{IsPrepared, KeepsFoundDevices, IsForeignDatabase, IsOpened, FailsToOpen}
-use Rattle.device_registry.specs.Opening.{FoundDevicesAreUnique, ReturnedIsFound, FailedOpensKeepRegistries, ClosedFilesAreFound}
+use Rattle.device_registry.specs.Opening.{FoundDevicesAreUnique, ClosedRegistryIsFound, FailedOpensKeepRegistries}
+use Rattle.device_registry.specs.Opening.{ClosedFilesAreFound}
 use Rattle.keyed_table.proofs.Statements.{spared_remains, ready_with, survives_itself, updates_from}
 use Rattle.keyed_table.proofs.ListedTables.{one_database}
 use Rattle.device_registry.proofs.TablesRecognized.{admits, before, is_absent, is_present, status_implies}
@@ -275,8 +276,8 @@ failed_opens_keep_registries state old new fault clean failed = (
   ],
 )
 
-pub returned_is_found : {C : Type 0} (state : C → State) → ReturnedIsFound state
-returned_is_found state closed opened devices found clean committed has opens =
+pub closed_registry_is_found : {C : Type 0} (state : C → State) → ClosedRegistryIsFound state
+closed_registry_is_found state closed opened devices found clean committed has opens =
     let holds = committed clean opens.was_open devices has in
     sym (found_devices_are_unique _ devices found (inl (Second, holds)) opens.found)
 

@@ -26,7 +26,7 @@ use Rattle.device_registry.specs.Table.{meta_name}
 use Rattle.device_registry.specs.Stored.{HasNoReferenceTo, TreeHasName, MigrationAddsNoSequence, AdmitsTables, other}
 use Rattle.device_registry.specs.SchemaChecks.{is_referenced, has_foreign_key_to_ours, is_indexed, has_one_table}
 use Rattle.device_registry.specs.SchemaChecks.{lacks_needed_sequence_table, migration_adds_no_sequence, tree_of_table}
-use Rattle.device_registry.specs.private.CatalogRows.{are_our_tables}
+use Rattle.device_registry.specs.private.CatalogRows.{list_our_tables}
 use Rattle.device_registry.specs.private.TablesStatus.{are_creatable, are_unaffected, tables_in_trees}
 
 -- the disk was clean before
@@ -317,7 +317,7 @@ module _ (version : Version) (s : State) where
 
   -- the test of the listed rows decides whether the tables are listed
   pub ours : (new : State) (rows : List Row) → IsDatabase s.now → Shown list_objects_sql [] s new rows
-      → Decides (are_our_tables version rows) (AreTablesListed version s.now.trees)
+      → Decides (list_our_tables version rows) (AreTablesListed version s.now.trees)
   ours new rows sound shows =
       Decides-and _ _ (reported s new rows sound shows _ _, shows_line s new rows sound shows _ _)
       (reported s new rows sound shows _ _, shows_line s new rows sound shows _ _)

@@ -118,8 +118,8 @@ OnlyNonRegistriesAreRejected {C} state = (conn last : C) → HasCleanDisk (state
     → FailsToOpen (state conn) (state last) NotARegistry → IsForeignDatabase (state conn).committed.trees
 
 -- the next open finds what a closed registry returned
-abbrev pub ReturnedIsFound : {C : Type 0} → (C → State) → Type 0
-ReturnedIsFound {C} state = (closed opened : C) (devices found : Devices) → HasCleanDisk (state closed)
+abbrev pub ClosedRegistryIsFound : {C : Type 0} → (C → State) → Type 0
+ClosedRegistryIsFound {C} state = (closed opened : C) (devices found : Devices) → HasCleanDisk (state closed)
     → DevicesAreCommitted (state closed)
     → HasDevicesIfOpen (state closed) devices → Opens (state closed) (state opened) found → found ≡ devices
 

@@ -2,10 +2,10 @@
 ghost use Rattle.std.specs.Prelude.{◌≡◌};
 ghost use Rattle.std.specs.List.{list_any};
 ghost use Rattle.sqlite.specs.Order.{column};
-ghost use Rattle.device_registry.specs.private.CatalogRows.{is_text, is_catalog_row, are_our_tables};
+ghost use Rattle.device_registry.specs.private.CatalogRows.{is_text, is_catalog_row, list_our_tables};
 
 use crate::table::statements::CREATE_META;
-use crate::table::{META, Version};
+use crate::table::{META_TABLE_NAME, Version};
 use sqlite::Row;
 use sqlite::types::ValueRef;
 
@@ -32,10 +32,10 @@ fn has_catalog_row(rows: &[Row], name: &[u8], text: &[u8]) -> bool
 }
 
 /// Whether the rows list the two tables of this version with their texts.
-pub fn are_our_tables(rows: &[Row], version: Version) -> bool
-    ensures { result ≡ are_our_tables version rows.now }
+pub fn list_our_tables(rows: &[Row], version: Version) -> bool
+    ensures { result ≡ list_our_tables version rows.now }
 {
-    has_catalog_row(rows, META, CREATE_META.as_bytes())
+    has_catalog_row(rows, META_TABLE_NAME, CREATE_META.as_bytes())
         && has_catalog_row(
             rows,
             version.device_table_name(),

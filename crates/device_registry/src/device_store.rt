@@ -15,7 +15,7 @@ impl<C: SqlConnection> DeviceStore for RegistryOver<C> {
     }
 
     fn put(&mut self, device: Device) -> Result<(), LearnFault> {
-        self.put_keeping_label(device)
+        self.store_keeping_label(device)
     }
 
     fn delete(&mut self, id: u32) -> Result<(), StoreFault> {

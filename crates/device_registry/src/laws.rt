@@ -4,7 +4,8 @@ ghost use Rattle.sqlite_trees.specs.View.{IsClean};
 ghost use Rattle.sqlite_store.specs.FileStore.{view};
 ghost use Rattle.device_registry.specs.declared.cache_limits.TheConstants.{MAX_CACHED};
 ghost use Rattle.device_registry.specs.Opening.{max_cached, ClosedFilesAreFound, DevicesAreLimited};
-ghost use Rattle.device_registry.specs.Opening.{FoundDevicesAreUnique, ReturnedIsFound, RegistriesAreRecognized};
+ghost use Rattle.device_registry.specs.Opening.{ClosedRegistryIsFound, FoundDevicesAreUnique};
+ghost use Rattle.device_registry.specs.Opening.{RegistriesAreRecognized};
 ghost use Rattle.device_registry.specs.Opening.{OnlyNonRegistriesAreRejected, FailedOpensKeepRegistries};
 ghost use Rattle.sqlite.specs.Held.{state};
 ghost use Rattle.device_registry.specs.Holding.{HasSomeDevicesIfOpen, HeldDevicesMayBeLeft, SomeDevicesAreLeft};
@@ -61,8 +62,8 @@ pub fn only_non_registries_are_rejected<C: SqlConnection>()
 {}
 
 /// The next open finds what a closed registry returned.
-pub fn returned_is_found<C: SqlConnection>()
-    ensures { ReturnedIsFound C.state }
+pub fn closed_registry_is_found<C: SqlConnection>()
+    ensures { ClosedRegistryIsFound C.state }
 {}
 
 /// Whatever a crash leaves in the two files of a registry, they hold devices that this crash could leave. The premise

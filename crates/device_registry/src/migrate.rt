@@ -10,7 +10,7 @@ ghost use Rattle.device_registry.specs.Ready.{IsReadyWith, KeepsOtherTables};
 ghost use Rattle.device_registry.specs.Opening.{KeepsDatabaseIfStillOpen};
 
 use crate::table::Version;
-use crate::table::statements::{COPY, CREATE_DEVICE, DROP_DEVICE_V1, REWRITE_VERSION};
+use crate::table::statements::{COPY_V1, CREATE_DEVICE, DROP_DEVICE_V1, REWRITE_VERSION};
 use crate::transaction::run_and_check_catalog;
 use sqlite::{Alter, Connection, Error};
 
@@ -33,7 +33,7 @@ pub fn migrate<S: Alter>(conn: &mut Connection<S>) -> Result<(), Error>
     let mut migrating = conn.transaction();
     run_and_check_catalog(
         &mut migrating,
-        &[CREATE_DEVICE, COPY, DROP_DEVICE_V1, REWRITE_VERSION],
+        &[CREATE_DEVICE, COPY_V1, DROP_DEVICE_V1, REWRITE_VERSION],
         Version::Second,
     )?;
     migrating.commit()

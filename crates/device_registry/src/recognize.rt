@@ -10,7 +10,7 @@ ghost use Rattle.device_registry.specs.declared.schema_check.TablesStatus.TheVar
 ghost use Rattle.device_registry.specs.private.TablesStatus.{tables_status};
 ghost use Rattle.device_registry.specs.Table.{meta_name};
 
-use crate::catalog::are_our_tables;
+use crate::catalog::list_our_tables;
 use crate::sql_connection::SqlConnection;
 use crate::table::Version;
 use crate::table::row_codec::{are_ascending_devices, shows_version};
@@ -46,7 +46,7 @@ fn lists_our_tables<C: SqlConnection>(conn: &mut C, version: Version) -> Result<
         (C.state conn.new)) }
 {
     let rows = query_rows(conn, LIST_OBJECTS)?;
-    Ok(are_our_tables(&rows, version))
+    Ok(list_our_tables(&rows, version))
 }
 
 // Whether the version row is that of this version, and the other rows are those of devices, not too many.

@@ -139,7 +139,7 @@ impl<C: SqlConnection> RegistryOver<C> {
 
     // Stores a device. A known sender keeps its label, and its row is written without a count of the others; an unknown
     // one gets the empty label, which the device has here.
-    pub(crate) fn put_keeping_label(&mut self, device: Device) -> Result<(), LearnFault>
+    pub(crate) fn store_keeping_label(&mut self, device: Device) -> Result<(), LearnFault>
         requires { device.label ≡ [] }
         ensures learns { Learns (registry_state_of C.state C.commits self.old)
             (registry_state_of C.state C.commits self.new) device result }

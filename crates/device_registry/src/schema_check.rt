@@ -8,7 +8,7 @@ ghost use Rattle.device_registry.specs.SchemaChecks.{has_one_table, tree_of_tabl
 ghost use Rattle.device_registry.specs.private.TablesStatus.{is_index_or_view, are_creatable, are_unaffected};
 ghost use Rattle.device_registry.specs.private.TablesStatus.{tables_in_trees, tables_status};
 
-use crate::table::{META, Version};
+use crate::table::{META_TABLE_NAME, Version};
 use sqlite_schema::names::same_name;
 use sqlite_schema::schema::{Schema, Table};
 
@@ -44,7 +44,7 @@ fn is_referenced(schema: &Schema, name: &[u8]) -> bool
 fn has_foreign_key_to_ours(schema: &Schema) -> bool
     ensures { result ≡ has_foreign_key_to_ours schema.now }
 {
-    is_referenced(schema, META)
+    is_referenced(schema, META_TABLE_NAME)
         || is_referenced(schema, Version::First.device_table_name())
         || is_referenced(schema, Version::Second.device_table_name())
 }
@@ -91,7 +91,7 @@ fn migration_adds_no_sequence(schema: &Schema, version: Version) -> bool
 fn are_creatable(schema: &Schema) -> bool
     ensures { result ≡ are_creatable schema.now }
 {
-    !is_index_or_view(schema, META)
+    !is_index_or_view(schema, META_TABLE_NAME)
         && !is_index_or_view(schema, Version::First.device_table_name())
         && !is_index_or_view(schema, Version::Second.device_table_name())
         && !has_foreign_key_to_ours(schema)
@@ -174,7 +174,7 @@ pub fn tables_status(schema: &Schema) -> TablesStatus
 {
     tables_in_trees(
         schema,
-        tree_of_table(schema, META),
+        tree_of_table(schema, META_TABLE_NAME),
         tree_of_table(schema, Version::First.device_table_name()),
         tree_of_table(schema, Version::Second.device_table_name()),
     )

@@ -76,4 +76,4 @@ pub const VERSION_ROW_KEY: i64 = 1;
 pub const NO_MAKER: i64 = -1;
 
 /// The name of the version table.
-pub const META: &[u8] = b"enogate_meta";
+pub const META_TABLE_NAME: &[u8] = b"enogate_meta";

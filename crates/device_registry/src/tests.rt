@@ -1,14 +1,14 @@
 //! Tests of the effects of calls on a database, of the cache, and of the states after a failure or a crash.
-mod acts;
 mod cache;
+mod cached_registry;
 mod commits;
 mod crashes;
+mod database_inspection;
 mod databases;
 mod devices;
 mod disks;
+mod failure_trials;
 mod faults;
-mod given;
-mod looking;
-mod prepared;
-mod remembering;
-mod steps;
+mod fixtures;
+mod prepare_tests;
+mod test_steps;

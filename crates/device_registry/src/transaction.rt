@@ -9,7 +9,7 @@ ghost use Rattle.device_registry.specs.private.Transaction.{
   IsUncommitted,
 };
 
-use crate::catalog::are_our_tables;
+use crate::catalog::list_our_tables;
 use crate::table::Version;
 use crate::table::statements::LIST_OBJECTS;
 use sqlite::{Alter, Error, ErrorCode, Transaction};
@@ -48,7 +48,7 @@ pub fn run_and_check_catalog<S: Alter>(
 {
     run_all(ours, texts)?;
     let rows = ours.query_all(LIST_OBJECTS, &[])?;
-    if !are_our_tables(&rows, version) {
+    if !list_our_tables(&rows, version) {
         return Err(Error::SqliteFailure(ErrorCode::DatabaseCorrupt));
     }
     Ok(())

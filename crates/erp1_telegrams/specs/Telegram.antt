@@ -66,7 +66,7 @@ telegram_in p =
       dbm = dbm_of_optional p.opt;
     }
 
--- the telegram that a packet carries, or the first fault. Theorem `one_telegram`: it is the only telegram.
+-- the telegram that a packet carries, or the first fault. Theorem `telegram_of_packet_is_unique`: it is the only one.
 abbrev pub telegram_of : Packet → Result Telegram TelegramFault
 telegram_of p =
     if not (p.kind == 1) then Err NotRadio

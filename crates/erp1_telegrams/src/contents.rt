@@ -24,7 +24,7 @@ pub enum Contents {
 }
 
 // The payload, of `N` bytes, or `BadLength`.
-fn sized<const N: usize>(payload: &[u8]) -> Result<[u8; N], TelegramFault>
+fn fixed_length_payload<const N: usize>(payload: &[u8]) -> Result<[u8; N], TelegramFault>
     ensures { MatchResult result (λ bytes. (bytes ≡ payload.now) × (length payload.now ≡ N))
         (λ fault. (fault ≡ TelegramFault.BadLength) × (length payload.now ≢ N)) }
 {
@@ -35,7 +35,7 @@ fn sized<const N: usize>(payload: &[u8]) -> Result<[u8; N], TelegramFault>
 }
 
 // The payload of VLD, or `BadLength`.
-fn variable(payload: &[u8]) -> Result<ArrayVec<u8, 14>, TelegramFault>
+fn vld_payload(payload: &[u8]) -> Result<ArrayVec<u8, 14>, TelegramFault>
     ensures { MatchResult result
         (λ bytes. (bytes.items ≡ payload.now) × (payload_length_fits 0xD2 (length payload.now) ≡ true))
         (λ fault. (fault ≡ TelegramFault.BadLength) × (payload_length_fits 0xD2 (length payload.now) ≡ false)) }
@@ -58,11 +58,11 @@ impl Contents {
         ensures no_other { result ≢ Err TelegramFault.NotRadio }
     {
         match rorg {
-            rorg::RPS => Ok(Contents::Rps(sized(payload)?)),
-            rorg::ONE_BS => Ok(Contents::OneBs(sized(payload)?)),
-            rorg::FOUR_BS => Ok(Contents::FourBs(sized(payload)?)),
-            rorg::VLD => Ok(Contents::Vld(variable(payload)?)),
-            rorg::UTE => Ok(Contents::Ute(sized(payload)?)),
+            rorg::RPS => Ok(Contents::Rps(fixed_length_payload(payload)?)),
+            rorg::ONE_BS => Ok(Contents::OneBs(fixed_length_payload(payload)?)),
+            rorg::FOUR_BS => Ok(Contents::FourBs(fixed_length_payload(payload)?)),
+            rorg::VLD => Ok(Contents::Vld(vld_payload(payload)?)),
+            rorg::UTE => Ok(Contents::Ute(fixed_length_payload(payload)?)),
             _ => Err(TelegramFault::OtherKind),
         }
     }

@@ -232,8 +232,8 @@ unfolding same_eighth
 check_one b h = eqb-true _ _ (agree_below_at same_eighth (λ _. true) 256 b all_eighths h)
 
 -- one more byte: the CRC of the single byte that is the sum of this byte and the CRC so far
-pub check_next : (m : List ℕ) (b : ℕ) → b < 256 → check (m ++ b ∷ []) ≡ check (bit_xor (check m) b ∷ [])
-check_next m b h =
+pub crc_of_appended_byte : (m : List ℕ) (b : ℕ) → b < 256 → check (m ++ b ∷ []) ≡ check (bit_xor (check m) b ∷ [])
+crc_of_appended_byte m b h =
     let hc = check_byte m in
     let x : bit_xor (check m) b < 256 = xor_of_8 (check m) b hc h in
     let zero_fed : feed 0 (byte_bits b) ≡ eighth b =

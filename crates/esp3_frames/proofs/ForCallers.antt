@@ -1,5 +1,5 @@
 -- The facts about the definitions that proofs cite, also those of the crates above: the theorems, and their steps.
-pub use Rattle.esp3_frames.proofs.CheckLemmas.{check_next, check_nil}
+pub use Rattle.esp3_frames.proofs.CheckLemmas.{crc_of_appended_byte, check_nil}
 pub use Rattle.esp3_frames.proofs.PacketLemmas.{one_reading}
 pub use Rattle.esp3_frames.proofs.FrontLemmas.{front_partial}
 pub use Rattle.esp3_frames.proofs.FramingLemmas.{one_front_case_holds, empty_may_become, framing_of, only_framing}

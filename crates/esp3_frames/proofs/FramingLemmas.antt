@@ -182,24 +182,24 @@ same_take p q v s w t hp hq e = elim (split_fronts v s w t e) [
 same_more : (p q : Packet) (ps qs : List Packet) → p ≡ q → ps ≡ qs → (p ∷ ps) ≡ (q ∷ qs)
 same_more p q ps qs e f = cc
 
-pub one_framing : {s : List ℕ} {ps qs : List Packet} {r t : List ℕ} → Framing s ps r → Framing s qs t
+pub framing_is_unique : {s : List ℕ} {ps qs : List Packet} {r t : List ℕ} → Framing s ps r → Framing s qs t
     → (ps ≡ qs) × (r ≡ t)
-one_framing (ends l) (ends m) = (refl, refl)
-one_framing (ends l) (skips d c) = absurd (d.1 l)
-one_framing (ends l) (finds hp e c) = absurd (begins_not_may _ (begins_of _ hp e) l)
-one_framing (skips d c) (ends m) = absurd (d.1 m)
-one_framing (skips d c) (skips f g) = one_framing c g
-one_framing (skips d c) (finds hp e g) = absurd (d.0 (begins_of _ hp e))
-one_framing (finds hp e c) (ends m) = absurd (begins_not_may _ (begins_of _ hp e) m)
-one_framing (finds hp e c) (skips f g) = absurd (f.0 (begins_of _ hp e))
-one_framing (finds {p = p} {front = v} {s = s} {ps = ps} hp e c)
+framing_is_unique (ends l) (ends m) = (refl, refl)
+framing_is_unique (ends l) (skips d c) = absurd (d.1 l)
+framing_is_unique (ends l) (finds hp e c) = absurd (begins_not_may _ (begins_of _ hp e) l)
+framing_is_unique (skips d c) (ends m) = absurd (d.1 m)
+framing_is_unique (skips d c) (skips f g) = framing_is_unique c g
+framing_is_unique (skips d c) (finds hp e g) = absurd (d.0 (begins_of _ hp e))
+framing_is_unique (finds hp e c) (ends m) = absurd (begins_not_may _ (begins_of _ hp e) m)
+framing_is_unique (finds hp e c) (skips f g) = absurd (f.0 (begins_of _ hp e))
+framing_is_unique (finds {p = p} {front = v} {s = s} {ps = ps} hp e c)
     (finds {p = q} {front = w} {s = t} {ps = qs} {rest = u} hq f g) =
     let same = same_take p q v s w t hp hq (sym e ∙ f) in
-    let r = one_framing c (subst (λ (y : List ℕ). Framing y qs u) same.1 g) in
+    let r = framing_is_unique c (subst (λ (y : List ℕ). Framing y qs u) same.1 g) in
     (same_more p q ps qs same.0 r.0, r.1)
 
 pub only_framing : (s : List ℕ) (ps : List Packet) (r : List ℕ) → Framing s ps r → (ps ≡ packets_in s) × (r ≡ rest_of s)
-only_framing s ps r c = one_framing c (framing_of s)
+only_framing s ps r c = framing_is_unique c (framing_of s)
 
 -- the rest of a framing may become a packet
 pub rest_may_become : {s : List ℕ} {ps : List Packet} {r : List ℕ} → Framing s ps r → MayBecomePacket r

@@ -1,4 +1,4 @@
--- The framing of a stream, computed. Theorem `one_framing`: it is the only framing of the stream.
+-- The framing of a stream, computed. Theorem `framing_is_unique`: it is the only framing of the stream.
 use Rattle.std.specs.Prelude.{ℕ, zero, suc, ◌+◌, ◌*◌, List, [], ◌∷◌, length, take, drop, Bool, ◌&&◌, nat_le}
 use Rattle.std.specs.Prelude.{◌==◌, slice_index, slice_index_or, if◌then◌else◌}
 use Rattle.esp3_frames.specs.Check.{check}

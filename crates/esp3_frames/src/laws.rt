@@ -20,13 +20,13 @@ pub fn limits_agree()
 {}
 
 /// The CRC of a message with one more byte.
-pub fn check_next()
+pub fn crc_of_appended_byte()
     ensures { (m : List ℕ) (b : ℕ) → b < 256 → check (m ++ b ∷ []) ≡ check (bit_xor (check m) b ∷ []) }
 {}
 
 /// The CRC of a message in two parts: the CRC of the first part, advanced over as many zero bytes as the second part
 /// has, joined with the CRC of the second part. A sequence of 127 zero bytes changes no CRC.
-pub fn check_in_parts()
+pub fn crc_of_concatenation()
     ensures parts { (m w : List ℕ) → check (m ++ w) ≡ bit_xor (crc_after_zeros (check m) (length w)) (check w) }
     ensures zeros { (m : List ℕ) (n : ℕ) → check (m ++ replicate n 0) ≡ crc_after_zeros (check m) n }
     ensures period { (c n : ℕ) → c < 256 → crc_after_zeros c (n + 127) ≡ crc_after_zeros c n }
@@ -49,7 +49,7 @@ pub fn one_front_case_holds()
 
 /// Each stream has exactly one framing, and its rest may become a packet. A text that may become a packet is its own
 /// rest.
-pub fn one_framing()
+pub fn framing_is_unique()
     ensures some { (s : List ℕ) → Framing s (packets_in s) (rest_of s) }
     ensures only { (s r : List ℕ) (ps : List Packet) → Framing s ps r → (ps ≡ packets_in s) × (r ≡ rest_of s) }
     ensures rest { (s : List ℕ) → MayBecomePacket (rest_of s) }

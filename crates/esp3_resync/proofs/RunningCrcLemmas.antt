@@ -6,7 +6,7 @@ use Rattle.std.proofs.Math.Seq.{take-add}
 use Rattle.std.proofs.lemmas.Bool.{cases_lt}
 use Rattle.std.proofs.lemmas.List.{take_all, take-append-le, take_more, get_or-set_same, get_or-set_other}
 use Rattle.esp3_frames.specs.Check.{check}
-use Rattle.esp3_frames.proofs.ForCallers.{check_next}
+use Rattle.esp3_frames.proofs.ForCallers.{crc_of_appended_byte}
 use Rattle.esp3_resync.specs.private.RunningCrcs.{HasRunningCrcs}
 
 -- after the last byte is the CRC of all bytes
@@ -30,7 +30,7 @@ noted_next g w c s x n byte fits all noted = λ i within. elim (cases_lt i (leng
       let e : s + i ≡ s + length w + 1 = omega (arith, length-append w (x ∷ [])) in
       ap (λ k. get_or (slice_set c (s + length w + 1) (check (bit_xor n x ∷ []))) k 0) e
       ∙ get_or-set_same c (s + length w + 1) (check (bit_xor n x ∷ [])) 0 fits
-      ∙ ap (λ k. check (bit_xor k x ∷ [])) all ∙ sym (check_next (g ++ w) x byte)
+      ∙ ap (λ k. check (bit_xor k x ∷ [])) all ∙ sym (crc_of_appended_byte (g ++ w) x byte)
       ∙ ap check (append_assoc g w (x ∷ []))
       ∙ ap (λ (y : List ℕ). check (g ++ y))
       (sym (take_all i (w ++ x ∷ []) (omega (arith, length-append w (x ∷ [])))))
@@ -49,7 +49,7 @@ noted_more g w b c s at i k n m start below byte place fits all is noted =
     append_assoc w (take i b) (x ∷ []) ∙ ap (λ (y : List ℕ). w ++ y) (sym (take_more b i 0 below)) in
     let here : k ≡ s + length v + 1 = omega arith in
     let after : m ≡ check (g ++ (w ++ take (i + 1) b)) =
-    is ∙ ap (λ j. check (bit_xor j x ∷ [])) all ∙ sym (check_next (g ++ v) x byte)
+    is ∙ ap (λ j. check (bit_xor j x ∷ [])) all ∙ sym (crc_of_appended_byte (g ++ v) x byte)
     ∙ ap check (append_assoc g v (x ∷ [])) ∙ ap (λ (y : List ℕ). check (g ++ y)) more in (
       subst (λ (y : List ℕ). HasRunningCrcs g y s (slice_set c k m)) more
           (subst (λ j. HasRunningCrcs g (v ++ x ∷ []) s (slice_set c j m)) (sym here)

@@ -13,17 +13,18 @@ use std::alloc::{AllocError, Global};
 use std::marker::Model;
 
 // The minimum number of bytes between two moves of the CRCs.
-const SLACK: usize = 8192;
+const MIN_BYTES_BETWEEN_CRC_MOVES: usize = 8192;
 
 // The number of bytes whose CRCs can be stored. There is one more slot, for the CRC of all bytes.
-const CRC_CAPACITY: usize = MAX_PACKET + SLACK;
+const CRC_CAPACITY: usize = MAX_PACKET + MIN_BYTES_BETWEEN_CRC_MOVES;
 
 // Continues a running CRC over some bytes: `crcs` has at `at` the CRC of all bytes before them, and gets the CRC of
 // all bytes up to each of them.
 fn record_crcs(crcs: &mut [u8], at: usize, bytes: &[u8])
     requires { at + length bytes.now < length crcs.old }
     ensures len { length crcs.new ≡ length crcs.old }
-    ensures noted { (gone w : List ℕ) (start : ℕ) → at ≡ start + length w → HasRunningCrcs gone w start crcs.old →
+    ensures crcs_are_running { (gone w : List ℕ) (start : ℕ) → at ≡ start + length w
+        → HasRunningCrcs gone w start crcs.old →
         HasRunningCrcs gone (w ++ bytes.now) start crcs.new }
 {
     let mut all = crcs[at];

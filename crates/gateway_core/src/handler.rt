@@ -70,7 +70,7 @@ impl<S: DeviceStore> Handler<S> {
             alloc,
             base,
             mode: Mode::Closed,
-            counts: Counts::none(),
+            counts: Counts::zero(),
             registry,
         }
     }

@@ -38,7 +38,7 @@ pub fn inputs_of_appended_events()
 {}
 
 /// Two handled lists of inputs, one after the other, are handled as their concatenation.
-pub fn handles_join<S: DeviceStore>()
+pub fn handled_inputs_concatenate<S: DeviceStore>()
     ensures nothing { (handler : HandlerValue S) → Handles S.store_state handler [] [] handler }
     ensures join { (old mid new : HandlerValue S) (inputs more : List Input) (answers after : List Answer) →
         Handles S.store_state old inputs answers mid → Handles S.store_state mid more after new

@@ -8,7 +8,7 @@ use Rattle.gateway_core.specs.Step.{Input, Received}
 use Rattle.gateway_core.specs.Events.{InputEvent, Chunk, bytes_in, inputs_of, new_packets}
 use Rattle.gateway_core.proofs.ForCallers.{inputs_of-append, new_packets-append}
 use Rattle.gateway_loop.proofs.DeskCutLemmas.{orders_after, orders_after-append}
-use Rattle.gateway_loop.specs.Turns.{CutsOfTurnsDoNotMatter, Turn, desk_line_events, events_of_turns_after}
+use Rattle.gateway_loop.specs.Turns.{InputsDoNotDependOnReadSizes, Turn, desk_line_events, events_of_turns_after}
 
 none_dropped : {A : Type 0} (xs : List A) → drop (length xs) xs ≡ []
 none_dropped {A} xs = ap (λ (ys : List A). drop (length xs) ys) (sym (append-nil xs)) ∙ drop-append_seam xs []
@@ -84,8 +84,8 @@ after_earlier some others same (turn ∷ earlier) stream before =
     (after_earlier some others same earlier (stream ++ bytes_in own) now)
     ∙ sym (inputs_of-append stream own (events_of_turns_after now (earlier ++ others)))
 
-pub cuts_of_turns_do_not_matter : CutsOfTurnsDoNotMatter
-cuts_of_turns_do_not_matter = record {
+pub inputs_do_not_depend_on_read_sizes : InputsDoNotDependOnReadSizes
+inputs_do_not_depend_on_read_sizes = record {
   silence = λ earlier later.
       after_earlier (record { chunk = []; desk = [] } ∷ later) later
       (λ stream before.

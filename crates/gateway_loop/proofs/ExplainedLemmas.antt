@@ -4,7 +4,7 @@ use Rattle.std.specs.List.{flat_map}
 use Rattle.gateway_core.specs.Step.{Answer}
 use Rattle.byte_io.specs.Transfers.{bytes_of}
 use Rattle.byte_io.proofs.ForCallers.{writes-bytes}
-use Rattle.gateway_loop.specs.Explained.{DifferByExplanations, DifferByExplanationsAfter, ExplanationsStandApart}
+use Rattle.gateway_loop.specs.Explained.{DifferByExplanations, DifferByExplanationsAfter, ExplanationsOnlyAddLines}
 use Rattle.gateway_loop.specs.Written.{radio_chunk_line}
 
 -- each answer has some text before the one for the desk
@@ -42,8 +42,8 @@ module _ (before : Answer → List ℕ) where
     differ = explained-text answers;
   }
 
-pub explanations_stand_apart : ExplanationsStandApart
-explanations_stand_apart = record {
+pub explanations_only_add_lines : ExplanationsOnlyAddLines
+explanations_only_add_lines = record {
   replay = λ answers old new other first second.
       behind (λ answer. radio_chunk_line answer.radio) answers (bytes_of old.writes) (bytes_of new.writes)
       (bytes_of other.writes) (writes-bytes old new _ first) (writes-bytes old other _ second);

@@ -285,7 +285,7 @@ module _ {S : Type 0} (state : S → DeviceStoreState) where
             whole_lines,
             broken_off base found old.0 new.0 events event [] (script lines) began clean whole b
                 (λ answers. IsPrefix text (written explains answers))
-                (part_prefix (text_of explains) its.answers its.last part.part part.missing part.whole),
+                (part_prefix (text_of explains) its.answers its.last part.part part.unwritten part.whole),
           );
         }
 
@@ -367,7 +367,7 @@ module _ {S : Type 0} (state : S → DeviceStoreState) where
                 lines = all_desk_text explains answers;
                 radio_out = (radio.earlier ++ radio.last ∷ [], radio.accepts);
                 lines_out = (lines.writes, lines.accepts);
-                radio_is = part_prefix of_radio answers last radio.part radio.missing radio.whole;
+                radio_is = part_prefix of_radio answers last radio.part radio.unwritten radio.whole;
                 lines_are = fewer_prefix of_lines answers last;
               }
           | inr (radio, lines) ↦
@@ -377,7 +377,7 @@ module _ {S : Type 0} (state : S → DeviceStoreState) where
                 radio_out = (radio.writes, radio.accepts);
                 lines_out = (lines.earlier ++ lines.last ∷ [], lines.accepts);
                 radio_is = whole_prefix (all_radio_bytes (answers ++ last ∷ []));
-                lines_are = part_prefix of_lines answers last lines.part lines.missing lines.whole;
+                lines_are = part_prefix of_lines answers last lines.part lines.unwritten lines.whole;
               }
         ]
 

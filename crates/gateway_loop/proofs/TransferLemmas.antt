@@ -25,7 +25,8 @@ moves_or_not (Some bytes) nothing some = some nothing
 pub part_not_each : (old new : SinkValue) (front text : List ℕ) → WritesPart old new front text
     → EachIs MovesBytes old.writes new.writes → ⊥
 part_not_each old new front text p =
-    last_not_each MovesBytes old.writes new.writes p.earlier p.last p.accepts.made (moves_or_not p.last p.stuck)
+    last_not_each MovesBytes old.writes new.writes p.earlier p.last p.accepts.made
+    (moves_or_not p.last p.last_write_moves_nothing)
 
 pub text_each : (old new : SinkValue) (text : List ℕ) → WritesText old new text
     → EachIs MovesBytes old.writes new.writes

@@ -11,14 +11,14 @@ pub part_of_front : (old new : SinkValue) (front back : List ℕ) → WritesPart
     → WritesPart old new [] (front ++ back)
 part_of_front old new front back p = record {
   part = p.part;
-  missing = p.missing ++ back;
-  whole = ap (λ s. s ++ back) p.whole ∙ append_assoc p.part p.missing back;
-  proper = let some = p.proper in omega (arith, length-append p.missing back);
+  unwritten = p.unwritten ++ back;
+  whole = ap (λ s. s ++ back) p.whole ∙ append_assoc p.part p.unwritten back;
+  unwritten_is_not_empty = let some = p.unwritten_is_not_empty in omega (arith, length-append p.unwritten back);
   earlier = p.earlier;
   last = p.last;
   accepts = p.accepts;
   each = p.each;
-  stuck = p.stuck;
+  last_write_moves_nothing = p.last_write_moves_nothing;
 }
 
 -- after the front, a prefix of the back
@@ -28,14 +28,14 @@ part_of_back old mid new front back first second =
     let p = rw append-nil at (writes_part-trans old mid new front [] back first second) in
     record {
       part = front ++ p.part;
-      missing = p.missing;
-      whole = ap (λ s. front ++ s) p.whole ∙ sym (append_assoc front p.part p.missing);
-      proper = p.proper;
+      unwritten = p.unwritten;
+      whole = ap (λ s. front ++ s) p.whole ∙ sym (append_assoc front p.part p.unwritten);
+      unwritten_is_not_empty = p.unwritten_is_not_empty;
       earlier = p.earlier;
       last = p.last;
       accepts = p.accepts;
       each = p.each;
-      stuck = p.stuck;
+      last_write_moves_nothing = p.last_write_moves_nothing;
     }
 
 -- the front was written, and then the back

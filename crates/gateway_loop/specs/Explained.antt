@@ -24,9 +24,9 @@ pub record DifferByExplanationsAfter (before : Answer → List ℕ) (answers : L
   pub explained_is : explained ≡ held ++ explained_added
   pub differ : DifferByExplanations before answers plain_added explained_added
 
--- theorem `explanations_stand_apart`: explaining adds the lines that explain packets, each directly before the text for
+-- theorem `explanations_only_add_lines`: explaining adds the lines that explain packets, each just before the text for
 -- the desk, and changes nothing else in what a replay writes, or a live gateway to the desk and to the serial line
-pub record ExplanationsStandApart : Type 0 where
+pub record ExplanationsOnlyAddLines : Type 0 where
   pub replay : (answers : List Answer) (old new other : SinkValue)
       → AppendsReplayText false old new answers → AppendsReplayText true old other answers
       → DifferByExplanationsAfter (λ answer. radio_chunk_line answer.radio) answers (bytes_of old.writes)

@@ -43,8 +43,9 @@ events_of_turns_after before (turn ∷ turns) =
 abbrev pub events_of_turns : List Turn → List InputEvent
 events_of_turns turns = events_of_turns_after [] turns
 
--- theorem `cuts_of_turns_do_not_matter`: how the bytes before an order are split into reads does not change the inputs
-pub record CutsOfTurnsDoNotMatter : Type 0 where
+-- theorem `inputs_do_not_depend_on_read_sizes`: how the bytes before an order are split into reads does not change the
+-- inputs
+pub record InputsDoNotDependOnReadSizes : Type 0 where
   -- a turn whose reads returned 0 bytes, as while the serial line is silent and the desk gives no order
   pub silence : (earlier later : List Turn)
       → inputs_of [] (events_of_turns (earlier ++ record { chunk = []; desk = [] } ∷ later))

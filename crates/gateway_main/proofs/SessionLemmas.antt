@@ -4,7 +4,7 @@ use Rattle.sqlite.specs.State.{State, HasCleanDisk}
 use Rattle.learned_devices.specs.Devices.{Devices}
 use Rattle.device_registry.specs.declared.table.Version.TheVariants.{Second}
 use Rattle.device_registry.specs.Holding.{IsReturnedByClose, Opens, registry_state_of}
-use Rattle.device_registry.proofs.ForCallers.{returned_is_found}
+use Rattle.device_registry.proofs.ForCallers.{closed_registry_is_found}
 use Rattle.gateway_core.specs.Step.{Input, Answer}
 use Rattle.gateway_core.specs.Handling.{HandlerValue, Handles}
 use Rattle.gateway_core.specs.SessionCalls.{ClosedSessionLeaves, SessionMayLeave}
@@ -46,7 +46,7 @@ module _ {C : Type 0} (state : C → State) (commits : C → Option ℕ) where
       let ends = closed_session_leaves_last
       (registry_state_of state commits) old new found items answers clean begins handled in
       let itself : next ≡ ends.0 =
-      returned_is_found state new.registry opened ends.0 next clean closed.committed ends.1 opens in
+      closed_registry_is_found state new.registry opened ends.0 next clean closed.committed ends.1 opens in
       subst (ClosedSessionLeaves old.base found items answers) (sym itself) ends.2
 
   closed_is_a_life : (database opened : C) (base : ℕ) (old new : HandlerValue C) (items : List Input)

@@ -13,7 +13,7 @@ use byte_io::Sink;
 use device_registry::laws::devices_are_held;
 use device_registry::{RegistryOver, SqlConnection};
 use gateway_core::GatewayOver;
-pub use gateway_loop::laws::{cuts_of_turns_do_not_matter, explanations_stand_apart};
+pub use gateway_loop::laws::{explanations_only_add_lines, inputs_do_not_depend_on_read_sizes};
 
 /// Every gateway over a registry knows a state, while the disk has returned what was written and the connection is
 /// open.

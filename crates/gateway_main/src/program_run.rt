@@ -37,7 +37,7 @@ pub fn program(rt: &HostRuntime) -> ExitCode {
 fn run_command_line(rt: &HostRuntime) -> Result<(), Ending> {
     let words = arguments_of(rt).map_err(|error| ending_without_arguments(&error))?;
     let options = command_line::read(rt.alloc(), words.as_slice())?;
-    Ok(run(rt, &options)?)
+    Ok(open_and_serve(rt, &options)?)
 }
 
 fn arguments_of(rt: &HostRuntime) -> io::Result<Vec<String>> {
@@ -45,7 +45,7 @@ fn arguments_of(rt: &HostRuntime) -> io::Result<Vec<String>> {
 }
 
 // Opens the database, serves, and closes the database.
-fn run(rt: &HostRuntime, options: &Options<'_>) -> Result<(), Fault>
+fn open_and_serve(rt: &HostRuntime, options: &Options<'_>) -> Result<(), Fault>
     requires base { Address.is_base_id options.now.base ≡ true }
 {
     match options.db {
@@ -135,9 +135,9 @@ fn live_on_files<C: SqlConnection>(
     requires { HasNoReadyPacket gateway.old }
 {
     let (serial, desk, out) = files;
-    let serial = open(rt, serial)?;
-    let desk = open(rt, desk)?;
-    let out = open(rt, out)?;
+    let serial = open_file(rt, serial)?;
+    let desk = open_file(rt, desk)?;
+    let out = open_file(rt, out)?;
     Ok(live(
         &mut OverRead::new(SerialReader::new(rt, &serial, &desk)),
         &mut OverRead::new(&desk),
@@ -149,7 +149,7 @@ fn live_on_files<C: SqlConnection>(
     ))
 }
 
-fn open(rt: &HostRuntime, file: FileToOpen<'_>) -> Result<File, Fault> {
+fn open_file(rt: &HostRuntime, file: FileToOpen<'_>) -> Result<File, Fault> {
     let opened = match file.access {
         Access::Read => File::open(rt, file.path),
         Access::ReadAndWrite => OpenOptions::new()

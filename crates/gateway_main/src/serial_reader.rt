@@ -5,10 +5,10 @@ use std::io::{IsTerminal, Read, Seek};
 use std::time::{Clock, Duration};
 
 // For how many milliseconds after a read of the line the next ones may be left out.
-const LEFT_OUT: u64 = 100;
+const SKIP_MILLIS: u64 = 100;
 
 // Reads the serial line. A read of a terminal would wait for bytes, so it is left out, and returns 0 bytes at once,
-// while the desk's file has unread bytes: for at most `LEFT_OUT` milliseconds after the last read, and only if the
+// while the desk's file has unread bytes: for at most `SKIP_MILLIS` milliseconds after the last read, and only if the
 // desk was read since the one that was left out before.
 #[derive(Drop)]
 pub(crate) struct SerialReader<'a, T> {
@@ -34,7 +34,7 @@ impl<'a, T: Clock> SerialReader<'a, T> {
     }
 
     // Whether this read is left out. It is not if the time or the desk's position is unknown.
-    fn leaves_out(&mut self) -> bool {
+    fn skips_read(&mut self) -> bool {
         let Some(position) = position_before_unread(self.desk) else {
             return false;
         };
@@ -45,13 +45,13 @@ impl<'a, T: Clock> SerialReader<'a, T> {
             return false;
         };
         self.desk_position = Some(position);
-        now.saturating_sub(ended) < Duration::from_millis(LEFT_OUT)
+        now.saturating_sub(ended) < Duration::from_millis(SKIP_MILLIS)
     }
 }
 
 impl<T: Clock> Read for SerialReader<'_, T> {
     fn read(&mut self, buf: &mut [u8]) -> io::Result<usize> {
-        if self.leaves_out() {
+        if self.skips_read() {
             return Ok(0);
         }
         let mut line = self.line;

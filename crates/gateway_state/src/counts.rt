@@ -35,7 +35,7 @@ pub struct Counts {
 
 impl Counts {
     /// All counters are 0.
-    pub fn none() -> Counts
+    pub fn zero() -> Counts
         ensures { result ≡ zero_counts }
     {
         Counts {

@@ -57,27 +57,27 @@ const PACKETS_TO_ALL: &str = "\
     teach 5 = 55000a0701eba5e047ff80ff8000050003ffffffffff00ce";
 
 // The last sender of the last base ID.
-const PACKETS_FROM_LAST: &str = "\
+const PACKETS_FROM_LAST_SENDER_ID: &str = "\
     teach 126 = 55000a0701eba5e047ff80fffffffe0003ffffffffff0061|\
     central 126 on = 55000a0701eba501000009fffffffe0003ffffffffff00cc";
 
 // A type of D2-01 that cannot be learned.
-const OTHER_SWITCH: Profile = (0xD2, 0x01, 0xFF);
+const UNSUPPORTED_SWITCH: Profile = (0xD2, 0x01, 0xFF);
 
 // The profile of the device, the base ID, and orders with their packets.
 type OrderPackets = (Option<Profile>, u32, &'static str);
 
-const PACKETS: [OrderPackets; 5] = [
+const ORDER_PACKETS: [OrderPackets; 5] = [
     (Some(SWITCH), BASE, PACKETS_TO_SWITCHES),
-    (Some(OTHER_SWITCH), BASE, PACKETS_TO_SWITCHES),
+    (Some(UNSUPPORTED_SWITCH), BASE, PACKETS_TO_SWITCHES),
     (Some(BLIND), BASE, PACKETS_TO_BLINDS),
     (None, BASE, PACKETS_TO_ALL),
-    (None, LAST_BASE, PACKETS_FROM_LAST),
+    (None, LAST_BASE, PACKETS_FROM_LAST_SENDER_ID),
 ];
 
 #[test]
-fn packets(rt: HostRuntime) -> Result<(), Fail> {
-    for (profile, base, orders) in PACKETS {
+fn orders_have_given_packets(rt: HostRuntime) -> Result<(), Fail> {
+    for (profile, base, orders) in ORDER_PACKETS {
         for case in orders.split('|') {
             let (line, packet) = case.split_once(" = ").ok_or("no packet")?;
             let mut out = ArrayVec::<u8, 64>::new();
@@ -94,7 +94,7 @@ const ORDERS_TO_DEVICES: &str = "\
     blind 01800ABC 50|stop 01800ABC";
 
 // Profiles that cannot be learned, and are those of switches or blinds except for one number.
-const OTHER_PROFILES: [Profile; 5] = [
+const UNSUPPORTED_PROFILES: [Profile; 5] = [
     (0xA5, 0x38, 0x08),
     (0xA5, 0x01, 0x12),
     (0xA5, 0x05, 0x00),
@@ -107,7 +107,7 @@ fn orders_without_a_telegram(rt: HostRuntime) -> Result<(), Fail> {
     for line in ORDERS_TO_DEVICES.split('|') {
         let fault = telegram(line.as_bytes(), None, BASE)?.err();
         assert_eq!(rt; fault, Some(OrderFault::UnknownDevice), "{line}");
-        for profile in OTHER_PROFILES {
+        for profile in UNSUPPORTED_PROFILES {
             let fault = telegram(line.as_bytes(), Some(profile), BASE)?.err();
             assert_eq!(rt; fault, Some(OrderFault::WrongProfile), "{line}");
         }
@@ -117,7 +117,7 @@ fn orders_without_a_telegram(rt: HostRuntime) -> Result<(), Fail> {
 
 // The last offset of the last base ID is the ID that no sender has.
 #[test]
-fn orders_from_no_sender(rt: HostRuntime) -> Result<(), Fail> {
+fn orders_from_broadcast_id_fail(rt: HostRuntime) -> Result<(), Fail> {
     for line in "teach 127|central 127 on|level 127 0 0".split('|') {
         let fault = telegram(line.as_bytes(), None, LAST_BASE)?.err();
         assert_eq!(rt; fault, Some(OrderFault::Range), "{line}");
@@ -126,13 +126,13 @@ fn orders_from_no_sender(rt: HostRuntime) -> Result<(), Fail> {
 }
 
 // Orders with the device that they are for, `all` devices, or `none` if they have no telegram.
-const RECIPIENTS: &str = "\
+const RECIPIENTS_OF_ORDERS: &str = "\
     switch 01800ABC 0 on = 01800ABC|stop 00000000 = 00000000|central 5 on = all|learn on = none|\
     remove 01800ABC = none|label 01800ABC x = none|base = none";
 
 #[test]
-fn recipients(rt: HostRuntime) -> Result<(), Fail> {
-    for case in RECIPIENTS.split('|') {
+fn orders_have_given_recipients(rt: HostRuntime) -> Result<(), Fail> {
+    for case in RECIPIENTS_OF_ORDERS.split('|') {
         let (line, device) = case.split_once(" = ").ok_or("no device")?;
         let order = parse(line.as_bytes())?;
         let found = (order.sends(), order.recipient_id());

@@ -14,7 +14,7 @@ struct FailsOnce {
 }
 
 impl FailsOnce {
-    fn answer(&mut self, length: usize) -> io::Result<usize>
+    fn count_call_and_answer(&mut self, length: usize) -> io::Result<usize>
         ensures { IfOk result (λ n. n ≡ length) }
     {
         self.calls = self.calls.saturating_add(1);
@@ -27,13 +27,13 @@ impl FailsOnce {
 
 impl Read for FailsOnce {
     fn read(&mut self, buffer: &mut [u8]) -> io::Result<usize> {
-        self.answer(buffer.len())
+        self.count_call_and_answer(buffer.len())
     }
 }
 
 impl Write for FailsOnce {
     fn write(&mut self, text: &[u8]) -> io::Result<usize> {
-        self.answer(text.len())
+        self.count_call_and_answer(text.len())
     }
 
     fn flush(&mut self) -> io::Result<()> {

@@ -8,26 +8,29 @@ use learned_devices::Label;
 
 const DEVICE: u32 = 0x0180_0ABC;
 
-const CONTACT: Eep = Eep {
+const CONTACT_EEP: Eep = Eep {
     rorg: 0xD5,
     func: 0x00,
     typ: 0x01,
 };
 
 // A profile that cannot be learned.
-const LAST: Eep = Eep {
+const GREATEST_EEP: Eep = Eep {
     rorg: 0xFF,
     func: 0xFF,
     typ: 0xFF,
 };
 
-const ORDERS: [(&str, Order); 20] = [
+const LINES_AND_ORDERS: [(&str, Order); 20] = [
     ("learn on", Order::LearnOn),
     ("learn on answer", Order::LearnOnAnswer),
-    ("learn as ff-Ff-fF", Order::LearnAs(LAST)),
+    ("learn as ff-Ff-fF", Order::LearnAs(GREATEST_EEP)),
     ("learn off", Order::LearnOff),
-    ("add 01800aBc d5-00-01", Order::Add(DEVICE, CONTACT)),
-    ("add FFFFFFFE FF-FF-FF", Order::Add(0xFFFF_FFFE, LAST)),
+    ("add 01800aBc d5-00-01", Order::Add(DEVICE, CONTACT_EEP)),
+    (
+        "add FFFFFFFE FF-FF-FF",
+        Order::Add(0xFFFF_FFFE, GREATEST_EEP),
+    ),
     ("remove 00000000", Order::Remove(0)),
     ("list", Order::List),
     ("status", Order::Status),
@@ -98,22 +101,22 @@ const ORDERS: [(&str, Order); 20] = [
 ];
 
 #[test]
-fn orders(rt: HostRuntime) {
-    for (line, wanted) in &ORDERS {
+fn lines_parse_as_orders(rt: HostRuntime) {
+    for (line, wanted) in &LINES_AND_ORDERS {
         assert!(rt; parse(line.as_bytes()).as_ref() == Ok(wanted), "{line}");
     }
     orders_are_spelled();
 }
 
 // Lines with the label of the device.
-const LABELS: [(&str, &str); 2] = [
+const LINES_AND_LABELS: [(&str, &str); 2] = [
     ("label 01800ABC", ""),
     ("label 01800abc Door \"A\"", "Door \"A\""),
 ];
 
 #[test]
-fn label_orders(rt: HostRuntime) {
-    for (line, text) in LABELS {
+fn label_lines_parse_as_orders(rt: HostRuntime) {
+    for (line, text) in LINES_AND_LABELS {
         let id = DEVICE;
         let order = Label::new(text).map(|label| Order::Label { id, label });
         assert_eq!(rt; order.map(Ok), Some(parse(line.as_bytes())), "{line}");
@@ -121,21 +124,21 @@ fn label_orders(rt: HostRuntime) {
 }
 
 // A line is given without its end.
-const NO_ORDERS: [(&str, OrderFault); 3] = [
+const REJECTED_LINES: [(&str, OrderFault); 3] = [
     ("dim 01800ABC 0 101", OrderFault::Range),
     ("dim 01800ABC 0 007", OrderFault::Syntax),
     ("add 01800ABC D5-00-01\n", OrderFault::Syntax),
 ];
 
 #[test]
-fn lines_that_are_no_order(rt: HostRuntime) {
-    for (line, wanted) in NO_ORDERS {
+fn invalid_lines_are_rejected(rt: HostRuntime) {
+    for (line, wanted) in REJECTED_LINES {
         assert_eq!(rt; parse(line.as_bytes()), Err(wanted), "{line}");
     }
     lines_have_no_other_fault();
 }
 
-const IDS: [(&str, Option<u32>); 4] = [
+const TEXTS_AND_IDS: [(&str, Option<u32>); 4] = [
     ("01800aBC", Some(DEVICE)),
     ("FFFFFFFF", Some(0xFFFF_FFFF)),
     ("", None),
@@ -143,8 +146,8 @@ const IDS: [(&str, Option<u32>); 4] = [
 ];
 
 #[test]
-fn ids(rt: HostRuntime) {
-    for (digits, wanted) in IDS {
+fn texts_parse_as_ids(rt: HostRuntime) {
+    for (digits, wanted) in TEXTS_AND_IDS {
         assert_eq!(rt; id_of(digits.as_bytes()), wanted, "{digits}");
     }
     ids_are_spelled();

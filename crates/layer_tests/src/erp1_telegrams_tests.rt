@@ -10,18 +10,18 @@ use std::test::Fail;
 
 const SENDER: u32 = 0x0180_0ABC;
 
-const CONTACT: [u8; 21] = [
+const CONTACT_PACKET: [u8; 21] = [
     0x55, 0x00, 0x07, 0x07, 0x01, 0x7A, 0xD5, 0x09, 0x01, 0x80, 0x0A, 0xBC, 0x00, 0x01, 0xFF, 0xFF,
     0xFF, 0xFF, 0x2D, 0x00, 0x1F,
 ];
 
-const CONTACT_SENT: [u8; 21] = [
+const SENT_CONTACT_PACKET: [u8; 21] = [
     0x55, 0x00, 0x07, 0x07, 0x01, 0x7A, 0xD5, 0x09, 0x01, 0x80, 0x0A, 0xBC, 0x00, 0x03, 0xFF, 0xFF,
     0xFF, 0xFF, 0xFF, 0x00, 0x36,
 ];
 
 // All fields of a telegram.
-fn parts(telegram: &Telegram) -> (u8, &[u8], u32, u8, u32, Option<u8>) {
+fn telegram_fields(telegram: &Telegram) -> (u8, &[u8], u32, u8, u32, Option<u8>) {
     (
         telegram.rorg(),
         telegram.payload(),
@@ -34,12 +34,12 @@ fn parts(telegram: &Telegram) -> (u8, &[u8], u32, u8, u32, Option<u8>) {
 
 // The telegram of a contact, its contents, and the telegram made of them.
 #[test]
-fn a_contact(rt: HostRuntime) -> Result<(), Fail> {
-    let packet = read_packet(&CONTACT).ok_or("no packet")?;
+fn contact_telegram_is_read_and_written(rt: HostRuntime) -> Result<(), Fail> {
+    let packet = read_packet(&CONTACT_PACKET).ok_or("no packet")?;
     let telegram = read(&packet)?;
     let payload = [0x09].as_slice();
     assert_eq!(rt;
-        parts(&telegram),
+        telegram_fields(&telegram),
         (0xD5, payload, SENDER, 0, BROADCAST, Some(0x2D))
     );
     let byte = match telegram.contents() {
@@ -48,15 +48,15 @@ fn a_contact(rt: HostRuntime) -> Result<(), Fail> {
     };
     assert_eq!(rt; byte, Some(0x09));
     let made = Telegram::with_contents(Contents::OneBs([0x09]), SENDER, 0, BROADCAST, Some(0x2D));
-    assert_eq!(rt; parts(&made), parts(&telegram));
+    assert_eq!(rt; telegram_fields(&made), telegram_fields(&telegram));
     let mut out = ArrayVec::<u8, 64>::new();
     write(&made, &mut out)?;
-    assert_eq!(rt; out.as_slice(), CONTACT_SENT.as_slice());
+    assert_eq!(rt; out.as_slice(), SENT_CONTACT_PACKET.as_slice());
     Ok(())
 }
 
 // The type and the data of packets that are no telegram.
-const FAULTY: [(u8, &[u8], TelegramFault); 4] = [
+const PACKETS_WITHOUT_TELEGRAM: [(u8, &[u8], TelegramFault); 4] = [
     (2, &[0x00], TelegramFault::NotRadio),
     (1, &[], TelegramFault::BadLength),
     (1, &[0x30], TelegramFault::OtherKind),
@@ -64,8 +64,8 @@ const FAULTY: [(u8, &[u8], TelegramFault); 4] = [
 ];
 
 #[test]
-fn faults(rt: HostRuntime) {
-    for (row, (kind, body, why)) in FAULTY.iter().enumerate() {
+fn telegram_faults(rt: HostRuntime) {
+    for (row, (kind, body, why)) in PACKETS_WITHOUT_TELEGRAM.iter().enumerate() {
         let packet = PacketRef {
             kind: *kind,
             body,
@@ -78,7 +78,7 @@ fn faults(rt: HostRuntime) {
 }
 
 // The RORG of a telegram, and its shortest and its longest payload.
-const LENGTHS: [(u8, usize, usize); 5] = [
+const PAYLOAD_LENGTH_LIMITS: [(u8, usize, usize); 5] = [
     (0xF6, 1, 1),
     (0xD5, 1, 1),
     (0xA5, 4, 4),
@@ -88,9 +88,9 @@ const LENGTHS: [(u8, usize, usize); 5] = [
 
 // The gateway makes no telegram of another length.
 #[test]
-fn lengths_of_payloads(rt: HostRuntime) {
+fn payload_lengths_are_limited(rt: HostRuntime) {
     let zeros = [0; 16];
-    for (rorg, shortest, longest) in LENGTHS {
+    for (rorg, shortest, longest) in PAYLOAD_LENGTH_LIMITS {
         for len in 0..16_usize {
             let payload = zeros.get(..len).unwrap_or(&[]);
             let made = Telegram::new(rorg, payload, SENDER, 0, BROADCAST, None);
@@ -102,7 +102,7 @@ fn lengths_of_payloads(rt: HostRuntime) {
 
 // A packet needs 21 bytes of capacity, and the longest one 34.
 #[test]
-fn room_for_a_packet(rt: HostRuntime) -> Result<(), Fail> {
+fn packet_needs_buffer_capacity(rt: HostRuntime) -> Result<(), Fail> {
     let telegram = Telegram::new(0xD5, &[0x09], SENDER, 0, BROADCAST, Some(0x2D))?;
     let mut out = ArrayVec::<u8, 64>::new();
     out.try_extend_from_slice(&[7; 44])?;
@@ -115,7 +115,7 @@ fn room_for_a_packet(rt: HostRuntime) -> Result<(), Fail> {
     let done = write(&telegram, &mut out);
     assert_eq!(rt;
         (done, out.split_at(43)),
-        (Ok(()), ([7; 43].as_slice(), CONTACT_SENT.as_slice()))
+        (Ok(()), ([7; 43].as_slice(), SENT_CONTACT_PACKET.as_slice()))
     );
     out.clear();
     let telegram = Telegram::new(0xD2, &[7; 14], SENDER, 0, BROADCAST, None)?;
@@ -126,7 +126,7 @@ fn room_for_a_packet(rt: HostRuntime) -> Result<(), Fail> {
 
 // The profile D2-01-12 is of the RORG D2, the function 01 and the type 12 (EnOcean Equipment Profiles 2.6, "D2-01").
 #[test]
-fn profile_of_its_numbers(rt: HostRuntime) {
+fn eep_has_its_numbers(rt: HostRuntime) {
     let switch = Eep::new(0xD2, 0x01, 0x12);
     assert_eq!(rt; (switch.rorg, switch.func, switch.typ), (0xD2, 0x01, 0x12));
 }
@@ -169,7 +169,7 @@ fn gateway_ids(rt: HostRuntime) {
 }
 
 // The sender and the destination of telegrams, and why the gateway with the base ID FF800000 filters them out.
-const FILTERED: [(u32, u32, Option<FilterReason>); 4] = [
+const FILTER_CASES: [(u32, u32, Option<FilterReason>); 4] = [
     (SENDER, BROADCAST, None),
     (SENDER, 0xFF80_007F, None),
     (SENDER, 0xFF80_0080, Some(FilterReason::ForOthers)),
@@ -178,7 +178,7 @@ const FILTERED: [(u32, u32, Option<FilterReason>); 4] = [
 
 #[test]
 fn filtered_telegrams(rt: HostRuntime) -> Result<(), Fail> {
-    for (sender, dest, wanted) in FILTERED {
+    for (sender, dest, wanted) in FILTER_CASES {
         let telegram = Telegram::new(0xD5, &[0x09], sender, 0, dest, None)?;
         let found = filter_reason(0xFF80_0000, &telegram);
         assert_eq!(rt; found, wanted, "{sender} {dest}");

@@ -7,30 +7,30 @@ use esp3_frames::{
 use std::alloc::{AllocError, Global};
 use std::test::Fail;
 
-const CONTACT: [u8; 21] = [
+const CONTACT_PACKET: [u8; 21] = [
     0x55, 0x00, 0x07, 0x07, 0x01, 0x7A, 0xD5, 0x09, 0x01, 0x80, 0x0A, 0xBC, 0x00, 0x01, 0xFF, 0xFF,
     0xFF, 0xFF, 0x2D, 0x00, 0x1F,
 ];
 
 // The packet, and three more bytes.
-const CONTACT_AND_MORE: [u8; 24] = [
+const CONTACT_PACKET_AND_MORE: [u8; 24] = [
     0x55, 0x00, 0x07, 0x07, 0x01, 0x7A, 0xD5, 0x09, 0x01, 0x80, 0x0A, 0xBC, 0x00, 0x01, 0xFF, 0xFF,
     0xFF, 0xFF, 0x2D, 0x00, 0x1F, 0x55, 0x55, 0x55,
 ];
 
 // The packet with one wrong CRC, though the other is correct.
-const WRONG_HEADER: [u8; 21] = [
+const WRONG_HEADER_CRC: [u8; 21] = [
     0x55, 0x00, 0x07, 0x07, 0x01, 0x7B, 0xD5, 0x09, 0x01, 0x80, 0x0A, 0xBC, 0x00, 0x01, 0xFF, 0xFF,
     0xFF, 0xFF, 0x2D, 0x00, 0x1F,
 ];
 
-const WRONG_DATA: [u8; 21] = [
+const WRONG_DATA_CRC: [u8; 21] = [
     0x55, 0x00, 0x07, 0x07, 0x01, 0x7A, 0xD5, 0x09, 0x01, 0x80, 0x0A, 0xBC, 0x00, 0x01, 0xFF, 0xFF,
     0xFF, 0xFF, 0x2D, 0x00, 0x1E,
 ];
 
 // Bytes and their CRC. For the digits, 0xF4 is the check value that catalogues of CRCs give for CRC-8/SMBUS.
-const CHECKS: [(&[u8], u8); 4] = [
+const CRC_CASES: [(&[u8], u8); 4] = [
     (&[0x00, 0x07, 0x07, 0x01], 0x7A),
     (&[0x08], 0x38),
     (&[], 0x00),
@@ -38,8 +38,8 @@ const CHECKS: [(&[u8], u8); 4] = [
 ];
 
 #[test]
-fn check_bytes(rt: HostRuntime) {
-    for (bytes, wanted) in CHECKS {
+fn crcs_of_bytes(rt: HostRuntime) {
+    for (bytes, wanted) in CRC_CASES {
         assert_eq!(rt; check8(bytes), wanted, "{bytes:?}");
     }
     assert_eq!(rt; check8_next(0x00, 0x08), 0x38);
@@ -48,7 +48,7 @@ fn check_bytes(rt: HostRuntime) {
 // The CRCs before the last bytes of a message and of the whole message, the number of these bytes, and their CRC:
 // first of the header and of the data of the packet above; and then of rows of the bytes 3, 10, 17, .. (each 7 more
 // than the last, modulo 256) after "123456789". Another program computed them.
-const CHECKS_BETWEEN: [(u8, u8, usize, u8); 10] = [
+const CRC_BETWEEN_CASES: [(u8, u8, usize, u8); 10] = [
     (0xAC, 0x6D, 4, 0x7A),
     (0x65, 0x7C, 14, 0x1F),
     (0xF4, 0xF4, 0, 0x00),
@@ -62,17 +62,17 @@ const CHECKS_BETWEEN: [(u8, u8, usize, u8); 10] = [
 ];
 
 #[test]
-fn check_bytes_between(rt: HostRuntime) {
-    for (before, all, len, wanted) in CHECKS_BETWEEN {
+fn crcs_between_prefixes(rt: HostRuntime) {
+    for (before, all, len, wanted) in CRC_BETWEEN_CASES {
         assert_eq!(rt; check8_between(before, all, len), wanted, "{len}");
     }
 }
 
 // The lengths of data and optional data and the type in a header, or why it is none.
-type Fields = Result<(u16, u8, u8), HeaderFault>;
+type HeaderFields = Result<(u16, u8, u8), HeaderFault>;
 
 // The last three have two faults each, and the first of the two is reported.
-const HEADERS: [([u8; 6], Fields); 9] = [
+const HEADERS: [([u8; 6], HeaderFields); 9] = [
     ([0x55, 0x00, 0x07, 0x07, 0x01, 0x7A], Ok((7, 7, 1))),
     ([0x55, 0xFF, 0xFF, 0xFF, 0x09, 0x12], Ok((65_535, 255, 9))),
     ([0x55, 0x00, 0x00, 0x01, 0x09, 0x2A], Ok((0, 1, 9))),
@@ -103,7 +103,7 @@ const HEADERS: [([u8; 6], Fields); 9] = [
 ];
 
 #[test]
-fn headers(rt: HostRuntime) {
+fn headers_are_read(rt: HostRuntime) {
     for (row, (bytes, wanted)) in HEADERS.iter().enumerate() {
         let fields = match read_header(bytes) {
             Ok(header) => Ok((header.data_len, header.opt_len, header.kind)),
@@ -114,11 +114,11 @@ fn headers(rt: HostRuntime) {
 }
 
 #[test]
-fn a_packet_written(rt: HostRuntime) {
+fn contact_packet_is_written(rt: HostRuntime) {
     let mut out = ArrayVec::<u8, 24>::new();
-    let (body, opt) = (&CONTACT[6..13], &CONTACT[13..20]);
+    let (body, opt) = (&CONTACT_PACKET[6..13], &CONTACT_PACKET[13..20]);
     assert_eq!(rt; write_packet(1, body, opt, &mut out), Ok(()));
-    assert_eq!(rt; out.as_slice(), CONTACT.as_slice());
+    assert_eq!(rt; out.as_slice(), CONTACT_PACKET.as_slice());
     let again = write_packet(1, body, opt, &mut out);
     let empty = write_packet(1, &[], &[], &mut out);
     let wanted = (Err(PacketFault::NoRoom), Err(PacketFault::EmptyPacket));
@@ -126,43 +126,43 @@ fn a_packet_written(rt: HostRuntime) {
 }
 
 // Bytes, whether they are the packet, and whether they begin with it.
-struct Part {
+struct PacketSlice {
     bytes: &'static [u8],
     is_packet: bool,
     is_first: bool,
 }
 
-const PARTS: [Part; 4] = [
-    Part {
-        bytes: &CONTACT,
+const PACKET_SLICES: [PacketSlice; 4] = [
+    PacketSlice {
+        bytes: &CONTACT_PACKET,
         is_packet: true,
         is_first: true,
     },
-    Part {
-        bytes: &CONTACT_AND_MORE,
+    PacketSlice {
+        bytes: &CONTACT_PACKET_AND_MORE,
         is_packet: false,
         is_first: true,
     },
-    Part {
-        bytes: &WRONG_HEADER,
+    PacketSlice {
+        bytes: &WRONG_HEADER_CRC,
         is_packet: false,
         is_first: false,
     },
-    Part {
-        bytes: &WRONG_DATA,
+    PacketSlice {
+        bytes: &WRONG_DATA_CRC,
         is_packet: false,
         is_first: false,
     },
 ];
 
 #[test]
-fn parts_of_a_packet(rt: HostRuntime) {
+fn slices_of_a_packet(rt: HostRuntime) {
     let contact = PacketRef {
         kind: 1,
-        body: &CONTACT[6..13],
-        opt: &CONTACT[13..20],
+        body: &CONTACT_PACKET[6..13],
+        opt: &CONTACT_PACKET[13..20],
     };
-    for (row, part) in PARTS.iter().enumerate() {
+    for (row, part) in PACKET_SLICES.iter().enumerate() {
         let found = (read_packet(part.bytes), packet_at_start(part.bytes));
         let wanted = (
             part.is_packet.then_some(contact),
@@ -170,11 +170,11 @@ fn parts_of_a_packet(rt: HostRuntime) {
         );
         assert_eq!(rt; found, wanted, "row {row}");
     }
-    assert!(rt; packet_at_start(&CONTACT[..20]).is_none());
+    assert!(rt; packet_at_start(&CONTACT_PACKET[..20]).is_none());
 }
 
 // The header, followed by this many bytes 00.
-fn text_of(alloc: Global, header: [u8; 6], zeros: usize) -> Result<Vec<u8>, AllocError> {
+fn header_and_zeros(alloc: Global, header: [u8; 6], zeros: usize) -> Result<Vec<u8>, AllocError> {
     let mut text = Vec::new(alloc);
     text.extend_from_slice(&header)?;
     text.extend_from_slice(&vec![in alloc; 0; zeros]?)?;
@@ -183,7 +183,7 @@ fn text_of(alloc: Global, header: [u8; 6], zeros: usize) -> Result<Vec<u8>, Allo
 
 // A header, the number of bytes 00 after it (data, optional data and their CRC, which is 00 for such data), and the
 // lengths of data and optional data of the packet, if it is one.
-const ZEROS: [([u8; 6], usize, Option<(usize, usize)>); 3] = [
+const ZERO_DATA_CASES: [([u8; 6], usize, Option<(usize, usize)>); 3] = [
     (
         [0x55, 0xFF, 0xFF, 0xFF, 0x09, 0x12],
         65_791,
@@ -194,9 +194,9 @@ const ZEROS: [([u8; 6], usize, Option<(usize, usize)>); 3] = [
 ];
 
 #[test]
-fn long_packets_of_zeros(rt: HostRuntime) -> Result<(), Fail> {
-    for (header, zeros, wanted) in ZEROS {
-        let text = text_of(rt.alloc(), header, zeros)?;
+fn long_packets_of_zeros_are_read(rt: HostRuntime) -> Result<(), Fail> {
+    for (header, zeros, wanted) in ZERO_DATA_CASES {
+        let text = header_and_zeros(rt.alloc(), header, zeros)?;
         let lengths = read_packet(&text).map(|packet| (packet.body.len(), packet.opt.len()));
         assert_eq!(rt; lengths, wanted, "{zeros}");
     }
@@ -205,7 +205,7 @@ fn long_packets_of_zeros(rt: HostRuntime) -> Result<(), Fail> {
 
 // The lengths of data and optional data, the result of writing them into a buffer of 262 bytes, and its length then.
 // The length is checked before the capacity: what is not too long does not fit here.
-const WRITTEN: [(usize, usize, Result<(), PacketFault>, usize); 4] = [
+const WRITE_LENGTH_CASES: [(usize, usize, Result<(), PacketFault>, usize); 4] = [
     (65_536, 0, Err(PacketFault::TooLong), 0),
     (0, 256, Err(PacketFault::TooLong), 0),
     (65_535, 255, Err(PacketFault::NoRoom), 0),
@@ -213,11 +213,11 @@ const WRITTEN: [(usize, usize, Result<(), PacketFault>, usize); 4] = [
 ];
 
 #[test]
-fn longest_packets(rt: HostRuntime) -> Result<(), Fail> {
+fn longest_packets_are_written(rt: HostRuntime) -> Result<(), Fail> {
     assert_eq!(rt; MAX_PACKET, 65_797);
     let zeros = vec![in rt.alloc(); 0; 65_536]?;
     let mut out = ArrayVec::<u8, 262>::new();
-    for (data_len, opt_len, wanted, written) in WRITTEN {
+    for (data_len, opt_len, wanted, written) in WRITE_LENGTH_CASES {
         let data = zeros.get(..data_len).ok_or("too much data")?;
         let opt = zeros.get(..opt_len).ok_or("too much data")?;
         let done = write_packet(9, data, opt, &mut out);

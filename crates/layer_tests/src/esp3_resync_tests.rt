@@ -1,4 +1,4 @@
 //! Tests of `esp3_resync`: packets in streams.
-mod comparison;
-mod plain;
+mod framer_comparison;
+mod plain_framer;
 mod streams;

@@ -2,7 +2,7 @@
 use exact_values::{Fraction, over, scale};
 
 // The numerator and the denominator.
-fn parts(fraction: Fraction) -> (i64, i64) {
+fn numerator_and_denominator(fraction: Fraction) -> (i64, i64) {
     (fraction.num(), fraction.den())
 }
 
@@ -11,7 +11,7 @@ fn parts(fraction: Fraction) -> (i64, i64) {
 type ScaleCase = (u32, u32, u32, i32, i32, Option<(i64, i64)>);
 
 // Numbers between the bounds, at the bounds and past them, and the widest bounds.
-const SCALED: [ScaleCase; 13] = [
+const SCALE_CASES: [ScaleCase; 13] = [
     (127, 255, 0, 0, 400, Some((1024, 51))),
     (0, 1023, 0, -100, 412, Some((206, 5))),
     (10, 10, 20, -5, 5, Some((-1, 2))),
@@ -43,11 +43,11 @@ const SCALED: [ScaleCase; 13] = [
 
 #[test]
 fn scaled_numbers(rt: HostRuntime) {
-    for (raw, first, last, low, high, wanted) in SCALED {
+    for (raw, first, last, low, high, wanted) in SCALE_CASES {
         assert!(rt; first <= 65_535 && last <= 65_535 && first != last);
         assert!(rt; -1_000_000 <= low && low <= 1_000_000);
         assert!(rt; -1_000_000 <= high && high <= 1_000_000);
-        let found = scale(raw, first, last, low, high).map(parts);
+        let found = scale(raw, first, last, low, high).map(numerator_and_denominator);
         assert_eq!(rt; found, wanted, "{raw} from {first} to {last}");
     }
 }
@@ -59,7 +59,7 @@ fn quotients(rt: HostRuntime) {
         (over(0, 1000), (0, 1)),
         (over(7, 1), (7, 1)),
     ] {
-        assert_eq!(rt; parts(found), wanted, "{wanted:?}");
+        assert_eq!(rt; numerator_and_denominator(found), wanted, "{wanted:?}");
     }
     assert_eq!(rt; Fraction::default(), over(0, 1));
 }

@@ -8,25 +8,25 @@ use profile_rows::Unreadable;
 use std::error::Error;
 use std::test::Fail;
 
-const OF_HEADERS: [(HeaderFault, &str); 3] = [
+const HEADER_FAULT_TEXTS: [(HeaderFault, &str); 3] = [
     (HeaderFault::NotSync, "no sync byte"),
     (HeaderFault::HeaderCheck, "wrong check byte of the header"),
     (HeaderFault::EmptyPacket, "empty packet"),
 ];
 
-const OF_PACKETS: [(PacketFault, &str); 3] = [
+const PACKET_FAULT_TEXTS: [(PacketFault, &str); 3] = [
     (PacketFault::EmptyPacket, "empty packet"),
     (PacketFault::TooLong, "packet too long"),
     (PacketFault::NoRoom, "no room for the packet"),
 ];
 
-const OF_TELEGRAMS: [(TelegramFault, &str); 3] = [
+const TELEGRAM_FAULT_TEXTS: [(TelegramFault, &str); 3] = [
     (TelegramFault::NotRadio, "no radio packet"),
     (TelegramFault::OtherKind, "a telegram of another kind"),
     (TelegramFault::BadLength, "a telegram of a wrong length"),
 ];
 
-const OF_READINGS: [(Unreadable, &str); 4] = [
+const UNREADABLE_TEXTS: [(Unreadable, &str); 4] = [
     (Unreadable::NotSupported, "the profile is not supported"),
     (
         Unreadable::WrongKind,
@@ -42,7 +42,7 @@ const OF_READINGS: [(Unreadable, &str); 4] = [
     ),
 ];
 
-const OF_ORDERS: [(OrderFault, &str); 4] = [
+const ORDER_FAULT_TEXTS: [(OrderFault, &str); 4] = [
     (OrderFault::Syntax, "not an order"),
     (OrderFault::Range, "a number out of range"),
     (OrderFault::UnknownDevice, "an unknown device"),
@@ -64,11 +64,11 @@ fn have_texts<E: Error>(rt: &HostRuntime, cases: &[(E, &str)]) -> Result<(), Fai
 
 #[test]
 fn fault_texts(rt: HostRuntime) -> Result<(), Fail> {
-    have_texts(&rt, &OF_HEADERS)?;
-    have_texts(&rt, &OF_PACKETS)?;
-    have_texts(&rt, &OF_TELEGRAMS)?;
-    have_texts(&rt, &OF_READINGS)?;
-    have_texts(&rt, &OF_ORDERS)?;
+    have_texts(&rt, &HEADER_FAULT_TEXTS)?;
+    have_texts(&rt, &PACKET_FAULT_TEXTS)?;
+    have_texts(&rt, &TELEGRAM_FAULT_TEXTS)?;
+    have_texts(&rt, &UNREADABLE_TEXTS)?;
+    have_texts(&rt, &ORDER_FAULT_TEXTS)?;
     have_texts(&rt, &[(Failed, "a read or a write failed")])?;
     have_texts(&rt, &[(CommandLineFault::BadBase, "not a base ID")])
 }

@@ -21,36 +21,36 @@ fn is_rejected(rt: &HostRuntime, line: &str, wanted: ErrorKind) -> Result<(), Fa
 }
 
 // The service of `replay`.
-const REPLAY: Service<'static> = Service::Replay {
+const REPLAY_SERVICE: Service<'static> = Service::Replay {
     reads: 4_000_000_000,
 };
 
 // The files of all lines of `live` below.
-const SERIAL: FileToOpen<'static> = FileToOpen {
+const SERIAL_FILE: FileToOpen<'static> = FileToOpen {
     path: "/dev/s",
     access: Access::ReadAndWrite,
 };
 
-const DESK: FileToOpen<'static> = FileToOpen {
+const DESK_FILE: FileToOpen<'static> = FileToOpen {
     path: "in/d",
     access: Access::Read,
 };
 
-const OUT: FileToOpen<'static> = FileToOpen {
+const OUT_FILE: FileToOpen<'static> = FileToOpen {
     path: "o",
     access: Access::WriteAnew,
 };
 
 // The base ID, the database, whether packets are explained, and the turns if the service is `live`.
-type OptionValues = (u32, Option<&'static str>, bool, Option<u64>);
+type ExpectedOptions = (u32, Option<&'static str>, bool, Option<u64>);
 
-fn options_of((base, db, explain_packets, turns): OptionValues) -> Options<'static> {
+fn options_of((base, db, explain_packets, turns): ExpectedOptions) -> Options<'static> {
     let service = match turns {
-        None => REPLAY,
+        None => REPLAY_SERVICE,
         Some(turns) => Service::Live {
-            serial: SERIAL,
-            desk: DESK,
-            out: OUT,
+            serial: SERIAL_FILE,
+            desk: DESK_FILE,
+            out: OUT_FILE,
             turns,
         },
     };
@@ -63,9 +63,10 @@ fn options_of((base, db, explain_packets, turns): OptionValues) -> Options<'stat
 }
 
 // The start of lines of `live`, without its turns.
-const LIVE: &str = "enogate live --base FF800000 --serial /dev/s --desk in/d --out o ";
+const LIVE_COMMAND_LINE_START: &str =
+    "enogate live --base FF800000 --serial /dev/s --desk in/d --out o ";
 
-const ACCEPTED: [(&str, OptionValues); 5] = [
+const ACCEPTED_REPLAY_LINES: [(&str, ExpectedOptions); 5] = [
     (
         "enogate replay --base FF800000",
         (0xFF80_0000, None, false, None),
@@ -88,7 +89,7 @@ const ACCEPTED: [(&str, OptionValues); 5] = [
     ),
 ];
 
-const LIVE_ACCEPTED: [(&str, OptionValues); 5] = [
+const ACCEPTED_LIVE_LINES: [(&str, ExpectedOptions); 5] = [
     ("--turns 20", (0xFF80_0000, None, false, Some(20))),
     ("--turns +0020", (0xFF80_0000, None, false, Some(20))),
     ("--turns 1 --explain", (0xFF80_0000, None, true, Some(1))),
@@ -102,7 +103,7 @@ const LIVE_ACCEPTED: [(&str, OptionValues); 5] = [
     ),
 ];
 
-fn is_accepted(rt: &HostRuntime, line: &str, wanted: OptionValues) -> Result<(), Fail> {
+fn is_accepted(rt: &HostRuntime, line: &str, wanted: ExpectedOptions) -> Result<(), Fail> {
     let words = words_of(rt, line)?;
     match read(rt.alloc(), words.as_slice()) {
         Ok(options) if options == options_of(wanted) => Ok(()),
@@ -112,11 +113,11 @@ fn is_accepted(rt: &HostRuntime, line: &str, wanted: OptionValues) -> Result<(),
 
 #[test]
 fn accepted_lines(rt: HostRuntime) -> Result<(), Fail> {
-    for (line, wanted) in ACCEPTED {
+    for (line, wanted) in ACCEPTED_REPLAY_LINES {
         is_accepted(&rt, line, wanted)?;
     }
-    for (end, wanted) in LIVE_ACCEPTED {
-        let line = format!(in rt.alloc(); "{LIVE}{end}")?;
+    for (end, wanted) in ACCEPTED_LIVE_LINES {
+        let line = format!(in rt.alloc(); "{LIVE_COMMAND_LINE_START}{end}")?;
         is_accepted(&rt, line.as_str(), wanted)?;
     }
     let other_order = "enogate live --turns=20 --out=o --desk=in/d --serial=/dev/s --base=FF800000";
@@ -137,7 +138,7 @@ fn bad_bases(rt: HostRuntime) -> Result<(), Fail> {
 }
 
 // Command lines with the same start, their different ends, separated by `|`, and the kind of clap's error.
-const REJECTED: [(&str, &str, ErrorKind); 13] = [
+const REJECTED_LINES: [(&str, &str, ErrorKind); 13] = [
     ("enogate replay", " --help", ErrorKind::DisplayHelp),
     ("enogate", " --version", ErrorKind::DisplayVersion),
     (
@@ -171,13 +172,17 @@ const REJECTED: [(&str, &str, ErrorKind); 13] = [
         ErrorKind::UnknownArgument,
     ),
     (
-        LIVE,
+        LIVE_COMMAND_LINE_START,
         "--turns 1 --explain --explain",
         ErrorKind::ArgumentConflict,
     ),
-    (LIVE, "--turns 1 --explain=yes", ErrorKind::TooManyValues),
     (
-        LIVE,
+        LIVE_COMMAND_LINE_START,
+        "--turns 1 --explain=yes",
+        ErrorKind::TooManyValues,
+    ),
+    (
+        LIVE_COMMAND_LINE_START,
         "--turns=0|--turns=4294967296|--turns=18446744073709551617|--turns=-1|--turns=1x|--turns=",
         ErrorKind::ValueValidation,
     ),
@@ -185,7 +190,7 @@ const REJECTED: [(&str, &str, ErrorKind); 13] = [
 
 #[test]
 fn rejected_command_lines(rt: HostRuntime) -> Result<(), Fail> {
-    for (start, ends, kind) in REJECTED {
+    for (start, ends, kind) in REJECTED_LINES {
         for end in ends.split('|') {
             let line = format!(in rt.alloc(); "{start}{end}")?;
             is_rejected(&rt, line.as_str(), kind)?;
@@ -196,7 +201,7 @@ fn rejected_command_lines(rt: HostRuntime) -> Result<(), Fail> {
 
 // Each option of `live` that is left out is reported, and an option that is given twice is rejected.
 #[test]
-fn options_of_live(rt: HostRuntime) -> Result<(), Fail> {
+fn live_options_are_required_once(rt: HostRuntime) -> Result<(), Fail> {
     let options = [
         " --base FF800000",
         " --serial s",

@@ -15,43 +15,44 @@ use std::test::Fail;
 use teach_in::{Mode, Outcome, Verdict};
 
 // A window contact.
-const CONTACT: Eep = Eep {
+const CONTACT_EEP: Eep = Eep {
     rorg: 0xD5,
     func: 0x00,
     typ: 0x01,
 };
 
 // An actuator with a meter.
-const ACTUATOR: Eep = Eep {
+const ACTUATOR_EEP: Eep = Eep {
     rorg: 0xD2,
     func: 0x01,
     typ: 0x12,
 };
 
-fn is_line(rt: &impl Abort, line: &[u8], wanted: &str) {
+fn expect_line(rt: &impl Abort, line: &[u8], wanted: &str) {
     assert!(rt; line == wanted.as_bytes(), "{wanted}");
 }
 
-const NOTHING_READ: &str =
+const LINE_WITHOUT_READINGS: &str =
     "{\"dbm\":null,\"eep\":\"D5-00-01\",\"id\":\"00000001\",\"readings\":[],\"type\":\"reading\"}\n";
 
 // RFC 8259, "Strings": a quotation mark, a backslash and control characters are escaped; a space and `!` are not.
-const EACH_KIND_READ: &str = "{\"dbm\":-255,\"eep\":\"D2-01-12\",\"id\":\"FFFFFFFE\",\"readings\":[\
+const LINE_WITH_EACH_KIND_OF_READING: &str =
+    "{\"dbm\":-255,\"eep\":\"D2-01-12\",\"id\":\"FFFFFFFE\",\"readings\":[\
     {\"den\":200,\"name\":\"MR\",\"num\":3355443,\"unit\":\"kWh\"},\
     {\"name\":\"a \\\"b\\\"!\",\"word\":\"c\\\\d\\n\"},{\"name\":\"TI\",\"raw\":4294967295},\
     {\"name\":\"HUM\",\"out_of_range\":251}],\"type\":\"reading\"}\n";
 
 // Each profile has a reading, so no session has such a line.
 #[test]
-fn nothing_read(rt: HostRuntime) -> Result<(), Fail> {
+fn reading_line_without_readings(rt: HostRuntime) -> Result<(), Fail> {
     let telegram = Telegram::new(0xD5, &[0x09], 0x0000_0001, 0, BROADCAST, None)?;
-    let line = reading_line(rt.alloc(), &telegram, CONTACT, &Readings::new())?;
-    is_line(&rt, line.as_bytes(), NOTHING_READ);
+    let line = reading_line(rt.alloc(), &telegram, CONTACT_EEP, &Readings::new())?;
+    expect_line(&rt, line.as_bytes(), LINE_WITHOUT_READINGS);
     Ok(())
 }
 
 // Readings without a value. No profile has such a word.
-const WITHOUT_VALUE: [Reading; 3] = [
+const READINGS_WITHOUT_VALUE: [Reading; 3] = [
     Reading {
         name: "a \"b\"!",
         what: What::Word("c\\d\n"),
@@ -67,14 +68,14 @@ const WITHOUT_VALUE: [Reading; 3] = [
 ];
 
 #[test]
-fn each_kind_read(rt: HostRuntime) -> Result<(), Fail> {
+fn reading_line_with_each_kind(rt: HostRuntime) -> Result<(), Fail> {
     let mut readings = Readings::new();
     let what = What::Value(over(16_777_215, 1000), "kWh");
     readings.try_push(Reading { name: "MR", what })?;
-    readings.try_extend_from_slice(&WITHOUT_VALUE)?;
+    readings.try_extend_from_slice(&READINGS_WITHOUT_VALUE)?;
     let telegram = Telegram::new(0xD5, &[0x09], 0xFFFF_FFFE, 0, BROADCAST, Some(255))?;
-    let line = reading_line(rt.alloc(), &telegram, ACTUATOR, &readings)?;
-    is_line(&rt, line.as_bytes(), EACH_KIND_READ);
+    let line = reading_line(rt.alloc(), &telegram, ACTUATOR_EEP, &readings)?;
+    expect_line(&rt, line.as_bytes(), LINE_WITH_EACH_KIND_OF_READING);
     Ok(())
 }
 
@@ -85,25 +86,25 @@ const LISTED_DEVICES: &str =
     {\"count\":2,\"type\":\"list\"}\n";
 
 #[test]
-fn listings(rt: HostRuntime) -> Result<(), Fail> {
+fn device_lists_have_texts(rt: HostRuntime) -> Result<(), Fail> {
     let contact = Device {
         id: 0x0000_0001,
-        eep: CONTACT,
+        eep: CONTACT_EEP,
         maker: None,
         label: Label::new("Door \"A\" \\ ~").ok_or("no label")?,
     };
     let actuator = Device {
         id: 0xFFFF_FFFE,
-        eep: ACTUATOR,
+        eep: ACTUATOR_EEP,
         maker: Some(2047),
         label: Label::empty(),
     };
     let lines = device_lines(rt.alloc(), &[contact, actuator])?;
-    is_line(&rt, lines.as_bytes(), LISTED_DEVICES);
+    expect_line(&rt, lines.as_bytes(), LISTED_DEVICES);
     Ok(())
 }
 
-const GREATEST_COUNTS: Counts = Counts {
+const MAXIMUM_COUNTS: Counts = Counts {
     ignored: 18_446_744_073_709_551_615,
     readings: 18_446_744_073_709_551_615,
     refused: 18_446_744_073_709_551_615,
@@ -111,7 +112,7 @@ const GREATEST_COUNTS: Counts = Counts {
     teach: 18_446_744_073_709_551_615,
 };
 
-const COUNTS_OF_ONE: Counts = Counts {
+const COUNTS_OF_ONE_EACH: Counts = Counts {
     ignored: 1,
     readings: 1,
     refused: 1,
@@ -121,9 +122,9 @@ const COUNTS_OF_ONE: Counts = Counts {
 
 // A counter at its maximum does not change.
 #[test]
-fn counts(rt: HostRuntime) {
-    let mut counts = Counts::none();
-    let mut greatest = GREATEST_COUNTS;
+fn counters_stay_at_maximum(rt: HostRuntime) {
+    let mut counts = Counts::zero();
+    let mut greatest = MAXIMUM_COUNTS;
     for counter in [
         Counter::Ignored,
         Counter::Reading,
@@ -134,18 +135,18 @@ fn counts(rt: HostRuntime) {
         counts.increment(counter);
         greatest.increment(counter);
     }
-    assert_eq!(rt; (counts, greatest), (COUNTS_OF_ONE, GREATEST_COUNTS));
+    assert_eq!(rt; (counts, greatest), (COUNTS_OF_ONE_EACH, MAXIMUM_COUNTS));
 }
 
-const GREATEST_STATUS_LINE: &str =
+const STATUS_LINE_OF_MAXIMUM_COUNTS: &str =
     "{\"ignored\":18446744073709551615,\"mode\":\"as D2-01-12\",\"readings\":18446744073709551615,\
     \"refused\":18446744073709551615,\"responses\":18446744073709551615,\"teach\":18446744073709551615,\
     \"type\":\"status\"}\n";
 
 #[test]
-fn a_status(rt: HostRuntime) -> Result<(), Fail> {
-    let line = status_line(rt.alloc(), &GREATEST_COUNTS, Mode::LearnAs(ACTUATOR))?;
-    is_line(&rt, line.as_bytes(), GREATEST_STATUS_LINE);
+fn status_line_has_text(rt: HostRuntime) -> Result<(), Fail> {
+    let line = status_line(rt.alloc(), &MAXIMUM_COUNTS, Mode::LearnAs(ACTUATOR_EEP))?;
+    expect_line(&rt, line.as_bytes(), STATUS_LINE_OF_MAXIMUM_COUNTS);
     Ok(())
 }
 
@@ -153,45 +154,45 @@ const RESPONSE_LINE: &str =
     "{\"code\":0,\"data\":\"FF80000A\",\"name\":\"OK\",\"type\":\"response\"}\n";
 
 #[test]
-fn a_response(rt: HostRuntime) -> Result<(), Fail> {
+fn response_line_has_text(rt: HostRuntime) -> Result<(), Fail> {
     let line = response_line(rt.alloc(), 0, &[0xFF, 0x80, 0x00, 0x0A])?;
-    is_line(&rt, line.as_bytes(), RESPONSE_LINE);
+    expect_line(&rt, line.as_bytes(), RESPONSE_LINE);
     Ok(())
 }
 
 #[test]
 fn fixed_lines(rt: HostRuntime) {
-    is_line(&rt, done_line(), "{\"type\":\"ok\"}\n");
+    expect_line(&rt, done_line(), "{\"type\":\"ok\"}\n");
     let syntax = ErrorReason::Order(OrderFault::Syntax);
-    is_line(
+    expect_line(
         &rt,
         error_line(syntax),
         "{\"error\":\"syntax\",\"type\":\"error\"}\n",
     );
     let memory = ErrorReason::Failed(StoreFault::from(AllocError));
-    is_line(
+    expect_line(
         &rt,
         error_line(memory),
         "{\"error\":\"memory\",\"type\":\"error\"}\n",
     );
 }
 
-const UNSUPPORTED: &str =
+const UNSUPPORTED_TEACH_LINE: &str =
     "{\"eep\":\"D2-01-12\",\"id\":\"01800ABC\",\"maker\":70,\"result\":\"unsupported\",\
     \"type\":\"teach\"}\n";
 
 // The outcomes of accepted and deleted senders need a receipt: the sessions have them.
 #[test]
-fn a_teach_in(rt: HostRuntime) -> Result<(), Fail> {
+fn teach_line_has_text(rt: HostRuntime) -> Result<(), Fail> {
     let (id, outcome) = (0x0180_0ABC, Outcome::Unsupported);
-    let draft = teach_line(rt.alloc(), id, Some(ACTUATOR), Some(70), outcome)?;
+    let draft = teach_line(rt.alloc(), id, Some(ACTUATOR_EEP), Some(70), outcome)?;
     let line = draft.tell(&Verdict::refused(id, outcome));
-    is_line(&rt, line.as_bytes(), UNSUPPORTED);
+    expect_line(&rt, line.as_bytes(), UNSUPPORTED_TEACH_LINE);
     Ok(())
 }
 
 // Each number, the payload and the word have as many characters as they can have.
-const LONGEST: &str =
+const LONGEST_PACKET_LINE: &str =
     "{\"dbm\":-255,\"dest\":\"FFABCDEF\",\"eep\":\"D2-3F-7F\",\"id\":\"12345678\",\"maker\":65535,\
     \"payload\":\"000102030405060708090A0B0CFF\",\"rorg\":\"D2\",\"status\":\"8F\",\"type\":\"packet\",\
     \"why\":\"teach_in_reply\"}\n";
@@ -208,12 +209,12 @@ fn the_longest_packet_line(rt: HostRuntime) -> Result<(), Fail> {
         }),
         why: HandlingReason::TeachInReply,
     });
-    is_line(&rt, line.as_slice(), LONGEST);
-    assert_eq!(rt; (LONGEST.len(), MAX_PACKET_LINE), (184, 184));
+    expect_line(&rt, line.as_slice(), LONGEST_PACKET_LINE);
+    assert_eq!(rt; (LONGEST_PACKET_LINE.len(), MAX_PACKET_LINE), (184, 184));
     Ok(())
 }
 
-const WITHOUT_TELEGRAM: &str =
+const PACKET_LINE_WITHOUT_TELEGRAM: &str =
     "{\"kind\":255,\"size\":65535,\"type\":\"packet\",\"why\":\"empty_response\"}\n";
 
 #[test]
@@ -225,5 +226,5 @@ fn a_packet_without_telegram(rt: HostRuntime) {
         },
         why: HandlingReason::EmptyResponse,
     });
-    is_line(&rt, line.as_slice(), WITHOUT_TELEGRAM);
+    expect_line(&rt, line.as_slice(), PACKET_LINE_WITHOUT_TELEGRAM);
 }

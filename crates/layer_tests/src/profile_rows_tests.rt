@@ -1,5 +1,5 @@
 //! A number for each kind of row, with its meaning; the rows whose conditions hold; and which profiles an arm reads.
-use crate::readings::Content::{OutOfRange, Raw, Value, Word};
+use crate::readings::ExpectedContent::{OutOfRange, Raw, Value, Word};
 use crate::readings::has_content;
 use profile_rows::rows::{
     number, over, over_power, percent_or_word_127, range, reserved, threshold, words,
@@ -7,7 +7,7 @@ use profile_rows::rows::{
 use profile_rows::{Reading, Readings, What, read_profiles, read_rows};
 
 #[test]
-fn numbers(rt: HostRuntime) {
+fn row_kinds_have_meanings(rt: HostRuntime) {
     let contact = [(0, "open"), (1, "closed")];
     for (row, (found, wanted)) in [
         // values
@@ -41,7 +41,7 @@ fn numbers(rt: HostRuntime) {
 }
 
 #[test]
-fn rows_that_hold(rt: HostRuntime) {
+fn rows_are_read_if_their_conditions_hold(rt: HostRuntime) {
     let first = Reading {
         name: "PF",
         what: What::Raw(0),
@@ -62,7 +62,7 @@ fn rows_that_hold(rt: HostRuntime) {
 }
 
 #[test]
-fn two_types(rt: HostRuntime) {
+fn arms_match_listed_types(rt: HostRuntime) {
     let cases: [((u8, u8, u8), bool); 5] = [
         ((0xA5, 0x12, 0x02), true),
         ((0xA5, 0x12, 0x03), true),

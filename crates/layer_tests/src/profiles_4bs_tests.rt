@@ -1,6 +1,6 @@
 //! 4BS telegrams with known readings, errors, and the profiles.
-use crate::readings::Content::{OutOfRange, Value};
-use crate::readings::{Profile, ReadingCase, Types, UnreadableCase};
+use crate::readings::ExpectedContent::{OutOfRange, Value};
+use crate::readings::{Profile, ReadingCase, SupportedTypes, UnreadableCase};
 use profile_rows::{Reading, Unreadable, What};
 
 // A temperature sensor of 0 to 40 C.
@@ -10,9 +10,9 @@ const TEMPERATURE: Profile = (0xA5, 0x02, 0x05);
 const HUMIDITY: Profile = (0xA5, 0x04, 0x01);
 
 // A central command, which no sensor sends.
-const OTHER: Profile = (0xA5, 0x38, 0x08);
+const UNSUPPORTED_PROFILE: Profile = (0xA5, 0x38, 0x08);
 
-pub const READ: [ReadingCase; 2] = [
+pub const READING_CASES: [ReadingCase; 2] = [
     ReadingCase {
         profile: TEMPERATURE,
         payload: &[0x00, 0x00, 0x7F, 0x08],
@@ -28,16 +28,16 @@ pub const READ: [ReadingCase; 2] = [
 ];
 
 /// The reading that is there before an error.
-pub const BEFORE: Reading = Reading {
+pub const READING_BEFORE_FAULT: Reading = Reading {
     name: "TI",
     what: What::Raw(7),
 };
 
 /// Telegrams that are not read: the last one is a query.
-pub const UNREADABLE: [UnreadableCase; 4] = [
-    (OTHER, 0xD5, &[0x00], Unreadable::NotSupported),
+pub const UNREADABLE_CASES: [UnreadableCase; 4] = [
+    (UNSUPPORTED_PROFILE, 0xD5, &[0x00], Unreadable::NotSupported),
     (
-        OTHER,
+        UNSUPPORTED_PROFILE,
         0xA5,
         &[0x08, 0x28, 0x46, 0x80],
         Unreadable::NotSupported,
@@ -56,7 +56,7 @@ pub const UNREADABLE: [UnreadableCase; 4] = [
     ),
 ];
 
-pub const SUPPORTED: [Types; 8] = [
+pub const SUPPORTED_TYPES: [SupportedTypes; 8] = [
     (
         0xA5,
         0x02,

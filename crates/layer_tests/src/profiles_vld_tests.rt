@@ -1,17 +1,17 @@
 //! VLD telegrams with known readings, errors, and the profiles.
-use crate::readings::Content::{OutOfRange, Raw, Value, Word};
-use crate::readings::{Profile, ReadingCase, Types, UnreadableCase};
+use crate::readings::ExpectedContent::{OutOfRange, Raw, Value, Word};
+use crate::readings::{Profile, ReadingCase, SupportedTypes, UnreadableCase};
 use profile_rows::{Reading, Unreadable, What};
 
 // An electronic switch.
 const SWITCH: Profile = (0xD2, 0x01, 0x12);
 
 // A type of the same FUNC that is not supported.
-const OTHER: Profile = (0xD2, 0x01, 0x13);
+const UNSUPPORTED_PROFILE: Profile = (0xD2, 0x01, 0x13);
 
 const BLINDS: Profile = (0xD2, 0x05, 0x00);
 
-pub const READ: [ReadingCase; 3] = [
+pub const READING_CASES: [ReadingCase; 3] = [
     ReadingCase {
         profile: SWITCH,
         payload: &[0x04, 0x60, 0xE4],
@@ -46,14 +46,19 @@ pub const READ: [ReadingCase; 3] = [
 ];
 
 /// The reading that is there before an error.
-pub const BEFORE: Reading = Reading {
+pub const READING_BEFORE_FAULT: Reading = Reading {
     name: "IO",
     what: What::Raw(1),
 };
 
-pub const UNREADABLE: [UnreadableCase; 8] = [
-    (OTHER, 0xD2, &[0x04, 0x60, 0xE4], Unreadable::NotSupported),
-    (OTHER, 0xF6, &[0x04], Unreadable::NotSupported),
+pub const UNREADABLE_CASES: [UnreadableCase; 8] = [
+    (
+        UNSUPPORTED_PROFILE,
+        0xD2,
+        &[0x04, 0x60, 0xE4],
+        Unreadable::NotSupported,
+    ),
+    (UNSUPPORTED_PROFILE, 0xF6, &[0x04], Unreadable::NotSupported),
     (
         SWITCH,
         0xA5,
@@ -72,7 +77,7 @@ pub const UNREADABLE: [UnreadableCase; 8] = [
     ),
 ];
 
-pub const SUPPORTED: [Types; 2] = [
+pub const SUPPORTED_TYPES: [SupportedTypes; 2] = [
     (
         0xD2,
         0x01,

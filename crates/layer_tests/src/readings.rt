@@ -8,7 +8,7 @@ use std::test::Fail;
 
 /// The expected content of a reading: a value has a numerator, a denominator and a unit.
 #[derive(Clone, Copy)]
-pub enum Content {
+pub enum ExpectedContent {
     Value(i64, i64, &'static str),
     Word(&'static str),
     Raw(u32),
@@ -23,23 +23,23 @@ pub struct ReadingCase {
     pub profile: Profile,
     pub payload: &'static [u8],
     pub status: u8,
-    pub readings: &'static [(&'static str, Content)],
+    pub readings: &'static [(&'static str, ExpectedContent)],
 }
 
 /// A profile, the RORG and the payload of a telegram that is not read for it, and the reason.
 pub type UnreadableCase = (Profile, u8, &'static [u8], Unreadable);
 
 /// The RORG, a FUNC, and its types that are supported.
-pub type Types = (u8, u8, &'static [u8]);
+pub type SupportedTypes = (u8, u8, &'static [u8]);
 
 #[derive(Clone, Copy)]
-enum Crate {
+enum ProfileCrate {
     Rps,
     FourByte,
     Vld,
 }
 
-impl Crate {
+impl ProfileCrate {
     fn read(
         self,
         eep: Eep,
@@ -47,9 +47,9 @@ impl Crate {
         readings: &mut Readings,
     ) -> Result<(), Unreadable> {
         match self {
-            Crate::Rps => profiles_rps::read(eep, telegram, readings),
-            Crate::FourByte => profiles_4bs::read(eep, telegram, readings),
-            Crate::Vld => profiles_vld::read(eep, telegram, readings),
+            ProfileCrate::Rps => profiles_rps::read(eep, telegram, readings),
+            ProfileCrate::FourByte => profiles_4bs::read(eep, telegram, readings),
+            ProfileCrate::Vld => profiles_vld::read(eep, telegram, readings),
         }
     }
 }
@@ -59,20 +59,20 @@ fn telegram(rorg: u8, payload: &[u8], status: u8) -> Result<Telegram, Fail> {
 }
 
 // Whether a reading has the expected content.
-pub(crate) fn has_content(what: What, wanted: Content) -> bool {
+pub(crate) fn has_content(what: What, wanted: ExpectedContent) -> bool {
     match (what, wanted) {
-        (What::Value(value, unit), Content::Value(num, den, wanted)) => {
+        (What::Value(value, unit), ExpectedContent::Value(num, den, wanted)) => {
             value.num() == num && value.den() == den && unit == wanted
         }
-        (What::Word(word), Content::Word(wanted)) => word == wanted,
-        (What::Raw(raw), Content::Raw(wanted)) => raw == wanted,
-        (What::OutOfRange(raw), Content::OutOfRange(wanted)) => raw == wanted,
+        (What::Word(word), ExpectedContent::Word(wanted)) => word == wanted,
+        (What::Raw(raw), ExpectedContent::Raw(wanted)) => raw == wanted,
+        (What::OutOfRange(raw), ExpectedContent::OutOfRange(wanted)) => raw == wanted,
         _ => false,
     }
 }
 
 // Whether these are the readings, in this order.
-fn have_contents(readings: &[Reading], wanted: &[(&'static str, Content)]) -> bool {
+fn have_contents(readings: &[Reading], wanted: &[(&'static str, ExpectedContent)]) -> bool {
     for (reading, (name, wanted)) in readings.iter().zip(wanted) {
         if reading.name != *name || !has_content(reading.what, *wanted) {
             return false;
@@ -81,7 +81,7 @@ fn have_contents(readings: &[Reading], wanted: &[(&'static str, Content)]) -> bo
     readings.len() == wanted.len()
 }
 
-fn are_read(rt: &impl Abort, by: Crate, cases: &[ReadingCase]) -> Result<(), Fail> {
+fn cases_are_read(rt: &impl Abort, by: ProfileCrate, cases: &[ReadingCase]) -> Result<(), Fail> {
     for (row, case) in cases.iter().enumerate() {
         let mut readings = Readings::new();
         let (rorg, func, typ) = case.profile;
@@ -94,16 +94,20 @@ fn are_read(rt: &impl Abort, by: Crate, cases: &[ReadingCase]) -> Result<(), Fai
 }
 
 #[test]
-fn worked_readings(rt: HostRuntime) -> Result<(), Fail> {
-    are_read(&rt, Crate::Rps, &profiles_rps_tests::READ)?;
-    are_read(&rt, Crate::FourByte, &profiles_4bs_tests::READ)?;
-    are_read(&rt, Crate::Vld, &profiles_vld_tests::READ)
+fn telegrams_have_expected_readings(rt: HostRuntime) -> Result<(), Fail> {
+    cases_are_read(&rt, ProfileCrate::Rps, &profiles_rps_tests::READING_CASES)?;
+    cases_are_read(
+        &rt,
+        ProfileCrate::FourByte,
+        &profiles_4bs_tests::READING_CASES,
+    )?;
+    cases_are_read(&rt, ProfileCrate::Vld, &profiles_vld_tests::READING_CASES)
 }
 
 // An error leaves the readings that were there before.
-fn are_unreadable(
+fn cases_are_unreadable(
     rt: &impl Abort,
-    by: Crate,
+    by: ProfileCrate,
     before: Reading,
     cases: &[UnreadableCase],
 ) -> Result<(), Fail> {
@@ -125,16 +129,31 @@ fn are_unreadable(
 #[test]
 fn unreadable_telegrams(rt: HostRuntime) -> Result<(), Fail> {
     let (switches, four_bytes) = (
-        &profiles_rps_tests::UNREADABLE,
-        &profiles_4bs_tests::UNREADABLE,
+        &profiles_rps_tests::UNREADABLE_CASES,
+        &profiles_4bs_tests::UNREADABLE_CASES,
     );
-    are_unreadable(&rt, Crate::Rps, profiles_rps_tests::BEFORE, switches)?;
-    are_unreadable(&rt, Crate::FourByte, profiles_4bs_tests::BEFORE, four_bytes)?;
-    let before = profiles_vld_tests::BEFORE;
-    are_unreadable(&rt, Crate::Vld, before, &profiles_vld_tests::UNREADABLE)
+    cases_are_unreadable(
+        &rt,
+        ProfileCrate::Rps,
+        profiles_rps_tests::READING_BEFORE_FAULT,
+        switches,
+    )?;
+    cases_are_unreadable(
+        &rt,
+        ProfileCrate::FourByte,
+        profiles_4bs_tests::READING_BEFORE_FAULT,
+        four_bytes,
+    )?;
+    let before = profiles_vld_tests::READING_BEFORE_FAULT;
+    cases_are_unreadable(
+        &rt,
+        ProfileCrate::Vld,
+        before,
+        &profiles_vld_tests::UNREADABLE_CASES,
+    )
 }
 
-fn is_in_table(eep: Eep, table: &[Types]) -> bool {
+fn is_listed_as_supported(eep: Eep, table: &[SupportedTypes]) -> bool {
     for (rorg, func, types) in table {
         if *rorg == eep.rorg && *func == eep.func {
             return types.contains(&eep.typ);
@@ -156,9 +175,9 @@ fn supported_profiles(rt: HostRuntime) {
                     profiles_vld::supports(eep),
                 );
                 let wanted = (
-                    is_in_table(eep, &profiles_rps_tests::SUPPORTED),
-                    is_in_table(eep, &profiles_4bs_tests::SUPPORTED),
-                    is_in_table(eep, &profiles_vld_tests::SUPPORTED),
+                    is_listed_as_supported(eep, &profiles_rps_tests::SUPPORTED_TYPES),
+                    is_listed_as_supported(eep, &profiles_4bs_tests::SUPPORTED_TYPES),
+                    is_listed_as_supported(eep, &profiles_vld_tests::SUPPORTED_TYPES),
                 );
                 assert_eq!(rt; found, wanted, "{rorg} {func} {typ}");
             }
@@ -172,7 +191,7 @@ fn data_of_a_contact(rt: HostRuntime) -> Result<(), Fail> {
     let telegram = Telegram::new(0xD5, &[0x09], 0x0180_0ABC, 0, BROADCAST, None)?;
     let mut readings = Readings::new();
     let result = profiles_rps::read_1bs_data(0x00, 0x01, &telegram, &mut readings);
-    let is_well = have_contents(&readings, &[("CO", Content::Word("closed"))]);
+    let is_well = have_contents(&readings, &[("CO", ExpectedContent::Word("closed"))]);
     assert!(rt; result == Ok(()) && is_well, "{readings:?}");
     Ok(())
 }
@@ -190,7 +209,7 @@ fn data_of_a_temperature_sensor(rt: HostRuntime) -> Result<(), Fail> {
     )?;
     let mut readings = Readings::new();
     let result = profiles_4bs::read_4bs_data(0x02, 0x05, &telegram, &mut readings);
-    let is_well = have_contents(&readings, &[("TMP", Content::Value(1024, 51, "C"))]);
+    let is_well = have_contents(&readings, &[("TMP", ExpectedContent::Value(1024, 51, "C"))]);
     assert!(rt; result == Ok(()) && is_well, "{readings:?}");
     Ok(())
 }

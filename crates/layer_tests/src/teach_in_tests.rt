@@ -43,18 +43,18 @@ const UTE_PROFILE: Eep = Eep {
 };
 
 // A 4BS query of A5-02-05, maker 70.
-const THERMOMETER: [u8; 4] = [0x08, 0x28, 0x46, 0x80];
+const THERMOMETER_4BS_QUERY: [u8; 4] = [0x08, 0x28, 0x46, 0x80];
 
 // UTE queries of D2-01-12, maker 70: teach-in and deletion.
-const LAMP: [u8; 7] = [0xA0, 0x01, 0x46, 0x00, 0x12, 0x01, 0xD2];
+const LAMP_UTE_QUERY: [u8; 7] = [0xA0, 0x01, 0x46, 0x00, 0x12, 0x01, 0xD2];
 
-const LAMP_DELETION: [u8; 7] = [0x90, 0x01, 0x46, 0x00, 0x12, 0x01, 0xD2];
+const LAMP_UTE_DELETION_QUERY: [u8; 7] = [0x90, 0x01, 0x46, 0x00, 0x12, 0x01, 0xD2];
 
 fn telegram(rorg: u8, payload: &[u8]) -> Result<Telegram, Fail> {
     Ok(Telegram::new(rorg, payload, SENDER, 0, BROADCAST, None)?)
 }
 
-const ROLES: [(u8, &[u8], Teach); 7] = [
+const TEACH_IN_ROLES: [(u8, &[u8], Teach); 7] = [
     (0xD5, &[0x00], Teach::Contact),
     (0xD5, &[0x08], Teach::Plain),
     (0xA5, &[0x00, 0x00, 0x00, 0x00], Teach::Bare),
@@ -69,8 +69,8 @@ const ROLES: [(u8, &[u8], Teach); 7] = [
 ];
 
 #[test]
-fn roles(rt: HostRuntime) -> Result<(), Fail> {
-    for (row, (rorg, payload, wanted)) in ROLES.iter().enumerate() {
+fn telegrams_have_teach_in_roles(rt: HostRuntime) -> Result<(), Fail> {
+    for (row, (rorg, payload, wanted)) in TEACH_IN_ROLES.iter().enumerate() {
         let found = classify(&telegram(*rorg, payload)?);
         assert_eq!(rt; found, *wanted, "row {row}");
     }
@@ -92,16 +92,16 @@ fn ute_query(payload: &[u8]) -> Result<UteQuery, Fail> {
 }
 
 #[test]
-fn a_four_byte_query(rt: HostRuntime) -> Result<(), Fail> {
-    let query = four_byte_query(&THERMOMETER)?;
+fn four_byte_query_is_read(rt: HostRuntime) -> Result<(), Fail> {
+    let query = four_byte_query(&THERMOMETER_4BS_QUERY)?;
     let found = (query.id(), query.eep(), query.maker());
     assert_eq!(rt; found, (SENDER, THERMOMETER_PROFILE, 70));
     Ok(())
 }
 
 #[test]
-fn a_ute_query(rt: HostRuntime) -> Result<(), Fail> {
-    let query = ute_query(&LAMP)?;
+fn ute_query_is_read(rt: HostRuntime) -> Result<(), Fail> {
+    let query = ute_query(&LAMP_UTE_QUERY)?;
     let found = (query.id(), query.eep(), query.maker(), query.wants_reply());
     assert_eq!(rt; found, (SENDER, LAMP_PROFILE, 70, true));
     Ok(())
@@ -117,7 +117,7 @@ enum ExpectedPlan {
     Refuse(Outcome),
 }
 
-fn is_wanted(plan: &Plan, wanted: ExpectedPlan) -> bool {
+fn is_expected_plan(plan: &Plan, wanted: ExpectedPlan) -> bool {
     match (plan, wanted) {
         (Plan::Silent, ExpectedPlan::Silent) => true,
         (Plan::Add(device), ExpectedPlan::Add(eep, maker)) => {
@@ -140,7 +140,7 @@ struct PlanCase {
     wanted: ExpectedPlan,
 }
 
-const PLANS: [PlanCase; 8] = [
+const PLAN_CASES: [PlanCase; 8] = [
     PlanCase {
         telegram: (0xD5, &[0x00]),
         mode: Mode::Learn,
@@ -160,13 +160,13 @@ const PLANS: [PlanCase; 8] = [
         wanted: ExpectedPlan::Refuse(Outcome::NoProfile),
     },
     PlanCase {
-        telegram: (0xD4, &LAMP),
+        telegram: (0xD4, &LAMP_UTE_QUERY),
         mode: Mode::LearnAnswer,
         known: false,
         wanted: ExpectedPlan::Add(LAMP_PROFILE, Some(70)),
     },
     PlanCase {
-        telegram: (0xD4, &LAMP_DELETION),
+        telegram: (0xD4, &LAMP_UTE_DELETION_QUERY),
         mode: Mode::Learn,
         known: true,
         wanted: ExpectedPlan::Forget,
@@ -185,7 +185,7 @@ const PLANS: [PlanCase; 8] = [
     },
     // Not even with exactly the profile of the mode, which the gateway never has.
     PlanCase {
-        telegram: (0xD4, &LAMP),
+        telegram: (0xD4, &LAMP_UTE_QUERY),
         mode: Mode::LearnAs(UTE_PROFILE),
         known: false,
         wanted: ExpectedPlan::Silent,
@@ -193,17 +193,17 @@ const PLANS: [PlanCase; 8] = [
 ];
 
 #[test]
-fn plans(rt: HostRuntime) -> Result<(), Fail> {
-    for (row, case) in PLANS.iter().enumerate() {
+fn telegrams_have_plans(rt: HostRuntime) -> Result<(), Fail> {
+    for (row, case) in PLAN_CASES.iter().enumerate() {
         let (rorg, payload) = case.telegram;
         let plan = plan(&telegram(rorg, payload)?, case.mode, case.known);
-        assert!(rt; is_wanted(&plan, case.wanted), "row {row}: {plan:?}");
+        assert!(rt; is_expected_plan(&plan, case.wanted), "row {row}: {plan:?}");
     }
     Ok(())
 }
 
 // A profile of each crate of profiles, and one that cannot be learned.
-const PROFILES: [(Eep, bool); 4] = [
+const PROFILES_AND_SUPPORT: [(Eep, bool); 4] = [
     (ROCKER_PROFILE, true),
     (THERMOMETER_PROFILE, true),
     (LAMP_PROFILE, true),
@@ -211,14 +211,14 @@ const PROFILES: [(Eep, bool); 4] = [
 ];
 
 #[test]
-fn profiles(rt: HostRuntime) {
-    for (row, (eep, wanted)) in PROFILES.iter().enumerate() {
+fn profiles_are_supported_or_not(rt: HostRuntime) {
+    for (row, (eep, wanted)) in PROFILES_AND_SUPPORT.iter().enumerate() {
         assert_eq!(rt; supported(*eep), *wanted, "row {row}");
     }
 }
 
 // The RORG, the payload, the sender and the destination of a telegram.
-fn parts(telegram: &Telegram) -> (u8, &[u8], u32, u32) {
+fn telegram_fields(telegram: &Telegram) -> (u8, &[u8], u32, u32) {
     (
         telegram.rorg(),
         telegram.payload(),
@@ -230,26 +230,26 @@ fn parts(telegram: &Telegram) -> (u8, &[u8], u32, u32) {
 // From the last base ID. The replies of `Accepted` and `Deleted` need a receipt, and so a database: the sessions have
 // them.
 #[test]
-fn a_four_byte_reply(rt: HostRuntime) -> Result<(), Fail> {
-    let query = four_byte_query(&THERMOMETER)?;
+fn four_byte_reply_has_fields(rt: HostRuntime) -> Result<(), Fail> {
+    let query = four_byte_query(&THERMOMETER_4BS_QUERY)?;
     let verdict = Verdict::refused(query.id(), Outcome::Full);
     let reply = four_byte_reply(&query, &verdict, LAST_BASE);
     let payload = [0x08, 0x28, 0x46, 0xD0];
     assert_eq!(rt;
-        parts(&reply),
+        telegram_fields(&reply),
         (0xA5, payload.as_slice(), LAST_BASE, SENDER)
     );
     Ok(())
 }
 
 #[test]
-fn a_ute_reply(rt: HostRuntime) -> Result<(), Fail> {
-    let query = ute_query(&LAMP)?;
+fn ute_reply_has_fields(rt: HostRuntime) -> Result<(), Fail> {
+    let query = ute_query(&LAMP_UTE_QUERY)?;
     let verdict = Verdict::refused(query.id(), Outcome::Unsupported);
     let reply = ute_reply(&query, &verdict, LAST_BASE);
     let payload = [0xB1, 0x01, 0x46, 0x00, 0x12, 0x01, 0xD2];
     assert_eq!(rt;
-        parts(&reply),
+        telegram_fields(&reply),
         (0xD4, payload.as_slice(), LAST_BASE, SENDER)
     );
     Ok(())

@@ -12,7 +12,7 @@ fn text_of(label: &Option<Label>) -> Option<&str> {
 }
 
 #[test]
-fn labels(rt: HostRuntime) -> Result<(), Fail> {
+fn valid_labels_are_accepted(rt: HostRuntime) -> Result<(), Fail> {
     for text in [
         "",
         "~",
@@ -28,7 +28,7 @@ fn labels(rt: HostRuntime) -> Result<(), Fail> {
 }
 
 #[test]
-fn no_labels(rt: HostRuntime) -> Result<(), Fail> {
+fn invalid_labels_are_rejected(rt: HostRuntime) -> Result<(), Fail> {
     for text in [
         " ",
         " x",

@@ -1,8 +1,8 @@
 //! Cases over registries that cache few senders and many: the output is the same.
 ghost use Rattle.std.specs.Prelude.{◌≤◌};
 
+use crate::golden_sessions::read_session;
 use crate::report::Report;
-use crate::scripts::read_session;
 use anyhow::Result;
 use device_registry::Registry;
 use gateway_core::{DeviceStore, GatewayOver};
@@ -12,7 +12,7 @@ use sqlite::Connection;
 use std::alloc::Global;
 
 // More reads than these sessions need.
-const TURNS: u64 = 1000;
+const MAX_READS: u64 = 1000;
 
 pub(crate) fn run_cases(rt: &HostRuntime, report: &mut Report) -> Result<()> {
     for name in ["two-hundred-contacts", "contact-learned-and-forgotten"] {
@@ -32,13 +32,13 @@ fn run_session(rt: &HostRuntime, report: &mut Report, name: &str, cache: usize) 
     let Ok(registry) = Registry::open_with(alloc, conn, cache) else {
         return report.add_case(rt, name, false);
     };
-    let is_well = writes_wanted(alloc, registry, script.as_slice(), wanted.as_slice());
+    let is_well = writes_expected_output(alloc, registry, script.as_slice(), wanted.as_slice());
     let title = format!(in alloc; "{name} with a cache of {cache}")?;
     report.add_case(rt, title.as_str(), is_well)
 }
 
 // Whether this is written for a script over this registry.
-fn writes_wanted<S: DeviceStore + Drop>(
+fn writes_expected_output<S: DeviceStore + Drop>(
     alloc: Global,
     registry: S,
     script: &[u8],
@@ -54,7 +54,7 @@ fn writes_wanted<S: DeviceStore + Drop>(
         &mut OverWrite::new(&mut written),
         &mut gateway,
         false,
-        TURNS,
+        MAX_READS,
     );
     done.is_ok() && written.as_slice() == wanted
 }

@@ -6,7 +6,7 @@ use gateway_main::{OverRead, OverWrite};
 use std::alloc::Global;
 
 /// A contact telegram of the device that each script learns first.
-pub const CONTACT: [u8; 21] = [
+pub const CONTACT_PACKET: [u8; 21] = [
     0x55, 0x00, 0x07, 0x07, 0x01, 0x7A, 0xD5, 0x09, 0x01, 0x80, 0x0A, 0xBC, 0x00, 0x01, 0xFF, 0xFF,
     0xFF, 0xFF, 0x2D, 0x00, 0x1F,
 ];
@@ -22,7 +22,7 @@ const FALSE_HEADER: [u8; 6] = [0x55, 0x00, 0x3F, 0x00, 0x01, 0xA1];
 const LEARN_CONTACT: &[u8] = b"add 01800ABC D5-00-01\n";
 
 // More reads than any script needs.
-const TURNS: u64 = 1000;
+const MAX_READS: u64 = 1000;
 
 const STREAM_COUNT: u32 = 1000;
 
@@ -47,9 +47,9 @@ fn random_stream(alloc: Global, chance: &mut RandomNumbers) -> Result<Vec<u8>> {
     let mut bytes = Vec::new(alloc);
     for _ in 0..8 {
         match chance.next() % 6 {
-            0 | 1 => bytes.extend_from_slice(&CONTACT)?,
+            0 | 1 => bytes.extend_from_slice(&CONTACT_PACKET)?,
             2 => bytes.extend_from_slice(&RESPONSE_PACKET)?,
-            3 => bytes.extend_from_slice(&CONTACT[..chance.next() % 21])?,
+            3 => bytes.extend_from_slice(&CONTACT_PACKET[..chance.next() % 21])?,
             4 => bytes.extend_from_slice(&FALSE_HEADER)?,
             _ => {
                 for _ in 0..chance.next() % 9 {
@@ -100,7 +100,7 @@ fn script_of_stream(
 }
 
 // The output for a stream that is split in this way, or nothing if the replay ends with an error.
-fn written_for_stream(
+fn output_for_stream(
     alloc: Global,
     bytes: &[u8],
     longest: usize,
@@ -110,7 +110,7 @@ fn written_for_stream(
     let mut out = Vec::new(alloc);
     let mut reader = OverRead::new(script.as_slice());
     let mut writer = OverWrite::new(&mut out);
-    let done = replay_by_new_gateway(alloc, &mut reader, &mut writer, false, TURNS)?;
+    let done = replay_by_new_gateway(alloc, &mut reader, &mut writer, false, MAX_READS)?;
     if done.is_err() {
         out.clear();
     }
@@ -118,11 +118,11 @@ fn written_for_stream(
 }
 
 // The output for the next stream, unsplit. `None`: other chunk boundaries change it.
-fn written_for_all_cuts(alloc: Global, chance: &mut RandomNumbers) -> Result<Option<Vec<u8>>> {
+fn output_for_all_chunkings(alloc: Global, chance: &mut RandomNumbers) -> Result<Option<Vec<u8>>> {
     let bytes = random_stream(alloc, chance)?;
-    let whole = written_for_stream(alloc, bytes.as_slice(), 99, chance)?;
-    let single = written_for_stream(alloc, bytes.as_slice(), 1, chance)?;
-    let mixed = written_for_stream(alloc, bytes.as_slice(), 0, chance)?;
+    let whole = output_for_stream(alloc, bytes.as_slice(), 99, chance)?;
+    let single = output_for_stream(alloc, bytes.as_slice(), 1, chance)?;
+    let mixed = output_for_stream(alloc, bytes.as_slice(), 0, chance)?;
     let is_same = single.as_slice() == whole.as_slice() && mixed.as_slice() == whole.as_slice();
     Ok(is_same.then_some(whole))
 }
@@ -133,7 +133,7 @@ pub(crate) fn run_cases(rt: &HostRuntime, report: &mut Report) -> Result<()> {
     let mut same = 0u32;
     let mut stated = 0u32;
     for _ in 0..STREAM_COUNT {
-        if let Some(text) = written_for_all_cuts(rt.alloc(), &mut chance)? {
+        if let Some(text) = output_for_all_chunkings(rt.alloc(), &mut chance)? {
             same = same.saturating_add(1);
             if text.len() > 300 {
                 stated = stated.saturating_add(1);

@@ -11,11 +11,11 @@ use std::alloc::{AllocError, Global};
 use std::io;
 
 pub(crate) fn run_cases(rt: &HostRuntime, report: &mut Report) -> Result<()> {
-    run_faults(rt, report)?;
-    run_texts(rt, report)?;
+    run_fault_texts_and_status(rt, report)?;
+    run_start_fault_texts(rt, report)?;
     run_statuses(rt, report)?;
     run_command_lines(rt, report)?;
-    run_closes(rt, report)
+    run_close_order(rt, report)
 }
 
 fn database_fault(why: StoreFault) -> Fault {
@@ -23,7 +23,7 @@ fn database_fault(why: StoreFault) -> Fault {
 }
 
 // Each fault has its text, and the status 1.
-fn run_faults(rt: &HostRuntime, report: &mut Report) -> Result<()> {
+fn run_fault_texts_and_status(rt: &HostRuntime, report: &mut Report) -> Result<()> {
     for (fault, text) in [
         (Fault::Database(OpenFault::NotARegistry), "not a registry"),
         (database_fault(StoreFault::store_failed()), "store"),
@@ -42,7 +42,7 @@ fn run_faults(rt: &HostRuntime, report: &mut Report) -> Result<()> {
 }
 
 // Each cause for which no gateway starts has a text of its own, for callers of the libraries.
-fn run_texts(rt: &HostRuntime, report: &mut Report) -> Result<()> {
+fn run_start_fault_texts(rt: &HostRuntime, report: &mut Report) -> Result<()> {
     for (text, wanted) in [
         (StartFault::BadBase.to_string(rt.alloc())?, "not a base ID"),
         (
@@ -130,7 +130,7 @@ fn status_of_line(alloc: Global, line: &str) -> Result<Option<u8>> {
 }
 
 // A path that cannot be opened is reported before the close, and so is the result of a run.
-fn run_closes(rt: &HostRuntime, report: &mut Report) -> Result<()> {
+fn run_close_order(rt: &HostRuntime, report: &mut Report) -> Result<()> {
     let summary = Summary { items: 2 };
     let error = sqlite::Error::SqliteFailure(sqlite::ErrorCode::TransactionState);
     let out_of_memory = sqlite::Error::SqliteFailure(sqlite::ErrorCode::OutOfMemory);

@@ -37,10 +37,10 @@ pub(crate) fn replay_by_new_gateway<R: Source, W: Sink>(
 }
 
 // More reads than a script needs that is replayed by a gateway after others.
-const TURNS: u64 = 100;
+const MAX_READS: u64 = 100;
 
 // The output for a script that this gateway replays to its end.
-pub(crate) fn written_by<S: DeviceStore>(
+pub(crate) fn replay_output_of<S: DeviceStore>(
     alloc: Global,
     gateway: &mut GatewayOver<S>,
     script: &[u8],
@@ -51,7 +51,7 @@ pub(crate) fn written_by<S: DeviceStore>(
     let mut written = Vec::new(alloc);
     let mut reader = OverRead::new(script);
     let mut writer = OverWrite::new(&mut written);
-    if replay(&mut reader, &mut writer, gateway, false, TURNS).is_err() {
+    if replay(&mut reader, &mut writer, gateway, false, MAX_READS).is_err() {
         bail!("a replay broke off");
     }
     Ok(written)
@@ -90,11 +90,11 @@ pub(crate) fn run_cases(rt: &HostRuntime, report: &mut Report) -> Result<()> {
     )?;
     let is_found = finds_what_was_learned_before(rt.alloc())?;
     report.add_case(rt, "what was learned before", is_found)?;
-    let is_read = reads_packet_by_bytes(&mut with_contact(rt.alloc())?);
+    let is_read = reads_packet_by_bytes(&mut gateway_with_contact(rt.alloc())?);
     report.add_case(rt, "a packet byte by byte", is_read)?;
-    let is_read = reads_both_in_a_run(&mut with_contact(rt.alloc())?);
+    let is_read = reads_both_packets_in_runs(&mut gateway_with_contact(rt.alloc())?);
     report.add_case(rt, "a packet in a run of bytes", is_read)?;
-    let is_read = reads_packet_at_front(&mut with_contact(rt.alloc())?);
+    let is_read = reads_packet_at_front(&mut gateway_with_contact(rt.alloc())?);
     report.add_case(rt, "a packet at the front of some bytes", is_read)
 }
 
@@ -105,13 +105,13 @@ fn rejects_invalid_base(alloc: Global) -> Result<bool> {
     Ok(Gateway::new(alloc, registry, 0xFF80_0001).err() == Some(StartFault::BadBase))
 }
 
-const ACCEPTED: &[u8] =
+const ACCEPTED_LINE: &[u8] =
     b"{\"eep\":\"D5-00-01\",\"id\":\"01800ABC\",\"maker\":null,\"result\":\"accepted\",\"type\":\"teach\"}\n";
 
-const SECOND_ACCEPTED: &[u8] =
+const SECOND_ACCEPTED_LINE: &[u8] =
     b"{\"eep\":\"D5-00-01\",\"id\":\"00000001\",\"maker\":null,\"result\":\"accepted\",\"type\":\"teach\"}\n";
 
-const BOTH_LISTED: &[u8] =
+const LIST_OF_BOTH: &[u8] =
     b"{\"eep\":\"D5-00-01\",\"id\":\"00000001\",\"label\":\"\",\"maker\":null,\"type\":\"device\"}\n\
     {\"eep\":\"D5-00-01\",\"id\":\"01800ABC\",\"label\":\"\",\"maker\":null,\"type\":\"device\"}\n\
     {\"count\":2,\"type\":\"list\"}\n";
@@ -126,8 +126,8 @@ fn lists_what_it_learned<C: SqlConnection + Drop>(
     first: GatewayOver<RegistryOver<C>>,
 ) -> bool {
     let mut first = first;
-    let is_learned = reply_has_text(&first.order(b"add 01800ABC D5-00-01"), ACCEPTED)
-        && reply_has_text(&first.order(b"add 00000001 D5-00-01"), SECOND_ACCEPTED);
+    let is_learned = reply_has_text(&first.order(b"add 01800ABC D5-00-01"), ACCEPTED_LINE)
+        && reply_has_text(&first.order(b"add 00000001 D5-00-01"), SECOND_ACCEPTED_LINE);
     let conn = first.close();
     if !conn.is_autocommit() {
         return false;
@@ -136,7 +136,7 @@ fn lists_what_it_learned<C: SqlConnection + Drop>(
         return false;
     };
     match GatewayOver::new(alloc, registry, BASE) {
-        Ok(mut second) => is_learned && reply_has_text(&second.order(b"list"), BOTH_LISTED),
+        Ok(mut second) => is_learned && reply_has_text(&second.order(b"list"), LIST_OF_BOTH),
         Err(_) => false,
     }
 }
@@ -149,7 +149,7 @@ const CONTACT_READING: &[u8] = b"{\"dbm\":-45,\"eep\":\"D5-00-01\",\"id\":\"0180
     \"readings\":[{\"name\":\"CO\",\"word\":\"closed\"}],\"type\":\"reading\"}\n";
 
 // Noise, in which a sync byte begins no header, and then two packets of a contact.
-const STREAM: [u8; 51] = [
+const NOISE_AND_TWO_PACKETS: [u8; 51] = [
     0x00, 0x55, 0x01, 0x02, 0x03, 0x04, 0x05, 0x06, 0x07, 0x55, 0x00, 0x07, 0x07, 0x01, 0x7A, 0xD5,
     0x09, 0x01, 0x80, 0x0A, 0xBC, 0x00, 0x01, 0xFF, 0xFF, 0xFF, 0xFF, 0x2D, 0x00, 0x1F, 0x55, 0x00,
     0x07, 0x07, 0x01, 0x7A, 0xD5, 0x09, 0x01, 0x80, 0x0A, 0xBC, 0x00, 0x01, 0xFF, 0xFF, 0xFF, 0xFF,
@@ -157,9 +157,9 @@ const STREAM: [u8; 51] = [
 ];
 
 // A new gateway that knows the contact.
-fn with_contact(alloc: Global) -> Result<GatewayOver<RegistryOver<Connection<MemStore>>>> {
+fn gateway_with_contact(alloc: Global) -> Result<GatewayOver<RegistryOver<Connection<MemStore>>>> {
     let mut gateway = new_gateway(alloc)?;
-    if !reply_has_text(&gateway.order(b"add 01800ABC D5-00-01"), ACCEPTED) {
+    if !reply_has_text(&gateway.order(b"add 01800ABC D5-00-01"), ACCEPTED_LINE) {
         bail!("the contact is not learned");
     }
     Ok(gateway)
@@ -183,7 +183,7 @@ fn handle_next_is_contact_reading<S: DeviceStore>(gateway: &mut GatewayOver<S>) 
 
 // Whether the packet is read that is whole after the first 30 bytes of the stream, and not before.
 fn reads_packet_by_bytes<S: DeviceStore>(gateway: &mut GatewayOver<S>) -> bool {
-    for byte in &STREAM[..30] {
+    for byte in &NOISE_AND_TWO_PACKETS[..30] {
         if gateway.is_ready() {
             return false;
         }
@@ -193,12 +193,15 @@ fn reads_packet_by_bytes<S: DeviceStore>(gateway: &mut GatewayOver<S>) -> bool {
 }
 
 // Whether a run ends with each of the two packets, both are read, and then none is left.
-fn reads_both_in_a_run<S: DeviceStore>(gateway: &mut GatewayOver<S>) -> bool {
-    if gateway.is_ready() || gateway.bytes(&STREAM) != 30 || !next_is_contact_reading(gateway) {
+fn reads_both_packets_in_runs<S: DeviceStore>(gateway: &mut GatewayOver<S>) -> bool {
+    if gateway.is_ready()
+        || gateway.bytes(&NOISE_AND_TWO_PACKETS) != 30
+        || !next_is_contact_reading(gateway)
+    {
         return false;
     }
     if gateway.is_ready()
-        || gateway.bytes(&STREAM[30..]) != 21
+        || gateway.bytes(&NOISE_AND_TWO_PACKETS[30..]) != 21
         || !handle_next_is_contact_reading(gateway)
     {
         return false;
@@ -208,10 +211,14 @@ fn reads_both_in_a_run<S: DeviceStore>(gateway: &mut GatewayOver<S>) -> bool {
 
 // Whether the packet at the front of some bytes is read, and no packet if noise is at the front or a byte is held.
 fn reads_packet_at_front<S: DeviceStore>(gateway: &mut GatewayOver<S>) -> bool {
-    if gateway.is_ready() || gateway.handle_front_packet(&STREAM).is_some() {
+    if gateway.is_ready()
+        || gateway
+            .handle_front_packet(&NOISE_AND_TWO_PACKETS)
+            .is_some()
+    {
         return false;
     }
-    let is_read = match gateway.handle_front_packet(&STREAM[9..]) {
+    let is_read = match gateway.handle_front_packet(&NOISE_AND_TWO_PACKETS[9..]) {
         Some((handled, count)) => count == 21 && reply_has_text(&handled.reply, CONTACT_READING),
         None => false,
     };
@@ -219,5 +226,9 @@ fn reads_packet_at_front<S: DeviceStore>(gateway: &mut GatewayOver<S>) -> bool {
         return false;
     }
     gateway.byte(0x55);
-    is_read && !gateway.is_ready() && gateway.handle_front_packet(&STREAM[9..]).is_none()
+    is_read
+        && !gateway.is_ready()
+        && gateway
+            .handle_front_packet(&NOISE_AND_TWO_PACKETS[9..])
+            .is_none()
 }

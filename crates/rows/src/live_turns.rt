@@ -1,5 +1,5 @@
 //! Serial lines and desks that are served in turns: which output gets what, and what it holds after each fault.
-use crate::fakes::{LimitedWriter, PartReader, WriterOfNothing};
+use crate::fake_streams::{LimitedWriter, PartReader, ZeroLengthWriter};
 use crate::gateways::{new_gateway, serve_by_new_gateway};
 use crate::report::Report;
 use anyhow::{Result, bail};
@@ -8,44 +8,44 @@ use gateway_loop::live;
 use gateway_main::{OverRead, OverWrite, RunFault, Summary};
 use std::alloc::Global;
 
-const OK: &[u8] = b"{\"type\":\"ok\"}\n";
+const OK_LINE: &[u8] = b"{\"type\":\"ok\"}\n";
 
-const SYNTAX: &[u8] = b"{\"error\":\"syntax\",\"type\":\"error\"}\n";
+const SYNTAX_ERROR_LINE: &[u8] = b"{\"error\":\"syntax\",\"type\":\"error\"}\n";
 
-const TOO_LONG: &[u8] = b"{\"error\":\"too_long\",\"type\":\"error\"}\n";
+const TOO_LONG_ERROR_LINE: &[u8] = b"{\"error\":\"too_long\",\"type\":\"error\"}\n";
 
-const STATUS: &[u8] =
+const STATUS_LINE: &[u8] =
     b"{\"ignored\":1,\"mode\":\"closed\",\"readings\":0,\"refused\":0,\"responses\":0,\"teach\":0,\
     \"type\":\"status\"}\n";
 
 // A contact telegram, its explanation if it is not learned, its teach line when it is, and its reading.
-const CONTACT: &[u8] =
+const CONTACT_PACKET: &[u8] =
     b"\x55\x00\x07\x07\x01\x7A\xD5\x09\x01\x80\x0A\xBC\x00\x01\xFF\xFF\xFF\xFF\x2D\x00\x1F";
 
-const CONTACT_EXPLAINED: &[u8] =
+const CONTACT_PACKET_LINE: &[u8] =
     b"{\"dbm\":-45,\"dest\":null,\"eep\":null,\"id\":\"01800ABC\",\"maker\":null,\
     \"payload\":\"09\",\"rorg\":\"D5\",\"status\":\"00\",\"type\":\"packet\",\"why\":\"unknown_sender\"}\n";
 
-const CONTACT_LEARNED: &[u8] =
+const CONTACT_TEACH_LINE: &[u8] =
     b"{\"eep\":\"D5-00-01\",\"id\":\"01800ABC\",\"maker\":null,\"result\":\"accepted\",\"type\":\"teach\"}\n";
 
-const READING: &[u8] = b"{\"dbm\":-45,\"eep\":\"D5-00-01\",\"id\":\"01800ABC\",\
+const CONTACT_READING_LINE: &[u8] = b"{\"dbm\":-45,\"eep\":\"D5-00-01\",\"id\":\"01800ABC\",\
     \"readings\":[{\"name\":\"CO\",\"word\":\"closed\"}],\"type\":\"reading\"}\n";
 
 // A UTE query, the reply to it, its explanation, and its teach line.
-const QUERY: &[u8] =
+const UTE_QUERY_PACKET: &[u8] =
     b"\x55\x00\x0D\x07\x01\xFD\xD4\xA0\x01\x46\x00\x12\x01\xD2\x01\x80\x0A\xBC\x00\x01\
     \xFF\xFF\xFF\xFF\x2D\x00\x8A";
 
-const QUERY_REPLY: &[u8] =
+const UTE_REPLY_PACKET: &[u8] =
     b"\x55\x00\x0D\x07\x01\xFD\xD4\x91\x01\x46\x00\x12\x01\xD2\xFF\x80\x00\x00\x00\x03\
     \x01\x80\x0A\xBC\xFF\x00\xF3";
 
-const QUERY_EXPLAINED: &[u8] =
+const UTE_QUERY_PACKET_LINE: &[u8] =
     b"{\"dbm\":-45,\"dest\":null,\"eep\":\"D2-01-12\",\"id\":\"01800ABC\",\"maker\":70,\
     \"payload\":\"A00146001201D2\",\"rorg\":\"D4\",\"status\":\"00\",\"type\":\"packet\",\"why\":\"accepted\"}\n";
 
-const QUERY_LEARNED: &[u8] =
+const UTE_TEACH_LINE: &[u8] =
     b"{\"eep\":\"D2-01-12\",\"id\":\"01800ABC\",\"maker\":70,\"result\":\"accepted\",\"type\":\"teach\"}\n";
 
 const BASE_ID_REQUEST: &[u8] = b"\x55\x00\x01\x00\x05\x70\x08\x38";
@@ -54,11 +54,11 @@ const BASE_ID_REQUEST: &[u8] = b"\x55\x00\x01\x00\x05\x70\x08\x38";
 pub const NEVER_FAILS: usize = usize::MAX;
 
 pub(crate) fn run_cases(rt: &HostRuntime, report: &mut Report) -> Result<()> {
-    run_order_of_sides(rt, report)?;
-    run_both_outputs(rt, report)?;
+    run_serial_before_desk(rt, report)?;
+    run_radio_and_desk_outputs(rt, report)?;
     run_explanations(rt, report)?;
-    run_lines(rt, report)?;
-    run_lengths(rt, report)?;
+    run_lines_and_chunks(rt, report)?;
+    run_line_lengths(rt, report)?;
     run_reads_that_fail(rt, report)?;
     run_writes_that_fail(rt, report)?;
     run_explained_writes_that_fail(rt, report)?;
@@ -67,21 +67,28 @@ pub(crate) fn run_cases(rt: &HostRuntime, report: &mut Report) -> Result<()> {
 
 /// How a gateway served some turns, and what it wrote.
 #[derive(Drop)]
-pub struct Served {
+pub struct ServeEnd {
     pub ended: Result<Summary, RunFault>,
     pub radio: Vec<u8>,
     pub desk: Vec<u8>,
 }
 
-impl Served {
+impl ServeEnd {
     // Whether it ended with this result, with these bytes on each side.
-    fn is(&self, ended: Result<Summary, RunFault>, radio: &[&[u8]], desk: &[&[u8]]) -> bool {
-        self.ended == ended && is_all(&self.radio, radio) && is_all(&self.desk, desk)
+    fn ended_with(
+        &self,
+        ended: Result<Summary, RunFault>,
+        radio: &[&[u8]],
+        desk: &[&[u8]],
+    ) -> bool {
+        self.ended == ended
+            && is_concatenation_of(&self.radio, radio)
+            && is_concatenation_of(&self.desk, desk)
     }
 }
 
 // Whether the bytes are these parts, one after the other.
-fn is_all(bytes: &Vec<u8>, parts: &[&[u8]]) -> bool {
+fn is_concatenation_of(bytes: &Vec<u8>, parts: &[&[u8]]) -> bool {
     let mut rest = bytes.as_slice();
     for part in parts {
         match rest.strip_prefix(*part) {
@@ -99,7 +106,7 @@ fn serve(
     desk: PartReader<'_>,
     turns: u64,
     fails_at: (usize, usize),
-) -> Result<Served> {
+) -> Result<ServeEnd> {
     let mut gateway = new_gateway(alloc)?;
     let inputs = (serial, desk);
     serve_by(alloc, &mut gateway, inputs, false, turns, 7, fails_at)
@@ -107,9 +114,9 @@ fn serve(
 
 // Serves two turns with explanations: a packet and two orders, and then a query. The writers take at most this many
 // bytes at a call, and that of the desk fails at this call.
-fn serve_explained(alloc: Global, most: usize, desk_fails_at: usize) -> Result<Served> {
+fn serve_explained(alloc: Global, most: usize, desk_fails_at: usize) -> Result<ServeEnd> {
     let mut gateway = new_gateway(alloc)?;
-    let serial = [CONTACT, QUERY];
+    let serial = [CONTACT_PACKET, UTE_QUERY_PACKET];
     let desk = [b"learn on\nbase\n".as_slice()];
     let inputs = (PartReader::new(&serial, 0), PartReader::new(&desk, 0));
     let fails_at = (NEVER_FAILS, desk_fails_at);
@@ -126,7 +133,7 @@ pub(crate) fn serve_by<S: DeviceStore>(
     turns: u64,
     most: usize,
     fails_at: (usize, usize),
-) -> Result<Served> {
+) -> Result<ServeEnd> {
     if gateway.is_ready() {
         bail!("a packet waits");
     }
@@ -143,7 +150,7 @@ pub(crate) fn serve_by<S: DeviceStore>(
         explains,
         turns,
     );
-    Ok(Served {
+    Ok(ServeEnd {
         ended,
         radio,
         desk: printed,
@@ -151,7 +158,7 @@ pub(crate) fn serve_by<S: DeviceStore>(
 }
 
 // Serves turns that read these parts, with writers that do not fail.
-fn serve_parts(alloc: Global, serial: &[&[u8]], desk: &[&[u8]], turns: u64) -> Result<Served> {
+fn serve_parts(alloc: Global, serial: &[&[u8]], desk: &[&[u8]], turns: u64) -> Result<ServeEnd> {
     serve(
         alloc,
         PartReader::new(serial, 0),
@@ -167,31 +174,36 @@ fn summary_of(items: u64) -> Result<Summary, RunFault> {
 
 // In a turn the serial line comes first: its packet is counted before the status is reported, and a query before the
 // window is open is ignored.
-fn run_order_of_sides(rt: &HostRuntime, report: &mut Report) -> Result<()> {
-    let served = serve_parts(rt.alloc(), &[CONTACT], &[b"status\n".as_slice()], 1)?;
+fn run_serial_before_desk(rt: &HostRuntime, report: &mut Report) -> Result<()> {
+    let served = serve_parts(rt.alloc(), &[CONTACT_PACKET], &[b"status\n".as_slice()], 1)?;
     report.add_case(
         rt,
         "a packet before an order",
-        served.is(summary_of(2), &[], &[STATUS]),
+        served.ended_with(summary_of(2), &[], &[STATUS_LINE]),
     )?;
-    let served = serve_parts(rt.alloc(), &[QUERY], &[b"learn on\n".as_slice()], 1)?;
+    let served = serve_parts(
+        rt.alloc(),
+        &[UTE_QUERY_PACKET],
+        &[b"learn on\n".as_slice()],
+        1,
+    )?;
     report.add_case(
         rt,
         "a query before its window",
-        served.is(summary_of(2), &[], &[OK]),
+        served.ended_with(summary_of(2), &[], &[OK_LINE]),
     )
 }
 
 // The reply is sent by radio unchanged, and the desk receives what was learned. With 0 turns it returns `Ok`, and
 // readers and writers that would fail are not called.
-fn run_both_outputs(rt: &HostRuntime, report: &mut Report) -> Result<()> {
+fn run_radio_and_desk_outputs(rt: &HostRuntime, report: &mut Report) -> Result<()> {
     let alloc = rt.alloc();
     let desk = [b"learn on\r\nba".as_slice(), b"se\n"];
-    let served = serve_parts(alloc, &[b"".as_slice(), QUERY], &desk, 2)?;
-    let is_well = served.is(
+    let served = serve_parts(alloc, &[b"".as_slice(), UTE_QUERY_PACKET], &desk, 2)?;
+    let is_well = served.ended_with(
         summary_of(3),
-        &[QUERY_REPLY, BASE_ID_REQUEST],
-        &[OK, QUERY_LEARNED, OK],
+        &[UTE_REPLY_PACKET, BASE_ID_REQUEST],
+        &[OK_LINE, UTE_TEACH_LINE, OK_LINE],
     );
     report.add_case(rt, "a query answered by radio", is_well)?;
     let served = serve(
@@ -201,28 +213,47 @@ fn run_both_outputs(rt: &HostRuntime, report: &mut Report) -> Result<()> {
         0,
         (1, 1),
     )?;
-    report.add_case(rt, "no turns", served.is(summary_of(0), &[], &[]))
+    report.add_case(rt, "no turns", served.ended_with(summary_of(0), &[], &[]))
 }
 
 // A packet is explained before its own line. Explanations change neither the radio bytes nor the answers to orders.
 fn run_explanations(rt: &HostRuntime, report: &mut Report) -> Result<()> {
     let served = serve_explained(rt.alloc(), 7, NEVER_FAILS)?;
-    let printed = [CONTACT_EXPLAINED, OK, OK, QUERY_EXPLAINED, QUERY_LEARNED];
-    let is_well = served.is(summary_of(4), &[BASE_ID_REQUEST, QUERY_REPLY], &printed);
+    let printed = [
+        CONTACT_PACKET_LINE,
+        OK_LINE,
+        OK_LINE,
+        UTE_QUERY_PACKET_LINE,
+        UTE_TEACH_LINE,
+    ];
+    let is_well = served.ended_with(
+        summary_of(4),
+        &[BASE_ID_REQUEST, UTE_REPLY_PACKET],
+        &printed,
+    );
     report.add_case(rt, "packets that are explained", is_well)
 }
 
 // A packet may arrive in chunks, and bytes that are LF or digits have no special meaning on the serial line. A line of
 // the desk is always an order, and is complete at its LF, without one CR. A partial line at the end of the turns is
 // dropped.
-fn run_lines(rt: &HostRuntime, report: &mut Report) -> Result<()> {
-    let serial = [b"S \n".as_slice(), &CONTACT[..10], &CONTACT[10..]];
+fn run_lines_and_chunks(rt: &HostRuntime, report: &mut Report) -> Result<()> {
+    let serial = [
+        b"S \n".as_slice(),
+        &CONTACT_PACKET[..10],
+        &CONTACT_PACKET[10..],
+    ];
     let desk = [b"add 01800ABC D5-00-01\n".as_slice(), b"S 00\nS", b"\n"];
     let served = serve_parts(rt.alloc(), &serial, &desk, 3)?;
-    let is_well = served.is(
+    let is_well = served.ended_with(
         summary_of(4),
         &[],
-        &[CONTACT_LEARNED, SYNTAX, READING, SYNTAX],
+        &[
+            CONTACT_TEACH_LINE,
+            SYNTAX_ERROR_LINE,
+            CONTACT_READING_LINE,
+            SYNTAX_ERROR_LINE,
+        ],
     );
     report.add_case(rt, "pieces and lines", is_well)?;
     let is_dropped = drops_partial_line(rt.alloc())?;
@@ -233,7 +264,7 @@ fn drops_partial_line(alloc: Global) -> Result<bool> {
     let mut gateway = new_gateway(alloc)?;
     let first = desk_after(alloc, &mut gateway, b"lea")?;
     let second = desk_after(alloc, &mut gateway, b"rn on\n")?;
-    Ok(first.is_empty() && second.as_slice() == SYNTAX)
+    Ok(first.is_empty() && second.as_slice() == SYNTAX_ERROR_LINE)
 }
 
 // What the desk receives in one more turn, in which it sends these bytes and the serial line none.
@@ -266,16 +297,36 @@ fn desk_receives(alloc: Global, length: usize, end: &[u8], wanted: &[u8]) -> Res
     let line = [b'x'; 201];
     let (front, back) = line.split_at(100);
     let served = serve_parts(alloc, &[], &[front, &back[..length.min(101)], end], 3)?;
-    Ok(served.is(summary_of(1), &[], &[wanted]))
+    Ok(served.ended_with(summary_of(1), &[], &[wanted]))
 }
 
 // A line's end does not count towards its 200 bytes.
-fn run_lengths(rt: &HostRuntime, report: &mut Report) -> Result<()> {
+fn run_line_lengths(rt: &HostRuntime, report: &mut Report) -> Result<()> {
     let cases: [(&str, usize, &[u8], &[u8]); 4] = [
-        ("200 bytes of the desk and LF", 100, b"\n", SYNTAX),
-        ("200 bytes of the desk, CR and LF", 100, b"\r\n", SYNTAX),
-        ("201 bytes of the desk and LF", 101, b"\n", TOO_LONG),
-        ("201 bytes of the desk, CR and LF", 101, b"\r\n", TOO_LONG),
+        (
+            "200 bytes of the desk and LF",
+            100,
+            b"\n",
+            SYNTAX_ERROR_LINE,
+        ),
+        (
+            "200 bytes of the desk, CR and LF",
+            100,
+            b"\r\n",
+            SYNTAX_ERROR_LINE,
+        ),
+        (
+            "201 bytes of the desk and LF",
+            101,
+            b"\n",
+            TOO_LONG_ERROR_LINE,
+        ),
+        (
+            "201 bytes of the desk, CR and LF",
+            101,
+            b"\r\n",
+            TOO_LONG_ERROR_LINE,
+        ),
     ];
     for (name, length, end, wanted) in cases {
         report.add_case(rt, name, desk_receives(rt.alloc(), length, end, wanted)?)?;
@@ -289,9 +340,9 @@ fn serve_query(
     alloc: Global,
     read_fails_at: (usize, usize),
     write_fails_at: (usize, usize),
-) -> Result<Served> {
+) -> Result<ServeEnd> {
     let (serial_fails_at, desk_fails_at) = read_fails_at;
-    let serial = [b"".as_slice(), QUERY];
+    let serial = [b"".as_slice(), UTE_QUERY_PACKET];
     let desk = [b"learn on\n".as_slice(), b"base\n"];
     let serial = PartReader::new(&serial, serial_fails_at);
     serve(
@@ -308,17 +359,26 @@ fn run_reads_that_fail(rt: &HostRuntime, report: &mut Report) -> Result<()> {
     let cases: [(&str, (usize, usize), &[&[u8]], &[&[u8]]); 4] = [
         ("the first read of the serial line", (1, 0), &[], &[]),
         ("the first read of the desk", (0, 1), &[], &[]),
-        ("the second read of the serial line", (2, 0), &[], &[OK]),
+        (
+            "the second read of the serial line",
+            (2, 0),
+            &[],
+            &[OK_LINE],
+        ),
         (
             "the second read of the desk",
             (0, 2),
-            &[QUERY_REPLY],
-            &[OK, QUERY_LEARNED],
+            &[UTE_REPLY_PACKET],
+            &[OK_LINE, UTE_TEACH_LINE],
         ),
     ];
     for (name, fails_at, radio, desk) in cases {
         let served = serve_query(rt.alloc(), fails_at, (NEVER_FAILS, NEVER_FAILS))?;
-        report.add_case(rt, name, served.is(Err(RunFault::Read), radio, desk))?;
+        report.add_case(
+            rt,
+            name,
+            served.ended_with(Err(RunFault::Read), radio, desk),
+        )?;
     }
     Ok(())
 }
@@ -334,10 +394,10 @@ fn breaks_off_at(
     let all = serve_query(alloc, (0, 0), (NEVER_FAILS, NEVER_FAILS))?;
     let done = serve_query(alloc, (0, 0), fails_at)?;
     Ok(
-        all.is(
+        all.ended_with(
             summary_of(3),
-            &[QUERY_REPLY, BASE_ID_REQUEST],
-            &[OK, QUERY_LEARNED, OK],
+            &[UTE_REPLY_PACKET, BASE_ID_REQUEST],
+            &[OK_LINE, UTE_TEACH_LINE, OK_LINE],
         ) && done.ended == Err(RunFault::Write)
             && Some(done.radio.as_slice()) == all.radio.as_slice().get(..sent)
             && Some(done.desk.as_slice()) == all.desk.as_slice().get(..printed),
@@ -390,11 +450,11 @@ fn run_explained_writes_that_fail(rt: &HostRuntime, report: &mut Report) -> Resu
 fn first_wrong_explained(alloc: Global) -> Result<Option<usize>> {
     // the radio bytes, and the lines for the desk after them
     let parts: [(&[u8], &[u8]); 5] = [
-        (b"", CONTACT_EXPLAINED),
-        (b"", OK),
-        (BASE_ID_REQUEST, OK),
-        (QUERY_REPLY, QUERY_EXPLAINED),
-        (b"", QUERY_LEARNED),
+        (b"", CONTACT_PACKET_LINE),
+        (b"", OK_LINE),
+        (BASE_ID_REQUEST, OK_LINE),
+        (UTE_REPLY_PACKET, UTE_QUERY_PACKET_LINE),
+        (b"", UTE_TEACH_LINE),
     ];
     let mut radio = Vec::new(alloc);
     let mut desk = Vec::new(alloc);
@@ -402,7 +462,7 @@ fn first_wrong_explained(alloc: Global) -> Result<Option<usize>> {
         radio.extend_from_slice(sent)?;
         for byte in lines {
             let served = serve_explained(alloc, 1, desk.len().saturating_add(1))?;
-            if !served.is(
+            if !served.ended_with(
                 Err(RunFault::Write),
                 &[radio.as_slice()],
                 &[desk.as_slice()],
@@ -421,7 +481,7 @@ fn run_writers_that_take_nothing(rt: &HostRuntime, report: &mut Report) -> Resul
     let mut desk = Vec::new(alloc);
     let serial = (
         &mut OverRead::new(b"".as_slice()),
-        &mut OverWrite::new(WriterOfNothing),
+        &mut OverWrite::new(ZeroLengthWriter),
     );
     let orders = (
         &mut OverRead::new(b"base\n".as_slice()),
@@ -437,7 +497,7 @@ fn run_writers_that_take_nothing(rt: &HostRuntime, report: &mut Report) -> Resul
     );
     let orders = (
         &mut OverRead::new(b"base\n".as_slice()),
-        &mut OverWrite::new(WriterOfNothing),
+        &mut OverWrite::new(ZeroLengthWriter),
     );
     let ended = serve_by_new_gateway(alloc, serial, orders, 1)?;
     let is_well = ended == Err(RunFault::Write) && radio.as_slice() == BASE_ID_REQUEST;

@@ -6,14 +6,14 @@
 mod caches;
 mod chunks;
 mod endings;
-mod fakes;
+mod fake_streams;
 mod gateways;
+mod golden_sessions;
 mod hostile;
 mod live_turns;
-mod one_device;
+mod one_device_store;
 mod replays;
 mod report;
-mod scripts;
 
 use anyhow::Result;
 use report::Report;
@@ -21,16 +21,16 @@ use std::process::ExitCode;
 
 fn main(rt: HostRuntime) -> Result<ExitCode> {
     let mut report = Report::new();
-    scripts::run_cases(&rt, &mut report)?;
+    golden_sessions::run_cases(&rt, &mut report)?;
     caches::run_cases(&rt, &mut report)?;
     gateways::run_cases(&rt, &mut report)?;
-    one_device::run_cases(&rt, &mut report)?;
+    one_device_store::run_cases(&rt, &mut report)?;
     replays::run_cases(&rt, &mut report)?;
     live_turns::run_cases(&rt, &mut report)?;
     endings::run_cases(&rt, &mut report)?;
     chunks::run_cases(&rt, &mut report)?;
     hostile::run_cases(&rt, &mut report)?;
-    Ok(if report.is_all_well() {
+    Ok(if report.are_all_correct() {
         ExitCode::SUCCESS
     } else {
         ExitCode::FAILURE

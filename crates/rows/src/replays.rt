@@ -1,26 +1,26 @@
 //! Replays of short scripts, with readers and writers that fail, and with lines of maximum length.
-use crate::fakes::{LimitedWriter, PartReader, WriterOfNothing};
+use crate::fake_streams::{LimitedWriter, PartReader, ZeroLengthWriter};
 use crate::gateways::replay_by_new_gateway;
+use crate::golden_sessions::read_session;
 use crate::report::Report;
-use crate::scripts::read_session;
 use anyhow::Result;
 use gateway_main::{OverRead, OverWrite, RunFault, Source, Summary};
 use std::alloc::Global;
 
-const SYNTAX: &[u8] = b"{\"error\":\"syntax\",\"type\":\"error\"}\n";
+const SYNTAX_ERROR_LINE: &[u8] = b"{\"error\":\"syntax\",\"type\":\"error\"}\n";
 
-const TOO_LONG: &[u8] = b"{\"error\":\"too_long\",\"type\":\"error\"}\n";
+const TOO_LONG_ERROR_LINE: &[u8] = b"{\"error\":\"too_long\",\"type\":\"error\"}\n";
 
-const NONE_LISTED: &[u8] = b"{\"count\":0,\"type\":\"list\"}\n";
+const EMPTY_LIST_LINE: &[u8] = b"{\"count\":0,\"type\":\"list\"}\n";
 
 pub(crate) fn run_cases(rt: &HostRuntime, report: &mut Report) -> Result<()> {
-    run_turns(rt, report)?;
-    run_items(rt, report)?;
-    run_lengths(rt, report)?;
-    run_ends(rt, report)?;
-    run_reads(rt, report)?;
-    run_writes(rt, report)?;
-    run_explained_writes(rt, report)
+    run_read_limits(rt, report)?;
+    run_input_counts(rt, report)?;
+    run_line_lengths(rt, report)?;
+    run_line_ends(rt, report)?;
+    run_failing_reads(rt, report)?;
+    run_failing_writes(rt, report)?;
+    run_explained_failing_writes(rt, report)
 }
 
 // Whether a replay has this result, and this is written.
@@ -38,7 +38,7 @@ fn replay_has_result<R: Source>(
 }
 
 // Whether this is written for a script that is replayed to its end.
-pub(crate) fn is_written(alloc: Global, script: &[u8], text: &[u8]) -> Result<bool> {
+pub(crate) fn replay_writes(alloc: Global, script: &[u8], text: &[u8]) -> Result<bool> {
     let mut out = Vec::new(alloc);
     let mut reader = OverRead::new(script);
     let mut writer = OverWrite::new(&mut out);
@@ -47,13 +47,25 @@ pub(crate) fn is_written(alloc: Global, script: &[u8], text: &[u8]) -> Result<bo
 }
 
 // The end of the script is a read of its own.
-fn run_turns(rt: &HostRuntime, report: &mut Report) -> Result<()> {
+fn run_read_limits(rt: &HostRuntime, report: &mut Report) -> Result<()> {
     let script = b"\n".as_slice();
     let too_many = Err(RunFault::TooManyTurns);
-    let is_well = replay_has_result(rt.alloc(), &mut OverRead::new(script), 1, too_many, SYNTAX)?;
+    let is_well = replay_has_result(
+        rt.alloc(),
+        &mut OverRead::new(script),
+        1,
+        too_many,
+        SYNTAX_ERROR_LINE,
+    )?;
     report.add_case(rt, "a turn too few", is_well)?;
     let one = Ok(Summary { items: 1 });
-    let is_well = replay_has_result(rt.alloc(), &mut OverRead::new(script), 2, one, SYNTAX)?;
+    let is_well = replay_has_result(
+        rt.alloc(),
+        &mut OverRead::new(script),
+        2,
+        one,
+        SYNTAX_ERROR_LINE,
+    )?;
     report.add_case(rt, "just enough turns", is_well)
 }
 
@@ -63,7 +75,7 @@ const CONTACT_READING: &[u8] =
     \"readings\":[{\"name\":\"CO\",\"word\":\"closed\"}],\"type\":\"reading\"}\n";
 
 // An order and a packet are two inputs, even if the packet is in two chunks and the last line has no end.
-fn run_items(rt: &HostRuntime, report: &mut Report) -> Result<()> {
+fn run_input_counts(rt: &HostRuntime, report: &mut Report) -> Result<()> {
     let script =
         b"add 01800ABC D5-00-01\nS 55000707017AD50901800ABC0001FFFFFFFF2D001F\n".as_slice();
     let two = Ok(Summary { items: 2 });
@@ -99,53 +111,67 @@ fn line_of(alloc: Global, length: usize, end: &[u8]) -> Result<Vec<u8>> {
 }
 
 // A line's end does not count towards its 200 bytes.
-fn run_lengths(rt: &HostRuntime, report: &mut Report) -> Result<()> {
+fn run_line_lengths(rt: &HostRuntime, report: &mut Report) -> Result<()> {
     let cases: [(&str, usize, &[u8], &[u8]); 6] = [
-        ("200 bytes and LF", 200, b"\n", SYNTAX),
-        ("200 bytes, CR and LF", 200, b"\r\n", SYNTAX),
-        ("200 bytes and no end", 200, b"", SYNTAX),
-        ("201 bytes and LF", 201, b"\n", TOO_LONG),
-        ("201 bytes, CR and LF", 201, b"\r\n", TOO_LONG),
-        ("200 bytes and CR", 200, b"\r", TOO_LONG),
+        ("200 bytes and LF", 200, b"\n", SYNTAX_ERROR_LINE),
+        ("200 bytes, CR and LF", 200, b"\r\n", SYNTAX_ERROR_LINE),
+        ("200 bytes and no end", 200, b"", SYNTAX_ERROR_LINE),
+        ("201 bytes and LF", 201, b"\n", TOO_LONG_ERROR_LINE),
+        ("201 bytes, CR and LF", 201, b"\r\n", TOO_LONG_ERROR_LINE),
+        ("200 bytes and CR", 200, b"\r", TOO_LONG_ERROR_LINE),
     ];
     for (name, length, end, wanted) in cases {
         let script = line_of(rt.alloc(), length, end)?;
-        report.add_case(rt, name, is_written(rt.alloc(), script.as_slice(), wanted)?)?;
+        report.add_case(
+            rt,
+            name,
+            replay_writes(rt.alloc(), script.as_slice(), wanted)?,
+        )?;
     }
     Ok(())
 }
 
 // One CR before LF belongs to the end of a line, and a CR before the end of the script to the line.
-fn run_ends(rt: &HostRuntime, report: &mut Report) -> Result<()> {
+fn run_line_ends(rt: &HostRuntime, report: &mut Report) -> Result<()> {
     let cases: [(&str, &[u8], &[u8]); 7] = [
-        ("a line with LF", b"list\n", NONE_LISTED),
-        ("a line with CR and LF", b"list\r\n", NONE_LISTED),
-        ("a line with no end", b"list", NONE_LISTED),
-        ("a line with CR", b"list\r", SYNTAX),
-        ("a line with two CR and LF", b"list\r\r\n", SYNTAX),
-        ("LF alone", b"\n", SYNTAX),
-        ("CR and LF alone", b"\r\n", SYNTAX),
+        ("a line with LF", b"list\n", EMPTY_LIST_LINE),
+        ("a line with CR and LF", b"list\r\n", EMPTY_LIST_LINE),
+        ("a line with no end", b"list", EMPTY_LIST_LINE),
+        ("a line with CR", b"list\r", SYNTAX_ERROR_LINE),
+        (
+            "a line with two CR and LF",
+            b"list\r\r\n",
+            SYNTAX_ERROR_LINE,
+        ),
+        ("LF alone", b"\n", SYNTAX_ERROR_LINE),
+        ("CR and LF alone", b"\r\n", SYNTAX_ERROR_LINE),
     ];
     for (name, script, wanted) in cases {
-        report.add_case(rt, name, is_written(rt.alloc(), script, wanted)?)?;
+        report.add_case(rt, name, replay_writes(rt.alloc(), script, wanted)?)?;
     }
     Ok(())
 }
 
-fn run_reads(rt: &HostRuntime, report: &mut Report) -> Result<()> {
+fn run_failing_reads(rt: &HostRuntime, report: &mut Report) -> Result<()> {
     let alloc = rt.alloc();
     let one = Ok(Summary { items: 1 });
     let script = [b"\n".as_slice()];
     let mut reader = OverRead::new(PartReader::new(&script, 0));
-    let is_well = replay_has_result(alloc, &mut reader, 2, one, SYNTAX)?;
+    let is_well = replay_has_result(alloc, &mut reader, 2, one, SYNTAX_ERROR_LINE)?;
     report.add_case(rt, "a read of 256 bytes", is_well)?;
     let script = [b"\nadd 01800ABC D5".as_slice()];
     let mut reader = OverRead::new(PartReader::new(&script, 2));
-    let is_well = replay_has_result(alloc, &mut reader, 9, Err(RunFault::Read), SYNTAX)?;
+    let is_well = replay_has_result(
+        alloc,
+        &mut reader,
+        9,
+        Err(RunFault::Read),
+        SYNTAX_ERROR_LINE,
+    )?;
     report.add_case(rt, "a read that fails", is_well)
 }
 
-fn run_writes(rt: &HostRuntime, report: &mut Report) -> Result<()> {
+fn run_failing_writes(rt: &HostRuntime, report: &mut Report) -> Result<()> {
     let alloc = rt.alloc();
     let script = b"\n\n".as_slice();
     let mut taken = Vec::new(alloc);
@@ -154,7 +180,7 @@ fn run_writes(rt: &HostRuntime, report: &mut Report) -> Result<()> {
     let is_well = done == Err(RunFault::Write)
         && taken.as_slice() == b"{\"error\":\"synta".as_slice();
     report.add_case(rt, "a write that fails", is_well)?;
-    let mut writer = OverWrite::new(WriterOfNothing);
+    let mut writer = OverWrite::new(ZeroLengthWriter);
     let done = replay_by_new_gateway(alloc, &mut OverRead::new(script), &mut writer, false, 9)?;
     report.add_case(
         rt,
@@ -165,7 +191,7 @@ fn run_writes(rt: &HostRuntime, report: &mut Report) -> Result<()> {
 
 // With explanations, each write fails in turn. Mutant: an output that continues after a failed write of the line that
 // explains a packet. It prints `at 83, differs`.
-fn run_explained_writes(rt: &HostRuntime, report: &mut Report) -> Result<()> {
+fn run_explained_failing_writes(rt: &HostRuntime, report: &mut Report) -> Result<()> {
     let (script, text) = read_session(rt, "every-kind-of-item", true)?;
     let wrong = first_wrong_explained(rt.alloc(), script.as_slice(), text.as_slice())?;
     report.add_first_wrong(

@@ -36,7 +36,7 @@ impl Report {
         }
     }
 
-    pub(crate) fn is_all_well(&self) -> bool {
+    pub(crate) fn are_all_correct(&self) -> bool {
         self.all_well
     }
 }

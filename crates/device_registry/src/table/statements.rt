@@ -45,7 +45,7 @@ pub const UPSERT: &str =
 pub const DELETE: &str = "DELETE FROM enogate_device_v2 WHERE id = ?1";
 
 /// Copies all devices of version 1, each with the empty label.
-pub const COPY: &str =
+pub const COPY_V1: &str =
     "INSERT INTO enogate_device_v2 (id, eep, maker, label) SELECT id, eep, maker, '' FROM enogate_device";
 
 /// Drops the device table of version 1.

@@ -1,6 +1,6 @@
 //! A connection that counts its commits, and a registry over it.
-use super::acts::{Act, Many, perform_all};
-use super::given::{NewConnection, contact, sensor};
+use super::fixtures::{NewConnection, known_contact, known_sensor};
+use super::test_steps::{BulkStep, TestStep, perform_all};
 use crate::{RegistryOver, SqlConnection};
 use sqlite::types::ValueRef;
 use sqlite::{Connection, Error, MemStore, Row, Statement};
@@ -9,7 +9,7 @@ use std::alloc::Global;
 use std::process::Abort;
 use std::test::Fail;
 
-// A connection, and how many of its calls may have committed. It does not count queries: each that the registry makes_commits
+// A connection, and how many of its calls may have committed. It does not count queries: each that the registry makes
 // is a SELECT.
 #[derive(Drop)]
 struct CountingConnection<C> {
@@ -84,7 +84,7 @@ fn counted_registry(
 fn makes_commits(
     rt: &impl Abort,
     registry: &mut RegistryOver<CountingConnection<Connection<MemStore>>>,
-    acts: &[Act],
+    acts: &[TestStep],
     commits: u64,
 ) -> Result<(), Fail> {
     let before = registry.table.conn.commits;
@@ -98,16 +98,36 @@ fn makes_commits(
 #[test]
 fn calls_commit_at_most_once(rt: HostRuntime) -> Result<(), Fail> {
     let mut registry = counted_registry(rt.alloc())?;
-    makes_commits(&rt, &mut registry, &[Act::Finds(5, None)], 0)?;
-    makes_commits(&rt, &mut registry, &[Act::Learns(contact(5))], 1)?;
-    makes_commits(&rt, &mut registry, &[Act::Learns(sensor(5))], 1)?;
-    makes_commits(&rt, &mut registry, &[Act::Relabels(5, "Door", true)], 1)?;
-    makes_commits(&rt, &mut registry, &[Act::Relabels(6, "Hall", false)], 0)?;
-    makes_commits(&rt, &mut registry, &[Act::Counts(1)], 0)?;
-    makes_commits(&rt, &mut registry, &[Act::Forgets(5)], 1)?;
-    makes_commits(&rt, &mut registry, &[Act::Forgets(6)], 1)?;
-    let many = [Act::Many(Many::LearnsContacts, 1000)];
+    makes_commits(&rt, &mut registry, &[TestStep::Finds(5, None)], 0)?;
+    makes_commits(&rt, &mut registry, &[TestStep::Learns(known_contact(5))], 1)?;
+    makes_commits(&rt, &mut registry, &[TestStep::Learns(known_sensor(5))], 1)?;
+    makes_commits(
+        &rt,
+        &mut registry,
+        &[TestStep::Relabels(5, "Door", true)],
+        1,
+    )?;
+    makes_commits(
+        &rt,
+        &mut registry,
+        &[TestStep::Relabels(6, "Hall", false)],
+        0,
+    )?;
+    makes_commits(&rt, &mut registry, &[TestStep::Counts(1)], 0)?;
+    makes_commits(&rt, &mut registry, &[TestStep::Forgets(5)], 1)?;
+    makes_commits(&rt, &mut registry, &[TestStep::Forgets(6)], 1)?;
+    let many = [TestStep::Bulk(BulkStep::LearnsContacts, 1000)];
     makes_commits(&rt, &mut registry, &many, 1000)?;
-    makes_commits(&rt, &mut registry, &[Act::IsFullFor(contact(1000))], 0)?;
-    makes_commits(&rt, &mut registry, &[Act::Learns(sensor(999))], 1)
+    makes_commits(
+        &rt,
+        &mut registry,
+        &[TestStep::IsFullFor(known_contact(1000))],
+        0,
+    )?;
+    makes_commits(
+        &rt,
+        &mut registry,
+        &[TestStep::Learns(known_sensor(999))],
+        1,
+    )
 }

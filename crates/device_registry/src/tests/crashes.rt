@@ -1,13 +1,14 @@
 //! The states of the registry after a failure of the disk, and of its files after a crash that follows.
-use super::acts::{Act, perform_all};
 use super::disks::{
-    CrashKind, DiskFault, Disks, FileOfDatabase, after_crash, closed, connected, connected_or_fail,
-    empty_files, with_fault,
+    CrashKind, DiskFault, FaultyFiles, FileOfDatabase, after_crash, close_into_files,
+    connect_or_fail, connect_to_files, copies_with_fault, empty_files,
 };
-use super::given::{make_version_1, open_idle};
-use super::steps::{
-    CALLS, Call, Trial, TrialEnd, filled_registry, pages, run_after_crash, run_before_crash,
+use super::failure_trials::{
+    REGISTRY_CALLS, RegistryCall, Trial, TrialEnd, cached_page_count, filled_registry,
+    run_after_crash, run_before_crash,
 };
+use super::fixtures::{make_version_1, open_outside_transaction};
+use super::test_steps::{TestStep, perform_all};
 use std::alloc::Global;
 use std::process::Abort;
 use std::test::Fail;
@@ -21,27 +22,27 @@ const FEW_DEVICES: i64 = 10;
 const DEFAULT_CRASH: CrashKind = CrashKind::OfProcess;
 
 // The files of a closed registry of this many contacts, with the IDs from 0 on.
-fn registry_files(alloc: Global, devices: i64) -> Result<Disks, Fail> {
-    let conn = connected_or_fail(alloc, empty_files(alloc), 9)?;
-    closed(filled_registry(alloc, conn, devices)?)
+fn registry_files(alloc: Global, devices: i64) -> Result<FaultyFiles, Fail> {
+    let conn = connect_or_fail(alloc, empty_files(alloc), 9)?;
+    close_into_files(filled_registry(alloc, conn, devices)?)
 }
 
 // The files of a closed database that is a registry of version 1 with this many devices.
-fn version_1_files(alloc: Global, devices: u32) -> Result<Disks, Fail> {
-    let mut conn = connected_or_fail(alloc, empty_files(alloc), 9)?;
+fn version_1_files(alloc: Global, devices: u32) -> Result<FaultyFiles, Fail> {
+    let mut conn = connect_or_fail(alloc, empty_files(alloc), 9)?;
     make_version_1(&mut conn, i64::from(devices))?;
-    closed(conn)
+    close_into_files(conn)
 }
 
 // The end of a trial over these files.
-fn end_of(
+fn trial_end_over(
     alloc: Global,
     rt: &impl Abort,
-    files: Disks,
+    files: FaultyFiles,
     trial: Trial,
     crash: CrashKind,
 ) -> Result<TrialEnd, Fail> {
-    let Some(conn) = connected(alloc, files, pages(trial))? else {
+    let Some(conn) = connect_to_files(alloc, files, cached_page_count(trial))? else {
         return Ok(TrialEnd::Early);
     };
     let mut end = TrialEnd::Early;
@@ -58,16 +59,16 @@ fn end_of(
 fn end_after_crash(
     alloc: Global,
     rt: &impl Abort,
-    files: Disks,
+    files: FaultyFiles,
     trial: Trial,
     end: TrialEnd,
 ) -> Result<TrialEnd, Fail> {
-    let conn = connected_or_fail(alloc, files, pages(trial))?;
+    let conn = connect_or_fail(alloc, files, cached_page_count(trial))?;
     run_after_crash(alloc, rt, conn, trial, end)
 }
 
 // The failures of a turn: one write is reported as failed, or each call from one on fails.
-fn fault_of_turn(trial: Trial, turn: u64) -> DiskFault {
+fn disk_fault_of_attempt(trial: Trial, turn: u64) -> DiskFault {
     match trial {
         Trial::Learning(_) => DiskFault::Write(turn.saturating_add(1)),
         Trial::Calls(_)
@@ -82,15 +83,15 @@ fn fault_of_turn(trial: Trial, turn: u64) -> DiskFault {
 fn ends_with_each_call_failing(
     alloc: Global,
     rt: &impl Abort,
-    files: &Disks,
+    files: &FaultyFiles,
     which: FileOfDatabase,
     trial: Trial,
     crash: CrashKind,
 ) -> Result<Vec<TrialEnd>, Fail> {
     let mut ends = Vec::new(alloc);
     for turn in 0..5000 {
-        let files = with_fault(alloc, files, which, fault_of_turn(trial, turn))?;
-        match end_of(alloc, rt, files, trial, crash)? {
+        let files = copies_with_fault(alloc, files, which, disk_fault_of_attempt(trial, turn))?;
+        match trial_end_over(alloc, rt, files, trial, crash)? {
             TrialEnd::NoFault => return Ok(ends),
             end => ends.push(end)?,
         }
@@ -103,15 +104,15 @@ fn ends_with_each_call_failing(
 fn count_syncs(
     alloc: Global,
     rt: &impl Abort,
-    files: &Disks,
-    acts: Option<&[Act]>,
+    files: &FaultyFiles,
+    acts: Option<&[TestStep]>,
 ) -> Result<u64, Fail> {
-    let files = with_fault(alloc, files, FileOfDatabase::Log, DiskFault::Never)?;
-    let conn = connected_or_fail(alloc, files, 9)?;
+    let files = copies_with_fault(alloc, files, FileOfDatabase::Log, DiskFault::Never)?;
+    let conn = connect_or_fail(alloc, files, 9)?;
     let Some(acts) = acts else {
         return Ok(after_crash(alloc, conn, DEFAULT_CRASH)?.syncs);
     };
-    let mut registry = open_idle(alloc, conn)??;
+    let mut registry = open_outside_transaction(alloc, conn)??;
     perform_all(rt, &mut registry, acts)?;
     Ok(after_crash(alloc, registry.close(), DEFAULT_CRASH)?.syncs)
 }
@@ -127,7 +128,7 @@ fn each_call_fails_once(rt: HostRuntime) -> Result<(), Fail> {
         Trial::Calls(1),
         DEFAULT_CRASH,
     )?;
-    for call in CALLS {
+    for call in REGISTRY_CALLS {
         let is_met = ends.contains(&TrialEnd::At(call, true))
             || ends.contains(&TrialEnd::At(call, false));
         assert!(rt; is_met, "{call:?}");
@@ -146,7 +147,11 @@ fn a_failed_change_is_not_cached(rt: HostRuntime) -> Result<(), Fail> {
         Trial::Calls(20),
         DEFAULT_CRASH,
     )?;
-    for call in [Call::Learn, Call::Relabel, Call::Forget] {
+    for call in [
+        RegistryCall::Learn,
+        RegistryCall::Relabel,
+        RegistryCall::Forget,
+    ] {
         assert!(rt; ends.contains(&TrialEnd::At(call, true)), "{call:?}");
     }
     Ok(())
@@ -171,9 +176,9 @@ fn a_cached_sender_needs_no_disk(rt: HostRuntime) -> Result<(), Fail> {
 fn what_was_reported_is_found_after_a_crash(rt: HostRuntime) -> Result<(), Fail> {
     let files = registry_files(rt.alloc(), FEW_DEVICES)?;
     for crash in [CrashKind::OfProcess, CrashKind::OfMachine] {
-        let files = with_fault(rt.alloc(), &files, FileOfDatabase::Log, DiskFault::Never)?;
+        let files = copies_with_fault(rt.alloc(), &files, FileOfDatabase::Log, DiskFault::Never)?;
         assert_eq!(rt;
-            end_of(rt.alloc(), &rt, files, Trial::Changing, crash)?,
+            trial_end_over(rt.alloc(), &rt, files, Trial::Changing, crash)?,
             TrialEnd::Kept
         );
     }
@@ -193,8 +198,8 @@ fn an_open_returns_after_a_sync(rt: HostRuntime) -> Result<(), Fail> {
 fn an_unchanged_label_is_answered_after_a_sync(rt: HostRuntime) -> Result<(), Fail> {
     let files = registry_files(rt.alloc(), FEW_DEVICES)?;
     let labels = [
-        Act::Relabels(5, "Door", true),
-        Act::Relabels(5, "Door", true),
+        TestStep::Relabels(5, "Door", true),
+        TestStep::Relabels(5, "Door", true),
     ];
     let before = count_syncs(rt.alloc(), &rt, &files, Some(&labels[..1]))?;
     assert!(rt; count_syncs(rt.alloc(), &rt, &files, Some(&labels))? > before);

@@ -1,6 +1,11 @@
 //! Rejected databases, which are left as they were, and the rows that the tables accept.
-use super::given::{NewConnection, open_idle, prepare_idle, run_statements};
-use super::looking::{expect_number, expect_prepared, has_objects, in_version, objects, run_lines};
+use super::database_inspection::{
+    expect_number, expect_prepared, expect_schema_objects, run_lines, schema_objects_text,
+    text_for_version,
+};
+use super::fixtures::{
+    NewConnection, open_outside_transaction, prepare_outside_transaction, run_statements,
+};
 use crate::OpenFault;
 use crate::table::Version;
 use crate::table::row_codec::{are_ascending_devices, shows_version};
@@ -130,59 +135,59 @@ INSERT INTO enogate_meta VALUES (1, -1)
 ? SELECT version + <n> FROM enogate_meta
 = 3
 
-<OUR_TABLES>
+<CREATE_REGISTRY_PLACEHOLDERS>
 <OTHER DEVICE>
 INSERT INTO <device> VALUES (5, 1, -1<empty>)
 ? SELECT count(*) FROM <other>
 = 0
 
-<OUR_TABLES>
+<CREATE_REGISTRY_PLACEHOLDERS>
 CREATE VIEW <Other> AS SELECT version FROM enogate_meta
 ? SELECT version FROM <other>
 = <n>
 
-<OUR_TABLES>
+<CREATE_REGISTRY_PLACEHOLDERS>
 CREATE TABLE room (id INTEGER PRIMARY KEY, name TEXT) STRICT; INSERT INTO room VALUES (3, 'hall')
 CREATE INDEX <Other> ON room (name)
 ? SELECT id FROM room WHERE name = 'hall'
 = 3
 
-<OUR_TABLES>
+<CREATE_REGISTRY_PLACEHOLDERS>
 INSERT INTO <device> VALUES (5, 1, -1<empty>)
 CREATE TABLE room (id INTEGER PRIMARY KEY, device INTEGER REFERENCES <Device> (id)) STRICT
 INSERT INTO room VALUES (1, 5)
 ? SELECT device FROM room
 = 5
 
-<OUR_TABLES>
+<CREATE_REGISTRY_PLACEHOLDERS>
 CREATE TABLE room (id INTEGER PRIMARY KEY, device INTEGER REFERENCES <Other> (id)) STRICT
 ? SELECT version FROM enogate_meta
 = <n>
 
-<OUR_TABLES>
+<CREATE_REGISTRY_PLACEHOLDERS>
 CREATE TABLE note (id INTEGER PRIMARY KEY, meta INTEGER REFERENCES enogate_meta) STRICT
 ? SELECT version FROM enogate_meta
 = <n>
 
-<OUR_TABLES>
+<CREATE_REGISTRY_PLACEHOLDERS>
 CREATE UNIQUE INDEX by_eep ON <device> (eep)
 ? SELECT version FROM enogate_meta
 = <n>
 
-<OUR_TABLES>
+<CREATE_REGISTRY_PLACEHOLDERS>
 CREATE INDEX by_version ON enogate_meta (version)
 ? SELECT version FROM enogate_meta
 = <n>
 
-<OUR_TABLES>
+<CREATE_REGISTRY_PLACEHOLDERS>
 INSERT INTO <device> WITH RECURSIVE n (i) AS (SELECT 0 UNION ALL SELECT i + 1 FROM n) \
 SELECT i, 13959169, -1<empty> FROM n LIMIT 1001
 ? SELECT count(*) FROM <device>
 = 1001";
 
 // A database of version 2 with a device whose label is this text, in the same form.
-const WITH_LABEL: &str = "\
-<OUR_TABLES>
+const DATABASE_WITH_LABEL: &str = "\
+<CREATE_REGISTRY_PLACEHOLDERS>
 INSERT INTO enogate_device_v2 VALUES (5, 13959169, -1, ''), (6, 13959169, -1, <text>)
 ? SELECT count(*) FROM enogate_device_v2 WHERE label = <text>
 = 1";
@@ -202,7 +207,7 @@ const INVALID_LABELS: &str = "\
 // More databases of version 2, in the same form: with a label that is not UTF-8, and with a table that would accept no
 // label.
 const INVALID_VERSION_2: &str = "\
-<OUR_TABLES>
+<CREATE_REGISTRY_PLACEHOLDERS>
 INSERT INTO enogate_device_v2 SELECT 5, 13959169, -1, CAST(x'80' AS TEXT)
 ? SELECT count(*) FROM enogate_device_v2 WHERE hex(label) = '80'
 = 1
@@ -217,7 +222,10 @@ INSERT INTO enogate_device_v2 VALUES (5, 13959169, -1, 'Door')
 = 1";
 
 fn is_rejected_by_prepare<S: Alter>(rt: &impl Abort, conn: &mut Connection<S>) -> Result<(), Fail> {
-    assert_eq!(rt; prepare_idle(conn)?, Err(OpenFault::NotARegistry));
+    assert_eq!(rt;
+        prepare_outside_transaction(conn)?,
+        Err(OpenFault::NotARegistry)
+    );
     Ok(())
 }
 
@@ -227,7 +235,7 @@ fn is_rejected_by_open<S: Alter + Drop>(
     conn: Connection<S>,
 ) -> Result<(), Fail> {
     assert_eq!(rt;
-        open_idle(alloc, conn)?.err(),
+        open_outside_transaction(alloc, conn)?.err(),
         Some(OpenFault::NotARegistry)
     );
     Ok(())
@@ -253,10 +261,10 @@ fn is_unchanged_by_prepare<S: Alter>(
     query: &str,
     shown: i64,
 ) -> Result<(), Fail> {
-    let before = objects(alloc, conn)?;
+    let before = schema_objects_text(alloc, conn)?;
     assert!(rt; before.contains("CREATE "));
     is_rejected_and_unchanged(rt, conn, query, shown)?;
-    has_objects(alloc, rt, conn, before.as_str())
+    expect_schema_objects(alloc, rt, conn, before.as_str())
 }
 
 fn are_rejected<S: NewConnection>(
@@ -265,7 +273,7 @@ fn are_rejected<S: NewConnection>(
     cases: &str,
     version: Version,
 ) -> Result<(), Fail> {
-    let cases = in_version(alloc, cases, version)?;
+    let cases = text_for_version(alloc, cases, version)?;
     for case in cases.split("\n\n") {
         let (statements, shows) = case.split_once("\n? ").ok_or("no query")?;
         let (query, shown) = shows.split_once("\n= ").ok_or("no number")?;
@@ -296,7 +304,7 @@ fn databases_with_a_wrong_table(rt: HostRuntime) -> Result<(), Fail> {
 #[test]
 fn invalid_labels(rt: HostRuntime) -> Result<(), Fail> {
     for text in INVALID_LABELS.lines() {
-        let cases = WITH_LABEL.replace(rt.alloc(), "<text>", text)?;
+        let cases = DATABASE_WITH_LABEL.replace(rt.alloc(), "<text>", text)?;
         are_rejected::<MemStore>(rt.alloc(), &rt, cases.as_str(), Version::Second)?;
     }
     are_rejected::<MemStore>(rt.alloc(), &rt, INVALID_VERSION_2, Version::Second)
@@ -352,7 +360,7 @@ fn accepts_version_rows<S: NewConnection>(
     wanted: bool,
     selects: &str,
 ) -> Result<(), Fail> {
-    let selects = in_version(alloc, selects, version)?;
+    let selects = text_for_version(alloc, selects, version)?;
     let mut conn = S::new_connection(alloc)?;
     for sql in selects.lines() {
         let rows = conn.query_all(sql, &[])?;

@@ -122,7 +122,7 @@ impl<D: Disk> Disk for MisreportingDisk<D> {
 }
 
 /// The files of all tests over disks: one type, so that the database code is compiled for only one.
-pub type Disks = Files<MisreportingDisk<Fuse<Memory>>>;
+pub type FaultyFiles = Files<MisreportingDisk<Fuse<Memory>>>;
 
 /// The log, or the database file.
 #[derive(Clone, Copy, Debug, PartialEq, Eq)]
@@ -150,7 +150,7 @@ pub enum CrashKind {
     OfMachine,
 }
 
-fn disk(file: Memory, fault: DiskFault) -> MisreportingDisk<Fuse<Memory>> {
+fn faulty_disk(file: Memory, fault: DiskFault) -> MisreportingDisk<Fuse<Memory>> {
     match fault {
         DiskFault::Never => MisreportingDisk::new(Fuse::new(file, u64::MAX), 0),
         DiskFault::From(calls) => MisreportingDisk::new(Fuse::new(file, calls), 0),
@@ -159,14 +159,14 @@ fn disk(file: Memory, fault: DiskFault) -> MisreportingDisk<Fuse<Memory>> {
 }
 
 /// New files.
-pub fn empty_files(alloc: Global) -> Disks {
+pub fn empty_files(alloc: Global) -> FaultyFiles {
     Files {
-        log: disk(Memory::new(alloc), DiskFault::Never),
-        db: disk(Memory::new(alloc), DiskFault::Never),
+        log: faulty_disk(Memory::new(alloc), DiskFault::Never),
+        db: faulty_disk(Memory::new(alloc), DiskFault::Never),
     }
 }
 
-fn copied(alloc: Global, file: &MisreportingDisk<Fuse<Memory>>) -> Result<Memory, Fail> {
+fn copy_of_file(alloc: Global, file: &MisreportingDisk<Fuse<Memory>>) -> Result<Memory, Fail> {
     let mut copy = Memory::new(alloc);
     copy.write_at(0, file.inner().inner().bytes())?;
     copy.sync()?;
@@ -174,22 +174,22 @@ fn copied(alloc: Global, file: &MisreportingDisk<Fuse<Memory>>) -> Result<Memory
 }
 
 /// New files with the bytes of these; one of them fails.
-pub fn with_fault(
+pub fn copies_with_fault(
     alloc: Global,
-    files: &Disks,
+    files: &FaultyFiles,
     which: FileOfDatabase,
     fault: DiskFault,
-) -> Result<Disks, Fail> {
-    let log = copied(alloc, &files.log)?;
-    let db = copied(alloc, &files.db)?;
+) -> Result<FaultyFiles, Fail> {
+    let log = copy_of_file(alloc, &files.log)?;
+    let db = copy_of_file(alloc, &files.db)?;
     Ok(match which {
         FileOfDatabase::Log => Files {
-            log: disk(log, fault),
-            db: disk(db, DiskFault::Never),
+            log: faulty_disk(log, fault),
+            db: faulty_disk(db, DiskFault::Never),
         },
         FileOfDatabase::Database => Files {
-            log: disk(log, DiskFault::Never),
-            db: disk(db, fault),
+            log: faulty_disk(log, DiskFault::Never),
+            db: faulty_disk(db, fault),
         },
     })
 }
@@ -198,15 +198,15 @@ pub fn with_fault(
 #[derive(Drop)]
 pub struct AfterCrash {
     /// Copies of the files, which no longer fail.
-    pub files: Disks,
+    pub files: FaultyFiles,
     /// The number of syncs of the log.
     pub syncs: u64,
 }
 
 /// A connection that keeps this many pages in memory, or none if the disk fails.
-pub fn connected(
+pub fn connect_to_files(
     alloc: Global,
-    files: Disks,
+    files: FaultyFiles,
     pages: usize,
 ) -> Result<Option<Connection<FileStore<MisreportingDisk<Fuse<Memory>>>>>, Fail> {
     if !files.may_be_used() {
@@ -218,19 +218,21 @@ pub fn connected(
 }
 
 /// A connection over a disk that must not fail.
-pub fn connected_or_fail(
+pub fn connect_or_fail(
     alloc: Global,
-    files: Disks,
+    files: FaultyFiles,
     pages: usize,
 ) -> Result<Connection<FileStore<MisreportingDisk<Fuse<Memory>>>>, Fail> {
-    match connected(alloc, files, pages)? {
+    match connect_to_files(alloc, files, pages)? {
         Some(conn) => Ok(conn),
         None => Err(Fail::from("no connection")),
     }
 }
 
 /// The files of a closed connection.
-pub fn closed(conn: Connection<FileStore<MisreportingDisk<Fuse<Memory>>>>) -> Result<Disks, Fail> {
+pub fn close_into_files(
+    conn: Connection<FileStore<MisreportingDisk<Fuse<Memory>>>>,
+) -> Result<FaultyFiles, Fail> {
     Ok(conn.close_files().ok().ok_or("not closed")?)
 }
 
@@ -266,13 +268,17 @@ fn disk_after_crash(
 }
 
 // The state that a crash leaves of these files.
-fn files_after_crash(alloc: Global, files: Disks, crash: CrashKind) -> Result<AfterCrash, Fail> {
+fn files_after_crash(
+    alloc: Global,
+    files: FaultyFiles,
+    crash: CrashKind,
+) -> Result<AfterCrash, Fail> {
     let syncs = files.log.syncs();
     let Files { log, db } = files;
     let left = Files {
         log: disk_after_crash(log, crash),
         db: disk_after_crash(db, crash),
     };
-    let files = with_fault(alloc, &left, FileOfDatabase::Log, DiskFault::Never)?;
+    let files = copies_with_fault(alloc, &left, FileOfDatabase::Log, DiskFault::Never)?;
     Ok(AfterCrash { files, syncs })
 }

@@ -22,4 +22,4 @@ pub record HasHeldBytesAndCrcs (bytes : Buffer ℕ) (crcs : Vec ℕ) (start : �
   pub enough_slots : start + length bytes.items < length crcs.items
   -- all bytes that came before these
   pub dropped : List ℕ
-  pub noted : HasRunningCrcs dropped bytes.items start crcs.items
+  pub crcs_are_running : HasRunningCrcs dropped bytes.items start crcs.items

@@ -27,7 +27,7 @@ use learned_devices::{Device, DeviceStore};
 const READ_BASE_ID: u8 = 8;
 
 // The packet in which a telegram is sent. The buffer has capacity for every telegram.
-pub(crate) fn packet_with(telegram: &Telegram) -> ArrayVec<u8, 64>
+pub(crate) fn packet_of_telegram(telegram: &Telegram) -> ArrayVec<u8, 64>
     ensures { result.items ≡ spelling (radio_packet telegram.now) }
 {
     let mut packet = ArrayVec::new();
@@ -57,7 +57,7 @@ fn send(order: &Order, device: Option<&Device>, base: u32) -> ReplyAndMode
         → MatchesEffect result (send_result_effect asked (order_telegram order.now (option_copied device.entry) base)) }
 {
     match packet_of(order, device, base) {
-        Ok(telegram) => send_effect(packet_with(&telegram)),
+        Ok(telegram) => send_effect(packet_of_telegram(&telegram)),
         Err(fault) => error_effect(ErrorReason::Order(fault)),
     }
 }

@@ -14,7 +14,7 @@ use crate::disposition::{Disposition, eep_and_maker_in_query, why_nothing_done};
 use crate::failure::Failure;
 use crate::handler::Handler;
 use crate::handler::effect::{PacketEffect, ReplyAndMode, ignored_effect};
-use crate::handler::send::packet_with;
+use crate::handler::send::packet_of_telegram;
 use crate::reply::{DeskText, Reply};
 use arrayvec::ArrayVec;
 use erp1_telegrams::{Eep, Telegram};
@@ -45,10 +45,10 @@ impl<S: DeviceStore> Handler<S> {
     {
         match (self.mode, teach) {
             (_, Teach::Ute(query)) if query.wants_reply() => {
-                Some(packet_with(&ute_reply(query, verdict, self.base)))
+                Some(packet_of_telegram(&ute_reply(query, verdict, self.base)))
             }
             (Mode::LearnAnswer, Teach::FourByte(query)) => {
-                Some(packet_with(&four_byte_reply(query, verdict, self.base)))
+                Some(packet_of_telegram(&four_byte_reply(query, verdict, self.base)))
             }
             _ => None,
         }

@@ -6,13 +6,13 @@ use esp3_resync::{Framer, PacketBuf};
 use std::alloc::Global;
 use std::test::Fail;
 
-const CONTACT: [u8; 21] = [
+const CONTACT_PACKET: [u8; 21] = [
     0x55, 0x00, 0x07, 0x07, 0x01, 0x7A, 0xD5, 0x09, 0x01, 0x80, 0x0A, 0xBC, 0x00, 0x01, 0xFF, 0xFF,
     0xFF, 0xFF, 0x2D, 0x00, 0x1F,
 ];
 
 // Its data and its optional data.
-const CONTENT: [u8; 14] = [
+const CONTACT_DATA: [u8; 14] = [
     0xD5, 0x09, 0x01, 0x80, 0x0A, 0xBC, 0x00, 0x01, 0xFF, 0xFF, 0xFF, 0xFF, 0x2D, 0x00,
 ];
 
@@ -31,7 +31,7 @@ const TYPES_AND_DATA: [u8; 17] = [
 ];
 
 // More runs and packets than a chunk has.
-const MAX_TURNS: u32 = 1_000_000;
+const MAX_ITERATIONS: u32 = 1_000_000;
 
 // Pushes the bytes in runs, appends the type and the data of each packet, and returns the number of packets.
 fn feed_runs(
@@ -42,7 +42,7 @@ fn feed_runs(
 ) -> Result<u32, Fail> {
     let mut rest = bytes;
     let mut packets: u32 = 0;
-    for _ in 0..=MAX_TURNS {
+    for _ in 0..=MAX_ITERATIONS {
         if !framer.is_ready() {
             let count = framer.push_until_ready(rest);
             rest = &rest[count..];
@@ -60,7 +60,7 @@ fn feed_runs(
 }
 
 // The same with a new framer, which gets the bytes in chunks of this length.
-pub(crate) fn feed_pieces(
+pub(crate) fn feed_chunks(
     alloc: Global,
     bytes: &[u8],
     size: usize,
@@ -84,7 +84,7 @@ fn packets_in_runs(rt: HostRuntime) -> Result<(), Fail> {
     let mut found = Vec::new(rt.alloc());
     for size in 1..=TWO_PACKETS.len() {
         found.clear();
-        let packets = feed_pieces(rt.alloc(), &TWO_PACKETS, size, &mut found)?;
+        let packets = feed_chunks(rt.alloc(), &TWO_PACKETS, size, &mut found)?;
         assert_eq!(rt;
             (packets, found.as_slice()),
             (2, TYPES_AND_DATA.as_slice()),
@@ -95,7 +95,7 @@ fn packets_in_runs(rt: HostRuntime) -> Result<(), Fail> {
 }
 
 // Parts of the two packets, one after another, and the type and the data of the packet that the buffer then holds.
-const HELD: [(usize, usize, u8, &[u8]); 3] = [
+const BUFFERED_PACKET_CASES: [(usize, usize, u8, &[u8]); 3] = [
     (0, 29, 1, &[0xD5, 0x09, 0x01, 0x80, 0x0A, 0xBC, 0x00]),
     (29, 38, 1, &[0xD5, 0x09, 0x01, 0x80, 0x0A, 0xBC, 0x00]),
     (38, 39, 5, &[0x08]),
@@ -103,12 +103,12 @@ const HELD: [(usize, usize, u8, &[u8]); 3] = [
 
 // The buffer holds the packet that was returned last, also while the bytes before the next one come.
 #[test]
-fn a_packet_held(rt: HostRuntime) -> Result<(), Fail> {
+fn buffer_keeps_last_packet(rt: HostRuntime) -> Result<(), Fail> {
     let mut framer = Framer::new(rt.alloc())?;
     let mut buffer = PacketBuf::new(rt.alloc())?;
     let mut found = Vec::new(rt.alloc());
     assert!(rt; buffer.packet().is_none());
-    for (start, end, kind, body) in HELD {
+    for (start, end, kind, body) in BUFFERED_PACKET_CASES {
         let part = TWO_PACKETS.get(start..end).ok_or("no such part")?;
         let _packets = feed_runs(&mut framer, &mut buffer, part, &mut found)?;
         let packet = buffer.packet().ok_or("no packet")?;
@@ -118,7 +118,7 @@ fn a_packet_held(rt: HostRuntime) -> Result<(), Fail> {
 }
 
 // A part of the two packets, and the type and the length of the packet that `borrow_packet` returns for it, if any.
-const LENT: [(usize, usize, Option<(u8, usize)>); 4] = [
+const BORROWED_PACKET_CASES: [(usize, usize, Option<(u8, usize)>); 4] = [
     (8, 39, Some((1, 21))),
     (31, 39, Some((5, 8))),
     (0, 39, None),
@@ -127,18 +127,18 @@ const LENT: [(usize, usize, Option<(u8, usize)>); 4] = [
 
 // A packet is borrowed if it is whole and at the front of the bytes, and no byte is held.
 #[test]
-fn packets_lent(rt: HostRuntime) -> Result<(), Fail> {
+fn front_packets_are_borrowed(rt: HostRuntime) -> Result<(), Fail> {
     let mut framer = Framer::new(rt.alloc())?;
-    for (start, end, wanted) in LENT {
+    for (start, end, wanted) in BORROWED_PACKET_CASES {
         let part = TWO_PACKETS.get(start..end).ok_or("no such part")?;
         let lent = framer
             .borrow_packet(part)
             .map(|(packet, len)| (packet.kind, len));
         assert_eq!(rt; lent, wanted, "{start} to {end}");
     }
-    let (packet, _len) = framer.borrow_packet(&CONTACT).ok_or("no packet")?;
-    assert_eq!(rt; (packet.body, packet.opt), CONTENT.split_at(7));
+    let (packet, _len) = framer.borrow_packet(&CONTACT_PACKET).ok_or("no packet")?;
+    assert_eq!(rt; (packet.body, packet.opt), CONTACT_DATA.split_at(7));
     framer.push(0x55);
-    assert!(rt; !framer.is_ready() && framer.borrow_packet(&CONTACT).is_none());
+    assert!(rt; !framer.is_ready() && framer.borrow_packet(&CONTACT_PACKET).is_none());
     Ok(())
 }

@@ -1,11 +1,14 @@
 //! The scripts over files one of which stops, at each of its calls in turn. The gateway continues to the end of its
 //! script. Then everything crashes, and the files are opened again.
 use super::disks::{
-    Disks, FileOfDatabase, Stop, Store, after_crash, closed, connected, empty_files, files_of,
-    is_limit_reached, with_call_limit,
+    CrashKind, FileOfDatabase, MemoryFileStore, MemoryFiles, after_crash, close_into_files,
+    connect_to_files, empty_files, files_of, is_limit_reached, with_call_limit,
 };
-use super::script::{ITEMS, Item, Known, LABELS, OK, STORE, State};
-use crate::gateways::{BASE, written_by};
+use super::script::{
+    ExpectedState, LABEL_SCRIPT_INPUTS, OK_LINE, SCRIPT_INPUTS, STORE_ERROR_LINE, ScriptInput,
+    SenderRecord,
+};
+use crate::gateways::{BASE, replay_output_of};
 use crate::report::Report;
 use anyhow::{Result, bail};
 use device_registry::{MAX_CACHED, OpenFault, RegistryOver, SqlConnection, prepare};
@@ -16,7 +19,7 @@ use sqlite::Connection;
 use std::alloc::Global;
 
 // More calls of a file than a run makes.
-const MOST_CALLS: usize = 5000;
+const MAX_FILE_CALLS: usize = 5000;
 
 // Enough devices that their table has more than one page.
 const MANY_DEVICES: u32 = 350;
@@ -40,10 +43,10 @@ enum RunEnd {
 
 // The initial state of a run.
 #[derive(Clone, Copy)]
-struct Setup<'a> {
+struct RunSetup<'a> {
     // The script.
-    items: &'a [Item],
-    files: &'a Disks,
+    items: &'a [ScriptInput],
+    files: &'a MemoryFiles,
     // The file that stops.
     which: FileOfDatabase,
     // How many senders the registry knows.
@@ -54,10 +57,10 @@ struct Setup<'a> {
 
 // What a gateway did with the script.
 #[derive(Drop)]
-struct Course {
-    state: State,
+struct ScriptProgress {
+    state: ExpectedState,
     // What a crash may leave of the sender: what was last acknowledged, then the updates that have failed since.
-    left: Vec<Known>,
+    left: Vec<SenderRecord>,
     has_failed: bool,
     // Whether each input was answered correctly.
     is_well: bool,
@@ -68,8 +71,8 @@ struct Course {
 pub(crate) fn run_cases(rt: &HostRuntime, report: &mut Report) -> Result<()> {
     let alloc = rt.alloc();
     let empty = empty_files(alloc);
-    let mut setup = Setup {
-        items: &ITEMS,
+    let mut setup = RunSetup {
+        items: &SCRIPT_INPUTS,
         files: &empty,
         which: FileOfDatabase::Log,
         others: 0,
@@ -82,15 +85,15 @@ pub(crate) fn run_cases(rt: &HostRuntime, report: &mut Report) -> Result<()> {
         RunEnd::Failed,
     ];
     run_crashes(rt, report, "a log that stops", &setup, &ends)?;
-    setup.items = &LABELS;
+    setup.items = &LABEL_SCRIPT_INPUTS;
     run_crashes(rt, report, "a log that stops amid labels", &setup, &ends)?;
-    setup.items = &ITEMS;
+    setup.items = &SCRIPT_INPUTS;
     setup.which = FileOfDatabase::Database;
     let ends = [RunEnd::NotConnected];
     run_crashes(rt, report, "a database that stops", &setup, &ends)?;
     let many = registry_files(alloc, MANY_DEVICES)?;
-    let setup = Setup {
-        items: &ITEMS,
+    let setup = RunSetup {
+        items: &SCRIPT_INPUTS,
         files: &many,
         which: FileOfDatabase::Database,
         others: MANY_DEVICES,
@@ -104,19 +107,23 @@ fn run_crashes(
     rt: &HostRuntime,
     report: &mut Report,
     name: &str,
-    setup: &Setup<'_>,
+    setup: &RunSetup<'_>,
     ends: &[RunEnd],
 ) -> Result<()> {
-    let wrong = first_wrong_stop(rt.alloc(), setup, ends)?;
+    let wrong = first_wrong_file_failure(rt.alloc(), setup, ends)?;
     report.add_first_wrong(rt, name, wrong)
 }
 
 // The first number of calls after which the file stops and a run is wrong, if any. Runs end in each of these ways, and
 // the last one without a failure of the file.
-fn first_wrong_stop(alloc: Global, setup: &Setup<'_>, ends: &[RunEnd]) -> Result<Option<usize>> {
+fn first_wrong_file_failure(
+    alloc: Global,
+    setup: &RunSetup<'_>,
+    ends: &[RunEnd],
+) -> Result<Option<usize>> {
     let mut met = Vec::new(alloc);
-    for calls in 0..MOST_CALLS {
-        let (end, is_well) = run_until_stop(alloc, setup, calls)?;
+    for calls in 0..MAX_FILE_CALLS {
+        let (end, is_well) = run_until_file_fails(alloc, setup, calls)?;
         if !is_well {
             return Ok(Some(calls));
         }
@@ -125,7 +132,7 @@ fn first_wrong_stop(alloc: Global, setup: &Setup<'_>, ends: &[RunEnd]) -> Result
         }
         met.push(end)?;
     }
-    Ok(Some(MOST_CALLS))
+    Ok(Some(MAX_FILE_CALLS))
 }
 
 fn contains_all(ends: &[RunEnd], met: &[RunEnd]) -> bool {
@@ -138,9 +145,9 @@ fn contains_all(ends: &[RunEnd], met: &[RunEnd]) -> bool {
 }
 
 // The files of a registry that knows this many senders.
-fn registry_files(alloc: Global, others: u32) -> Result<Disks> {
-    match connected(alloc, empty_files(alloc), 9) {
-        Ok(conn) => closed(filled_registry(alloc, conn, others)?),
+fn registry_files(alloc: Global, others: u32) -> Result<MemoryFiles> {
+    match connect_to_files(alloc, empty_files(alloc), 9) {
+        Ok(conn) => close_into_files(filled_registry(alloc, conn, others)?),
         Err(_) => bail!("no connection"),
     }
 }
@@ -188,15 +195,23 @@ fn new_gateway_unless_store_fails<C: SqlConnection + Drop>(
 }
 
 // How the run ends whose file allows this many calls, and whether everything was correct.
-fn run_until_stop(alloc: Global, setup: &Setup<'_>, calls: usize) -> Result<(RunEnd, bool)> {
+fn run_until_file_fails(
+    alloc: Global,
+    setup: &RunSetup<'_>,
+    calls: usize,
+) -> Result<(RunEnd, bool)> {
     let files = with_call_limit(alloc, setup.files, setup.which, calls as u64)?;
-    match connected(alloc, files, setup.pages) {
+    match connect_to_files(alloc, files, setup.pages) {
         Ok(conn) => run_over(alloc, setup, conn),
         Err(files) => check_early_end(alloc, setup, RunEnd::NotConnected, files),
     }
 }
 
-fn run_over(alloc: Global, setup: &Setup<'_>, conn: Connection<Store>) -> Result<(RunEnd, bool)> {
+fn run_over(
+    alloc: Global,
+    setup: &RunSetup<'_>,
+    conn: Connection<MemoryFileStore>,
+) -> Result<(RunEnd, bool)> {
     let mut conn = conn;
     match is_prepared(&mut conn) {
         Some(true) => run_prepared(alloc, setup, conn),
@@ -207,8 +222,8 @@ fn run_over(alloc: Global, setup: &Setup<'_>, conn: Connection<Store>) -> Result
 
 fn run_prepared(
     alloc: Global,
-    setup: &Setup<'_>,
-    conn: Connection<Store>,
+    setup: &RunSetup<'_>,
+    conn: Connection<MemoryFileStore>,
 ) -> Result<(RunEnd, bool)> {
     match run_script_over(alloc, setup, conn)? {
         Some((course, conn)) => check_end(alloc, setup, &course, files_of(conn)),
@@ -218,21 +233,21 @@ fn run_prepared(
 
 fn check_early_end(
     alloc: Global,
-    setup: &Setup<'_>,
+    setup: &RunSetup<'_>,
     end: RunEnd,
-    files: Disks,
+    files: MemoryFiles,
 ) -> Result<(RunEnd, bool)> {
     let mut files = files;
     let is_limit_reached = is_limit_reached(&mut files, setup.which);
-    let is_found = is_found_after_crashes(alloc, setup, files, &[Known::Nothing])?;
+    let is_found = is_found_after_crashes(alloc, setup, files, &[SenderRecord::Nothing])?;
     Ok((end, is_limit_reached && is_found))
 }
 
 fn check_end(
     alloc: Global,
-    setup: &Setup<'_>,
-    course: &Course,
-    files: Disks,
+    setup: &RunSetup<'_>,
+    course: &ScriptProgress,
+    files: MemoryFiles,
 ) -> Result<(RunEnd, bool)> {
     let mut files = files;
     let is_limit_reached = is_limit_reached(&mut files, setup.which);
@@ -251,9 +266,9 @@ fn check_end(
 // Runs the script by a gateway, and returns the connection. `None`: there is no gateway.
 fn run_script_over<C: SqlConnection + Drop>(
     alloc: Global,
-    setup: &Setup<'_>,
+    setup: &RunSetup<'_>,
     conn: C,
-) -> Result<Option<(Course, C)>> {
+) -> Result<Option<(ScriptProgress, C)>> {
     let Some(mut gateway) = new_gateway_unless_store_fails(alloc, conn)? else {
         return Ok(None);
     };
@@ -263,28 +278,33 @@ fn run_script_over<C: SqlConnection + Drop>(
 
 fn run_script<S: DeviceStore>(
     alloc: Global,
-    setup: &Setup<'_>,
+    setup: &RunSetup<'_>,
     gateway: &mut GatewayOver<S>,
-) -> Result<Course> {
+) -> Result<ScriptProgress> {
     let mut left = Vec::new(alloc);
-    left.push(Known::Nothing)?;
-    let mut course = Course {
-        state: State::new(Known::Nothing, setup.others),
+    left.push(SenderRecord::Nothing)?;
+    let mut course = ScriptProgress {
+        state: ExpectedState::new(SenderRecord::Nothing, setup.others),
         left,
         has_failed: false,
         is_well: true,
     };
     for item in setup.items {
-        let text = written_by(alloc, gateway, item.line())?;
+        let text = replay_output_of(alloc, gateway, item.line())?;
         follow_answer(alloc, &mut course, *item, text.as_slice())?;
     }
     Ok(course)
 }
 
 // Follows an input with this answer. An input that needs the database may fail, only with the word `store`.
-fn follow_answer(alloc: Global, course: &mut Course, item: Item, text: &[u8]) -> Result<()> {
-    let change = item.change(course.state.known);
-    if text == STORE && item.asks_store() {
+fn follow_answer(
+    alloc: Global,
+    course: &mut ScriptProgress,
+    item: ScriptInput,
+    text: &[u8],
+) -> Result<()> {
+    let change = item.record_after_acknowledgement(course.state.known);
+    if text == STORE_ERROR_LINE && item.may_need_database() {
         course.has_failed = true;
         course.state.fail();
         if let Some(known) = change {
@@ -305,12 +325,12 @@ fn follow_answer(alloc: Global, course: &mut Course, item: Item, text: &[u8]) ->
 // Whether one of these is found after either kind of crash, and the sender is then learned again.
 fn is_found_after_crashes(
     alloc: Global,
-    setup: &Setup<'_>,
-    files: Disks,
-    left: &[Known],
+    setup: &RunSetup<'_>,
+    files: MemoryFiles,
+    left: &[SenderRecord],
 ) -> Result<bool> {
     let mut files = files;
-    for stop in [Stop::OfProcess, Stop::OfMachine] {
+    for stop in [CrashKind::OfProcess, CrashKind::OfMachine] {
         let found = after_crash(alloc, &mut files, stop)?;
         if !is_found(alloc, setup, found, left)? {
             return Ok(false);
@@ -319,8 +339,13 @@ fn is_found_after_crashes(
     Ok(true)
 }
 
-fn is_found(alloc: Global, setup: &Setup<'_>, files: Disks, left: &[Known]) -> Result<bool> {
-    match connected(alloc, files, setup.pages) {
+fn is_found(
+    alloc: Global,
+    setup: &RunSetup<'_>,
+    files: MemoryFiles,
+    left: &[SenderRecord],
+) -> Result<bool> {
+    match connect_to_files(alloc, files, setup.pages) {
         Ok(conn) => is_found_over(alloc, conn, setup.others, left),
         Err(_) => Ok(false),
     }
@@ -330,7 +355,7 @@ fn is_found_over<C: SqlConnection + Drop>(
     alloc: Global,
     conn: C,
     others: u32,
-    left: &[Known],
+    left: &[SenderRecord],
 ) -> Result<bool> {
     match new_gateway_unless_store_fails(alloc, conn)? {
         Some(mut gateway) => is_found_by(alloc, &mut gateway, others, left),
@@ -343,23 +368,23 @@ fn is_found_by<S: DeviceStore>(
     alloc: Global,
     gateway: &mut GatewayOver<S>,
     others: u32,
-    left: &[Known],
+    left: &[SenderRecord],
 ) -> Result<bool> {
-    let list = written_by(alloc, gateway, b"list")?;
-    let window = written_by(alloc, gateway, b"learn on")?;
-    let query = written_by(alloc, gateway, Item::Actuator.line())?;
+    let list = replay_output_of(alloc, gateway, b"list")?;
+    let window = replay_output_of(alloc, gateway, b"learn on")?;
+    let query = replay_output_of(alloc, gateway, ScriptInput::Actuator.line())?;
     let mut accepted = Vec::new(alloc);
-    State::new(Known::Nothing, others)
-        .apply(alloc, Item::Actuator)?
+    ExpectedState::new(SenderRecord::Nothing, others)
+        .apply(alloc, ScriptInput::Actuator)?
         .add_to(&mut accepted)?;
-    let is_learned = window.as_slice() == OK && query.as_slice() == accepted.as_slice();
+    let is_learned = window.as_slice() == OK_LINE && query.as_slice() == accepted.as_slice();
     Ok(is_learned && is_listed(alloc, list.as_slice(), others, left)?)
 }
 
 // Whether a list contains one of these.
-fn is_listed(alloc: Global, list: &[u8], others: u32, left: &[Known]) -> Result<bool> {
+fn is_listed(alloc: Global, list: &[u8], others: u32, left: &[SenderRecord]) -> Result<bool> {
     for known in left {
-        if State::new(*known, others).listed(alloc)?.as_bytes() == list {
+        if ExpectedState::new(*known, others).listed(alloc)?.as_bytes() == list {
             return Ok(true);
         }
     }

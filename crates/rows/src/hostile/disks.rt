@@ -4,9 +4,9 @@ use sqlite::{Alter, Connection, FileStore, Files, Options};
 use sqlite_disk::{Crash, Disk, Fuse, Memory};
 use std::alloc::Global;
 
-pub type Disks = Files<Fuse<Memory>>;
+pub type MemoryFiles = Files<Fuse<Memory>>;
 
-pub type Store = FileStore<Fuse<Memory>>;
+pub type MemoryFileStore = FileStore<Fuse<Memory>>;
 
 /// The log, or the database file.
 #[derive(Clone, Copy)]
@@ -17,21 +17,21 @@ pub enum FileOfDatabase {
 
 /// What a crash leaves of what was written and not synced.
 #[derive(Clone, Copy)]
-pub enum Stop {
+pub enum CrashKind {
     /// The process dies: everything.
     OfProcess,
     /// The machine crashes: nothing.
     OfMachine,
 }
 
-pub(crate) fn empty_files(alloc: Global) -> Disks {
+pub(crate) fn empty_files(alloc: Global) -> MemoryFiles {
     Files {
         log: Fuse::new(Memory::new(alloc), u64::MAX),
         db: Fuse::new(Memory::new(alloc), u64::MAX),
     }
 }
 
-fn copied(alloc: Global, file: &Fuse<Memory>, calls: u64) -> Result<Fuse<Memory>> {
+fn copy_of_file(alloc: Global, file: &Fuse<Memory>, calls: u64) -> Result<Fuse<Memory>> {
     let mut copy = Memory::new(alloc);
     copy.write_at(0, file.inner().bytes())?;
     copy.sync()?;
@@ -41,22 +41,22 @@ fn copied(alloc: Global, file: &Fuse<Memory>, calls: u64) -> Result<Fuse<Memory>
 // Copies of the files. One of them allows this many calls, and then fails each.
 pub(crate) fn with_call_limit(
     alloc: Global,
-    files: &Disks,
+    files: &MemoryFiles,
     which: FileOfDatabase,
     calls: u64,
-) -> Result<Disks> {
+) -> Result<MemoryFiles> {
     let (log, db) = match which {
         FileOfDatabase::Log => (calls, u64::MAX),
         FileOfDatabase::Database => (u64::MAX, calls),
     };
     Ok(Files {
-        log: copied(alloc, &files.log, log)?,
-        db: copied(alloc, &files.db, db)?,
+        log: copy_of_file(alloc, &files.log, log)?,
+        db: copy_of_file(alloc, &files.db, db)?,
     })
 }
 
 // Whether the file does not allow any more calls.
-pub(crate) fn is_limit_reached(files: &mut Disks, which: FileOfDatabase) -> bool {
+pub(crate) fn is_limit_reached(files: &mut MemoryFiles, which: FileOfDatabase) -> bool {
     match which {
         FileOfDatabase::Log => !files.log.may_be_used() || files.log.len().is_err(),
         FileOfDatabase::Database => !files.db.may_be_used() || files.db.len().is_err(),
@@ -64,23 +64,27 @@ pub(crate) fn is_limit_reached(files: &mut Disks, which: FileOfDatabase) -> bool
 }
 
 // Copies of what a crash leaves of the files. They allow each call.
-pub(crate) fn after_crash(alloc: Global, files: &mut Disks, stop: Stop) -> Result<Disks> {
-    if let Stop::OfMachine = stop {
+pub(crate) fn after_crash(
+    alloc: Global,
+    files: &mut MemoryFiles,
+    stop: CrashKind,
+) -> Result<MemoryFiles> {
+    if let CrashKind::OfMachine = stop {
         files.log.crash();
         files.db.crash();
     }
     Ok(Files {
-        log: copied(alloc, &files.log, u64::MAX)?,
-        db: copied(alloc, &files.db, u64::MAX)?,
+        log: copy_of_file(alloc, &files.log, u64::MAX)?,
+        db: copy_of_file(alloc, &files.db, u64::MAX)?,
     })
 }
 
 // A connection over the files that keeps this many pages in memory, or the files again.
-pub(crate) fn connected(
+pub(crate) fn connect_to_files(
     alloc: Global,
-    files: Disks,
+    files: MemoryFiles,
     pages: usize,
-) -> std::result::Result<Connection<Store>, Disks> {
+) -> std::result::Result<Connection<MemoryFileStore>, MemoryFiles> {
     if !files.may_be_used() {
         return Err(files);
     }
@@ -93,7 +97,7 @@ pub(crate) fn connected(
 }
 
 // The files of a connection that is closed.
-pub(crate) fn closed(conn: Connection<Store>) -> Result<Disks> {
+pub(crate) fn close_into_files(conn: Connection<MemoryFileStore>) -> Result<MemoryFiles> {
     match conn.close_files() {
         Ok(files) => Ok(files),
         Err(_) => bail!("not closed"),
@@ -101,7 +105,7 @@ pub(crate) fn closed(conn: Connection<Store>) -> Result<Disks> {
 }
 
 // The files of a connection that is left unchanged.
-pub(crate) fn files_of(conn: Connection<Store>) -> Disks {
+pub(crate) fn files_of(conn: Connection<MemoryFileStore>) -> MemoryFiles {
     store_of(conn).close()
 }
 

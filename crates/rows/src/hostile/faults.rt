@@ -1,8 +1,10 @@
 //! Replays of the script in which one read or one write fails, at each position in turn: what is then written, and what
 //! the gateway knows.
-use super::script::{ITEMS, Known, Outcome, State, outcome_of, outcome_of_first};
-use crate::fakes::{LimitedWriter, PartReader};
-use crate::gateways::{BASE, new_gateway, written_by};
+use super::script::{
+    ExpectedState, SCRIPT_INPUTS, ScriptOutcome, SenderRecord, outcome_of, outcome_of_first,
+};
+use crate::fake_streams::{LimitedWriter, PartReader};
+use crate::gateways::{BASE, new_gateway, replay_output_of};
 use crate::live_turns::NEVER_FAILS;
 use crate::report::Report;
 use anyhow::{Result, bail};
@@ -13,7 +15,7 @@ use gateway_main::{OverRead, OverWrite, RunFault, Summary, start};
 use std::alloc::Global;
 
 // More reads than these scripts need.
-const TURNS: u64 = 1000;
+const MAX_READS: u64 = 1000;
 
 // Two mutants: event loops that close the window at a read that fails, and at a write that fails. They print `at 83,
 // differs` and `at 188, differs`.
@@ -29,7 +31,7 @@ pub(crate) fn run_cases(rt: &HostRuntime, report: &mut Report) -> Result<()> {
 
 // How a replay ended, and what was written.
 #[derive(Drop)]
-struct Replayed {
+struct ReplayEnd {
     ended: Result<Summary, RunFault>,
     written: Vec<u8>,
 }
@@ -41,24 +43,24 @@ fn replay_parts<S: DeviceStore>(
     parts: &[&[u8]],
     read_fails_at: usize,
     write_fails_at: usize,
-) -> Result<Replayed> {
+) -> Result<ReplayEnd> {
     if gateway.is_ready() {
         bail!("a packet waits");
     }
     let mut written = Vec::new(alloc);
     let mut reader = OverRead::new(PartReader::new(parts, read_fails_at));
     let mut writer = OverWrite::new(LimitedWriter::new(&mut written, 1, write_fails_at));
-    let ended = replay(&mut reader, &mut writer, gateway, false, TURNS);
-    Ok(Replayed { ended, written })
+    let ended = replay(&mut reader, &mut writer, gateway, false, MAX_READS);
+    Ok(ReplayEnd { ended, written })
 }
 
 // Whether this is what the gateway knows.
 pub(crate) fn has_state<S: DeviceStore>(
     alloc: Global,
     gateway: &mut GatewayOver<S>,
-    state: &State,
+    state: &ExpectedState,
 ) -> Result<bool> {
-    let stated = written_by(alloc, gateway, b"list\nstatus\n")?;
+    let stated = replay_output_of(alloc, gateway, b"list\nstatus\n")?;
     let list = state.listed(alloc)?;
     let counts = state.status(alloc)?;
     let behind = stated.as_slice().strip_prefix(list.as_bytes());
@@ -67,7 +69,7 @@ pub(crate) fn has_state<S: DeviceStore>(
 
 fn whole_script(alloc: Global) -> Result<Vec<u8>> {
     let mut script = Vec::new(alloc);
-    for item in ITEMS {
+    for item in SCRIPT_INPUTS {
         script.extend_from_slice(item.line())?;
         script.push(b'\n')?;
     }
@@ -108,24 +110,24 @@ fn handles_read_fault(alloc: Global, script: &[u8], came: usize, ended: usize) -
     Ok(
         done.ended == Err(RunFault::Read)
             && done.written.as_slice() == before.written.as_slice()
-            && continues(alloc, &mut gateway, ended, &before)?,
+            && answers_remaining_inputs(alloc, &mut gateway, ended, &before)?,
     )
 }
 
 // Whether the inputs from this one on are answered as if nothing had failed.
-fn continues<S: DeviceStore>(
+fn answers_remaining_inputs<S: DeviceStore>(
     alloc: Global,
     gateway: &mut GatewayOver<S>,
     ended: usize,
-    before: &Outcome,
+    before: &ScriptOutcome,
 ) -> Result<bool> {
     let mut rest = Vec::new(alloc);
-    for item in ITEMS.iter().skip(ended) {
+    for item in SCRIPT_INPUTS.iter().skip(ended) {
         rest.extend_from_slice(item.line())?;
         rest.push(b'\n')?;
     }
-    let written = written_by(alloc, gateway, rest.as_slice())?;
-    let all = outcome_of(alloc, &ITEMS)?;
+    let written = replay_output_of(alloc, gateway, rest.as_slice())?;
+    let all = outcome_of(alloc, &SCRIPT_INPUTS)?;
     let behind = all
         .written
         .as_slice()
@@ -135,7 +137,7 @@ fn continues<S: DeviceStore>(
 
 // The first number of bytes that were written before a write failed, if anything is wrong then.
 fn first_wrong_write(alloc: Global) -> Result<Option<usize>> {
-    for done in 0..ITEMS.len() {
+    for done in 0..SCRIPT_INPUTS.len() {
         let before = outcome_of_first(alloc, done)?;
         let item = outcome_of_first(alloc, done.saturating_add(1))?;
         for out in before.written.len()..item.written.len() {
@@ -148,7 +150,7 @@ fn first_wrong_write(alloc: Global) -> Result<Option<usize>> {
 }
 
 // Whether the text breaks off after this many bytes, and the input in it is done.
-fn handles_write_fault(alloc: Global, out: usize, item: &Outcome) -> Result<bool> {
+fn handles_write_fault(alloc: Global, out: usize, item: &ScriptOutcome) -> Result<bool> {
     let script = whole_script(alloc)?;
     let mut gateway = new_gateway(alloc)?;
     let done = replay_parts(
@@ -190,7 +192,7 @@ fn finds_actuator_again<C: SqlConnection + Drop>(
     let Ok(mut again) = start(alloc, conn, BASE, MAX_CACHED) else {
         return Ok(false);
     };
-    let list = written_by(alloc, &mut again, b"list")?;
-    let wanted = State::new(Known::Actuator, 0).listed(alloc)?;
+    let list = replay_output_of(alloc, &mut again, b"list")?;
+    let wanted = ExpectedState::new(SenderRecord::Actuator, 0).listed(alloc)?;
     Ok(list.as_slice() == wanted.as_bytes())
 }

@@ -1,7 +1,7 @@
 //! A live gateway that serves the script, in which one read or one write fails, at each position in turn: what is then
 //! written, and what the gateway knows.
 use super::faults::has_state;
-use super::script::{ITEMS, Outcome, outcome_of_first};
+use super::script::{SCRIPT_INPUTS, ScriptOutcome, outcome_of_first};
 use super::turns::{Turns, serve, turns_of_script};
 use crate::gateways::new_gateway;
 use crate::live_turns::NEVER_FAILS;
@@ -28,7 +28,7 @@ pub(crate) fn run_cases(rt: &HostRuntime, report: &mut Report) -> Result<()> {
 // The first turn in which a read fails and anything is wrong.
 fn first_wrong_read(alloc: Global) -> Result<Option<usize>> {
     let turns = turns_of_script(alloc)?;
-    for (done, item) in ITEMS.iter().enumerate() {
+    for (done, item) in SCRIPT_INPUTS.iter().enumerate() {
         let turn = done.saturating_add(1);
         let is_packet = item.digits().is_some();
         let done_by_desk = if is_packet { turn } else { done };
@@ -56,7 +56,7 @@ fn handles_read_fault(
 // The first number of bytes that were written on one side before a write there failed, if anything is wrong then.
 fn first_wrong_write(alloc: Global) -> Result<Option<usize>> {
     let turns = turns_of_script(alloc)?;
-    for done in 0..ITEMS.len() {
+    for done in 0..SCRIPT_INPUTS.len() {
         let before = outcome_of_first(alloc, done)?;
         let item = outcome_of_first(alloc, done.saturating_add(1))?;
         for out in before.radio.len()..item.radio.len() {
@@ -82,7 +82,7 @@ fn handles_fault(
     turns: &Turns,
     failing: FailingCall,
     went: (usize, usize),
-    items: &Outcome,
+    items: &ScriptOutcome,
 ) -> Result<bool> {
     let (fault, reads, writes) = match failing {
         FailingCall::Reads(reads) => (RunFault::Read, reads, (NEVER_FAILS, NEVER_FAILS)),

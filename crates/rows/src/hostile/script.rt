@@ -5,7 +5,7 @@ use std::alloc::Global;
 
 /// An input of the script: an order of the desk, or a packet.
 #[derive(Clone, Copy)]
-pub enum Item {
+pub enum ScriptInput {
     /// The order that adds the sender as a contact.
     Add,
     /// A contact telegram of the sender.
@@ -29,36 +29,36 @@ pub enum Item {
 }
 
 /// The script. With enough memory and a database that does not fail its second `Remove` finds nobody.
-pub const ITEMS: [Item; 10] = [
-    Item::Add,
-    Item::Contact,
-    Item::Open,
-    Item::Actuator,
-    Item::Sensor,
-    Item::List,
-    Item::Response,
-    Item::Remove,
-    Item::Remove,
-    Item::Status,
+pub const SCRIPT_INPUTS: [ScriptInput; 10] = [
+    ScriptInput::Add,
+    ScriptInput::Contact,
+    ScriptInput::Open,
+    ScriptInput::Actuator,
+    ScriptInput::Sensor,
+    ScriptInput::List,
+    ScriptInput::Response,
+    ScriptInput::Remove,
+    ScriptInput::Remove,
+    ScriptInput::Status,
 ];
 
 /// The script with labels. With enough memory and a database that does not fail its second `Add` keeps the label, and
 /// its second `Label` finds nobody.
-pub const LABELS: [Item; 9] = [
-    Item::Add,
-    Item::Label,
-    Item::Contact,
-    Item::Add,
-    Item::List,
-    Item::Remove,
-    Item::Label,
-    Item::Add,
-    Item::Label,
+pub const LABEL_SCRIPT_INPUTS: [ScriptInput; 9] = [
+    ScriptInput::Add,
+    ScriptInput::Label,
+    ScriptInput::Contact,
+    ScriptInput::Add,
+    ScriptInput::List,
+    ScriptInput::Remove,
+    ScriptInput::Label,
+    ScriptInput::Add,
+    ScriptInput::Label,
 ];
 
 /// What is known about the sender.
 #[derive(Clone, Copy, PartialEq, Eq)]
-pub enum Known {
+pub enum SenderRecord {
     Nothing,
     Contact,
     /// It is a contact with its label.
@@ -67,45 +67,45 @@ pub enum Known {
     Sensor,
 }
 
-impl Known {
+impl SenderRecord {
     // Whether it is a contact, with a label or without.
     fn is_contact(self) -> bool {
-        self == Known::Contact || self == Known::Labelled
+        self == SenderRecord::Contact || self == SenderRecord::Labelled
     }
 }
 
-pub const OK: &[u8] = b"{\"type\":\"ok\"}\n";
+pub const OK_LINE: &[u8] = b"{\"type\":\"ok\"}\n";
 
-pub const SYNTAX: &[u8] = b"{\"error\":\"syntax\",\"type\":\"error\"}\n";
+pub const SYNTAX_ERROR_LINE: &[u8] = b"{\"error\":\"syntax\",\"type\":\"error\"}\n";
 
-pub const STORE: &[u8] = b"{\"error\":\"store\",\"type\":\"error\"}\n";
+pub const STORE_ERROR_LINE: &[u8] = b"{\"error\":\"store\",\"type\":\"error\"}\n";
 
-const READING: &str = "{\"dbm\":-45,\"eep\":\"D5-00-01\",\"id\":\"01800ABC\",\
+const CONTACT_READING_LINE: &str = "{\"dbm\":-45,\"eep\":\"D5-00-01\",\"id\":\"01800ABC\",\
     \"readings\":[{\"name\":\"CO\",\"word\":\"closed\"}],\"type\":\"reading\"}\n";
 
 const RESPONSE_LINE: &str = "{\"code\":0,\"data\":\"\",\"name\":\"OK\",\"type\":\"response\"}\n";
 
-const UNKNOWN: &str = "{\"error\":\"unknown_device\",\"type\":\"error\"}\n";
+const UNKNOWN_DEVICE_LINE: &str = "{\"error\":\"unknown_device\",\"type\":\"error\"}\n";
 
 // What is sent by radio for the two queries.
 const ACTUATOR_REPLY: &str = "55000d0701fdd4910146001201d2ff800000000301800abcff00f3";
 
 const SENSOR_REPLY: &str = "55000a0701eba5082846f0ff800000000301800abcff00d8";
 
-impl Item {
+impl ScriptInput {
     // Its line in a script, without an end.
     pub(crate) fn line(self) -> &'static [u8] {
         match self {
-            Item::Add => b"add 01800ABC D5-00-01",
-            Item::Contact => b"S 55000707017AD50901800ABC0001FFFFFFFF2D001F",
-            Item::Open => b"learn on answer",
-            Item::Actuator => b"S 55000D0701FDD4A00146001201D201800ABC0001FFFFFFFF2D008A",
-            Item::Sensor => b"S 55000A0701EBA50828468001800ABC0001FFFFFFFF2D00C8",
-            Item::List => b"list",
-            Item::Response => b"S 5500010002650000",
-            Item::Remove => b"remove 01800ABC",
-            Item::Label => b"label 01800ABC Door \"A\"",
-            Item::Status => b"status",
+            ScriptInput::Add => b"add 01800ABC D5-00-01",
+            ScriptInput::Contact => b"S 55000707017AD50901800ABC0001FFFFFFFF2D001F",
+            ScriptInput::Open => b"learn on answer",
+            ScriptInput::Actuator => b"S 55000D0701FDD4A00146001201D201800ABC0001FFFFFFFF2D008A",
+            ScriptInput::Sensor => b"S 55000A0701EBA50828468001800ABC0001FFFFFFFF2D00C8",
+            ScriptInput::List => b"list",
+            ScriptInput::Response => b"S 5500010002650000",
+            ScriptInput::Remove => b"remove 01800ABC",
+            ScriptInput::Label => b"label 01800ABC Door \"A\"",
+            ScriptInput::Status => b"status",
         }
     }
 
@@ -115,23 +115,23 @@ impl Item {
     }
 
     // Whether its answer may need the database.
-    pub(crate) fn asks_store(self) -> bool {
+    pub(crate) fn may_need_database(self) -> bool {
         match self {
-            Item::Open | Item::Response | Item::Status => false,
+            ScriptInput::Open | ScriptInput::Response | ScriptInput::Status => false,
             _ => true,
         }
     }
 
     // What is known about the sender once an acknowledgement says that this input learned, forgot or labelled it, if
     // it does.
-    pub(crate) fn change(self, known: Known) -> Option<Known> {
+    pub(crate) fn record_after_acknowledgement(self, known: SenderRecord) -> Option<SenderRecord> {
         match self {
-            Item::Add if known == Known::Labelled => Some(known),
-            Item::Add => Some(Known::Contact),
-            Item::Label if known.is_contact() => Some(Known::Labelled),
-            Item::Actuator => Some(Known::Actuator),
-            Item::Sensor => Some(Known::Sensor),
-            Item::Remove if known != Known::Nothing => Some(Known::Nothing),
+            ScriptInput::Add if known == SenderRecord::Labelled => Some(known),
+            ScriptInput::Add => Some(SenderRecord::Contact),
+            ScriptInput::Label if known.is_contact() => Some(SenderRecord::Labelled),
+            ScriptInput::Actuator => Some(SenderRecord::Actuator),
+            ScriptInput::Sensor => Some(SenderRecord::Sensor),
+            ScriptInput::Remove if known != SenderRecord::Nothing => Some(SenderRecord::Nothing),
             _ => None,
         }
     }
@@ -139,14 +139,14 @@ impl Item {
 
 /// The answer to an input.
 #[derive(Drop)]
-pub struct Answer {
+pub struct ExpectedAnswer {
     /// The digits of the radio bytes, or none.
     pub radio: &'static str,
     /// The text for the desk.
     pub desk: String,
 }
 
-impl Answer {
+impl ExpectedAnswer {
     // Appends what a replay writes to this text.
     pub(crate) fn add_to(&self, text: &mut Vec<u8>) -> Result<()> {
         if !self.radio.is_empty() {
@@ -161,9 +161,9 @@ impl Answer {
 
 /// What the gateway knows.
 #[derive(Clone, Copy)]
-pub struct State {
+pub struct ExpectedState {
     /// What it knows about the sender.
-    pub known: Known,
+    pub known: SenderRecord,
     /// How many other senders it knows. They are contacts, and have the IDs from 1 on.
     pub others: u32,
     is_answering: bool,
@@ -174,10 +174,10 @@ pub struct State {
     teach: u64,
 }
 
-impl State {
+impl ExpectedState {
     // The state of a new gateway that finds this about the sender.
-    pub(crate) fn new(known: Known, others: u32) -> State {
-        State {
+    pub(crate) fn new(known: SenderRecord, others: u32) -> ExpectedState {
+        ExpectedState {
             known,
             others,
             is_answering: false,
@@ -195,12 +195,12 @@ impl State {
     }
 
     // Applies an input, and returns its answer.
-    pub(crate) fn apply(&mut self, alloc: Global, item: Item) -> Result<Answer> {
+    pub(crate) fn apply(&mut self, alloc: Global, item: ScriptInput) -> Result<ExpectedAnswer> {
         match item {
-            Item::Contact => self.hear_contact(alloc),
-            Item::Actuator => self.learn(alloc, Known::Actuator, ACTUATOR_REPLY),
-            Item::Sensor => self.learn(alloc, Known::Sensor, SENSOR_REPLY),
-            _ => Ok(Answer {
+            ScriptInput::Contact => self.receive_contact_telegram(alloc),
+            ScriptInput::Actuator => self.learn(alloc, SenderRecord::Actuator, ACTUATOR_REPLY),
+            ScriptInput::Sensor => self.learn(alloc, SenderRecord::Sensor, SENSOR_REPLY),
+            _ => Ok(ExpectedAnswer {
                 radio: "",
                 desk: self.apply_without_radio(alloc, item)?,
             }),
@@ -208,63 +208,70 @@ impl State {
     }
 
     // Applies an input without radio bytes, and returns the text for the desk.
-    fn apply_without_radio(&mut self, alloc: Global, item: Item) -> Result<String> {
+    fn apply_without_radio(&mut self, alloc: Global, item: ScriptInput) -> Result<String> {
         match item {
-            Item::Add => {
-                self.known = item.change(self.known).unwrap_or(Known::Contact);
-                teach_line(alloc, Known::Contact, "accepted")
+            ScriptInput::Add => {
+                self.known = item
+                    .record_after_acknowledgement(self.known)
+                    .unwrap_or(SenderRecord::Contact);
+                teach_line(alloc, SenderRecord::Contact, "accepted")
             }
-            Item::Label => self.label(alloc),
-            Item::Open => {
+            ScriptInput::Label => self.label(alloc),
+            ScriptInput::Open => {
                 self.is_answering = true;
-                Ok(String::from_utf8_lossy(alloc, OK)?)
+                Ok(String::from_utf8_lossy(alloc, OK_LINE)?)
             }
-            Item::Response => {
+            ScriptInput::Response => {
                 self.responses = self.responses.saturating_add(1);
                 Ok(RESPONSE_LINE.to_string(alloc)?)
             }
-            Item::List => self.listed(alloc),
-            Item::Remove => self.remove(alloc),
+            ScriptInput::List => self.listed(alloc),
+            ScriptInput::Remove => self.remove(alloc),
             _ => self.status(alloc),
         }
     }
 
-    fn hear_contact(&mut self, alloc: Global) -> Result<Answer> {
+    fn receive_contact_telegram(&mut self, alloc: Global) -> Result<ExpectedAnswer> {
         let is_read = self.known.is_contact();
         if is_read {
             self.readings = self.readings.saturating_add(1);
         } else {
             self.ignored = self.ignored.saturating_add(1);
         }
-        let text = if is_read { READING } else { "" };
-        Ok(Answer {
+        let text = if is_read { CONTACT_READING_LINE } else { "" };
+        Ok(ExpectedAnswer {
             radio: "",
             desk: text.to_string(alloc)?,
         })
     }
 
-    fn learn(&mut self, alloc: Global, known: Known, radio: &'static str) -> Result<Answer> {
+    fn learn(
+        &mut self,
+        alloc: Global,
+        known: SenderRecord,
+        radio: &'static str,
+    ) -> Result<ExpectedAnswer> {
         self.teach = self.teach.saturating_add(1);
         self.known = known;
         let desk = teach_line(alloc, known, "accepted")?;
-        Ok(Answer { radio, desk })
+        Ok(ExpectedAnswer { radio, desk })
     }
 
     fn remove(&mut self, alloc: Global) -> Result<String> {
         let known = self.known;
-        if known == Known::Nothing {
-            return Ok(UNKNOWN.to_string(alloc)?);
+        if known == SenderRecord::Nothing {
+            return Ok(UNKNOWN_DEVICE_LINE.to_string(alloc)?);
         }
-        self.known = Known::Nothing;
+        self.known = SenderRecord::Nothing;
         teach_line(alloc, known, "deleted")
     }
 
     fn label(&mut self, alloc: Global) -> Result<String> {
-        if self.known == Known::Nothing {
-            return Ok(UNKNOWN.to_string(alloc)?);
+        if self.known == SenderRecord::Nothing {
+            return Ok(UNKNOWN_DEVICE_LINE.to_string(alloc)?);
         }
-        self.known = Known::Labelled;
-        Ok(String::from_utf8_lossy(alloc, OK)?)
+        self.known = SenderRecord::Labelled;
+        Ok(String::from_utf8_lossy(alloc, OK_LINE)?)
     }
 
     pub(crate) fn listed(&self, alloc: Global) -> Result<String> {
@@ -276,7 +283,7 @@ impl State {
             text.push_str(line.as_str())?;
         }
         let mut count = self.others;
-        if self.known != Known::Nothing {
+        if self.known != SenderRecord::Nothing {
             let (eep, maker) = eep_and_maker(self.known);
             let line = format!(in alloc;
                 "{{\"eep\":\"{eep}\",\"id\":\"01800ABC\",\"label\":\"{}\",\"maker\":{maker},\"type\":\"device\"}}\n",
@@ -304,25 +311,25 @@ impl State {
     }
 }
 
-fn eep_and_maker(known: Known) -> (&'static str, &'static str) {
+fn eep_and_maker(known: SenderRecord) -> (&'static str, &'static str) {
     match known {
-        Known::Nothing => ("", ""),
-        Known::Contact | Known::Labelled => ("D5-00-01", "null"),
-        Known::Actuator => ("D2-01-12", "70"),
-        Known::Sensor => ("A5-02-05", "70"),
+        SenderRecord::Nothing => ("", ""),
+        SenderRecord::Contact | SenderRecord::Labelled => ("D5-00-01", "null"),
+        SenderRecord::Actuator => ("D2-01-12", "70"),
+        SenderRecord::Sensor => ("A5-02-05", "70"),
     }
 }
 
 // The label of the sender in a list.
-fn label_of(known: Known) -> &'static str {
+fn label_of(known: SenderRecord) -> &'static str {
     match known {
-        Known::Labelled => "Door \\\"A\\\"",
+        SenderRecord::Labelled => "Door \\\"A\\\"",
         _ => "",
     }
 }
 
 // The line with the outcome for the sender.
-fn teach_line(alloc: Global, known: Known, outcome: &str) -> Result<String> {
+fn teach_line(alloc: Global, known: SenderRecord, outcome: &str) -> Result<String> {
     let (eep, maker) = eep_and_maker(known);
     Ok(format!(in alloc;
         "{{\"eep\":\"{eep}\",\"id\":\"01800ABC\",\"maker\":{maker},\"result\":\"{outcome}\",\"type\":\"teach\"}}\n"
@@ -331,8 +338,8 @@ fn teach_line(alloc: Global, known: Known, outcome: &str) -> Result<String> {
 
 /// The last state of a gateway, and its output.
 #[derive(Drop)]
-pub struct Outcome {
-    pub state: State,
+pub struct ScriptOutcome {
+    pub state: ExpectedState,
     /// What a replay writes.
     pub written: Vec<u8>,
     /// What a live gateway sends by radio.
@@ -342,9 +349,9 @@ pub struct Outcome {
 }
 
 // The outcome for a new gateway with these inputs.
-pub(crate) fn outcome_of(alloc: Global, items: &[Item]) -> Result<Outcome> {
-    let mut it = Outcome {
-        state: State::new(Known::Nothing, 0),
+pub(crate) fn outcome_of(alloc: Global, items: &[ScriptInput]) -> Result<ScriptOutcome> {
+    let mut it = ScriptOutcome {
+        state: ExpectedState::new(SenderRecord::Nothing, 0),
         written: Vec::new(alloc),
         radio: Vec::new(alloc),
         desk: Vec::new(alloc),
@@ -360,6 +367,6 @@ pub(crate) fn outcome_of(alloc: Global, items: &[Item]) -> Result<Outcome> {
 }
 
 // The outcome for a new gateway with this many first inputs of the script.
-pub(crate) fn outcome_of_first(alloc: Global, items: usize) -> Result<Outcome> {
-    outcome_of(alloc, &ITEMS[..items.min(ITEMS.len())])
+pub(crate) fn outcome_of_first(alloc: Global, items: usize) -> Result<ScriptOutcome> {
+    outcome_of(alloc, &SCRIPT_INPUTS[..items.min(SCRIPT_INPUTS.len())])
 }

@@ -1,8 +1,8 @@
 //! The script as the turns of a live gateway: one input arrives in each turn.
-use super::script::{ITEMS, Item};
-use crate::fakes::PartReader;
+use super::script::{SCRIPT_INPUTS, ScriptInput};
+use crate::fake_streams::PartReader;
 use crate::gateways::new_gateway;
-use crate::live_turns::{NEVER_FAILS, Served, serve_by};
+use crate::live_turns::{NEVER_FAILS, ServeEnd, serve_by};
 use anyhow::Result;
 use gateway_core::{DeviceStore, GatewayOver};
 use std::alloc::Global;
@@ -34,7 +34,7 @@ impl Turns {
         self.push(alloc, b"", desk.as_slice())
     }
 
-    fn push_item(&mut self, alloc: Global, item: Item) -> Result<()> {
+    fn push_item(&mut self, alloc: Global, item: ScriptInput) -> Result<()> {
         match item.digits() {
             Some(digits) => self.push(alloc, bytes_of(alloc, digits)?.as_slice(), b""),
             None => self.push_order(alloc, item.line()),
@@ -49,7 +49,7 @@ fn bytes_of(alloc: Global, digits: &[u8]) -> Result<Vec<u8>> {
 // The turns of the script.
 pub(crate) fn turns_of_script(alloc: Global) -> Result<Turns> {
     let mut turns = Turns::new(alloc);
-    for item in ITEMS {
+    for item in SCRIPT_INPUTS {
         turns.push_item(alloc, item)?;
     }
     Ok(turns)
@@ -59,7 +59,7 @@ pub(crate) fn turns_of_script(alloc: Global) -> Result<Turns> {
 // first.
 pub(crate) fn turns_with_pause(alloc: Global, at: usize, len: usize) -> Result<Turns> {
     let mut turns = Turns::new(alloc);
-    for (number, item) in ITEMS.iter().enumerate() {
+    for (number, item) in SCRIPT_INPUTS.iter().enumerate() {
         match item.digits() {
             Some(digits) if number == at => {
                 let bytes = bytes_of(alloc, digits)?;
@@ -76,7 +76,7 @@ pub(crate) fn turns_with_pause(alloc: Global, at: usize, len: usize) -> Result<T
 // The turns of the script, except that no serial bytes follow this many of the packet with this number.
 pub(crate) fn turns_with_end(alloc: Global, at: usize, len: usize) -> Result<Turns> {
     let mut turns = Turns::new(alloc);
-    for (number, item) in ITEMS.iter().enumerate() {
+    for (number, item) in SCRIPT_INPUTS.iter().enumerate() {
         match item.digits() {
             Some(digits) if number >= at => {
                 let bytes = bytes_of(alloc, digits)?;
@@ -91,7 +91,7 @@ pub(crate) fn turns_with_end(alloc: Global, at: usize, len: usize) -> Result<Tur
 }
 
 // Serves the turns by a new gateway.
-pub(crate) fn serve_by_new_gateway(alloc: Global, turns: &Turns) -> Result<Served> {
+pub(crate) fn serve_by_new_gateway(alloc: Global, turns: &Turns) -> Result<ServeEnd> {
     let mut gateway = new_gateway(alloc)?;
     serve(
         alloc,
@@ -109,7 +109,7 @@ pub(crate) fn serve<S: DeviceStore>(
     turns: &Turns,
     read_fails_at: (usize, usize),
     write_fails_at: (usize, usize),
-) -> Result<Served> {
+) -> Result<ServeEnd> {
     let serial = slices_of(alloc, &turns.serial)?;
     let desk = slices_of(alloc, &turns.desk)?;
     let (serial_fails_at, desk_fails_at) = read_fails_at;

@@ -16,5 +16,5 @@ pub returns-clause-other : goal.returns-clause-other
 returns-clause-other g c clean none listed =
     let sound = c.requires (before c.query_rows.ensures.crash clean) in
     let are = (ours c.args.version _ _ _ sound (c.in_ok-rows.ensures.shown clean).0).1 listed in
-    let yes : c.are_our_tables.result ≡ true = search (rules, are) in
+    let yes : c.list_our_tables.result ≡ true = search (rules, are) in
     absurd (let e = none in cc)

@@ -17,8 +17,8 @@ returns-in_err-rows-clause-inside g c =
       | inr late ↦ inl late.5
     ]))
 
-pub returns-then-not-are_our_tables-clause-inside : goal.returns-then-not-are_our_tables-clause-inside
-returns-then-not-are_our_tables-clause-inside g c =
+pub returns-then-not-list_our_tables-clause-inside : goal.returns-then-not-list_our_tables-clause-inside
+returns-then-not-list_our_tables-clause-inside g c =
     still_uncommitted g.S.Store c.query_all.new.self.conn.now c.in_ok-run_all.ensures.inside
     c.query_all.ensures.survives (λ clean. inl (shown_same list_objects_sql [] _ _ (listing_plain _ (c.requires.sound _
     (before c.query_all.ensures.survives clean) c.in_ok-run_all.ensures.inside)) _ (c.in_ok-rows.ensures.ok clean)))

@@ -8,7 +8,7 @@ use Rattle.esp3_resync.proofs.window.record_crcs.Goals as goal
 pub loop-i-init : goal.loop-i-init
 loop-i-init c = record {
   len = refl;
-  noted = λ g w s at noted. (
+  crcs_are_running = λ g w s at noted. (
     subst (λ (y : List ℕ). HasRunningCrcs g y s c.args.crcs.now) (sym (append-nil w)) noted,
     noted_last g w c.args.crcs.now s c.args.at at noted ∙ ap (λ (y : List ℕ). check (g ++ y)) (sym (append-nil w)),
   );
@@ -23,14 +23,14 @@ loop-i-preserved c =
     let size : length c.loop-i.crcs ≡ length c.args.crcs.now = c.loop-i.invariant.len in
     record {
       len = length-set c.loop-i.crcs k c.check8_next-all.result ∙ size;
-      noted = λ g w s at noted.
-          let so_far = c.loop-i.invariant.noted g w s at noted in
+      crcs_are_running = λ g w s at noted.
+          let so_far = c.loop-i.invariant.crcs_are_running g w s at noted in
           noted_more g w b c.loop-i.crcs s c.args.at i k n c.check8_next-all.result at (omega arith) (omega arith)
           (omega arith) (omega arith) so_far.1 c.check8_next-all.ensures so_far.0;
     }
 
-pub returns-clause-noted : goal.returns-clause-noted
-returns-clause-noted c = λ g w s at noted.
+pub returns-clause-crcs_are_running : goal.returns-clause-crcs_are_running
+returns-clause-crcs_are_running c = λ g w s at noted.
     subst (λ (y : List ℕ). HasRunningCrcs g (w ++ y) s c.loop-i.crcs)
     (take_all c.loop-i.i c.args.bytes.now (omega arith))
-    (c.loop-i.invariant.noted g w s at noted).0
+    (c.loop-i.invariant.crcs_are_running g w s at noted).0

@@ -7,6 +7,6 @@ use Rattle.esp3_resync.proofs.window.record_crcs.Given as goal
 abbrev pub invariant-loop-i : goal.invariant-loop-i
 invariant-loop-i l = record {
   len : length l.crcs ≡ length l.fn.crcs;
-  noted : (g w : List ℕ) (s : ℕ) → l.at ≡ s + length w → HasRunningCrcs g w s l.fn.crcs
+  crcs_are_running : (g w : List ℕ) (s : ℕ) → l.at ≡ s + length w → HasRunningCrcs g w s l.fn.crcs
       → HasRunningCrcs g (w ++ take l.i l.bytes) s l.crcs × (l.all ≡ check (g ++ (w ++ take l.i l.bytes)));
 }

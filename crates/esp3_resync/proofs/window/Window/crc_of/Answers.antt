@@ -21,9 +21,10 @@ returns c =
     let size : len ≡ length w = omega (arith, length-take len (drop from b), length-drop from b) in
     let second : place + len ≡ start + (from + len) = omega arith in
     c.check8_between.ensures.part (g ++ take from b) w
-    (at place c.index.result.now c.index.ensures (omega (arith, r.enough_slots)) ∙ r.noted from (omega arith))
+    (at place c.index.result.now c.index.ensures (omega (arith, r.enough_slots))
+    ∙ r.crcs_are_running from (omega arith))
     (at (place + len) c.index-2.result.now c.index-2.ensures (omega (arith, r.enough_slots))
-    ∙ ap (λ j. get_or d j 0) second ∙ r.noted (from + len) inside
+    ∙ ap (λ j. get_or d j 0) second ∙ r.crcs_are_running (from + len) inside
     ∙ ap (λ (y : List ℕ). check (g ++ y)) (take-add from len b)
     ∙ ap check (sym (append_assoc g (take from b) w)))
     size

@@ -29,7 +29,7 @@ invariant_of-self c =
     let crcs = take_at d (drop (length d) e) slots.new.crcs.len same in
     let moved : HasRunningCrcs r.dropped b.items room.result room.new.crcs.items =
     noted_moved r.dropped b.items c.self.inside.crcs.items room.new.crcs.items c.self.inside.start room.result
-    (λ i within. room.ensures.same i (omega (arith, c.len-held.ensures.len))) r.noted in
+    (λ i within. room.ensures.same i (omega (arith, c.len-held.ensures.len))) r.crcs_are_running in
     let noted : HasRunningCrcs r.dropped b.items room.result e = λ i within.
     slots.ensures.same (room.result + i) (omega (arith, room.ensures.slots, c.len-held.ensures.len)) ∙ moved i within in
     record {
@@ -51,8 +51,8 @@ invariant_of-self c =
         c.len-held.ensures.len,
       );
       dropped = r.dropped;
-      noted = subst (HasRunningCrcs r.dropped filled.new.self.items room.result) (sym crcs)
+      crcs_are_running = subst (HasRunningCrcs r.dropped filled.new.self.items room.result) (sym crcs)
           (subst (λ (y : List ℕ). HasRunningCrcs r.dropped y room.result d) (sym items)
-          (c.record_crcs.ensures.noted r.dropped b.items room.result (omega (arith, c.len-held.ensures.len))
+          (c.record_crcs.ensures.crcs_are_running r.dropped b.items room.result (omega (arith, c.len-held.ensures.len))
           (subst (HasRunningCrcs r.dropped b.items room.result) (sym before.value) noted)));
     }

@@ -20,7 +20,7 @@ invariant_of-result c =
       within = (omega (arith, ap length none), omega (arith, ap length none));
       enough_slots = omega (arith, ap length none, ap length one);
       dropped = [];
-      noted = λ i within.
+      crcs_are_running = λ i within.
           let first : i ≡ 0 = omega (arith, ap length none) in
           let place : 0 + i ≡ 0 = omega arith in
           ap (λ k. get_or d k 0) place ∙ zero ∙ sym check_nil ∙ ap (λ k. check (take k b)) (sym first);

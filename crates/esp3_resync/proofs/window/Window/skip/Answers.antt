@@ -23,5 +23,5 @@ invariant_of-self c =
       );
       enough_slots = omega (arith, r.enough_slots, length-drop k b.items);
       dropped = r.dropped ++ take k b.items;
-      noted = noted_skip r.dropped b.items d.items s k within r.noted;
+      crcs_are_running = noted_skip r.dropped b.items d.items s k within r.crcs_are_running;
     })

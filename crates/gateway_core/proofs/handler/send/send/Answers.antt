@@ -8,5 +8,5 @@ returns-in-Ok c =
     λ asked.
     subst (λ telegram. MatchesEffect c.send_effect.result (send_result_effect asked telegram))
     (sym (sym c.packet_of.ensures ∙ ap Some c.in-Ok.is))
-    (subst (λ bytes. MatchesEffect c.send_effect.result (send_effect asked bytes)) c.packet_with.ensures
+    (subst (λ bytes. MatchesEffect c.send_effect.result (send_effect asked bytes)) c.packet_of_telegram.ensures
     (c.send_effect.ensures asked))

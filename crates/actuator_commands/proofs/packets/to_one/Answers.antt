@@ -1,5 +1,0 @@
-use Rattle.std.proofs.Common.{rules}
-use Rattle.actuator_commands.proofs.packets.to_one.Goals as goal
-
-pub returns : goal.returns
-returns c = search rules

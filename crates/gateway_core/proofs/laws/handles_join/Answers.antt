@@ -1,8 +1,0 @@
-use Rattle.gateway_core.proofs.RunLemmas.{handles-nothing, handles-append}
-use Rattle.gateway_core.proofs.laws.handles_join.Goals as goal
-
-pub returns-clause-nothing : goal.returns-clause-nothing
-returns-clause-nothing g c = handles-nothing g.S.DeviceStore.store_state
-
-pub returns-clause-join : goal.returns-clause-join
-returns-clause-join g c = handles-append g.S.DeviceStore.store_state

@@ -1,5 +1,0 @@
-use Rattle.std.proofs.Common.{rules}
-use Rattle.gateway_state.proofs.counts.Counts.none.Goals as goal
-
-pub returns : goal.returns
-returns c = search rules

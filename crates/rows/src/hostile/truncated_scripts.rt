@@ -1,0 +1,171 @@
+//! Scripts that end after each of their bytes, and serial lines that end, or pause, after each of theirs.
+use super::script::{
+    ExpectedState, OK_LINE, SCRIPT_INPUTS, SYNTAX_ERROR_LINE, ScriptInput, SenderRecord, outcome_of,
+};
+use super::turns::{serve_by_new_gateway, turns_with_end, turns_with_pause};
+use crate::replays::replay_writes;
+use crate::report::Report;
+use anyhow::Result;
+use std::alloc::Global;
+
+// A contact telegram with a wrong last byte.
+const WRONG_LAST_BYTE: &[u8] = b"S 55000707017AD50901800ABC0001FFFFFFFF2D001E";
+
+// A line of a script, and its output.
+#[derive(Drop)]
+struct ScriptLine {
+    line: &'static [u8],
+    text: Vec<u8>,
+}
+
+// Two mutants: a replay that drops a last line of one byte, and a live gateway that drops a chunk of one byte. All
+// three cases print `at 1, differs`, the first two for the replay.
+pub(crate) fn run_cases(rt: &HostRuntime, report: &mut Report) -> Result<()> {
+    let alloc = rt.alloc();
+    let script = lines_of_inputs(alloc, &SCRIPT_INPUTS, &[])?;
+    let wrong = first_wrong_end(alloc, script.as_slice())?;
+    report.add_first_wrong(rt, "a script that ends behind each byte", wrong)?;
+    let script = lines_of_inputs(alloc, &[ScriptInput::Add], &[ScriptInput::Contact])?;
+    let wrong = first_wrong_end(alloc, script.as_slice())?;
+    report.add_first_wrong(rt, "a wrong last byte and an end behind each byte", wrong)?;
+    let wrong = first_wrong_line(alloc)?;
+    report.add_first_wrong(
+        rt,
+        "a serial line that ends or pauses behind each byte",
+        wrong,
+    )
+}
+
+fn add_lines(
+    alloc: Global,
+    lines: &mut Vec<ScriptLine>,
+    state: &mut ExpectedState,
+    items: &[ScriptInput],
+) -> Result<()> {
+    for item in items {
+        let mut text = Vec::new(alloc);
+        state.apply(alloc, *item)?.add_to(&mut text)?;
+        lines.push(ScriptLine {
+            line: item.line(),
+            text,
+        })?;
+    }
+    Ok(())
+}
+
+// The lines of these inputs, and, if there are any, those of others after a packet with a wrong last byte.
+fn lines_of_inputs(
+    alloc: Global,
+    items: &[ScriptInput],
+    behind: &[ScriptInput],
+) -> Result<Vec<ScriptLine>> {
+    let mut lines = Vec::new(alloc);
+    let mut state = ExpectedState::new(SenderRecord::Nothing, 0);
+    add_lines(alloc, &mut lines, &mut state, items)?;
+    if !behind.is_empty() {
+        lines.push(ScriptLine {
+            line: WRONG_LAST_BYTE,
+            text: Vec::new(alloc),
+        })?;
+    }
+    add_lines(alloc, &mut lines, &mut state, behind)?;
+    Ok(lines)
+}
+
+// The first number of bytes after which the script ends and the output is wrong, if any.
+fn first_wrong_end(alloc: Global, lines: &[ScriptLine]) -> Result<Option<usize>> {
+    let mut script = Vec::new(alloc);
+    let mut text = Vec::new(alloc);
+    for line in lines {
+        for len in 0..line.line.len() {
+            let part = &line.line[..len];
+            if !handles_end(
+                alloc,
+                (&script, part),
+                (&text, output_for_partial_line(part)),
+            )? {
+                return Ok(Some(script.len().saturating_add(len)));
+            }
+        }
+        if !handles_end(alloc, (&script, line.line), (&text, &line.text))? {
+            return Ok(Some(script.len().saturating_add(line.line.len())));
+        }
+        script.extend_from_slice(line.line)?;
+        script.push(b'\n')?;
+        text.extend_from_slice(&line.text)?;
+    }
+    let is_well = handles_end(alloc, (&script, b""), (&text, b""))?;
+    Ok((!is_well).then_some(script.len()))
+}
+
+// Whether this is written for a script that ends within a line.
+fn handles_end(alloc: Global, script: (&[u8], &[u8]), text: (&[u8], &[u8])) -> Result<bool> {
+    replay_writes(alloc, &joined(alloc, script)?, &joined(alloc, text)?)
+}
+
+fn joined(alloc: Global, parts: (&[u8], &[u8])) -> Result<Vec<u8>> {
+    let mut bytes = Vec::new(alloc);
+    bytes.extend_from_slice(parts.0)?;
+    bytes.extend_from_slice(parts.1)?;
+    Ok(bytes)
+}
+
+// The output for a prefix of a line, whose rest does not arrive. It is a line itself, if it is not empty: a chunk
+// without a whole packet, or an order. Of such orders only `learn on` is valid.
+fn output_for_partial_line(part: &[u8]) -> &'static [u8] {
+    match part.strip_prefix(b"S ".as_slice()) {
+        Some(digits) if digits.len() % 2 == 0 => b"",
+        _ if part.is_empty() => b"",
+        _ if part == b"learn on".as_slice() => OK_LINE,
+        _ => SYNTAX_ERROR_LINE,
+    }
+}
+
+// The first number of serial bytes after which the line ends or pauses and the output is wrong, if any.
+fn first_wrong_line(alloc: Global) -> Result<Option<usize>> {
+    let mut number = 0usize;
+    for (at, item) in SCRIPT_INPUTS.iter().enumerate() {
+        let Some(digits) = item.digits() else {
+            continue;
+        };
+        for len in 0..=digits.len() / 2 {
+            if !handles_pause(alloc, at, len)? || !handles_line_end(alloc, at, len)? {
+                return Ok(Some(number.saturating_add(len)));
+            }
+        }
+        number = number.saturating_add(digits.len() / 2);
+    }
+    Ok(None)
+}
+
+// Whether everything is written if this many bytes of a packet arrive in one turn, and the others in the next.
+fn handles_pause(alloc: Global, at: usize, len: usize) -> Result<bool> {
+    let served = serve_by_new_gateway(alloc, &turns_with_pause(alloc, at, len)?)?;
+    let wanted = outcome_of(alloc, &SCRIPT_INPUTS)?;
+    Ok(
+        served.ended.is_ok()
+            && served.radio.as_slice() == wanted.radio.as_slice()
+            && served.desk.as_slice() == wanted.desk.as_slice(),
+    )
+}
+
+// Whether the packets before it and all orders are answered if the line ends after this many bytes of a packet.
+fn handles_line_end(alloc: Global, at: usize, len: usize) -> Result<bool> {
+    let mut items = Vec::new(alloc);
+    for (turn, item) in SCRIPT_INPUTS.iter().enumerate() {
+        let is_whole = match item.digits() {
+            Some(digits) => turn < at || turn == at && len == digits.len() / 2,
+            None => true,
+        };
+        if is_whole {
+            items.push(*item)?;
+        }
+    }
+    let served = serve_by_new_gateway(alloc, &turns_with_end(alloc, at, len)?)?;
+    let wanted = outcome_of(alloc, items.as_slice())?;
+    Ok(
+        served.ended.is_ok()
+            && served.radio.as_slice() == wanted.radio.as_slice()
+            && served.desk.as_slice() == wanted.desk.as_slice(),
+    )
+}
