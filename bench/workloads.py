@@ -10,19 +10,21 @@ import typing
 ROOT = pathlib.Path(__file__).resolve().parent.parent
 sys.path.insert(0, str(ROOT / "tests"))
 
-from oracle.esp3 import packet, pieces, telegram
+from oracle.esp3 import packet, serial_script_lines, telegram_packet
 
 PROGRAM = ROOT / "crates/enogate/out/enogate"  # what `make build` makes
 
 SENDERS = [0x01800000 + 0x111 * k for k in range(200)]
-CONTACT_TELEGRAMS = [telegram(0xD5, b"\x09", sender) for sender in SENDERS]
+CONTACT_TELEGRAMS = [telegram_packet(0xD5, b"\x09", sender) for sender in SENDERS]
 # For each kind of device (contact, rocker, temperature sensor): its profile, and the RORG, the payload and the status
 # of its telegrams.
 DEVICE_KINDS = [
     ("D5-00-01", 0xD5, b"\x09", 0), ("F6-02-01", 0xF6, b"\x50", 0x30), ("A5-02-05", 0xA5, b"\0\0\x7F\x08", 0)]
 SENDERS_WITH_KINDS = list(zip(SENDERS, itertools.cycle(DEVICE_KINDS)))
-MIXED_TELEGRAMS = [telegram(rorg, payload, sender, status) for sender, (_, rorg, payload, status) in SENDERS_WITH_KINDS]
-SENSOR_TELEGRAM = telegram(0xA5, bytes.fromhex("FB7F7F0B"), 0x01800ABC)
+MIXED_TELEGRAMS = [
+    telegram_packet(rorg, payload, sender, status) for sender, (_, rorg, payload, status) in SENDERS_WITH_KINDS
+]
+SENSOR_TELEGRAM = telegram_packet(0xA5, bytes.fromhex("FB7F7F0B"), 0x01800ABC)
 LONGEST_PACKET = packet(1, bytes(65535), bytes(255))
 
 
@@ -66,7 +68,7 @@ class Workload(typing.NamedTuple):
         orders = [f"add {sender:08X} {eep}\n" for sender, eep in self.devices]
         source = io.BytesIO((stream * (total // len(stream) + 1))[:total])
         sizes = itertools.cycle(self.sizes)
-        return "".join([*orders, *map(pieces, iter(lambda: source.read(next(sizes)), b""))])
+        return "".join([*orders, *map(serial_script_lines, iter(lambda: source.read(next(sizes)), b""))])
 
 
 CONTACT_WORKLOAD = Workload([(SENDERS[0], "D5-00-01")], CONTACT_TELEGRAMS[0], [21], packets=1)

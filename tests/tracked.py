@@ -3,7 +3,7 @@ import re
 import subprocess
 
 # What is made here: `.gitignore` has the same.
-BUILT_PATHS = re.compile(r"(^|/)(\.git|target|out|__pycache__)/|\.deb$|^contrib/cockpit/enogate/tables\.js$")
+BUILT_FILE_PATTERNS = re.compile(r"(^|/)(\.git|target|out|__pycache__)/|\.deb$|^contrib/cockpit/enogate/tables\.js$")
 
 
 def tracked_paths(root):
@@ -12,4 +12,4 @@ def tracked_paths(root):
     if run.returncode == 0:
         return run.stdout.split("\0")[:-1]
     names = (path.relative_to(root).as_posix() for path in root.rglob("*") if path.is_file())
-    return sorted(name for name in names if not BUILT_PATHS.search(name))
+    return sorted(name for name in names if not BUILT_FILE_PATTERNS.search(name))

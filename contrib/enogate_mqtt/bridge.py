@@ -21,7 +21,7 @@ from .orders import DEVICE_PATTERN, InvalidMessage, orders_of
 from .outbox import MAX_UNDER_WAY, Backlog, Outbox
 from .reconcile import Part, Reconciler
 from .requests import ListRequest, Probe, Requests
-from .state import LAST_SEEN
+from .state import LAST_SEEN_SUBTOPIC
 from .store import Store
 from .topics import Message, Topics
 
@@ -88,7 +88,7 @@ class Bridge:
         self.saved: Position | None = store.position if store.is_same_boot else None
         self.saved_at = 0.0
         # the newest time of a telegram in an earlier run, and until when an earlier time is not published
-        self.newest = max((device.reported.get(LAST_SEEN, "") for device in store.devices), default="")
+        self.newest = max((device.reported.get(LAST_SEEN_SUBTOPIC, "") for device in store.devices), default="")
         self.waits_until = clock() + CLOCK_SET_WITHIN
         self.is_unknown_asked = False
 

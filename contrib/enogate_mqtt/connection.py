@@ -66,7 +66,7 @@ class Connection:
         self.paho, self.topics, self.clock, self.is_five = paho, topics, clock, version == 5
         self.is_reader = is_reader
         self.name = f"enogate-{topics.name}" + (".reader" if is_reader else "")
-        self.is_open, self.refusal, self.complaint = False, "", ""
+        self.is_open, self.refusal, self.missing_right = False, "", ""
         self.is_unsupported = self.is_taken_over = False
         # why a message could not be sent, and the last exception of a callback
         self.failure = ""
@@ -154,7 +154,7 @@ class Connection:
         self.on_answer(self.unanswered, number)
         if number == self.orders_request:
             if any(code_number(code) >= FIRST_REFUSAL_CODE for code in codes[:len(self.topics.command_filters)]):
-                self.complaint = ", but this user may not subscribe to orders"
+                self.missing_right = ", but this user may not subscribe to orders"
             self.is_open = True
 
     def on_message(self, message: Any) -> None:
@@ -314,7 +314,7 @@ class Broker:
     def report_connected(self) -> None:
         """A message of the bridge has come back: the broker accepts and passes on what is published."""
         if self.connection:
-            logging.info("connected to %s%s", self.name, self.connection.complaint)
+            logging.info("connected to %s%s", self.name, self.connection.missing_right)
 
     def report_refused(self, topic: str) -> None:
         """A message on this topic has not come back. The broker acknowledges messages that it drops, too."""

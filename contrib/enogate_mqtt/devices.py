@@ -11,7 +11,7 @@ from enogate_lines.contents import Content, Deleted, EndOfList, Learned, Listed,
 from enogate_lines.entities import Table
 
 from . import discovery
-from .state import LAST_SEEN
+from .state import LAST_SEEN_SUBTOPIC
 from .topics import Message, Topics
 
 
@@ -65,7 +65,8 @@ class Devices:
         if name not in self.adopting:
             return False
         device = self.known[name]
-        if subtopic in device.reported or not (subtopic == LAST_SEEN or self.table.may_report(device.eep, subtopic)):
+        is_possible = subtopic == LAST_SEEN_SUBTOPIC or self.table.may_report(device.eep, subtopic)
+        if subtopic in device.reported or not is_possible:
             return False
         device.reported[subtopic] = text
         self.changed.add(name)
@@ -159,11 +160,11 @@ class Devices:
         if self.has_events(telegram.eep):
             # a rocker that is not pressed any more is not retained as pressed
             old = [subtopic for subtopic in device.reported
-                   if subtopic not in reported and subtopic not in ("dbm", LAST_SEEN)]
+                   if subtopic not in reported and subtopic not in ("dbm", LAST_SEEN_SUBTOPIC)]
             messages += self.delete_retained(self.topics.reading(device.name, subtopic) for subtopic in old)
             device.reported = {subtopic: text for subtopic, text in device.reported.items() if subtopic not in old}
         if now is not None:
-            reported[LAST_SEEN] = time_text(now)
+            reported[LAST_SEEN_SUBTOPIC] = time_text(now)
         is_new = not reported.keys() <= device.reported.keys()
         device.reported |= reported
         self.changed.add(device.name)

@@ -19,7 +19,8 @@ from .desk import Desk
 from .devices import Devices
 from .queries import Queries
 from .requests import Requests
-from .settings import EXIT_STATUS, Options, Arguments, WrongSetting, read_login, read_options, read_arguments
+from .settings import EXIT_STATUS, Arguments, PublishingSettings, WrongSetting
+from .settings import read_arguments, read_login, read_publishing_settings
 from .store import Store
 from .topics import Message, Topics
 from .wake import Waiter
@@ -30,11 +31,11 @@ def main() -> int:
     log.set_up_logging(os.environ)
     try:
         words = read_arguments(sys.argv[1:])
-        options = read_options(os.environ)
+        settings = read_publishing_settings(os.environ)
         if words.prints:
-            print_messages(Topics(words.name, options.discovery), options)
+            print_messages(Topics(words.name, settings.discovery), settings)
         else:
-            run(words, options)
+            run(words, settings)
     except WrongSetting as wrong:
         logging.error("%s", wrong)
         return EXIT_STATUS
@@ -43,20 +44,20 @@ def main() -> int:
     return 0
 
 
-def run(words: Arguments, options: Options) -> None:
+def run(words: Arguments, settings: PublishingSettings) -> None:
     """Connects the gateway to the broker, until a signal stops it."""
     login, clock = read_login(os.environ), time.monotonic
-    topics = Topics(words.name, options.discovery)
+    topics = Topics(words.name, settings.discovery)
     paho = import_paho()
-    store = Store(words.state, options.discovery, words.boot)
+    store = Store(words.state, settings.discovery, words.boot)
     broker = Broker(lambda version, is_reader: Connection(paho, login, topics, version, clock, is_reader),
                     f"{login.host}:{login.port}", clock)
     removed = store.removed | old_discovery_topics(topics, store)
-    devices = Devices(topics, Table(), options.expire_after, store.devices, removed,
-                      may_adopt=store.may_adopt, label_wait=options.label_wait, clock=clock)
+    devices = Devices(topics, Table(), settings.expire_after, store.devices, removed,
+                      may_adopt=store.may_adopt, label_wait=settings.label_wait, clock=clock)
     desk = Desk(words.desk, clock)
-    queries = Queries(devices, desk) if options.queries else None
-    requests = Requests(desk, clock, time.time, options.learn_for, store.learn_until, queries)
+    queries = Queries(devices, desk) if settings.queries else None
+    requests = Requests(desk, clock, time.time, settings.learn_for, store.learn_until, queries)
     follower = Follower(words.lines, store.position, logging.warning, store.is_same_boot)
     wake = Waiter([words.lines, words.desk])
     bridge = Bridge(topics, broker, devices, follower, desk, requests, store, clock, time.time, wake.wait)
@@ -87,10 +88,10 @@ def old_discovery_topics(topics: Topics, store: Store) -> set[str]:
     return found.union(*Devices(old, Table(), known=store.devices).shown.values())
 
 
-def print_messages(topics: Topics, options: Options) -> None:
+def print_messages(topics: Topics, settings: PublishingSettings) -> None:
     """Prints what would be published for the lines on standard input."""
     signal.signal(signal.SIGPIPE, signal.SIG_DFL)
-    devices = Devices(topics, Table(), options.expire_after)
+    devices = Devices(topics, Table(), settings.expire_after)
     lines = ((without_nuls(line.removesuffix(b"\n")), START_OF_NO_FILE) for line in sys.stdin.buffer)
     for line, _, content in decoded_lines(lines, devices, lambda _kind, text: logging.warning("%s", text)):
         for message in [Message(topics.lines, line, False), *devices.handle_line(content)]:

@@ -45,7 +45,7 @@ class Login:
 
 
 @dataclass(frozen=True)
-class Options:
+class PublishingSettings:
     """The topic prefix of Home Assistant's discovery, or an empty string; how long a learn window stays open that was
     opened through the bridge; after which time without a telegram a cyclic reading expires, AUTO, or None if it never
     does; how long a newly learned device waits for a label; and whether actuators are asked for their states. All times
@@ -93,12 +93,12 @@ def read_discovery(environment: Mapping[str, str]) -> str:
     return topic
 
 
-def read_options(environment: Mapping[str, str]) -> Options:
+def read_publishing_settings(environment: Mapping[str, str]) -> PublishingSettings:
     """The settings of what is published, or WrongSetting."""
     learn_for = read_seconds("MQTT_LEARN_SECONDS", environment.get("MQTT_LEARN_SECONDS") or str(LEARN_FOR))
     label_wait = read_seconds("MQTT_LABEL_SECONDS", environment.get("MQTT_LABEL_SECONDS") or str(LABEL_WAIT))
     queries = read_yes_or_no("MQTT_QUERY", environment.get("MQTT_QUERY") or "yes")
-    return Options(read_discovery(environment), learn_for, read_expiry(environment), label_wait, queries)
+    return PublishingSettings(read_discovery(environment), learn_for, read_expiry(environment), label_wait, queries)
 
 
 def read_expiry(environment: Mapping[str, str]) -> int | None:

@@ -17,7 +17,7 @@ MAX_SIZE = 1 << 62
 # How long `last_seen` waits for a bridge that is writing, in seconds.
 LOCK_WAIT = 1.0
 # The subtopic of the reading with the time of the last telegram.
-LAST_SEEN = "last_seen"
+LAST_SEEN_SUBTOPIC = "last_seen"
 
 
 class ForeignFile(Exception):
@@ -30,7 +30,7 @@ def uri_of(path: str, option: str) -> str:
 
 
 def check_version(connection: sqlite3.Connection) -> None:
-    """Raises Foreign, unless this is a state file of this version, or a new one."""
+    """Raises ForeignFile, unless this is a state file of this version, or a new one."""
     version = connection.execute("PRAGMA user_version").fetchone()[0]
     tables = connection.execute("SELECT count(*) FROM sqlite_master").fetchone()[0]
     if tables and version != VERSION:
@@ -61,6 +61,6 @@ def last_seen(path: str) -> tuple[Position, dict[str, datetime]] | None:
 def time_in(text: str) -> datetime | None:
     """The time in the readings of a device, as the bridge stores them; None if it has none."""
     try:
-        return datetime.fromisoformat(json.loads(text)[LAST_SEEN])
+        return datetime.fromisoformat(json.loads(text)[LAST_SEEN_SUBTOPIC])
     except (ValueError, TypeError, KeyError):
         return None

@@ -7,27 +7,27 @@ import pathlib
 import re
 import sys
 
-HEADERS = """errno fcntl limits netdb netinet/in netinet/tcp poll sched stddef sys/epoll sys/eventfd sys/file sys/resource
-sys/socket sys/stat sys/wait time unistd""".split()
+C_HEADERS = """errno fcntl limits netdb netinet/in netinet/tcp poll sched stddef sys/epoll sys/eventfd sys/file
+sys/resource sys/socket sys/stat sys/wait time unistd""".split()
 # Sizes, which are also the alignments. Those of structures are computed from their declarations.
-SIZES = {"i8": 1, "u8": 1, "i16": 2, "u16": 2, "i32": 4, "u32": 4, "i64": 8, "u64": 8, "usize": 8}
+SIZE_BY_TYPE = {"i8": 1, "u8": 1, "i16": 2, "u16": 2, "i32": 4, "u32": 4, "i64": 8, "u64": 8, "usize": 8}
 
 
-def value_of(text):
+def constant_value(text):
     """The value of an expression that means the same in Python."""
     if not re.fullmatch(r"[-+<|() 0-9a-fox]+", text):
         sys.exit(f"not a number: {text}")
     return eval(text)
 
 
-def constants_in(text):
+def constant_assertions(text):
     for name, _, value in re.findall(r"^(?:pub )?const (\w+): (\w+) = ([^;]+);", text, re.M):
-        yield f"{name} == {value_of(value)}"
+        yield f"{name} == {constant_value(value)}"
 
 
-def structures_in(text):
+def structure_assertions(text):
     """The structures of the C library. `Tried` is skipped: it is the kit's own."""
-    known = {kind: (size, size) for kind, size in SIZES.items()}
+    known = {kind: (size, size) for kind, size in SIZE_BY_TYPE.items()}
     for name, body in re.findall(r"^pub struct (\w+) \{\n(.*?)^\}", text, re.M | re.S):
         if name == "Tried":
             continue
@@ -47,8 +47,8 @@ def structures_in(text):
 
 def main():
     text = "".join(pathlib.Path(file).read_text() for file in sys.argv[1:])
-    print("#define _GNU_SOURCE", *(f"#include <{name}.h>" for name in HEADERS), sep="\n")
-    for fact in [*constants_in(text), *structures_in(text)]:
+    print("#define _GNU_SOURCE", *(f"#include <{name}.h>" for name in C_HEADERS), sep="\n")
+    for fact in [*constant_assertions(text), *structure_assertions(text)]:
         print(f'_Static_assert({fact}, "");')
 
 

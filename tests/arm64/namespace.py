@@ -9,9 +9,9 @@ import os
 import signal
 import sys
 
-LIBC = ctypes.CDLL(None, use_errno=True)
-NEW_MOUNTS, NEW_USERS, NEW_PROCESSES = 0x00020000, 0x10000000, 0x20000000  # CLONE_NEWNS, _NEWUSER, _NEWPID
-REC_PRIVATE = 0x4000 | 0x40000  # MS_REC | MS_PRIVATE
+C_LIBRARY = ctypes.CDLL(None, use_errno=True)
+CLONE_NEWNS, CLONE_NEWUSER, CLONE_NEWPID = 0x00020000, 0x10000000, 0x20000000
+MS_REC_PRIVATE = 0x4000 | 0x40000
 PR_SET_PDEATHSIG = 1
 BINFMT_FOLDER = "/proc/sys/fs/binfmt_misc"
 # The first bytes of such a program, and which of their bits are compared: ELF of 64 bits, a program or a library,
@@ -25,28 +25,28 @@ def require_success(result):
         sys.exit(f"no namespace with an emulator: {os.strerror(ctypes.get_errno())}")
 
 
-def mount(kind, target, flags=0):
-    require_success(LIBC.mount(kind, target.encode(), kind, flags, None))
+def mount_file_system(kind, target, flags=0):
+    require_success(C_LIBRARY.mount(kind, target.encode(), kind, flags, None))
 
 
 def end_with_parent():
-    LIBC.prctl(PR_SET_PDEATHSIG, signal.SIGKILL)
+    C_LIBRARY.prctl(PR_SET_PDEATHSIG, signal.SIGKILL)
 
 
-def map_users(process):
+def map_user_and_group_ids(process):
     """Gives users and groups the same numbers inside as outside."""
     for kind in ("uid", "gid"):
         with open(f"/proc/{process}/{kind}_map", "w") as users:
             users.write("0 0 65536\n")
 
 
-def run_as_first(command):
+def run_as_init(command):
     """Runs it as the first process: when that ends, the others end. Returns its status."""
     process = os.fork()
     if process == 0:
         end_with_parent()
-        mount(b"proc", "/proc")
-        mount(b"binfmt_misc", BINFMT_FOLDER)
+        mount_file_system(b"proc", "/proc")
+        mount_file_system(b"binfmt_misc", BINFMT_FOLDER)
         with open(f"{BINFMT_FOLDER}/register", "w") as register:
             register.write(f":arm64:M::{AARCH64_MAGIC}:{AARCH64_MASK}:{os.path.realpath(sys.argv[1])}:PF")
         os.execvp(command[0], command)
@@ -58,14 +58,14 @@ def main():
     process = os.fork()
     if process == 0:
         end_with_parent()
-        require_success(LIBC.unshare(NEW_USERS | NEW_MOUNTS | NEW_PROCESSES))
+        require_success(C_LIBRARY.unshare(CLONE_NEWUSER | CLONE_NEWNS | CLONE_NEWPID))
         os.write(unshared[1], b".")
         os.read(mapped[0], 1)
-        mount(None, "/", REC_PRIVATE)
-        sys.exit(run_as_first(sys.argv[2:]))
+        mount_file_system(None, "/", MS_REC_PRIVATE)
+        sys.exit(run_as_init(sys.argv[2:]))
     os.close(unshared[1])
     if os.read(unshared[0], 1):
-        map_users(process)
+        map_user_and_group_ids(process)
     os.write(mapped[1], b".")
     sys.exit(os.waitstatus_to_exitcode(os.waitpid(process, 0)[1]))
 

@@ -14,31 +14,33 @@ import tempfile
 
 sys.path.insert(0, str(pathlib.Path(__file__).resolve().parent.parent))
 
-from oracle.random_scripts import numbered
+from oracle.random_scripts import script_of_seed
 
 PART_COUNT = 4
 
 
-def run(program, base, script, options):
+def replay_script(program, base, script, options):
     """What the program writes, and its exit status."""
     done = subprocess.run([program, "replay", "--base", base, *options], input=script, capture_output=True)
     return done.stdout, done.stderr, done.returncode
 
 
-def files_in(folder):
+def file_contents(folder):
     """The bytes of each database, and the size of each other file: a write-ahead log has a random salt."""
     files = {file.name: file.read_bytes() for file in sorted(folder.iterdir())}
     return {name: found if name.endswith(".db") else len(found) for name, found in files.items()}
 
 
-def run_at_once(program, base, script):
+def replay_whole_script(program, base, script):
     """The results of one run of a script with each of the options, and the files that these leave."""
     with tempfile.TemporaryDirectory() as folder:
         folder = pathlib.Path(folder)
         runs = []
-        for options in ([], ["--explain"], ["--db", folder / "plain.db"], ["--explain", "--db", folder / "explained.db"]):
-            runs.append(run(program, base, script, options))
-        return runs, files_in(folder)
+        for options in (
+            [], ["--explain"], ["--db", folder / "plain.db"], ["--explain", "--db", folder / "explained.db"]
+        ):
+            runs.append(replay_script(program, base, script, options))
+        return runs, file_contents(folder)
 
 
 def script_parts(script):
@@ -47,31 +49,31 @@ def script_parts(script):
     return [b"".join(lines[place : place + size]) for place in range(0, len(lines), size)]
 
 
-def run_in_parts(programs, base, script):
+def replay_in_parts(programs, base, script):
     """The results of the parts of a script, which these programs run in turn, and the files after each part."""
     with tempfile.TemporaryDirectory() as folder:
         folder = pathlib.Path(folder)
         runs = []
         for place, part in enumerate(script_parts(script)):
-            runs.append(run(programs[place % len(programs)], base, part, ["--db", folder / "parts.db"]))
-            runs.append(files_in(folder))
+            runs.append(replay_script(programs[place % len(programs)], base, part, ["--db", folder / "parts.db"]))
+            runs.append(file_contents(folder))
         return runs
 
 
-def compare_script(one, other, base, script):
+def compare_programs(one, other, base, script):
     """Whether all results are the same, and how many lines the first run wrote."""
-    first = run_at_once(one, base, script)
-    turns = [run_in_parts(programs, base, script) for programs in ([one], [other], [one, other], [other, one])]
-    is_same = first == run_at_once(other, base, script) and all(runs == turns[0] for runs in turns)
+    first = replay_whole_script(one, base, script)
+    turns = [replay_in_parts(programs, base, script) for programs in ([one], [other], [one, other], [other, one])]
+    is_same = first == replay_whole_script(other, base, script) and all(runs == turns[0] for runs in turns)
     ended = all(status == 0 for _, _, status in first[0])
     return is_same and ended, first[0][0][0].count(b"\n")
 
 
 def main():
     one, other, count = *sys.argv[1:3], int(sys.argv[3])
-    scripts = [numbered(number) for number in range(count)]
+    scripts = [script_of_seed(number) for number in range(count)]
     with concurrent.futures.ThreadPoolExecutor(os.cpu_count()) as pool:
-        results = list(pool.map(lambda it: compare_script(one, other, *it), scripts))
+        results = list(pool.map(lambda it: compare_programs(one, other, *it), scripts))
     differ = [number for number, (is_same, _) in enumerate(results) if not is_same]
     lines = sum(lines for _, lines in results)
     print(f"{count} scripts of {lines:,} lines", f"differ: {differ}" if differ else "are the same")

@@ -29,7 +29,7 @@ int32_t rattle_lock_range(int32_t fd, int16_t kind, int64_t start, int64_t len);
 
 static int wrong;
 
-static void holds(const char *what, bool is) {
+static void check(const char *what, bool is) {
     printf("%s: %s\n", what, is ? "ok" : "WRONG");
     wrong |= !is;
 }
@@ -64,88 +64,89 @@ void *realloc(void *p, size_t n) {
 enum { BLOCKS = 3000 };
 static unsigned char *block[BLOCKS];
 
-/* has: the first n bytes of the block are those that writes() puts into block i. */
-static bool has(const unsigned char *p, size_t n, size_t i) {
+/* has_block_bytes: the first n bytes of the block are those that write_block_bytes() puts into block i. */
+static bool has_block_bytes(const unsigned char *p, size_t n, size_t i) {
     for (size_t at = 0; at < n; at++)
         if (p[at] != (i + at) % 251) return false;
     return true;
 }
 
-static void writes(unsigned char *p, size_t n, size_t i) {
+static void write_block_bytes(unsigned char *p, size_t n, size_t i) {
     for (size_t at = 0; at < n; at++) p[at] = (unsigned char)((i + at) % 251);
 }
 
-/* is_block: this is a block, and exactly n bytes of the heap were requested for it, or some if n is 0. */
-static bool is_block(struct tried it, size_t n) {
+/* is_allocated_block: this is a block, and exactly n bytes of the heap were requested for it, or some if n is 0. */
+static bool is_allocated_block(struct tried it, size_t n) {
     return it.ok && it.p != NULL && (uintptr_t)it.p % 16 == 0 && (n != 0 ? asked == n : asked != 0);
 }
 
-static void blocks_of_each_size(void) {
+static void test_blocks_of_each_size(void) {
     bool are = true, apart = true, kept = true;
     long before = blocks;
     for (size_t i = 0; i < BLOCKS; i++) {
         struct tried it = rattle_alloc(i, (size_t)1 << i % 5);
-        are &= is_block(it, i);
+        are &= is_allocated_block(it, i);
         block[i] = it.p;
-        writes(it.p, i, i);
+        write_block_bytes(it.p, i, i);
     }
-    holds("blocks of 0 to 2999 bytes", are && blocks == before + BLOCKS);
-    for (size_t i = 0; i < BLOCKS; i++) apart &= has(block[i], i, i);
-    holds("they are apart", apart);
+    check("blocks of 0 to 2999 bytes", are && blocks == before + BLOCKS);
+    for (size_t i = 0; i < BLOCKS; i++) apart &= has_block_bytes(block[i], i, i);
+    check("they are apart", apart);
     for (size_t i = 0; i < BLOCKS; i++) {
         size_t n = i * 7919 % 5003, less = i < n ? i : n;
         struct tried it = rattle_realloc(block[i], less / 2, n, (size_t)1 << i % 5);
-        are &= is_block(it, n);
-        kept &= has(it.p, less / 2, i);
+        are &= is_allocated_block(it, n);
+        kept &= has_block_bytes(it.p, less / 2, i);
         block[i] = it.p;
-        writes(it.p, n, i);
+        write_block_bytes(it.p, n, i);
     }
-    holds("blocks that are made larger or smaller", are && blocks == before + BLOCKS);
-    holds("they keep their first bytes", kept);
+    check("blocks that are made larger or smaller", are && blocks == before + BLOCKS);
+    check("they keep their first bytes", kept);
     for (size_t i = 0; i < BLOCKS; i++) rattle_dealloc(block[i]);
-    holds("all are freed", blocks == before);
+    check("all are freed", blocks == before);
 }
 
-static void blocks_of_no_bytes(void) {
+static void test_blocks_of_no_bytes(void) {
     long before = blocks;
     struct tried one = rattle_alloc(0, 1), other = rattle_alloc(0, 16);
-    holds("two blocks of 0 bytes", is_block(one, 0) && is_block(other, 0) && one.p != other.p);
+    check("two blocks of 0 bytes", is_allocated_block(one, 0) && is_allocated_block(other, 0) && one.p != other.p);
     one = rattle_realloc(one.p, 0, 0, 1);
-    holds("one is made one of 0 bytes", is_block(one, 0) && blocks == before + 2);
+    check("one is made one of 0 bytes", is_allocated_block(one, 0) && blocks == before + 2);
     one = rattle_realloc(one.p, 0, 100, 1);
-    holds("and one of 100", is_block(one, 100) && blocks == before + 2);
+    check("and one of 100", is_allocated_block(one, 100) && blocks == before + 2);
     one = rattle_realloc(one.p, 0, 0, 16);
-    holds("and one of 0 again", is_block(one, 0) && one.p != other.p && blocks == before + 2);
+    check("and one of 0 again", is_allocated_block(one, 0) && one.p != other.p && blocks == before + 2);
     rattle_dealloc(one.p);
     rattle_dealloc(other.p);
-    holds("both are freed", blocks == before);
+    check("both are freed", blocks == before);
 }
 
-/* is_none: there is no memory. p points to a byte that can be read and belongs to no block. */
-static bool is_none(struct tried it, const void *other) {
+/* is_failed_alloc: there is no memory. p points to a byte that can be read and belongs to no block. */
+static bool is_failed_alloc(struct tried it, const void *other) {
     return !it.ok && it.p != NULL && it.p != other && (*(volatile unsigned char *)it.p, true);
 }
 
-static void no_memory(void) {
+static void test_out_of_memory(void) {
     long before = blocks;
     struct tried one = rattle_alloc(4000, 8);
-    writes(one.p, 4000, 7);
+    write_block_bytes(one.p, 4000, 7);
     is_full = true;
-    holds("no memory for a block", is_none(rattle_alloc(24, 8), one.p));
-    holds("nor for one of 0 bytes", is_none(rattle_alloc(0, 1), one.p));
-    holds("nor for a larger one", is_none(rattle_realloc(one.p, 4000, 8000, 8), one.p) && asked == 8000);
-    holds("nor for a smaller one", is_none(rattle_realloc(one.p, 16, 16, 8), one.p) && asked == 16);
-    holds("nor for one of 0 bytes in its place", is_none(rattle_realloc(one.p, 0, 0, 8), one.p));
+    check("no memory for a block", is_failed_alloc(rattle_alloc(24, 8), one.p));
+    check("nor for one of 0 bytes", is_failed_alloc(rattle_alloc(0, 1), one.p));
+    check("nor for a larger one", is_failed_alloc(rattle_realloc(one.p, 4000, 8000, 8), one.p) && asked == 8000);
+    check("nor for a smaller one", is_failed_alloc(rattle_realloc(one.p, 16, 16, 8), one.p) && asked == 16);
+    check("nor for one of 0 bytes in its place", is_failed_alloc(rattle_realloc(one.p, 0, 0, 8), one.p));
     is_full = false;
-    holds("nor for one of 2^63 - 1 bytes", is_none(rattle_alloc(INT64_MAX, 1), one.p) && asked == INT64_MAX);
-    holds("nor for a larger one of 2^62", is_none(rattle_realloc(one.p, 4000, (size_t)1 << 62, 16), one.p));
-    holds("the block is as it was", has(one.p, 4000, 7) && blocks == before + 1);
+    check("nor for one of 2^63 - 1 bytes", is_failed_alloc(rattle_alloc(INT64_MAX, 1), one.p) && asked == INT64_MAX);
+    check("nor for a larger one of 2^62", is_failed_alloc(rattle_realloc(one.p, 4000, (size_t)1 << 62, 16), one.p));
+    check("the block is as it was", has_block_bytes(one.p, 4000, 7) && blocks == before + 1);
     rattle_dealloc(one.p);
-    holds("and is freed", blocks == before);
+    check("and is freed", blocks == before);
 }
 
-/* argument: prints the result for argument i in a buffer of this size, whose last byte is at most the 22nd of 24. */
-static void argument(size_t i, size_t size) {
+/* print_argument: prints the result for argument i in a buffer of this size, whose last byte is at most the 22nd of
+ * 24. */
+static void print_argument(size_t i, size_t size) {
     unsigned char bytes[24];
     memset(bytes, '.', sizeof bytes);
     printf("argument %zu in %zu bytes: %zd ", i, size, rattle_arg(i, bytes + 1, size));
@@ -153,23 +154,23 @@ static void argument(size_t i, size_t size) {
     printf("\n");
 }
 
-static void arguments(size_t count, char **argv) {
+static void test_arguments(size_t count, char **argv) {
     static unsigned char large[100000];
     unsigned char *nowhere = (unsigned char *)1; /* where a slice of no bytes may be */
     for (size_t i = 1; i < count + 2; i++)
-        for (size_t size = 0; size < 22; size++) argument(i, size);
+        for (size_t size = 0; size < 22; size++) print_argument(i, size);
     for (size_t i = 1; i < count + 2; i++) printf("argument %zu in no bytes: %zd\n", i, rattle_arg(i, nowhere, 0));
     ssize_t n = rattle_arg(0, large, sizeof large);
-    holds("argument 0 is the program", n == (ssize_t)strlen(argv[0]) && memcmp(large, argv[0], (size_t)n) == 0);
+    check("argument 0 is the program", n == (ssize_t)strlen(argv[0]) && memcmp(large, argv[0], (size_t)n) == 0);
     bool are = true;
     for (size_t i = 1; i < count; i++) are &= rattle_arg(i, large, sizeof large) == (ssize_t)strlen(argv[i]);
-    holds("the others have their lengths", are);
+    check("the others have their lengths", are);
     size_t high[] = {INT32_MAX, UINT32_MAX, (size_t)UINT32_MAX + 2, INT64_MAX, (size_t)INT64_MAX + 2, SIZE_MAX};
     for (size_t i = 0; i < sizeof high / sizeof *high; i++)
         printf("argument %zu: %zd\n", high[i], rattle_arg(high[i], large, sizeof large));
 }
 
-static void errors(void) {
+static void test_errno(void) {
     int32_t some[] = {0, 1, ERANGE, 255, 256, 65536, -1, INT32_MAX, INT32_MIN};
     for (size_t i = 0; i < sizeof some / sizeof *some; i++) {
         errno = ENOENT;
@@ -179,11 +180,11 @@ static void errors(void) {
         printf(" %d\n", rattle_errno());
     }
     close(-1);
-    holds("a failed call is reported", errno == EBADF && rattle_errno() == EBADF);
+    check("a failed call is reported", errno == EBADF && rattle_errno() == EBADF);
 }
 
-/* lock: prints the result of a lock. POSIX allows two errors if another lock is in the way. */
-static void lock(const char *what, int fd, int16_t kind, int64_t start, int64_t len) {
+/* print_lock_result: prints the result of a lock. POSIX allows two errors if another lock is in the way. */
+static void print_lock_result(const char *what, int fd, int16_t kind, int64_t start, int64_t len) {
     errno = 0;
     int32_t result = rattle_lock_range(fd, kind, start, len);
     int32_t error = rattle_errno();
@@ -194,97 +195,97 @@ enum { SHARED, EXCLUSIVE, NONE };
 static const int64_t far = (int64_t)1 << 40;
 static int one, other, reader;
 
-static void exclusive_locks(void) {
-    lock("exclusive", one, EXCLUSIVE, 1 << 30, 512);
-    lock("again", one, EXCLUSIVE, 1 << 30, 512);
-    lock("held", other, EXCLUSIVE, 1 << 30, 512);
-    lock("held against a reader", reader, SHARED, 1 << 30, 512);
-    lock("its first byte", other, EXCLUSIVE, 1 << 30, 1);
-    lock("its last byte", other, EXCLUSIVE, (1 << 30) + 511, 1);
-    lock("the byte before it", other, EXCLUSIVE, (1 << 30) - 1, 1);
-    lock("the byte after it", other, EXCLUSIVE, (1 << 30) + 512, 1);
-    lock("a part is released", one, NONE, 1 << 30, 256);
-    lock("that part", other, EXCLUSIVE, 1 << 30, 256);
-    lock("and not the next byte", other, EXCLUSIVE, (1 << 30) + 256, 1);
-    lock("all is released", other, NONE, 0, 0);
-    lock("by both", one, NONE, 0, 0);
+static void test_exclusive_locks(void) {
+    print_lock_result("exclusive", one, EXCLUSIVE, 1 << 30, 512);
+    print_lock_result("again", one, EXCLUSIVE, 1 << 30, 512);
+    print_lock_result("held", other, EXCLUSIVE, 1 << 30, 512);
+    print_lock_result("held against a reader", reader, SHARED, 1 << 30, 512);
+    print_lock_result("its first byte", other, EXCLUSIVE, 1 << 30, 1);
+    print_lock_result("its last byte", other, EXCLUSIVE, (1 << 30) + 511, 1);
+    print_lock_result("the byte before it", other, EXCLUSIVE, (1 << 30) - 1, 1);
+    print_lock_result("the byte after it", other, EXCLUSIVE, (1 << 30) + 512, 1);
+    print_lock_result("a part is released", one, NONE, 1 << 30, 256);
+    print_lock_result("that part", other, EXCLUSIVE, 1 << 30, 256);
+    print_lock_result("and not the next byte", other, EXCLUSIVE, (1 << 30) + 256, 1);
+    print_lock_result("all is released", other, NONE, 0, 0);
+    print_lock_result("by both", one, NONE, 0, 0);
 }
 
-static void shared_locks(void) {
-    lock("shared", other, SHARED, 100, 50);
-    lock("shared by two", reader, SHARED, 100, 50);
-    lock("exclusive over both", one, EXCLUSIVE, 100, 50);
-    lock("exclusive beside another", other, EXCLUSIVE, 100, 50);
-    lock("released by one", reader, NONE, 100, 50);
-    lock("then exclusive by the other", other, EXCLUSIVE, 100, 50);
-    lock("and shared again", other, SHARED, 100, 50);
-    lock("shared by two again", one, SHARED, 100, 50);
-    lock("released", one, NONE, 0, 0);
-    lock("released by the other", other, NONE, 0, 0);
+static void test_shared_locks(void) {
+    print_lock_result("shared", other, SHARED, 100, 50);
+    print_lock_result("shared by two", reader, SHARED, 100, 50);
+    print_lock_result("exclusive over both", one, EXCLUSIVE, 100, 50);
+    print_lock_result("exclusive beside another", other, EXCLUSIVE, 100, 50);
+    print_lock_result("released by one", reader, NONE, 100, 50);
+    print_lock_result("then exclusive by the other", other, EXCLUSIVE, 100, 50);
+    print_lock_result("and shared again", other, SHARED, 100, 50);
+    print_lock_result("shared by two again", one, SHARED, 100, 50);
+    print_lock_result("released", one, NONE, 0, 0);
+    print_lock_result("released by the other", other, NONE, 0, 0);
 }
 
-static void ranges(void) {
-    lock("a far range", one, EXCLUSIVE, far, far);
-    lock("its last byte", other, SHARED, 2 * far - 1, 1);
-    lock("the byte after it", other, SHARED, 2 * far, 1);
-    lock("the byte before it", other, SHARED, far - 1, 1);
-    lock("the first byte of the file", other, EXCLUSIVE, 0, 1);
-    lock("up to the last byte", one, EXCLUSIVE, INT64_MAX, 1);
-    lock("past it", one, EXCLUSIVE, INT64_MAX, 2);
-    lock("before the file", one, EXCLUSIVE, -1, 1);
-    lock("bytes before the start", one, EXCLUSIVE, 500, -100);
-    lock("the first of them", other, EXCLUSIVE, 400, 1);
-    lock("the byte before them", other, EXCLUSIVE, 399, 1);
-    lock("the start", other, EXCLUSIVE, 500, 1);
-    lock("no length is up to the end", one, EXCLUSIVE, 3 * far, 0);
-    lock("the last byte", other, EXCLUSIVE, INT64_MAX, 1);
+static void test_lock_ranges(void) {
+    print_lock_result("a far range", one, EXCLUSIVE, far, far);
+    print_lock_result("its last byte", other, SHARED, 2 * far - 1, 1);
+    print_lock_result("the byte after it", other, SHARED, 2 * far, 1);
+    print_lock_result("the byte before it", other, SHARED, far - 1, 1);
+    print_lock_result("the first byte of the file", other, EXCLUSIVE, 0, 1);
+    print_lock_result("up to the last byte", one, EXCLUSIVE, INT64_MAX, 1);
+    print_lock_result("past it", one, EXCLUSIVE, INT64_MAX, 2);
+    print_lock_result("before the file", one, EXCLUSIVE, -1, 1);
+    print_lock_result("bytes before the start", one, EXCLUSIVE, 500, -100);
+    print_lock_result("the first of them", other, EXCLUSIVE, 400, 1);
+    print_lock_result("the byte before them", other, EXCLUSIVE, 399, 1);
+    print_lock_result("the start", other, EXCLUSIVE, 500, 1);
+    print_lock_result("no length is up to the end", one, EXCLUSIVE, 3 * far, 0);
+    print_lock_result("the last byte", other, EXCLUSIVE, INT64_MAX, 1);
 }
 
-static void refused_locks(void) {
-    lock("exclusive by a reader", reader, EXCLUSIVE, 7, 1);
-    lock("no file", -1, EXCLUSIVE, 7, 1);
+static void test_refused_locks(void) {
+    print_lock_result("exclusive by a reader", reader, EXCLUSIVE, 7, 1);
+    print_lock_result("no file", -1, EXCLUSIVE, 7, 1);
     int16_t kinds[] = {3, 7, -1, 256, INT16_MAX, INT16_MIN};
-    for (size_t i = 0; i < sizeof kinds / sizeof *kinds; i++) lock("no kind of lock", one, kinds[i], 7, 1);
+    for (size_t i = 0; i < sizeof kinds / sizeof *kinds; i++) print_lock_result("no kind of lock", one, kinds[i], 7, 1);
 }
 
-/* holders: a lock belongs to the open file, not to the process. */
-static void holders(void) {
-    lock("one more", one, EXCLUSIVE, 1000, 10);
+/* test_lock_owner: a lock belongs to the open file, not to the process. */
+static void test_lock_owner(void) {
+    print_lock_result("one more", one, EXCLUSIVE, 1000, 10);
     close(open("locked", O_RDWR | O_CLOEXEC));
-    lock("it stays when another descriptor is closed", other, EXCLUSIVE, 1000, 10);
+    print_lock_result("it stays when another descriptor is closed", other, EXCLUSIVE, 1000, 10);
     pid_t child = fork();
     if (child == 0) {
-        lock("a child has it too", one, EXCLUSIVE, 1000, 10);
-        lock("held in the child", open("locked", O_RDWR), EXCLUSIVE, 1000, 10);
+        print_lock_result("a child has it too", one, EXCLUSIVE, 1000, 10);
+        print_lock_result("held in the child", open("locked", O_RDWR), EXCLUSIVE, 1000, 10);
         _exit(0);
     }
     waitpid(child, NULL, 0);
-    lock("and when the child has ended", other, EXCLUSIVE, 1000, 10);
+    print_lock_result("and when the child has ended", other, EXCLUSIVE, 1000, 10);
     close(one);
-    lock("released by the close", other, EXCLUSIVE, 1000, 10);
+    print_lock_result("released by the close", other, EXCLUSIVE, 1000, 10);
 }
 
-static void locks(void) {
+static void test_locks(void) {
     one = open("locked", O_RDWR | O_CREAT | O_CLOEXEC, 0600);
     other = open("locked", O_RDWR | O_CLOEXEC);
     reader = open("locked", O_RDONLY | O_CLOEXEC);
     /* a range that counts from the position or from the end is another one */
     if (write(one, "a file of some bytes", 20) != 20 || lseek(other, 5, SEEK_SET) != 5) wrong = 1;
-    exclusive_locks();
-    shared_locks();
-    ranges();
-    refused_locks();
-    holders();
+    test_exclusive_locks();
+    test_shared_locks();
+    test_lock_ranges();
+    test_refused_locks();
+    test_lock_owner();
 }
 
 int main(int argc, char **argv) {
     alarm(30); /* no call may wait for a lock */
     setvbuf(stdout, NULL, _IONBF, 0);
-    blocks_of_each_size();
-    blocks_of_no_bytes();
-    no_memory();
-    arguments((size_t)argc, argv);
-    errors();
-    locks();
+    test_blocks_of_each_size();
+    test_blocks_of_no_bytes();
+    test_out_of_memory();
+    test_arguments((size_t)argc, argv);
+    test_errno();
+    test_locks();
     return wrong;
 }

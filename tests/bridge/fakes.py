@@ -145,7 +145,7 @@ class FakeBroker:
         return is_new
 
 
-class Site:
+class BridgeSite:
     """The files of a gateway in a temporary folder, and a bridge to a fake broker."""
 
     def __init__(self, case: unittest.TestCase):

@@ -7,7 +7,7 @@ from unittest import mock
 from enogate_mqtt import bridge
 from enogate_mqtt.connection import ConnectionLost
 from enogate_mqtt.store import Store
-from fakes import OK, LogTest, Site, learned, listing, reading, status
+from fakes import OK, LogTest, BridgeSite, learned, listing, reading, status
 
 HALL = "enogate/hall/"
 RESPONSE = {"code": 0, "data": "FF800000", "name": "OK", "type": "response"}
@@ -17,7 +17,7 @@ DEVICES = (("01800ABC", "A5-02-05", "Attic"), ("01800ABD", "D2-01-12", ""))
 class WholeBridge(LogTest):
     def setUp(self):
         super().setUp()
-        self.site = Site(self)
+        self.site = BridgeSite(self)
 
     def start(self, *lines):
         """A bridge that is connected, after a first run that read these lines."""

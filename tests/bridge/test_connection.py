@@ -11,12 +11,12 @@ from enogate_mqtt import connection, outbox
 from enogate_mqtt.connection import Broker, Connection, ConnectionLost, ReceivedMessage, WrongProtocol
 from enogate_mqtt.settings import Login
 from enogate_mqtt.topics import Message, Topics
-from fakes import OK, WATCHED, LogTest, Clock, FakeConnection, Site, reading, status
+from fakes import OK, WATCHED, LogTest, Clock, FakeConnection, BridgeSite, reading, status
 
 TOPICS = Topics("hall", "homeassistant")
 
 
-class Code:
+class FakeReasonCode:
     """A reason code of MQTT 5."""
 
     def __init__(self, value, text="text"):
@@ -26,7 +26,7 @@ class Code:
         return self.text
 
 
-class Client:
+class FakePahoClient:
     """A client of paho. Its calls are kept; its network does what `steps` has."""
 
     def __init__(self, **options):
@@ -67,21 +67,21 @@ class Client:
         return [(arguments, named) for called, arguments, named in self.calls if called == name]
 
 
-class Properties:
+class FakeProperties:
     def __init__(self, packet):
         self.packet = packet
 
 
 def fake_paho(version):
     """A stand-in for the module paho.mqtt.client of this version."""
-    module = types.SimpleNamespace(MQTTv5=5, MQTTv311=4, Properties=Properties, clients=[])
+    module = types.SimpleNamespace(MQTTv5=5, MQTTv311=4, Properties=FakeProperties, clients=[])
     module.connack_string = lambda code: f"connack {code}"
     module.error_string = lambda status: f"error {status}"
     if version == 2:
         module.CallbackAPIVersion = types.SimpleNamespace(VERSION1=1, VERSION2=2)
 
     def client(**options):
-        module.clients.append(Client(**options))
+        module.clients.append(FakePahoClient(**options))
         return module.clients[-1]
     module.Client = client
     return module
@@ -167,19 +167,20 @@ class PahoConnection(LogTest):
         self.assertEqual(self.client.called("subscribe"), [(([
             ("enogate/hall/orders", 1), ("enogate/hall/learn/set", 1), ("enogate/hall/+/+/+/set", 1),
             *((topic, 1) for topic in WATCHED)],), {})])
-        self.assertEqual((found.is_open, found.complaint), (True, ""))
+        self.assertEqual((found.is_open, found.missing_right), (True, ""))
 
     def test_orders_that_may_not_be_received(self):
-        for codes in ((1, 128, 1, 1), (Code(135), Code(1))):
+        for codes in ((1, 128, 1, 1), (FakeReasonCode(135), FakeReasonCode(1))):
             found = self.connect()
             self.accept(found, codes=codes)
-            self.assertEqual((found.is_open, found.complaint), (True, ", but this user may not subscribe to orders"))
+            self.assertEqual((found.is_open, found.missing_right),
+                             (True, ", but this user may not subscribe to orders"))
         found = self.connect()
         self.accept(found, codes=(1, 1, 1, 128, 128))
-        self.assertEqual(found.complaint, "")
+        self.assertEqual(found.missing_right, "")
         found = self.connect()
-        self.accept(found, codes=(Code(1), Code(2)))
-        self.assertEqual(found.complaint, "")
+        self.accept(found, codes=(FakeReasonCode(1), FakeReasonCode(2)))
+        self.assertEqual(found.missing_right, "")
 
     def test_another_answer_does_not_open_it(self):
         found = self.connect()
@@ -188,7 +189,7 @@ class PahoConnection(LogTest):
         self.assertFalse(found.is_open)
 
     def test_a_refusal(self):
-        for version, code, text in ((5, Code(134, "Bad user name or password"), "Bad user name or password"),
+        for version, code, text in ((5, FakeReasonCode(134, "Bad user name or password"), "Bad user name or password"),
                                     (4, 5, "connack 5")):
             found = self.connect(version)
             self.client.on_connect(self.client, None, {}, code)
@@ -197,7 +198,7 @@ class PahoConnection(LogTest):
             self.assertNotIsInstance(lost.exception, WrongProtocol)
 
     def test_a_broker_without_mqtt_5(self):
-        for code in (1, Code(132)):
+        for code in (1, FakeReasonCode(132)):
             found = self.connect()
             self.client.on_connect(self.client, None, {}, code)
             with self.assertRaises(WrongProtocol):
@@ -227,14 +228,14 @@ class PahoConnection(LogTest):
         self.assertEqual(found.received, [ReceivedMessage("a", b"1", True), ReceivedMessage("b", b"2", False)])
 
     def test_a_topic_that_is_no_text(self):
-        class Bad:
+        class BadMessage:
             payload, retain = b"", False
 
             @property
             def topic(self):
                 raise UnicodeDecodeError("utf-8", b"\xff", 0, 1, "bad")
         found = self.connect()
-        self.client.on_message(self.client, None, Bad())
+        self.client.on_message(self.client, None, BadMessage())
         self.assertEqual(found.received, [])
 
     def test_publishing(self):
@@ -244,7 +245,7 @@ class PahoConnection(LogTest):
         self.assertEqual(self.client.called("publish"), [(("a", "x"), {"qos": 1, "retain": True}),
                                                          (("b", "y"), {"qos": 1, "retain": False})])
         self.assertEqual(found.unacknowledged, {one, two})
-        self.client.on_publish(self.client, None, one, Code(0), None)
+        self.client.on_publish(self.client, None, one, FakeReasonCode(0), None)
         self.assertEqual(found.unacknowledged, {two})
         self.client.on_publish(self.client, None, two)
         self.assertEqual(found.unacknowledged, set())
@@ -295,8 +296,8 @@ class PahoConnection(LogTest):
             found.turn(0)
 
     def test_another_client_with_the_name(self):
-        for rest in ((Code(142), None),
-                     (types.SimpleNamespace(is_disconnect_packet_from_server=True), Code(142), None)):
+        for rest in ((FakeReasonCode(142), None),
+                     (types.SimpleNamespace(is_disconnect_packet_from_server=True), FakeReasonCode(142), None)):
             found = self.connect()
             self.client.steps = [lambda: self.client.on_disconnect(self.client, None, *rest) or 7]
             with self.assertRaisesRegex(ConnectionLost, "^another client has the name enogate-hall$"):
@@ -456,7 +457,7 @@ class ScriptedConnection:
 
     def __init__(self, clock, lost=None, opens=True):
         self.clock, self.lost, self.opens = clock, lost, opens
-        self.is_open, self.complaint, self.began, self.closed = False, "", clock(), False
+        self.is_open, self.missing_right, self.began, self.closed = False, "", clock(), False
 
     def turn(self, _seconds):
         if self.lost:
@@ -530,9 +531,9 @@ class BrokerReconnection(LogTest):
         self.session.opens = True
         self.assertEqual(self.turns(2), [True, False])
 
-    def test_a_complaint_is_logged(self):
+    def test_a_missing_right_is_logged(self):
         self.turns(1)
-        self.session.complaint = ", but"
+        self.session.missing_right = ", but"
         self.turns(1)
         self.broker.report_connected()
         self.assertEqual(self.logged, ["INFO: connected to h:1883, but"])
@@ -665,7 +666,7 @@ class DayWithoutBroker(LogTest):
 
     def setUp(self):
         super().setUp()
-        self.site, self.session, self.attempts = Site(self), None, 0
+        self.site, self.session, self.attempts = BridgeSite(self), None, 0
         self.reasons = ["Connection refused"]
         # all pauses are as short as they may be
         self.site.broker = Broker(self.connect, "h:1883", self.site.clock, lambda: 0.0)
@@ -688,7 +689,7 @@ class DayWithoutBroker(LogTest):
     def returns(self):
         """The broker is there again."""
         session = self.session = FakeConnection({})
-        session.is_open, session.complaint, session.began = False, "", self.site.clock()
+        session.is_open, session.missing_right, session.began = False, "", self.site.clock()
         turn = session.turn
         session.turn = lambda seconds: setattr(session, "is_open", True) or turn(seconds)
         self.site.write_lines(status())

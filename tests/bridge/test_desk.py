@@ -9,7 +9,7 @@ from unittest import mock
 from enogate_lines.contents import Deleted, EndOfList, Learned, OkOrError, Status, Telegram
 from enogate_mqtt.desk import ANSWER_WITHIN, BYTES_PER_SECOND, COST_OF_LISTED_DEVICE, MAX_BURST, MAX_SIZE
 from enogate_mqtt.desk import Desk, DeskChange
-from fakes import LogTest, Clock, Site
+from fakes import LogTest, Clock, BridgeSite
 
 
 @contextlib.contextmanager
@@ -34,7 +34,7 @@ REMOVED, READING = Deleted("01800ABC"), Telegram("01800ABC", "D5-00-01", -45, ()
 class DeskOrders(LogTest):
     def setUp(self):
         super().setUp()
-        self.site = Site(self)
+        self.site = BridgeSite(self)
         self.path, self.clock = self.site.desk, Clock()
         self.desk = Desk(str(self.path), self.clock)
 

@@ -13,11 +13,12 @@ from enogate_tools import VERSION, share
 TOPICS = Topics("hall", "homeassistant")
 TABLE = Table()
 DEVICE = "01800ABC"
-OWN = f"enogate/hall/{DEVICE}"
-BOTH = {"availability": [{"topic": "enogate/hall/status"}, {"topic": "enogate/hall/gateway"}],
-        "availability_mode": "all"}
-ALL = {**BOTH, "availability": [*BOTH["availability"], {"topic": "enogate/hall/module"}]}
-BRIDGE = {"availability": [{"topic": "enogate/hall/status"}], "availability_mode": "all"}
+DEVICE_TOPIC = f"enogate/hall/{DEVICE}"
+GATEWAY_AVAILABILITY = {"availability": [{"topic": "enogate/hall/status"}, {"topic": "enogate/hall/gateway"}],
+                        "availability_mode": "all"}
+MODULE_AVAILABILITY = {**GATEWAY_AVAILABILITY, "availability": [*GATEWAY_AVAILABILITY["availability"],
+                                                                {"topic": "enogate/hall/module"}]}
+BRIDGE_AVAILABILITY = {"availability": [{"topic": "enogate/hall/status"}], "availability_mode": "all"}
 ORIGIN = {"name": "enogate-mqtt", "sw": VERSION}
 
 
@@ -51,7 +52,7 @@ def result(template: str, value: str) -> str:
     return str(eval(expression, {"is_number": is_number, "float": float, "value": value}))
 
 
-class Entities(unittest.TestCase):
+class DeviceEntities(unittest.TestCase):
     """One message of each kind, as a whole."""
 
     def setUp(self):
@@ -59,80 +60,83 @@ class Entities(unittest.TestCase):
 
     def check(self, eep: str, key: str, wanted: dict, *reported: str):
         name = key.split()[1]
-        wanted = {**wanted, **ALL, "unique_id": f"enogate_hall_{DEVICE}_{name}", "device": about(eep),
+        wanted = {**wanted, **MODULE_AVAILABILITY, "unique_id": f"enogate_hall_{DEVICE}_{name}", "device": about(eep),
                   "origin": ORIGIN}
         self.assertEqual(configs(eep, *reported)[key], wanted)
 
     def test_a_contact(self):
         self.check("D5-00-01", "binary_sensor CO", {
-            "name": "Contact", "state_topic": f"{OWN}/CO", "device_class": "opening", "payload_on": "open",
+            "name": "Contact", "state_topic": f"{DEVICE_TOPIC}/CO", "device_class": "opening", "payload_on": "open",
             "payload_off": "closed"})
 
     def test_a_measured_value(self):
         self.check("A5-02-05", "sensor TMP", {
-            "name": "Temperature", "state_topic": f"{OWN}/TMP", "device_class": "temperature",
+            "name": "Temperature", "state_topic": f"{DEVICE_TOPIC}/TMP", "device_class": "temperature",
             "state_class": "measurement", "unit_of_measurement": "°C", "suggested_display_precision": 1,
             "value_template": "{{ value if value | is_number else None }}"})
 
     def test_a_diagnostic_value(self):
         self.check("A5-06-01", "sensor SVC", {
-            "name": "Supply voltage", "state_topic": f"{OWN}/SVC", "device_class": "voltage",
+            "name": "Supply voltage", "state_topic": f"{DEVICE_TOPIC}/SVC", "device_class": "voltage",
             "state_class": "measurement", "unit_of_measurement": "V", "entity_category": "diagnostic",
             "suggested_display_precision": 2, "value_template": "{{ value if value | is_number else None }}"})
 
     def test_a_plain_number(self):
         self.check("A5-10-05", "sensor SP", {
-            "name": "Set point", "state_topic": f"{OWN}/SP", "state_class": "measurement",
+            "name": "Set point", "state_topic": f"{DEVICE_TOPIC}/SP", "state_class": "measurement",
             "suggested_display_precision": 0})
 
     def test_an_occupancy_button(self):
         for eep in ["A5-08-01", "A5-10-05"]:
             self.check(eep, "binary_sensor OCC", {
-                "name": "Occupancy button", "state_topic": f"{OWN}/OCC", "payload_on": "pressed",
+                "name": "Occupancy button", "state_topic": f"{DEVICE_TOPIC}/OCC", "payload_on": "pressed",
                 "payload_off": "released"})
 
     def test_named_states(self):
         self.check("D2-01-12", "sensor EL_1", {
-            "name": "Error level 1", "state_topic": f"{OWN}/EL/1", "device_class": "enum",
+            "name": "Error level 1", "state_topic": f"{DEVICE_TOPIC}/EL/1", "device_class": "enum",
             "options": ["ok", "warning", "failure", "not_supported"], "entity_category": "diagnostic"})
 
     def test_a_hidden_entity(self):
         self.check("D2-01-0F", "binary_sensor LC_0", {
-            "name": "Local control", "state_topic": f"{OWN}/LC/0", "payload_on": "1", "payload_off": "0",
+            "name": "Local control", "state_topic": f"{DEVICE_TOPIC}/LC/0", "payload_on": "1", "payload_off": "0",
             "entity_category": "diagnostic", "enabled_by_default": False})
 
     def test_a_rocker_switch(self):
         self.check("F6-02-01", "event press", {
-            "name": "Rocker", "state_topic": f"{OWN}/press", "device_class": "button",
+            "name": "Rocker", "state_topic": f"{DEVICE_TOPIC}/press", "device_class": "button",
             "event_types": ["AI", "A0", "BI", "B0", "three_or_four", "released"]})
 
     def test_a_switch(self):
         self.check("D2-01-12", "switch OV_1", {
-            "name": "Channel 1", "state_topic": f"{OWN}/OV/1", "command_topic": f"{OWN}/OV/1/set",
+            "name": "Channel 1", "state_topic": f"{DEVICE_TOPIC}/OV/1", "command_topic": f"{DEVICE_TOPIC}/OV/1/set",
             "value_template": discovery.ON_OFF_OR_NONE_TEMPLATE})
 
     def test_a_dimmer(self):
         self.check("D2-01-02", "light OV_0", {
-            "name": None, "state_topic": f"{OWN}/OV/0", "command_topic": f"{OWN}/OV/0/set",
-            "state_value_template": discovery.ON_OFF_OR_NONE_TEMPLATE, "brightness_state_topic": f"{OWN}/OV/0",
+            "name": None, "state_topic": f"{DEVICE_TOPIC}/OV/0", "command_topic": f"{DEVICE_TOPIC}/OV/0/set",
+            "state_value_template": discovery.ON_OFF_OR_NONE_TEMPLATE, "brightness_state_topic": f"{DEVICE_TOPIC}/OV/0",
             "brightness_value_template": discovery.NUMBER_OR_NOTHING_TEMPLATE,
-            "brightness_command_topic": f"{OWN}/OV/0/set", "brightness_scale": 100, "on_command_type": "brightness"})
+            "brightness_command_topic": f"{DEVICE_TOPIC}/OV/0/set", "brightness_scale": 100,
+            "on_command_type": "brightness"})
 
     def test_a_blind(self):
         self.check("D2-05-00", "cover POS_0", {
-            "name": None, "device_class": "blind", "state_topic": f"{OWN}/POS/0", "command_topic": f"{OWN}/POS/0/set",
-            "value_template": discovery.OPEN_CLOSED_OR_NONE_TEMPLATE, "position_topic": f"{OWN}/POS/0",
-            "position_template": discovery.NUMBER_OR_NOTHING_TEMPLATE, "set_position_topic": f"{OWN}/POS/0/set",
+            "name": None, "device_class": "blind", "state_topic": f"{DEVICE_TOPIC}/POS/0",
+            "command_topic": f"{DEVICE_TOPIC}/POS/0/set",
+            "value_template": discovery.OPEN_CLOSED_OR_NONE_TEMPLATE, "position_topic": f"{DEVICE_TOPIC}/POS/0",
+            "position_template": discovery.NUMBER_OR_NOTHING_TEMPLATE,
+            "set_position_topic": f"{DEVICE_TOPIC}/POS/0/set",
             "position_open": 0, "position_closed": 100})
 
     def test_what_each_device_has(self):
         for eep in ["D5-00-01", "F6-02-01", "A5-FF-FF"]:
             self.check(eep, "sensor dbm", {
-                "name": "Signal strength", "state_topic": f"{OWN}/dbm", "device_class": "signal_strength",
+                "name": "Signal strength", "state_topic": f"{DEVICE_TOPIC}/dbm", "device_class": "signal_strength",
                 "state_class": "measurement", "unit_of_measurement": "dBm", "entity_category": "diagnostic",
                 "enabled_by_default": False})
             self.check(eep, "sensor last_seen", {
-                "name": "Last seen", "state_topic": f"{OWN}/last_seen", "device_class": "timestamp",
+                "name": "Last seen", "state_topic": f"{DEVICE_TOPIC}/last_seen", "device_class": "timestamp",
                 "entity_category": "diagnostic", "enabled_by_default": False})
         self.assertEqual(set(configs("A5-FF-FF")), {"sensor dbm", "sensor last_seen"})
 
@@ -161,7 +165,7 @@ class Devices(unittest.TestCase):
             for key, config in configs(eep, expire_after=60).items():
                 self.assertEqual((config["device"], config["origin"]), (about(eep), ORIGIN), key)
                 if not key.startswith("device_automation"):
-                    self.assertEqual({name: config[name] for name in ALL}, ALL, key)
+                    self.assertEqual({name: config[name] for name in MODULE_AVAILABILITY}, MODULE_AVAILABILITY, key)
                     self.assertEqual(config["unique_id"], f"enogate_hall_{DEVICE}_{key.split()[1]}")
 
     def test_names_of_gateway_and_device_in_topics(self):
@@ -189,7 +193,7 @@ class Devices(unittest.TestCase):
             '"value_template":"{{ value_json.event_type }}"}')
 
 
-class Expiry(unittest.TestCase):
+class ExpiryTimes(unittest.TestCase):
     """Which entities expire."""
 
     def expiring(self, eep: str, *reported: str) -> set[str]:
@@ -226,7 +230,7 @@ class Expiry(unittest.TestCase):
             self.assertNotIn("expire_after", config, key)
 
 
-class Triggers(unittest.TestCase):
+class DeviceTriggers(unittest.TestCase):
     """The device triggers of switches."""
 
     def triggers(self, eep: str) -> dict[str, dict]:
@@ -235,7 +239,8 @@ class Triggers(unittest.TestCase):
 
     def trigger(self, eep: str, word: str, kind: str) -> dict:
         return {
-            "automation_type": "trigger", "type": kind, "subtype": word, "topic": f"{OWN}/press", "payload": word,
+            "automation_type": "trigger", "type": kind, "subtype": word, "topic": f"{DEVICE_TOPIC}/press",
+            "payload": word,
             "value_template": "{{ value_json.event_type }}", "device": about(eep), "origin": ORIGIN}
 
     def test_the_triggers_of_each_switch(self):
@@ -252,7 +257,7 @@ class Triggers(unittest.TestCase):
             self.assertEqual(self.triggers(eep), {}, eep)
 
 
-class Gateway(unittest.TestCase):
+class GatewayEntities(unittest.TestCase):
     """The entities of the gateway itself."""
 
     def setUp(self):
@@ -273,8 +278,8 @@ class Gateway(unittest.TestCase):
         self.assertEqual(own, wanted)
 
     def test_what_is_connected(self):
-        for name, title, available in [("status", "Bridge", {}), ("gateway", "Gateway", BRIDGE),
-                                       ("module", "Radio module", BRIDGE)]:
+        for name, title, available in [("status", "Bridge", {}), ("gateway", "Gateway", BRIDGE_AVAILABILITY),
+                                       ("module", "Radio module", BRIDGE_AVAILABILITY)]:
             self.check(f"binary_sensor {name}", {
                 "name": title, "state_topic": f"enogate/hall/{name}", "device_class": "connectivity",
                 "payload_on": "online", "payload_off": "offline", "entity_category": "diagnostic", **available})
@@ -287,12 +292,12 @@ class Gateway(unittest.TestCase):
             self.check(f"sensor {name}", {
                 "name": title, "state_topic": "enogate/hall/counters", "state_class": "total_increasing",
                 "value_template": f"{{{{ value_json.{name} }}}}", "entity_category": "diagnostic",
-                "enabled_by_default": False, **BOTH})
+                "enabled_by_default": False, **GATEWAY_AVAILABILITY})
 
     def test_the_learn_window(self):
         self.check("switch learn", {
             "name": "Learn window", "state_topic": "enogate/hall/learn", "command_topic": "enogate/hall/learn/set",
-            "icon": "mdi:access-point-plus", "entity_category": "config", **BOTH})
+            "icon": "mdi:access-point-plus", "entity_category": "config", **GATEWAY_AVAILABILITY})
 
 
 class Descriptions(unittest.TestCase):
@@ -374,7 +379,7 @@ class Templates(unittest.TestCase):
             "0": "open", "99": "open", "100": "closed", "unknown": "None", "out_of_range": "None"})
 
 
-class Kinds(unittest.TestCase):
+class ComponentKinds(unittest.TestCase):
     def test_those_of_the_table(self):
         self.assertEqual({row.entity for row in TABLE.rows}, {*discovery.CONFIG_BY_COMPONENT, ""})
 

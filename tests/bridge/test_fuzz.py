@@ -5,22 +5,22 @@ import random
 import unittest
 
 from enogate_lines.contents import BadLine, Strange, content_of
-from fakes import OK, LogTest, Site, learned, listing, reading, status
+from fakes import OK, LogTest, BridgeSite, learned, listing, reading, status
 
 SEED, ROUNDS, LINES = 76, 40, 100
 RESPONSE = {"code": 0, "data": "FF800000", "name": "OK", "type": "response"}
 LEVEL = [{"name": "IO", "raw": 0}, {"den": 1, "name": "OV", "num": 100, "unit": "%"},
          {"name": "T", "out_of_range": 251}]
 ROCKER = [{"name": "R1", "word": "BI"}, {"name": "EB", "word": "pressed"}]
-GOOD = (OK, RESPONSE, status(), status("as F6-02-01"), learned("01800ABC", maker=70), reading("01800ABC"),
-        reading("01800AC1", "F6-02-01", ROCKER), reading("01800ABD", "D2-01-12", LEVEL),
-        learned("01800ABC", result="deleted"),
-        *listing(("01800ABC", "A5-02-05", "Attic"), ("01800ABD", "D2-01-12", "")))
-TEXTS = ("", "\ud800", "\udfff\ud800", "a\nb", "\0", "\x7f", "ä", "T/O", "+", "#", "x" * 33, "x" * 70_000, "closed",
-         "CO", "01800ABC", "D5-00-01", "F6-02-01")
-NUMBERS = (-1, 0, 1, 255, 256, 2048, 2 ** 31, 2 ** 63, 2 ** 64, -2 ** 63 - 1, 10 ** 400, 0.5, 1e300, float("inf"),
-           float("nan"))
-VALUES = (*TEXTS, *NUMBERS, True, None, [], {}, [[]], [{}], ["x"], {"x": 1})
+VALID_LINES = (OK, RESPONSE, status(), status("as F6-02-01"), learned("01800ABC", maker=70), reading("01800ABC"),
+               reading("01800AC1", "F6-02-01", ROCKER), reading("01800ABD", "D2-01-12", LEVEL),
+               learned("01800ABC", result="deleted"),
+               *listing(("01800ABC", "A5-02-05", "Attic"), ("01800ABD", "D2-01-12", "")))
+ODD_TEXTS = ("", "\ud800", "\udfff\ud800", "a\nb", "\0", "\x7f", "ä", "T/O", "+", "#", "x" * 33, "x" * 70_000,
+             "closed", "CO", "01800ABC", "D5-00-01", "F6-02-01")
+ODD_NUMBERS = (-1, 0, 1, 255, 256, 2048, 2 ** 31, 2 ** 63, 2 ** 64, -2 ** 63 - 1, 10 ** 400, 0.5, 1e300, float("inf"),
+               float("nan"))
+WRONG_VALUES = (*ODD_TEXTS, *ODD_NUMBERS, True, None, [], {}, [[]], [{}], ["x"], {"x": 1})
 
 
 def members_of(value):
@@ -32,13 +32,13 @@ def members_of(value):
 
 def random_line(chance):
     """A line of a gateway with wrong members, or with wrong bytes."""
-    members = json.loads(json.dumps(chance.choice(GOOD)))
+    members = json.loads(json.dumps(chance.choice(VALID_LINES)))
     for _ in range(chance.choice((0, 1, 1, 1, 2))):
         place, key = chance.choice(members_of(members))
         if chance.random() < 0.15:
             del place[key]
         else:
-            place[key] = copy.deepcopy(chance.choice(VALUES))
+            place[key] = copy.deepcopy(chance.choice(WRONG_VALUES))
         if not members:
             break
     line = bytearray(json.dumps(members).encode())
@@ -73,7 +73,7 @@ class RandomLines(LogTest):
         self.assertGreater(decoded, ROUNDS * LINES // 10)
 
     def test_none_ends_the_bridge(self):
-        site, chance = Site(self), random.Random(SEED)
+        site, chance = BridgeSite(self), random.Random(SEED)
         site.start()
         site.broker.accept_connection()
         for _ in range(ROUNDS):

@@ -2,7 +2,7 @@
 import json
 import unittest
 
-from fakes import OK, LogTest, Site, learned, listing, reading, status
+from fakes import OK, LogTest, BridgeSite, learned, listing, reading, status
 
 HALL = "enogate/hall/"
 FIRST_DEVICE, OTHER_DEVICE = "01800ABC", "01800ABD"
@@ -13,7 +13,7 @@ WAIT = 60
 class LabelWait(LogTest):
     def setUp(self):
         super().setUp()
-        self.site = Site(self)
+        self.site = BridgeSite(self)
 
     def start(self, *lines, label_wait=WAIT):
         """A bridge that is connected, at a gateway without devices."""

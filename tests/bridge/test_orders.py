@@ -7,7 +7,7 @@ from enogate_mqtt.topics import Topics
 TOPICS = Topics("hall", "homeassistant")
 
 
-class Orders(unittest.TestCase):
+class OrdersOfMessages(unittest.TestCase):
     def orders(self, subtopic, payload):
         return orders_of(TOPICS, f"enogate/hall/{subtopic}", payload)
 

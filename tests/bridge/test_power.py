@@ -9,7 +9,7 @@ from unittest import mock
 
 from enogate_lines.follow import Follower, ignore_message
 from enogate_mqtt.store import Store
-from fakes import OK, LogTest, Site, listing, reading
+from fakes import OK, LogTest, BridgeSite, listing, reading
 
 HALL = "enogate/hall/"
 HISTORIES = 30
@@ -26,7 +26,7 @@ class PowerFailures(LogTest):
 
     def setUp(self):
         super().setUp()
-        self.site = Site(self)
+        self.site = BridgeSite(self)
         self.site.write_lines(*listing(("01800ABC", "D5-00-01", "Door"), ("01800AC1", "F6-02-01", "Switch")))
         self.connect()
         self.site.write_lines(PRESS, contact_reading("closed"))
@@ -185,7 +185,7 @@ class RandomHistories(LogTest):
     """Random histories of a bridge and of a gateway. Each line is a press of another switch, whose ID is its number."""
 
     def begin(self, seed):
-        self.site, self.chance = Site(self), random.Random(seed)
+        self.site, self.chance = BridgeSite(self), random.Random(seed)
         self.written = self.of_this_boot = self.of_this_run = 0
         self.connections = []
         self.start()

@@ -1,16 +1,16 @@
 """Actuators are asked for their states after a start of the gateway."""
 import unittest
 
-from fakes import OK, LogTest, Site, learned, listing, reading, status
+from fakes import OK, LogTest, BridgeSite, learned, listing, reading, status
 
 RESPONSE = {"code": 0, "data": "FF800000", "name": "OK", "type": "response"}
 # A device of each kind, and how it is asked, if it is an actuator.
-KINDS = (("01800A01", "D5-00-01", None), ("01800A02", "A5-02-05", None), ("01800A03", "A5-12-01", None),
-         ("01800A04", "F6-02-01", None), ("01800A05", "D2-01-0F", "query 01800A05 0"),
-         ("01800A06", "D2-01-02", "query 01800A06 0"), ("01800A07", "D2-01-12", "query 01800A07 30"),
-         ("01800A08", "D2-05-00", "query 01800A08 0"), ("01800A09", "A5-FF-FF", None))
-MANY = [(f"{0x01800000 + number:08X}", "D2-01-12", "") for number in range(1000)]
-QUERIES = [query for _, _, query in KINDS if query]
+DEVICES_AND_QUERIES = (("01800A01", "D5-00-01", None), ("01800A02", "A5-02-05", None), ("01800A03", "A5-12-01", None),
+                       ("01800A04", "F6-02-01", None), ("01800A05", "D2-01-0F", "query 01800A05 0"),
+                       ("01800A06", "D2-01-02", "query 01800A06 0"), ("01800A07", "D2-01-12", "query 01800A07 30"),
+                       ("01800A08", "D2-05-00", "query 01800A08 0"), ("01800A09", "A5-FF-FF", None))
+MANY_ACTUATORS = [(f"{0x01800000 + number:08X}", "D2-01-12", "") for number in range(1000)]
+QUERIES = [query for _, _, query in DEVICES_AND_QUERIES if query]
 
 
 class ActuatorQueries(LogTest):
@@ -18,8 +18,8 @@ class ActuatorQueries(LogTest):
 
     def setUp(self):
         super().setUp()
-        self.site = Site(self)
-        self.devices = [(device, eep, "") for device, eep, _ in KINDS]
+        self.site = BridgeSite(self)
+        self.devices = [(device, eep, "") for device, eep, _ in DEVICES_AND_QUERIES]
         self.silent = ()
 
     def start(self, has_broker=True):
@@ -55,10 +55,11 @@ class ActuatorQueries(LogTest):
 
     def test_1000_actuators(self):
         """One each second, and each once, although none answers."""
-        self.devices = MANY
+        self.devices = MANY_ACTUATORS
         self.start(has_broker=False)
         found = self.run_for(1100)
-        self.assertEqual({query for _, query in found} ^ {f"query {device} 30" for device, _, _ in MANY}, set())
+        wanted = {f"query {device} 30" for device, _, _ in MANY_ACTUATORS}
+        self.assertEqual({query for _, query in found} ^ wanted, set())
         times = [second for second, _ in found]
         self.assertEqual(len(times), 1000)
         self.assertEqual(len(set(times)), len(times))
@@ -113,7 +114,7 @@ class ActuatorQueries(LogTest):
 
     def test_a_gateway_that_reads_no_orders(self):
         """Its readings show that the module works, but not that it carries out orders."""
-        self.devices = MANY[:50]
+        self.devices = MANY_ACTUATORS[:50]
         self.start()
         self.run_for(5)
         self.silent = ("list", "status", "base", "query")
@@ -167,7 +168,7 @@ class ActuatorQueries(LogTest):
         self.assertEqual(self.queries(60), QUERIES)
 
     def test_orders_of_others_do_not_wait(self):
-        self.devices = MANY[:50]
+        self.devices = MANY_ACTUATORS[:50]
         self.start()
         self.run_for(10)
         for _ in range(10):

@@ -6,7 +6,7 @@ from enogate_mqtt.desk import Desk
 from enogate_mqtt.requests import ANSWER_WITHIN, MAX_PAUSE, PROBE_AFTER, SILENT_FOR, START_WITHIN, STATUS_EVERY
 from enogate_mqtt.requests import Requests
 from enogate_tools.desk import opens_window
-from fakes import LogTest, Site
+from fakes import LogTest, BridgeSite
 
 STATUS = Status("closed", {})
 
@@ -14,7 +14,7 @@ STATUS = Status("closed", {})
 class RequestTimes(LogTest):
     def setUp(self):
         super().setUp()
-        self.site = Site(self)
+        self.site = BridgeSite(self)
         self.clock = self.site.clock
         self.requests = self.make()
 

@@ -13,9 +13,10 @@ from enogate_lines import inotify
 from enogate_lines.entities import AUTO
 from enogate_mqtt import main, settings
 from enogate_mqtt.devices import Device
-from enogate_mqtt.settings import Login, Options, Arguments, WrongSetting, read_login, read_options, read_arguments
+from enogate_mqtt.settings import Arguments, Login, PublishingSettings, WrongSetting
+from enogate_mqtt.settings import read_arguments, read_login, read_publishing_settings
 from enogate_tools import VERSION
-from fakes import LogTest, Site, learned, reading
+from fakes import LogTest, BridgeSite, learned, reading
 
 PATHS = ["--lines", "l", "--desk", "d", "--state", "s"]
 
@@ -42,32 +43,33 @@ class CommandLine(unittest.TestCase):
         self.assertEqual((end.exception.code, out.getvalue()), (0, f"enogate-mqtt {VERSION}\n"))
 
 
-class Environment(unittest.TestCase):
+class EnvironmentSettings(unittest.TestCase):
     def test_defaults(self):
         self.assertEqual(read_login({}), Login("localhost", 1883, None, None, None))
-        self.assertEqual(read_options({}), Options("homeassistant", 120, AUTO, 60, True))
+        self.assertEqual(read_publishing_settings({}), PublishingSettings("homeassistant", 120, AUTO, 60, True))
 
     def test_values(self):
-        site = Site(self)
+        site = BridgeSite(self)
         password = site.folder / "password"
         password.write_text("secret with a space \r\nmore\n")
         found = read_login({"MQTT_HOST": "h", "MQTT_PORT": "65535", "MQTT_USER": "u",
                             "MQTT_PASSWORD_FILE": str(password)})
         self.assertEqual(found, Login("h", 65535, "u", "secret with a space ", None))
-        options = read_options({"MQTT_DISCOVERY": "a/b", "MQTT_LEARN_SECONDS": "30", "MQTT_EXPIRE_AFTER": "7200",
-                                "MQTT_LABEL_SECONDS": "5", "MQTT_QUERY": "no"})
-        self.assertEqual(options, Options("a/b", 30, 7200, 5, False))
-        self.assertEqual(read_options({"MQTT_DISCOVERY": ""}).discovery, "")
-        self.assertEqual(read_options({"MQTT_LABEL_SECONDS": "0"}).label_wait, 0)
-        self.assertEqual(read_options({"MQTT_QUERY": "yes"}).queries, True)
+        settings = read_publishing_settings({
+            "MQTT_DISCOVERY": "a/b", "MQTT_LEARN_SECONDS": "30", "MQTT_EXPIRE_AFTER": "7200",
+            "MQTT_LABEL_SECONDS": "5", "MQTT_QUERY": "no"})
+        self.assertEqual(settings, PublishingSettings("a/b", 30, 7200, 5, False))
+        self.assertEqual(read_publishing_settings({"MQTT_DISCOVERY": ""}).discovery, "")
+        self.assertEqual(read_publishing_settings({"MQTT_LABEL_SECONDS": "0"}).label_wait, 0)
+        self.assertEqual(read_publishing_settings({"MQTT_QUERY": "yes"}).queries, True)
         for text, seconds in (("auto", AUTO), ("", None), ("0", None), ("1", 1), ("9999999", 9999999)):
-            self.assertEqual(read_options({"MQTT_EXPIRE_AFTER": text}).expire_after, seconds, text)
+            self.assertEqual(read_publishing_settings({"MQTT_EXPIRE_AFTER": text}).expire_after, seconds, text)
 
     def test_empty_values_are_the_defaults(self):
         names = ("MQTT_PORT", "MQTT_USER", "MQTT_PASSWORD_FILE", "MQTT_TLS", "MQTT_CA_FILE")
         self.assertEqual(read_login(dict.fromkeys(names, "")), read_login({}))
-        self.assertEqual(read_options({"MQTT_LEARN_SECONDS": "", "MQTT_LABEL_SECONDS": "", "MQTT_QUERY": ""}),
-                         read_options({}))
+        empty = read_publishing_settings({"MQTT_LEARN_SECONDS": "", "MQTT_LABEL_SECONDS": "", "MQTT_QUERY": ""})
+        self.assertEqual(empty, read_publishing_settings({}))
 
     def test_tls(self):
         login = read_login({"MQTT_TLS": "yes"})
@@ -77,7 +79,7 @@ class Environment(unittest.TestCase):
         self.assertIsNone(read_login({"MQTT_TLS": "no"}).tls)
 
     def test_certificates(self):
-        folder = Site(self).folder
+        folder = BridgeSite(self).folder
         subprocess.run(["openssl", "req", "-x509", "-newkey", "ec", "-pkeyopt", "ec_paramgen_curve:P-256", "-nodes",
                         "-days", "2", "-subj", "/CN=x", "-keyout", folder / "key", "-out", folder / "crt"], check=True,
                        capture_output=True)
@@ -93,7 +95,7 @@ class Environment(unittest.TestCase):
         self.assertEqual(load.call_args.kwargs, {"password": ""})
 
     def test_wrong_values(self):
-        site = Site(self)
+        site = BridgeSite(self)
         (site.folder / "empty").write_text("\nx\n")
         empty, none = str(site.folder / "empty"), str(site.folder / "none")
         for environment, why in (
@@ -122,12 +124,12 @@ class Environment(unittest.TestCase):
                                  ({"MQTT_EXPIRE_AFTER": "AUTO"}, "expected auto, a number of seconds, or nothing"),
                                  ({"MQTT_EXPIRE_AFTER": "12345678"}, "invalid MQTT_EXPIRE_AFTER")):
             with self.subTest(environment), self.assertRaisesRegex(WrongSetting, why):
-                read_options(environment)
+                read_publishing_settings(environment)
 
 
-class Program(LogTest):
+class ProgramStart(LogTest):
     def run_it(self, *arguments, environment=None):
-        site = Site(self)
+        site = BridgeSite(self)
         files = ["--lines", str(site.lines), "--desk", str(site.desk), "--state", str(site.state)]
         with mock.patch("sys.argv", ["enogate-mqtt", *files, *arguments]), mock.patch("os.environ",
                                                                                       environment or {}), \
@@ -159,14 +161,14 @@ class Program(LogTest):
 
     def test_what_is_run(self):
         """The state file decides what is adopted, and what is to be deleted."""
-        site = Site(self)
+        site = BridgeSite(self)
         words = Arguments("hall", str(site.lines), str(site.desk), str(site.state), "", False)
-        options = Options("homeassistant", 60, 7200, 30, True)
+        settings = PublishingSettings("homeassistant", 60, 7200, 30, True)
         found = []
         for removed in (set(), {"x/y"}):
             with mock.patch("enogate_mqtt.main.Bridge") as bridge, mock.patch("enogate_mqtt.main.import_paho"), \
                     mock.patch("signal.signal"):
-                main.run(words, options)
+                main.run(words, settings)
             topics, broker, devices, follower, desk, requests, store = bridge.call_args.args[:7]
             self.assertEqual(bridge.call_args.args[7:-1], (time.monotonic, time.time))
             self.assertEqual(bridge.call_args.args[-1].__self__.files.watches[:2], [
@@ -185,7 +187,7 @@ class Program(LogTest):
                                  ("hall", "localhost:1883", False, {"x/y"}, 7200, *files)])
         with mock.patch("enogate_mqtt.main.Bridge") as bridge, mock.patch("enogate_mqtt.main.import_paho"), \
                 mock.patch("signal.signal"):
-            main.run(words, Options("other", 60, 7200, 30, False))
+            main.run(words, PublishingSettings("other", 60, 7200, 30, False))
         self.assertIsNone(bridge.call_args.args[5].queries)
         self.assertLess({"x/y", "homeassistant/binary_sensor/enogate_hall/status/config"},
                         bridge.call_args.args[2].removed)
@@ -213,7 +215,7 @@ class Program(LogTest):
 
     def test_another_prefix(self):
         """The messages below the old prefix are deleted."""
-        site = Site(self)
+        site = BridgeSite(self)
         store = main.Store(str(site.state), "old")
         store.save(main.START_OF_NO_FILE, ["01800ABC"], {"01800ABC": Device("01800ABC", "D5-00-01", "")}, set())
         again = main.Store(str(site.state), "new")

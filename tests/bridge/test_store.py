@@ -7,7 +7,7 @@ from unittest import mock
 from enogate_lines.follow import Position
 from enogate_mqtt.devices import Device
 from enogate_mqtt.store import Store
-from fakes import LogTest, Site
+from fakes import LogTest, BridgeSite
 
 POSITION = Position(7, 42, b"x\n")
 
@@ -15,7 +15,7 @@ POSITION = Position(7, 42, b"x\n")
 class StateFile(LogTest):
     def setUp(self):
         super().setUp()
-        self.path = Site(self).state
+        self.path = BridgeSite(self).state
         self.device = Device("01800ABC", "D5-00-01", "Door", 70, {"CO": "open", "dbm": "-45"})
 
     def open(self, discovery="homeassistant"):
@@ -226,11 +226,11 @@ class StateFile(LogTest):
 
     def full(self):
         """A file system that takes nothing more."""
-        class Full(sqlite3.Connection):
+        class FullDatabase(sqlite3.Connection):
             def executescript(self, _text):
                 raise sqlite3.OperationalError("database or disk is full")
         real = sqlite3.connect
-        return mock.patch("sqlite3.connect", lambda *words, **named: real(*words, factory=Full, **named))
+        return mock.patch("sqlite3.connect", lambda *words, **named: real(*words, factory=FullDatabase, **named))
 
     def test_a_file_that_cannot_be_written_is_read(self):
         other = Device("01800ABD", "A5-02-05")

@@ -15,7 +15,7 @@ from enogate_mqtt import wake
 from enogate_mqtt.connection import Connection
 from enogate_mqtt.settings import Login
 from enogate_mqtt.wake import Waiter
-from fakes import LogTest, Clock, Site, listing, reading, status
+from fakes import LogTest, Clock, BridgeSite, listing, reading, status
 from test_connection import TOPICS, fake_paho
 
 HOUR = 3600
@@ -165,7 +165,7 @@ class TurnWaits(LogTest):
 
     def setUp(self):
         super().setUp()
-        self.site = Site(self)
+        self.site = BridgeSite(self)
         self.site.wait = self.wait
         self.answers, self.answered, self.ends_at_once = True, 0, False
 

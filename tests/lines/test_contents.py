@@ -9,15 +9,15 @@ from enogate_lines.decimals import decimal
 from enogate_lines import contents
 
 
-CONTACT = ('{"dbm":-45,"eep":"D5-00-01","id":"01800ABC","readings":[{"name":"CO","word":"closed"}],'
-           '"type":"reading"}')
-VALUE = CONTACT.replace('"word":"closed"', '"den":51,"num":1024,"unit":"C"')
-TAUGHT = '{"eep":"D5-00-01","id":"01800ABC","maker":70,"result":"accepted","type":"teach"}'
-DEVICE = '{"eep":"D5-00-01","id":"01800ABC","label":"Door","maker":70,"type":"device"}'
-STATUS = '{"ignored":1,"mode":"on","readings":2,"refused":3,"responses":4,"teach":5,"type":"status"}'
+CONTACT_LINE = ('{"dbm":-45,"eep":"D5-00-01","id":"01800ABC","readings":[{"name":"CO","word":"closed"}],'
+                '"type":"reading"}')
+VALUE_LINE = CONTACT_LINE.replace('"word":"closed"', '"den":51,"num":1024,"unit":"C"')
+TEACH_LINE = '{"eep":"D5-00-01","id":"01800ABC","maker":70,"result":"accepted","type":"teach"}'
+DEVICE_LINE = '{"eep":"D5-00-01","id":"01800ABC","label":"Door","maker":70,"type":"device"}'
+STATUS_LINE = '{"ignored":1,"mode":"on","readings":2,"refused":3,"responses":4,"teach":5,"type":"status"}'
 
 
-class Decimals(unittest.TestCase):
+class DecimalTexts(unittest.TestCase):
     def test_finite_decimals_are_exact(self):
         for value, text in ((Fraction(5), "5"), (Fraction(0), "0"), (Fraction(-3, 4), "-0.75"),
                             (Fraction(1, 8), "0.125"),
@@ -50,10 +50,10 @@ class Decimals(unittest.TestCase):
             self.assertEqual(numbers, sorted(set(numbers)))
 
 
-class Contents(unittest.TestCase):
+class LineContents(unittest.TestCase):
     def test_each_type(self):
         for line, content in (
-            (CONTACT.encode(),
+            (CONTACT_LINE.encode(),
              Telegram("01800ABC", "D5-00-01", -45, (Reading("CO", "", "closed", None),))),
             (b'{"dbm":null,"eep":"A5-12-01","id":"01800ABC","readings":[{"name":"TI","raw":3},'
              b'{"den":51,"name":"T","num":1024,"unit":"C"},{"name":"H","out_of_range":251}],"type":"reading"}',
@@ -92,7 +92,7 @@ class Contents(unittest.TestCase):
                          ('"closed"', "3"), ('"word":"closed"', '"raw":"3"'), ('"word":"closed"', '"out_of_range":"x"'),
                          ('[{"name":"CO","word":"closed"}]', "3"), (',"readings":[{"name":"CO","word":"closed"}]', "")):
             with self.subTest(new):
-                self.assertIsInstance(content_of(CONTACT.replace(old, new).encode()), Strange)
+                self.assertIsInstance(content_of(CONTACT_LINE.replace(old, new).encode()), Strange)
         for line in (b'{"count":"2","type":"list"}', b'{"mode":"on","type":"status"}', b'{"type":["list"]}',
                      b'{"type":"response"}', b'{"code":"0","data":"","type":"response"}',
                      b'{"code":0,"data":"F","type":"response"}', b'{"code":0,"data":"ff","type":"response"}'):
@@ -112,28 +112,28 @@ class Contents(unittest.TestCase):
     def test_bounds_of_texts(self):
         """Printable ASCII: others cannot be published, or are not what a gateway writes."""
         bad = ["\ud800", "\udfffx", "\0", "a\n", "\x7f", "ä", "x" * 33, "x" * 70_000]
-        self.assert_bounds(DEVICE, "label", ["", " ~", "x" * 32], bad)
-        self.assert_bounds(CONTACT, "word", [" ~", "x" * 32], ["", *bad])
-        self.assert_bounds(VALUE, "unit", ["", "%", "x" * 32], bad)
-        self.assert_bounds(VALUE, "name", ["x" * 32], ["", "a b", *bad])
-        self.assert_bounds(STATUS, "mode", ["closed", "as F6-02-01"], ["", *bad])
+        self.assert_bounds(DEVICE_LINE, "label", ["", " ~", "x" * 32], bad)
+        self.assert_bounds(CONTACT_LINE, "word", [" ~", "x" * 32], ["", *bad])
+        self.assert_bounds(VALUE_LINE, "unit", ["", "%", "x" * 32], bad)
+        self.assert_bounds(VALUE_LINE, "name", ["x" * 32], ["", "a b", *bad])
+        self.assert_bounds(STATUS_LINE, "mode", ["closed", "as F6-02-01"], ["", *bad])
 
     def test_bounds_of_numbers(self):
-        for line in (DEVICE, TAUGHT):
+        for line in (DEVICE_LINE, TEACH_LINE):
             self.assert_bounds(line, "maker", [None, 0, 2047], [-1, 2048, 2 ** 70])
-        self.assert_bounds(CONTACT, "dbm", [None, 0, -255], [1, -256, 2 ** 70])
-        self.assert_bounds(VALUE, "num", [0, 2 ** 63 - 1, -2 ** 63], [2 ** 63, -2 ** 63 - 1, 10 ** 4000])
-        self.assert_bounds(VALUE, "den", [1, 2 ** 63 - 1], [0, -1, 2 ** 63])
+        self.assert_bounds(CONTACT_LINE, "dbm", [None, 0, -255], [1, -256, 2 ** 70])
+        self.assert_bounds(VALUE_LINE, "num", [0, 2 ** 63 - 1, -2 ** 63], [2 ** 63, -2 ** 63 - 1, 10 ** 4000])
+        self.assert_bounds(VALUE_LINE, "den", [1, 2 ** 63 - 1], [0, -1, 2 ** 63])
         for name in ("raw", "out_of_range"):
-            line = CONTACT.replace('"word":"closed"', f'"{name}":1')
+            line = CONTACT_LINE.replace('"word":"closed"', f'"{name}":1')
             self.assert_bounds(line, name, [0, 2 ** 64 - 1], [-1, 2 ** 64, 10 ** 4000])
         self.assert_bounds('{"count":2,"type":"list"}', "count", [0, 2 ** 64 - 1], [-1, 2 ** 64])
-        self.assert_bounds(STATUS, "teach", [0, 2 ** 64 - 1], [-1, 2 ** 64])
+        self.assert_bounds(STATUS_LINE, "teach", [0, 2 ** 64 - 1], [-1, 2 ** 64])
         self.assert_bounds('{"code":0,"data":"","name":"OK","type":"response"}', "code", [0, 255], [-1, 256])
 
     def test_bounds_of_readings(self):
         one = {"name": "CO", "word": "closed"}
-        self.assert_bounds(CONTACT, "readings", [[], [one] * 64], [[one] * 65])
+        self.assert_bounds(CONTACT_LINE, "readings", [[], [one] * 64], [[one] * 65])
 
     def test_a_complaint_shows_the_beginning(self):
         line = b'{"count":"' + b"2" * 100 + b'","type":"list"}'

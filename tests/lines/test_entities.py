@@ -43,7 +43,7 @@ def table_of(text: str) -> Table:
         return Table(path)
 
 
-class Lines(unittest.TestCase):
+class TableLines(unittest.TestCase):
     """The lines of the table."""
 
     def test_a_line(self):
@@ -167,7 +167,7 @@ class Lines(unittest.TestCase):
             self.assertEqual([found.expires_after(setting) for setting in (AUTO, 7200, None)], [None] * 3, eep)
 
 
-class Entities(unittest.TestCase):
+class RowEntities(unittest.TestCase):
     """The subtopics, names and numbers of entities."""
 
     def test_subtopics(self):
@@ -221,7 +221,7 @@ class Entities(unittest.TestCase):
         self.assertEqual(row("D2-05-00", "ANG", "%").entity_numbers(["POS/0", "POS/1", "ANG/1"]), [0, 1])
 
 
-class Readings(unittest.TestCase):
+class TelegramReadings(unittest.TestCase):
     """Which row a reading has, and where it is published."""
 
     def test_the_row_of_a_reading(self):
@@ -290,7 +290,7 @@ class Readings(unittest.TestCase):
             self.assertFalse(TABLE.may_report(eep, subtopic), (eep, subtopic))
 
 
-class Events(unittest.TestCase):
+class TelegramEvents(unittest.TestCase):
     """The events of telegrams."""
 
     def events(self, eep: str, *readings: Reading) -> list[str]:

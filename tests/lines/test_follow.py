@@ -9,11 +9,11 @@ from unittest import mock
 from enogate_lines.follow import MAX_READ, START_OF_NO_FILE, Follower, Position, position_at_end, rotated_files
 
 # How long these tests may take, in seconds. One that waits for a pipe ends the run, which fails.
-LONGEST = 120
+MAX_TEST_SECONDS = 120
 
 
 def setUpModule():
-    faulthandler.dump_traceback_later(LONGEST, exit=True)
+    faulthandler.dump_traceback_later(MAX_TEST_SECONDS, exit=True)
     unittest.addModuleCleanup(faulthandler.cancel_dump_traceback_later)
 
 

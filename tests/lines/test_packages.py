@@ -6,14 +6,14 @@ import unittest
 
 CONTRIB = pathlib.Path(__file__).parents[2] / "contrib"
 # Of the bridge, the command imports a single module.
-EDGES = {
+ALLOWED_IMPORTS = {
     ("enogate_lines", "enogate_tools"),
     ("enogate_mqtt", "enogate_lines"), ("enogate_mqtt", "enogate_tools"),
     ("enogate_ctl", "enogate_lines"), ("enogate_ctl", "enogate_tools"), ("enogate_ctl", "enogate_mqtt.state"),
 }
 
 
-def imported(path):
+def imported_modules(path):
     """The modules that a file imports by their full names."""
     for node in ast.walk(ast.parse(path.read_text("utf-8"))):
         if isinstance(node, ast.Import):
@@ -23,37 +23,38 @@ def imported(path):
             yield from (f"{node.module}.{name.name}" for name in node.names)
 
 
-def edge(package, module):
+def import_edge(package, module):
     """A package and the package that it imports; of the bridge, the module."""
     parts = module.split(".")
     return package, ".".join(parts[:2] if parts[0] == "enogate_mqtt" else parts[:1])
 
 
-def named(text):
+def quoted_names(text):
     """The names in backquotes of a text."""
     return set(re.findall("`([^`]+)`", text))
 
 
-def named_in(table):
+def names_in_first_cells(table):
     """The names in the first cells of a table."""
-    return named(" ".join(line.split("|")[1] for line in table.split("\n") if line.startswith("| `")))
+    return quoted_names(" ".join(line.split("|")[1] for line in table.split("\n") if line.startswith("| `")))
 
 
-class Packages(unittest.TestCase):
+class PackageImports(unittest.TestCase):
     def test_edges(self):
-        found = {edge(path.parent.name, module) for path in CONTRIB.glob("enogate_*/*.py") for module in imported(path)
+        found = {import_edge(path.parent.name, module)
+                 for path in CONTRIB.glob("enogate_*/*.py") for module in imported_modules(path)
                  if module.startswith("enogate_") and not module.startswith(f"{path.parent.name}.")}
-        self.assertEqual(found, EDGES)
+        self.assertEqual(found, ALLOWED_IMPORTS)
 
     def test_the_map_names_each_module(self):
         page = (CONTRIB / "README.md").read_text("utf-8")
         python, page_modules = page.split("## The page")
         for package in CONTRIB.glob("enogate_*"):
             table = python.split(f"| `{package.name}` |")[1].split("\n\n")[0]
-            self.assertEqual(named_in(table), {path.stem for path in package.glob("*.py")} - {"__init__"})
+            self.assertEqual(names_in_first_cells(table), {path.stem for path in package.glob("*.py")} - {"__init__"})
         scripts = {path.stem for path in (CONTRIB / "cockpit/enogate").glob("*.js")} - {"tables"}
-        self.assertEqual(named_in(page_modules.split("|---|---|")[1]), scripts)
-        self.assertLessEqual({path.name for path in (CONTRIB / "share").iterdir()}, named(page))
+        self.assertEqual(names_in_first_cells(page_modules.split("|---|---|")[1]), scripts)
+        self.assertLessEqual({path.name for path in (CONTRIB / "share").iterdir()}, quoted_names(page))
 
 
 if __name__ == "__main__":

@@ -7,11 +7,11 @@ import unittest
 ROOT = pathlib.Path(__file__).parents[2]
 sys.path.append(str(ROOT / "tests"))
 
-from enogate_ctl.answers import SHARED  # noqa: E402
+from enogate_ctl.answers import PACKET_ERRORS  # noqa: E402
 from enogate_tools import share  # noqa: E402
 from oracle import reasons  # noqa: E402
-from oracle.orders import GREATEST, ORDERS  # noqa: E402
-from oracle.profiles import IN_TABLES, eep_of  # noqa: E402
+from oracle.orders import MAX_VALUES, ORDERS  # noqa: E402
+from oracle.profiles import SUPPORTED_PROFILES, eep_text  # noqa: E402
 
 
 def table(page, head):
@@ -27,7 +27,7 @@ def names(rows):
 
 class GuideTables(unittest.TestCase):
     def test_profiles(self):
-        self.assertEqual(sorted(share.kinds_by_profile()), sorted(map(eep_of, IN_TABLES)))
+        self.assertEqual(sorted(share.kinds_by_profile()), sorted(map(eep_text, SUPPORTED_PROFILES)))
         self.assertEqual(share.device_kind("A5-38-08"), "")
 
     def test_the_kinds_of_the_guide(self):
@@ -47,7 +47,7 @@ class GuideTables(unittest.TestCase):
                          share.parameter_meanings().keys())
         ranges = {row[0].strip("`"): row[-1] for row in table("orders.md", "Word | Meaning | Range")}
         self.assertEqual(ranges.keys(), share.parameter_meanings().keys())
-        for name, greatest in GREATEST.items():
+        for name, greatest in MAX_VALUES.items():
             self.assertTrue(share.parameter_meanings()[name].endswith(f"0 to {greatest}"), name)
             self.assertEqual(re.match(r"0 to (\d+)", ranges[name])[1], str(greatest), name)
 
@@ -65,7 +65,7 @@ class GuideTables(unittest.TestCase):
             wanted = set(re.findall(r"`([a-z_]+)`", row[-1]))
             verb = forms[0].split(" ")[0]
             if verb == "list" or " ID" in forms[0]:
-                wanted |= SHARED
+                wanted |= PACKET_ERRORS
             if verb == "status":
                 wanted |= {"memory"}
             with self.subTest(forms[0]):
@@ -75,7 +75,7 @@ class GuideTables(unittest.TestCase):
     def test_words(self):
         self.assertEqual(list(share.texts_by_word("error")), names(table("output.md", "Error | When")))
         self.assertEqual(sorted(share.texts_by_word("result")), sorted(names(table("output.md", "Result | Meaning"))))
-        self.assertEqual(sorted(share.texts_by_word("reason")), sorted(["refused", *reasons.COUNTS]))
+        self.assertEqual(sorted(share.texts_by_word("reason")), sorted(["refused", *reasons.COUNTER_BY_REASON]))
         self.assertEqual(list(share.texts_by_word("reason")),
                          names(table("devices.md", "`why` | Meaning | What to do")))
         self.assertEqual(list(share.texts_by_word("rorg")), ["F6", "D5", "A5", "D2", "D4"])

@@ -8,16 +8,16 @@ import subprocess
 import tempfile
 
 from oracle.esp3 import packet
-from stick import BASE, COMMAND, READ_BASE, RESPONSE
+from stick import BASE_ID, COMMAND_TYPE, READ_BASE_COMMAND, RESPONSE_TYPE
 
 ROOT = pathlib.Path(__file__).resolve().parents[2]
 PROGRAM = ROOT / "crates/enogate/out/enogate"
-KEPT_FOLDER = ROOT / "target/machine"
+CACHE_FOLDER = ROOT / "target/machine"
 DEBIAN_SUITE, DISK_SIZE = "bookworm", "1200M"
 PACKAGES = ("linux-image-amd64", "systemd-sysv", "udev", "procps", "logrotate", "mosquitto", "mosquitto-clients")
 # The commands that are needed, each with its Debian package.
-NEEDED = {"qemu-system-x86_64": "qemu-system-x86", "mmdebstrap": "mmdebstrap", "mke2fs": "e2fsprogs",
-          "busybox": "busybox-static", "dpkg-deb": "dpkg", "strip": "binutils"}
+PACKAGE_BY_COMMAND = {"qemu-system-x86_64": "qemu-system-x86", "mmdebstrap": "mmdebstrap", "mke2fs": "e2fsprogs",
+                      "busybox": "busybox-static", "dpkg-deb": "dpkg", "strip": "binutils"}
 # The initrd loads these modules and what they depend on.
 INITRD_MODULES = ("virtio_pci", "virtio_blk", "crc32c_generic", "ext4", "virtio_console", "xhci_pci")
 INIT_SCRIPT = """#!/bin/busybox sh
@@ -34,7 +34,7 @@ MASKED_UNITS = ("getty@tty1.service", "serial-getty@ttyS0.service", "systemd-log
                 "modprobe@drm.service", "modprobe@fuse.service", "modprobe@efi_pstore.service")
 # The rule of the package also names QEMU's adapter, whose texts cannot be set.
 RULES_FILE, ADAPTER_NAMES = "60-enocean.rules", {"EnOcean GmbH": "QEMU", "EnOcean USB 3*": "QEMU USB SERIAL"}
-FILES = {
+SYSTEM_FILES = {
     "etc/machine-id": "0123456789abcdef0123456789abcdef\n",
     "etc/hostname": "machine\n",
     "etc/hosts": "127.0.0.1 localhost machine\n",
@@ -60,8 +60,8 @@ done
 line = os.open("/dev/ttyGS0", os.O_RDWR)
 tty.setraw(line)
 while got := os.read(line, 4096):
-    if {packet(COMMAND, bytes([READ_BASE]))} in got:
-        os.write(line, bytes([0x01, 0x60]) + {packet(RESPONSE, bytes(1) + BASE.to_bytes(4, "big"))})
+    if {packet(COMMAND_TYPE, bytes([READ_BASE_COMMAND]))} in got:
+        os.write(line, bytes([0x01, 0x60]) + {packet(RESPONSE_TYPE, bytes(1) + BASE_ID.to_bytes(4, "big"))})
 """,
     # has what is published, before the bridge starts
     "etc/systemd/system/heard.service":
@@ -72,14 +72,14 @@ while got := os.read(line, 4096):
 WATCHED_UNITS = ("agent", "heard", "mosquitto", "enogate@hall", "enogate-mqtt@hall")
 
 
-def lacks():
+def missing_requirements():
     """The Debian packages that are missing on this machine, and what else it lacks."""
     path = f"{os.environ['PATH']}:/usr/sbin:/sbin"
-    found = [package for command, package in NEEDED.items() if not shutil.which(command, path=path)]
+    found = [package for command, package in PACKAGE_BY_COMMAND.items() if not shutil.which(command, path=path)]
     return found + ["root"] * (os.geteuid() != 0) + ["the built program (make build)"] * (not PROGRAM.exists())
 
 
-def call(*words, **options):
+def run_command(*words, **options):
     """Runs a command that must succeed, and returns what it printed."""
     done = subprocess.run(words, stdout=subprocess.PIPE, stderr=subprocess.STDOUT, text=True, **options)
     assert done.returncode == 0, f"{' '.join(map(str, words))}: {done.stdout}"
@@ -93,49 +93,49 @@ def packages_with_dependencies():
     return sorted({*PACKAGES, *(re.match(r"\s*([^\s:]+)", one)[1] for one in depends)})
 
 
-def debian_folder():
+def build_debian_folder():
     """The folder of the Debian system, which is made if its list of packages is new."""
     names = ",".join(packages_with_dependencies())
-    made = KEPT_FOLDER / "debian"
-    listed = KEPT_FOLDER / "packages"
+    made = CACHE_FOLDER / "debian"
+    listed = CACHE_FOLDER / "packages"
     if not listed.exists() or listed.read_text() != names:
         shutil.rmtree(made, ignore_errors=True)
-        call("mmdebstrap", "--variant=minbase", f"--include={names}", DEBIAN_SUITE, made)
+        run_command("mmdebstrap", "--variant=minbase", f"--include={names}", DEBIAN_SUITE, made)
         listed.write_text(names)
     return made
 
 
-def built_disk():
+def build_disk():
     """The disk of the system with the package of the built program, its kernel and its initrd."""
-    KEPT_FOLDER.mkdir(parents=True, exist_ok=True)
-    with tempfile.TemporaryDirectory(prefix="image-", dir=KEPT_FOLDER) as folder:
+    CACHE_FOLDER.mkdir(parents=True, exist_ok=True)
+    with tempfile.TemporaryDirectory(prefix="image-", dir=CACHE_FOLDER) as folder:
         work = pathlib.Path(folder)
         # the program that is there is not built again
-        call("make", "-s", "-o", PROGRAM.relative_to(ROOT), "package", f"PACKAGES={work}", cwd=ROOT)
+        run_command("make", "-s", "-o", PROGRAM.relative_to(ROOT), "package", f"PACKAGES={work}", cwd=ROOT)
         package, = work.glob("enogate_*.deb")
-        base = debian_folder()
-        parts = package.read_bytes() + pathlib.Path(__file__).read_bytes() + (KEPT_FOLDER / "packages").read_bytes()
+        base = build_debian_folder()
+        parts = package.read_bytes() + pathlib.Path(__file__).read_bytes() + (CACHE_FOLDER / "packages").read_bytes()
         digest = hashlib.sha256(parts).hexdigest()
-        made = [KEPT_FOLDER / name for name in ("disk", "kernel", "initrd")]
-        if (KEPT_FOLDER / "digest").exists() and (KEPT_FOLDER / "digest").read_text() == digest:
+        made = [CACHE_FOLDER / name for name in ("disk", "kernel", "initrd")]
+        if (CACHE_FOLDER / "digest").exists() and (CACHE_FOLDER / "digest").read_text() == digest:
             return made
-        (KEPT_FOLDER / "digest").unlink(missing_ok=True)
+        (CACHE_FOLDER / "digest").unlink(missing_ok=True)
         root = work / "root"
-        call("cp", "-a", base, root)
+        run_command("cp", "-a", base, root)
         shutil.copy(package, root / "root")
-        call("chroot", root, "dpkg", "-i", f"/root/{package.name}")
-        configure(root)
+        run_command("chroot", root, "dpkg", "-i", f"/root/{package.name}")
+        configure_system(root)
         shutil.copy(next((root / "boot").glob("vmlinuz-*")), made[1])
         make_initrd(root, work / "initrd", made[2])
         made[0].unlink(missing_ok=True)
-        call("mke2fs", "-q", "-t", "ext4", "-E", "lazy_itable_init=0", "-d", root, made[0], DISK_SIZE)
-        (KEPT_FOLDER / "digest").write_text(digest)
+        run_command("mke2fs", "-q", "-t", "ext4", "-E", "lazy_itable_init=0", "-d", root, made[0], DISK_SIZE)
+        (CACHE_FOLDER / "digest").write_text(digest)
         return made
 
 
-def configure(root):
+def configure_system(root):
     """Writes the settings of the test into the system in this folder."""
-    for name, text in FILES.items():
+    for name, text in SYSTEM_FILES.items():
         (root / name).parent.mkdir(parents=True, exist_ok=True)
         (root / name).write_text(text)
     rules = (root / "usr/lib/udev/rules.d" / RULES_FILE).read_text()
@@ -143,8 +143,8 @@ def configure(root):
         assert f'"{own}"' in rules, rules
         rules = rules.replace(f'"{own}"', f'"{own}|{adapter}"')
     (root / "etc/udev/rules.d" / RULES_FILE).write_text(rules)
-    call("chroot", root, "systemctl", "mask", *MASKED_UNITS)
-    call("chroot", root, "systemctl", "enable", *WATCHED_UNITS)
+    run_command("chroot", root, "systemctl", "mask", *MASKED_UNITS)
+    run_command("chroot", root, "systemctl", "enable", *WATCHED_UNITS)
     # what only the build of the disk needed
     for pattern in ("root/*.deb", "boot/initrd*", "var/cache/apt/*.bin"):
         for path in root.glob(pattern):
@@ -159,11 +159,11 @@ def make_initrd(root, work, initrd):
     kernel = next((root / "lib/modules").iterdir()).name
     needed = {}
     for module in INITRD_MODULES:
-        for line in call("chroot", root, "modprobe", "-S", kernel, "--show-depends", module).splitlines():
+        for line in run_command("chroot", root, "modprobe", "-S", kernel, "--show-depends", module).splitlines():
             if line.startswith("insmod "):
                 path = line.split()[1]
                 needed[os.path.basename(path)] = shutil.copy(f"{root}{path}", work)
     (work / "order").write_text("\n".join(needed) + "\n")
     (work / "init").write_text(INIT_SCRIPT)
     (work / "init").chmod(0o755)
-    call("sh", "-c", 'cd "$0" && find . | busybox cpio -o -H newc >"$1"', work, initrd)
+    run_command("sh", "-c", 'cd "$0" && find . | busybox cpio -o -H newc >"$1"', work, initrd)

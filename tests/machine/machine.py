@@ -14,10 +14,10 @@ HERE = pathlib.Path(__file__).resolve().parent
 sys.path[:0] = [str(HERE.parents[0]), str(HERE.parents[0] / "power")]
 
 import records  # noqa: E402
-from stick import Stick  # noqa: E402
+from stick import SimulatedStick  # noqa: E402
 
 # How long the host waits for the machine, in seconds: without KVM a boot takes more than a minute.
-WITHIN, PAUSE = 600.0, 0.5
+HOST_TIMEOUT, POLL_PAUSE = 600.0, 0.5
 STICK_COUNT = 2
 KERNEL_ARGUMENTS = ("root=/dev/vda console=ttyS0 quiet mitigations=off audit=0 selinux=0 apparmor=0 tsc=reliable "
                     "no_timer_check "
@@ -26,18 +26,18 @@ KERNEL_ARGUMENTS = ("root=/dev/vda console=ttyS0 quiet mitigations=off audit=0 s
 EMULATION_ARGUMENTS = ["-accel", "tcg", "-icount", "shift=2,sleep=on", "-cpu", "Nehalem"]
 # The log of QEMU's driver blklogwrites consists of sectors. The first one has the head of the log. An entry has a
 # sector for its numbers (the first sector, how many, flags), and then what was written.
-SECTOR, ENTRY, FLUSH, DISCARD = 512, struct.Struct("<QQQ"), 1, 4
-END = re.compile(r"\n?\x04(\d+)\n")
+SECTOR_SIZE, ENTRY, FLUSH, DISCARD = 512, struct.Struct("<QQQ"), 1, 4
+COMMAND_END = re.compile(r"\n?\x04(\d+)\n")
 
 
-def processor_arguments():
+def qemu_processor_arguments():
     """The arguments for the processor. A /dev/kvm without these flags emulates, too, and may hang."""
     with open("/proc/cpuinfo", encoding="ascii") as file:
         has_flags = re.search(r"\b(vmx|svm)\b", file.read())
     return ["-accel", "kvm", "-cpu", "host"] if has_flags and os.access("/dev/kvm", os.W_OK) else EMULATION_ARGUMENTS
 
 
-class Machine:
+class QemuMachine:
     """A machine that boots from a copy of this disk, in this folder, with the clock at `clock`."""
 
     def __init__(self, work, disk, kernel, initrd, clock=""):
@@ -47,22 +47,22 @@ class Machine:
             path.unlink(missing_ok=True)
         self.log.touch()
         copy_disk(disk, self.disk)
-        words = ["qemu-system-x86_64", *processor_arguments(), "-m", "384", "-nodefaults", "-display", "none",
+        words = ["qemu-system-x86_64", *qemu_processor_arguments(), "-m", "384", "-nodefaults", "-display", "none",
                  "-no-reboot",
                  "-kernel", kernel, "-initrd", initrd, "-append", KERNEL_ARGUMENTS, "-serial", f"file:{work}/console",
-                 *self.devices(), *(["-rtc", f"base={clock}"] if clock else [])]
+                 *self.device_arguments(), *(["-rtc", f"base={clock}"] if clock else [])]
         with open(work / "qemu", "w") as file:
             self.process = subprocess.Popen(words, stdin=subprocess.DEVNULL, stdout=file, stderr=file)
-        self.sticks = [Stick(work / f"stick{number}.socket") for number in range(STICK_COUNT)]
+        self.sticks = [SimulatedStick(work / f"stick{number}.socket") for number in range(STICK_COUNT)]
         # what has come from the agent, and the time before which the journal is not read
         self.text, self.since = "", "@0"
         self.agent = socket.socket(socket.AF_UNIX)
-        self.agent.settimeout(WITHIN)
+        self.agent.settimeout(HOST_TIMEOUT)
         while self.agent.connect_ex(str(work / "agent.socket")):
             assert self.process.poll() is None, (work / "qemu").read_text()
-            time.sleep(PAUSE)
+            time.sleep(POLL_PAUSE)
 
-    def devices(self):
+    def device_arguments(self):
         """The arguments for disk, agent and sticks."""
         sockets = {name: f"socket,id={name},path={self.work}/{name}.socket,server=on,wait=off"
                    for name in ("agent", *(f"stick{number}" for number in range(STICK_COUNT)))}
@@ -77,63 +77,64 @@ class Machine:
             words += ["-device", device]
         return words
 
-    def send(self, command):
+    def send_command(self, command):
         """Gives the machine a command, and does not wait for its end."""
         self.agent.sendall(command.encode() + b"\n")
 
-    def receive(self):
+    def receive_output(self):
         """Waits for more of what the commands print. Returns whether there is more."""
         got = self.agent.recv(65536)
         self.text += got.decode(errors="replace")
         return bool(got)
 
-    def run(self, command, within=60):
+    def run_command(self, command, within=60):
         """Runs a command in the machine, and returns what it printed."""
-        self.send(f"timeout -k 5 {within} bash -c {shlex.quote(command)}")
-        while not (end := END.search(self.text)):
-            assert self.receive(), f"QEMU has ended: {(self.work / 'console').read_text(errors='replace')[-500:]}"
+        self.send_command(f"timeout -k 5 {within} bash -c {shlex.quote(command)}")
+        while not (end := COMMAND_END.search(self.text)):
+            console = self.work / "console"
+            assert self.receive_output(), f"QEMU has ended: {console.read_text(errors='replace')[-500:]}"
         found, self.text = self.text[:end.start()], self.text[end.end():]
         return found
 
-    def run_until(self, command, wanted):
+    def run_until_printed(self, command, wanted):
         """Runs a command until it prints this, and returns what it printed."""
-        end = time.monotonic() + WITHIN
-        while not re.search(wanted, found := self.run(command)):
+        end = time.monotonic() + HOST_TIMEOUT
+        while not re.search(wanted, found := self.run_command(command)):
             assert time.monotonic() < end, f"`{command}` does not print {wanted!r}, but {found[-1000:]!r}"
-            time.sleep(PAUSE)
+            time.sleep(POLL_PAUSE)
         return found
 
-    def start(self):
+    def start_gateway(self):
         """Plugs the first stick in, if it is not, and waits until the gateway answers."""
         if not self.sticks[0].socket:
             self.sticks[0].plug()
-        self.answers()
+        self.wait_for_gateway()
 
-    def answers(self):
+    def wait_for_gateway(self):
         """Waits until the gateway answers."""
-        self.run_until("enogatectl --timeout 20 hall status", "learn window *closed")
+        self.run_until_printed("enogatectl --timeout 20 hall status", "learn window *closed")
 
-    def journal(self, wanted):
+    def wait_for_journal(self, wanted):
         """Waits until the journal of the gateway has this."""
-        return self.run_until(f"journalctl -o cat -t enogate-hall --since {self.since}", wanted)
+        return self.run_until_printed(f"journalctl -o cat -t enogate-hall --since {self.since}", wanted)
 
-    def kill(self):
+    def kill_qemu(self):
         """Ends QEMU, with everything that it holds."""
         self.process.kill()
         self.process.wait()
         with contextlib.suppress(OSError):
-            while self.receive():
+            while self.receive_output():
                 pass
         self.agent.close()
 
-    def written(self):
+    def disk_log_size(self):
         """How many bytes the log of the disk has."""
         return self.log.stat().st_size
 
-    def cut(self, start, mode, rng, disk):
+    def cut_power(self, start, mode, rng, disk):
         """The power failed just after a write since the log had the size `start`. `disk` becomes what the disk had
         then, with a part of what was written since the last flush. Returns the size of the log at this moment."""
-        self.kill()
+        self.kill_qemu()
         copy_disk(self.before, disk)
         found = list(log_entries(self.log.read_bytes()))
         number = rng.choice([number for number, record in enumerate(found, 1)
@@ -144,7 +145,7 @@ class Machine:
 
 
 class DiskFile:
-    """A disk, as records.Cutter writes to it."""
+    """A disk, as records.PowerCutter writes to it."""
 
     def __init__(self, file):
         self.file = file
@@ -159,17 +160,17 @@ class DiskFile:
 
 def log_entries(log):
     """The writes and flushes in a log. The last one may be incomplete."""
-    place = SECTOR
-    while place + SECTOR <= len(log):
+    place = SECTOR_SIZE
+    while place + SECTOR_SIZE <= len(log):
         sector, count, flags = ENTRY.unpack_from(log, place)
-        size = 0 if flags & DISCARD else count * SECTOR
-        start, place = place + SECTOR, place + SECTOR + size
+        size = 0 if flags & DISCARD else count * SECTOR_SIZE
+        start, place = place + SECTOR_SIZE, place + SECTOR_SIZE + size
         if place > len(log) or not count + flags:
             return
         if size:
-            yield records.Record(sector * SECTOR, log[start:place], place)
+            yield records.DiskRecord(sector * SECTOR_SIZE, log[start:place], place)
         if flags & FLUSH:
-            yield records.Record(-1, b"", place)
+            yield records.DiskRecord(-1, b"", place)
 
 
 def copy_disk(old, new):

@@ -2,31 +2,31 @@
 `bench` and `tests` make their data with this module. It shares nothing with the program."""
 
 
-def checks_of_bytes():
+def crc8_of_each_byte():
     for check in range(256):
         for _ in range(8):
             check = check << 1 ^ 0x107 if check & 0x80 else check << 1
         yield check
 
 
-CHECKS = list(checks_of_bytes())
+CRC8_TABLE = list(crc8_of_each_byte())
 
 
-def check8(data):
+def crc8(data):
     """CRC-8 with the polynomial x^8 + x^2 + x + 1, from 0."""
     check = 0
     for byte in data:
-        check = CHECKS[check ^ byte]
+        check = CRC8_TABLE[check ^ byte]
     return check
 
 
 def packet(kind, data, optional=b""):
     """A packet of this type."""
     header = len(data).to_bytes(2, "big") + bytes([len(optional), kind])
-    return bytes([0x55, *header, check8(header), *data, *optional, check8(data + optional)])
+    return bytes([0x55, *header, crc8(header), *data, *optional, crc8(data + optional)])
 
 
-def packets(stream):
+def packets_in_stream(stream):
     """The packets of a stream, each as its type, its data and its optional data. Returns what may still begin a packet.
     If a packet begins at a byte it is taken; otherwise the byte is skipped."""
     start = stream.find(0x55)
@@ -34,35 +34,35 @@ def packets(stream):
         header = stream[start + 1 : start + 5]
         middle = start + 6 + int.from_bytes(header[:2], "big")
         end = middle + header[2]
-        begins = end > start + 6 and check8(header) == stream[start + 5]
+        begins = end > start + 6 and crc8(header) == stream[start + 5]
         if begins and end >= len(stream):
             break
-        if begins and check8(stream[start + 6 : end]) == stream[end]:
+        if begins and crc8(stream[start + 6 : end]) == stream[end]:
             yield header[3], stream[start + 6 : middle], stream[middle:end]
             start = end
         start = stream.find(0x55, start + 1)
     return stream[start:] if start >= 0 else b""
 
 
-ALL = 0xFFFFFFFF
+BROADCAST_ID = 0xFFFFFFFF
 
 
-def radio(subtelegrams=1, destination=ALL, dbm=45):
+def radio_optional_data(subtelegrams=1, destination=BROADCAST_ID, dbm=45):
     """The optional data of a telegram; no security."""
     return bytes([subtelegrams, *destination.to_bytes(4, "big"), dbm, 0])
 
 
-def telegram(rorg, payload, sender, status=0, optional=radio()):
+def telegram_packet(rorg, payload, sender, status=0, optional=radio_optional_data()):
     """The packet of a telegram. The default of `optional` is: to all, one subtelegram, -45 dBm."""
     data = bytes([rorg, *payload, *sender.to_bytes(4, "big"), status])
     return packet(1, data, optional)
 
 
-def sent(rorg, payload, sender, destination=ALL):
+def gateway_telegram_packet(rorg, payload, sender, destination=BROADCAST_ID):
     """The packet of a telegram that the gateway sends: three subtelegrams, no signal strength, status 0."""
-    return telegram(rorg, payload, sender, 0, radio(3, destination, 255))
+    return telegram_packet(rorg, payload, sender, 0, radio_optional_data(3, destination, 255))
 
 
-def pieces(stream, size=99):
+def serial_script_lines(stream, size=99):
     """The lines `S ` of a script that bring these bytes, this many at a time. A line takes 99 bytes at most."""
     return "".join(f"S {stream[k : k + size].hex().upper()}\n" for k in range(0, len(stream), size))

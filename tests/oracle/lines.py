@@ -2,25 +2,27 @@
 import json
 
 
-def line(value):
+def json_line(value):
     return json.dumps(value, sort_keys=True, separators=(",", ":")) + "\n"
 
 
-OK = line({"type": "ok"})
+OK_LINE = json_line({"type": "ok"})
 
 
-def error(name):
-    return line({"error": name, "type": "error"})
+def error_line(name):
+    return json_line({"error": name, "type": "error"})
 
 
 def teach_line(sender, eep, maker, result):
-    return line({"eep": eep, "id": f"{sender:08X}", "maker": maker, "result": result, "type": "teach"})
+    return json_line({"eep": eep, "id": f"{sender:08X}", "maker": maker, "result": result, "type": "teach"})
 
 
 def device_lines(devices, labels={}):
     """The devices are profiles and makers by sender. A sender without a label has the empty label."""
     listed = sorted(devices.items())
     return "".join(
-        line({"eep": eep, "id": f"{sender:08X}", "label": labels.get(sender, ""), "maker": maker, "type": "device"})
+        json_line(
+            {"eep": eep, "id": f"{sender:08X}", "label": labels.get(sender, ""), "maker": maker, "type": "device"}
+        )
         for sender, (eep, maker) in listed
-    ) + line({"count": len(listed), "type": "list"})
+    ) + json_line({"count": len(listed), "type": "list"})

@@ -1,7 +1,7 @@
 """The orders: how each is written, the ranges of its values, and what it does."""
 import re
 
-from oracle.esp3 import ALL
+from oracle.esp3 import BROADCAST_ID
 
 # The orders. A line is an order if it has the words of a row, with one space between two, and nothing else. A word in
 # capitals is a value, any other word is itself; TEXT is the rest of the line. If a line fits two rows, the
@@ -45,25 +45,25 @@ ORDERS = [
 ]
 
 # The rows by their first word, which is never in capitals.
-BY_NAME = {}
+ORDERS_BY_NAME = {}
 for row in ORDERS:
-    BY_NAME.setdefault(row[0].split(" ")[0], []).append(row)
+    ORDERS_BY_NAME.setdefault(row[0].split(" ")[0], []).append(row)
 
 # The numbers, each with the greatest value in its range; the least is 0. An ID is in its range unless it is FFFFFFFF,
 # and a text if it has at most 32 bytes.
-GREATEST = {"CH": 30, "OFF": 127, "VAL": 100, "RAMP": 255}
-MAX_LABEL = 32
+MAX_VALUES = {"CH": 30, "OFF": 127, "VAL": 100, "RAMP": 255}
+MAX_LABEL_BYTES = 32
 
 # How the values are written. A text has characters from space to `~`. Neither the first nor the last is a space.
-SHAPES = {
+VALUE_PATTERNS = {
     "ID": "[0-9A-Fa-f]{8}",
     "EEP": "[0-9A-Fa-f]{2}-[0-9A-Fa-f]{2}-[0-9A-Fa-f]{2}",
     "TEXT": "[!-~](?:[ -~]*[!-~])?",
-    **dict.fromkeys(GREATEST, "0|[1-9][0-9]{0,4}"),
+    **dict.fromkeys(MAX_VALUES, "0|[1-9][0-9]{0,4}"),
 }
 
 
-def values_of(words, text):
+def parsed_values(words, text):
     """The values that this line has at the words in capitals, or None if it does not fit the words."""
     words = words.split(" ")
     said = text.split(" ", len(words) - 1 if words[-1] == "TEXT" else -1)
@@ -71,10 +71,10 @@ def values_of(words, text):
         return None
     values = {}
     for word, as_said in zip(words, said):
-        if word not in SHAPES:
+        if word not in VALUE_PATTERNS:
             if word != as_said:
                 return None
-        elif not re.fullmatch(SHAPES[word], as_said):
+        elif not re.fullmatch(VALUE_PATTERNS[word], as_said):
             return None
         elif word == "EEP":
             values[word] = as_said.upper()
@@ -85,19 +85,19 @@ def values_of(words, text):
     return values
 
 
-def fitting(text):
+def matching_orders(text):
     """The rows that this line fits: its values, what is done, and by what."""
-    rows = ((values_of(words, text), does, by) for words, does, by in BY_NAME.get(text.split(" ")[0], []))
+    rows = ((parsed_values(words, text), does, by) for words, does, by in ORDERS_BY_NAME.get(text.split(" ")[0], []))
     return [row for row in rows if row[0] is not None]
 
 
 def is_in_range(values):
-    if values.get("ID") == ALL or len(values.get("TEXT", "")) > MAX_LABEL:
+    if values.get("ID") == BROADCAST_ID or len(values.get("TEXT", "")) > MAX_LABEL_BYTES:
         return False
-    return all(values.get(word, 0) <= greatest for word, greatest in GREATEST.items())
+    return all(values.get(word, 0) <= greatest for word, greatest in MAX_VALUES.items())
 
 
-def payload_of(by, values):
+def order_payload(by, values):
     """The bytes of a payload in the table."""
 
     def byte(word):

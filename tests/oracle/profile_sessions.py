@@ -3,14 +3,22 @@
 devices that are learned, and then send."""
 import itertools
 
-from oracle.profiles import BLIND, FOUR_BYTE, IN_TABLES, MESSAGES, SWITCHES, eep_of, with_fields
-from oracle.sessions import Session, sample
+from oracle.profiles import (
+    BLIND_STATE_FIELDS,
+    D2_01_MESSAGES,
+    FOUR_BYTE_PROFILES,
+    SUPPORTED_PROFILES,
+    SWITCH_PROFILES,
+    bytes_with_fields,
+    eep_text,
+)
+from oracle.sessions import Session, every_nth_item
 
 # The RORGs of the five kinds of telegrams.
 RORGS = (0xF6, 0xD5, 0xA5, 0xD2, 0xD4)
 
 
-def payloads(rows, size, fixed, fills=(0, 1)):
+def boundary_payloads(rows, size, fixed, fills=(0, 1)):
     """Payloads with these fixed fields: each row's field at each end of its range, just past them, at its words, and at
     the least and the greatest number, under every value of every condition, with all other bits 0, and with all other
     bits 1."""
@@ -29,114 +37,118 @@ def payloads(rows, size, fixed, fills=(0, 1)):
             for number in numbers:
                 fields = {**dict(zip(places, values)), (offset, length): number, **fixed}
                 for fill in fills:
-                    made[with_fields(size, fields, fill)] = None
+                    made[bytes_with_fields(size, fields, fill)] = None
     return list(made)
 
 
-class Row(Session):
-    def learn(self, eep):
+class ProfileSession(Session):
+    def learn_device(self, eep):
         """A device of its own is learned with this profile."""
         self.eep, self.device = eep, 0x01800000 + len(self.gateway.devices)
-        self.add({self.device: eep})
+        self.add_devices({self.device: eep})
 
-    def hear(self, payload, status=0, is_read=True):
+    def add_telegram_and_check(self, payload, status=0, is_read=True):
         """A telegram of the device that was learned last, and whether its profile reads it."""
-        self.send(f"{self.eep[:2]} {payload.hex()} {status:02X}", self.device)
+        self.add_telegram(f"{self.eep[:2]} {payload.hex()} {status:02X}", self.device)
         assert ('"type":"reading"' in self.steps[-1][1]) == is_read, f"{self.eep}: {payload.hex()}"
 
 
-def pairs_of_values():
+def pairwise_bytes():
     """Bytes in which every two of the fields (0,3), (3,1), (4,3) and (7,1) have each pair of values."""
     for first, second in itertools.product(range(8), repeat=2):
         total = first + second
         yield first << 5 | (total & 1) << 4 | second << 1 | (total >> 1 & 1)
 
 
-def switches():
+def switches_session():
     """Each switch at these payloads, with NU 0 and 1. The bit (4,1) of a contact is 0 at teach-in."""
-    row = Row()
-    for eep in SWITCHES:
-        row.learn(eep)
+    row = ProfileSession()
+    for eep in SWITCH_PROFILES:
+        row.learn_device(eep)
         for status in (0x20, 0x30):
-            for byte in pairs_of_values():
-                row.hear(bytes([byte]), status, is_read=not (eep.startswith("D5") and byte & 8 == 0))
-    row.say("status")
+            for byte in pairwise_bytes():
+                row.add_telegram_and_check(bytes([byte]), status, is_read=not (eep.startswith("D5") and byte & 8 == 0))
+    row.add_lines("status")
     return row
 
 
-def four_byte():
+def four_byte_session():
     """Each 4BS profile; the bit (28,1) is 0 at teach-in. The other bits are 0 with every second profile, and 1 with the
     others."""
-    row = Row()
-    for number, (eep, rows) in enumerate(FOUR_BYTE.items()):
-        row.learn(eep)
-        for payload in payloads(rows, 4, {(28, 1): 1}, fills=(number % 2,)):
-            row.hear(payload)
-        row.hear(with_fields(4, {(16, 8): 127}), is_read=False)
-    row.say("status")
+    row = ProfileSession()
+    for number, (eep, rows) in enumerate(FOUR_BYTE_PROFILES.items()):
+        row.learn_device(eep)
+        for payload in boundary_payloads(rows, 4, {(28, 1): 1}, fills=(number % 2,)):
+            row.add_telegram_and_check(payload)
+        row.add_telegram_and_check(bytes_with_fields(4, {(16, 8): 127}), is_read=False)
+    row.add_lines("status")
     return row
 
 
-def variable_length():
+def variable_length_session():
     """Each VLD profile; other commands and other lengths are not read. The types of D2-01 have the same rows, so each
     has one of three telegrams, and the other bits are 0 with every second type, and 1 with the others."""
-    row = Row()
+    row = ProfileSession()
     for kind in range(0x13):
-        row.learn(f"D2-01-{kind:02X}")
-        for command, (size, rows) in MESSAGES.items():
-            for payload in sample(payloads(rows, size, {(4, 4): command}, fills=(kind % 2,)), kind, 3):
-                row.hear(payload)
-            for size_of_other in sample(sorted({1, size - 1, size + 1, 14}), kind, 3):
-                row.hear(with_fields(size_of_other, {(4, 4): command}), is_read=False)
-        for command, size in sample(itertools.product(set(range(16)) - set(MESSAGES), (1, 3, 6)), kind, 3):
-            row.hear(with_fields(size, {(4, 4): command}), is_read=False)
-    row.learn("D2-05-00")
-    for payload in payloads(BLIND, 4, {(28, 4): 4}):
-        row.hear(payload)
+        row.learn_device(f"D2-01-{kind:02X}")
+        for command, (size, rows) in D2_01_MESSAGES.items():
+            for payload in every_nth_item(boundary_payloads(rows, size, {(4, 4): command}, fills=(kind % 2,)), kind, 3):
+                row.add_telegram_and_check(payload)
+            for size_of_other in every_nth_item(sorted({1, size - 1, size + 1, 14}), kind, 3):
+                row.add_telegram_and_check(bytes_with_fields(size_of_other, {(4, 4): command}), is_read=False)
+        for command, size in every_nth_item(
+            itertools.product(set(range(16)) - set(D2_01_MESSAGES), (1, 3, 6)), kind, 3
+        ):
+            row.add_telegram_and_check(bytes_with_fields(size, {(4, 4): command}), is_read=False)
+    row.learn_device("D2-05-00")
+    for payload in boundary_payloads(BLIND_STATE_FIELDS, 4, {(28, 4): 4}):
+        row.add_telegram_and_check(payload)
     for command in set(range(16)) - {4}:
-        row.hear(with_fields(4, {(28, 4): command}), is_read=False)
+        row.add_telegram_and_check(bytes_with_fields(4, {(28, 4): command}), is_read=False)
     for size in (1, 3, 5):
-        row.hear(with_fields(size, {(8 * size - 4, 4): 4}), is_read=False)
-    row.say("status")
+        row.add_telegram_and_check(bytes_with_fields(size, {(8 * size - 4, 4): 4}), is_read=False)
+    row.add_lines("status")
     return row
 
 
-def others(profiles):
+def rejected_profiles_session(profiles):
     """An `add` of each of these profiles that is outside the tables. It learns nothing."""
     row = Session()
-    row.say(*(f"add 01800ABC {eep_of(number)}" for number in sorted(set(profiles) - IN_TABLES)), "list", "status")
+    row.add_lines(
+        *(f"add 01800ABC {eep_text(number)}" for number in sorted(set(profiles) - SUPPORTED_PROFILES)), "list", "status"
+    )
     assert not row.gateway.devices
     return row
 
 
-def other_profiles():
+def neighbour_profiles_session():
     """The profiles one step from those of the tables: RORG, FUNC or TYPE is one more or one less."""
     steps = [sign << shift for shift in (0, 8, 16) for sign in (1, -1)]
-    return others(number + step for number in IN_TABLES for step in steps)
+    return rejected_profiles_session(number + step for number in SUPPORTED_PROFILES for step in steps)
 
 
-def all_other_profiles():
+def all_other_profiles_session():
     """All profiles of the five RORGs, and with every other RORG the FUNC and TYPE of each profile in the tables."""
-    known = {number & 0xFFFF for number in IN_TABLES}
-    return others(
+    known = {number & 0xFFFF for number in SUPPORTED_PROFILES}
+    return rejected_profiles_session(
         rorg << 16 | rest for rorg in range(256) for rest in (range(0x10000) if rorg in RORGS else known)
     )
 
 
-def two_hundred_contacts():
+def two_hundred_contacts_session():
     """Each is learned, and then sends twice."""
     row, senders = Session(), range(0x01800A00, 0x01800AC8)
-    row.add(dict.fromkeys(senders, "D5-00-01"))
+    row.add_devices(dict.fromkeys(senders, "D5-00-01"))
     for sender in senders:
-        row.send("D5 09", sender)
-        row.send("D5 09", sender)
+        row.add_telegram("D5 09", sender)
+        row.add_telegram("D5 09", sender)
     return row
 
 
-SESSIONS = {
-    "switches": switches,
-    "four-byte": four_byte,
-    "variable-length": variable_length,
-    "other-profiles": other_profiles,
-    "two-hundred-contacts": two_hundred_contacts,
+SESSION_BUILDERS = {
+    "switches": switches_session,
+    "four-byte": four_byte_session,
+    "variable-length": variable_length_session,
+    "other-profiles": neighbour_profiles_session,
+    "two-hundred-contacts": two_hundred_contacts_session,
 }

@@ -1,10 +1,10 @@
 """Why a packet is handled as it is: the lines of `--explain`. Each word except `refused` is below."""
-from oracle.esp3 import ALL
-from oracle.profiles import says, unsaid
-from oracle.teach_in import kind_of
+from oracle.esp3 import BROADCAST_ID
+from oracle.profiles import telegram_readings, unreadable_reason
+from oracle.teach_in import telegram_kind
 
 # The words, by the count that their packets increment. Those of `teach` are the results of the teach line.
-WORDS = {
+REASONS_BY_COUNTER = {
     "responses": ["response"],
     "readings": ["read"],
     "teach": ["accepted", "deleted", "unsupported", "full", "general", "no_profile"],
@@ -23,21 +23,21 @@ WORDS = {
         "other_message",
     ],
 }
-COUNTS = {word: count for count, words in WORDS.items() for word in words}
+COUNTER_BY_REASON = {word: count for count, words in REASONS_BY_COUNTER.items() for word in words}
 
 # The kinds of telegrams that are data, and the words of data whose sender is learned.
-DATA_KINDS = ["data", "RPS press, stranger", "VLD, stranger"]
-OF_LEARNED = ["read", "wrong_kind", "wrong_length", "other_message"]
+DATA_TELEGRAM_KINDS = ["data", "RPS press, stranger", "VLD, stranger"]
+REASONS_OF_LEARNED_SENDERS = ["read", "wrong_kind", "wrong_length", "other_message"]
 
 
-def first(cases):
+def first_true_case(cases):
     """The word of the first case that holds."""
     return next(word for word, holds in cases if holds)
 
 
-def of_packet(kind, data):
+def packet_reason(kind, data):
     """Why, for a packet without a telegram."""
-    return first(
+    return first_true_case(
         [
             ("response", kind == 2 and data),
             ("empty_response", kind == 2),
@@ -47,37 +47,37 @@ def of_packet(kind, data):
     )
 
 
-def of_telegram(heard, mode, known, taught):
+def telegram_reason(heard, mode, known, taught):
     """The reason, for a telegram that came in this mode. `known` has the stored profile and maker of its sender; it is
     None if the sender was not learned. `taught` has the profile, the maker and the result of its teach line, if any."""
-    kind, _ = kind_of(heard.rorg, heard.payload, known is not None)
-    is_data = kind in DATA_KINDS
-    return first(
+    kind, _ = telegram_kind(heard.rorg, heard.payload, known is not None)
+    is_data = kind in DATA_TELEGRAM_KINDS
+    return first_true_case(
         [
-            ("from_broadcast", heard.sender == ALL),
+            ("from_broadcast", heard.sender == BROADCAST_ID),
             ("for_others", not heard.is_for_gateway()),
             ("teach_in_reply", kind == "reply"),
             (taught and taught[2], taught),
             ("window_closed", not is_data and mode == "closed"),
             ("other_mode", not is_data),
             ("unknown_sender", known is None),
-            ("read", known and says(known[0], heard.rorg, heard.payload, heard.status) is not None),
-            (known and unsaid(known[0], heard.rorg, heard.payload), True),
+            ("read", known and telegram_readings(known[0], heard.rorg, heard.payload, heard.status) is not None),
+            (known and unreadable_reason(known[0], heard.rorg, heard.payload), True),
         ]
     )
 
 
-def members(heard, why, known, taught):
+def explanation_members(heard, why, known, taught):
     """The members of the line for a telegram. Its profile and maker are those that it contains itself, as a query does;
     otherwise those with which its sender is learned, by this telegram or, if it is data that is read, before."""
-    eep, maker = kind_of(heard.rorg, heard.payload, known is not None)[1]
+    eep, maker = telegram_kind(heard.rorg, heard.payload, known is not None)[1]
     if eep is None and why == "accepted":
         eep, maker, _ = taught
-    elif eep is None and why in OF_LEARNED:
+    elif eep is None and why in REASONS_OF_LEARNED_SENDERS:
         eep, maker = known
     return {
         "dbm": heard.dbm,
-        "dest": None if heard.destination == ALL else f"{heard.destination:08X}",
+        "dest": None if heard.destination == BROADCAST_ID else f"{heard.destination:08X}",
         "eep": eep,
         "id": f"{heard.sender:08X}",
         "maker": maker,

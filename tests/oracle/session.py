@@ -6,7 +6,7 @@ is written for it.
     + TEXT      a line that is written only with `--explain`
     TEXT        a line that is written with the option and without it
 
-As a program it prints one of the PARTS of a row:
+As a program it prints one of the SESSION_PARTS of a row:
 
     tests/oracle/session.py PART NAME
 """
@@ -14,34 +14,34 @@ import pathlib
 import re
 import sys
 
-DATA = pathlib.Path(__file__).resolve().parent.parent.parent / "crates" / "rows" / "data"
-NO_LF = b"\\ no LF\n"
-PARTS = ["script", "plain", "explained"]  # the script, what is written without `--explain`, and with it
+SESSION_FOLDER = pathlib.Path(__file__).resolve().parent.parent.parent / "crates" / "rows" / "data"
+NO_LF_MARK = b"\\ no LF\n"
+SESSION_PARTS = ["script", "plain", "explained"]  # the script, what is written without `--explain`, and with it
 
 
-def steps(session):
+def session_steps(session):
     """The lines of the script, each with its end, and what is below it."""
     for step in re.split(rb"(?m)^> ", session)[1:]:
         line, end, below = step.partition(b"\n")
-        if below.startswith(NO_LF):
-            end, below = b"", below[len(NO_LF) :]
+        if below.startswith(NO_LF_MARK):
+            end, below = b"", below[len(NO_LF_MARK) :]
         yield line + end, below
 
 
-def part(session, name):
-    """One of the PARTS."""
-    lines, below = map(b"".join, zip(*steps(session), (b"", b"")))
+def text_of_session(session, part):
+    """The script of a golden session, or what is written for it without or with `--explain`: one of SESSION_PARTS."""
+    lines, below = map(b"".join, zip(*session_steps(session), (b"", b"")))
     return {
         "script": lines,
         "plain": re.sub(rb"(?m)^\+ .*\n", b"", below),
         "explained": re.sub(rb"(?m)^\+ ", b"", below),
-    }[name]
+    }[part]
 
 
-def read(row):
-    return (DATA / f"{row}.session").read_bytes()
+def read_session(name):
+    return (SESSION_FOLDER / f"{name}.session").read_bytes()
 
 
 if __name__ == "__main__":
-    part_wanted, row_wanted = sys.argv[1:]
-    sys.stdout.buffer.write(part(read(row_wanted), part_wanted))
+    part_wanted, session_wanted = sys.argv[1:]
+    sys.stdout.buffer.write(text_of_session(read_session(session_wanted), part_wanted))

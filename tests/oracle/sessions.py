@@ -1,13 +1,13 @@
 """Sessions that the oracle makes: a script, and after each line what the gateway has to write for it."""
-from oracle.esp3 import pieces, radio, telegram
+from oracle.esp3 import serial_script_lines, radio_optional_data, telegram_packet
 from oracle.gateway import Gateway, without_explanations
-from oracle.session import NO_LF, read, steps
+from oracle.session import NO_LF_MARK, read_session, session_steps
 
 # The orders that set the modes, by the names of the modes in the answer to `status`.
 MODE_ORDERS = {"closed": "learn off", "on": "learn on", "answer": "learn on answer"}
 
 
-def sample(items, number, of):
+def every_nth_item(items, number, of):
     """The items whose place plus `number` is a multiple of `of`. Cases with `of` successive numbers have all items."""
     return [item for place, item in enumerate(items) if (place + number) % of == 0]
 
@@ -16,57 +16,59 @@ class Session:
     def __init__(self):
         self.gateway, self.steps = Gateway(), []
 
-    def text(self, explains):
+    def session_text(self, explains):
         return "".join(line + (answer if explains else without_explanations(answer)) for line, answer in self.steps)
 
-    def say(self, *lines):
+    def add_lines(self, *lines):
         for text in lines:
-            self.steps.append((f"> {text}\n", self.gateway.explained(text)))
+            self.steps.append((f"> {text}\n", self.gateway.answer_with_explanations(text)))
 
-    def say_last(self, text):
+    def add_unended_line(self, text):
         """A line without LF: a CR at its end belongs to it."""
-        self.steps.append((f"> {text}\n{NO_LF.decode()}", self.gateway.explained(text + "\r")))
+        self.steps.append((f"> {text}\n{NO_LF_MARK.decode()}", self.gateway.answer_with_explanations(text + "\r")))
 
-    def send(self, text, sender, optional=radio()):
+    def add_telegram(self, text, sender, optional=radio_optional_data()):
         """A telegram: its RORG and payload, and its status if it is not 0, in hexadecimal."""
         rorg, payload, status = (bytes.fromhex(word) for word in (text + " 00").split(" ")[:3])
-        self.say(*pieces(telegram(rorg[0], payload, sender, status[0], optional)).splitlines())
+        self.add_lines(
+            *serial_script_lines(telegram_packet(rorg[0], payload, sender, status[0], optional)).splitlines()
+        )
 
-    def add(self, devices):
+    def add_devices(self, devices):
         """Learns these senders with these profiles, by an order for each that is needed."""
         for sender, eep in devices.items():
             if self.gateway.devices.get(sender) != (eep, None):
-                self.say(f"add {sender:08X} {eep}")
+                self.add_lines(f"add {sender:08X} {eep}")
 
-    def bring(self, mode, stranger=None):
+    def set_mode(self, mode, stranger=None):
         """Sets this mode, and forgets this sender, by the orders that are needed."""
         if self.gateway.mode != mode:
-            self.say(MODE_ORDERS.get(mode, "learn " + mode))
-        self.forget(stranger)
+            self.add_lines(MODE_ORDERS.get(mode, "learn " + mode))
+        self.remove_device(stranger)
 
-    def forget(self, sender):
+    def remove_device(self, sender):
         if sender in self.gateway.devices:
-            self.say(f"remove {sender:08X}")
+            self.add_lines(f"remove {sender:08X}")
 
-    def clear(self):
+    def remove_all_devices(self):
         """Closes the learn window, and forgets all senders."""
-        self.bring("closed")
+        self.set_mode("closed")
         for sender in sorted(self.gateway.devices):
-            self.forget(sender)
-        self.say("list")
+            self.remove_device(sender)
+        self.add_lines("list")
 
 
-def say_again(session, kept):
+def repeat_lines(session, kept):
     """Adds the lines of a stored session, with the answers of the oracle."""
-    for line, _ in steps(kept):
+    for line, _ in session_steps(kept):
         text = line.decode(errors="surrogateescape")
         if text.endswith("\n"):
-            session.say(text[:-1])
+            session.add_lines(text[:-1])
         else:
-            session.say_last(text)
+            session.add_unended_line(text)
     return session
 
 
-def by_hand(name):
+def handwritten_session(name):
     """A session with the lines of one that is kept by hand, and the answers of the oracle."""
-    return say_again(Session(), read(name))
+    return repeat_lines(Session(), read_session(name))

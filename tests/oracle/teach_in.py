@@ -13,7 +13,7 @@
 #
 # The maker is the telegram's own, if it names one. If 1,000 other senders are learned, the result is `full`. A
 # line with `unsupported`, with `deleted` or with the WORD has the telegram's own profile and maker.
-VERDICTS = {
+ACTIONS_BY_TELEGRAM_KIND = {
     # Kind                 modes `on`, `answer`    mode `as E`
     "1BS teach-in":        ("learn D5-00-01",      "as D5"),
     "4BS bare teach-in":   ("tell no_profile",     "as A5"),
@@ -29,19 +29,19 @@ VERDICTS = {
 }
 
 # The kinds of a UTE query, by bits 5 and 4 of its first byte.
-REQUESTS = ["UTE teach-in", "UTE deletion", "UTE not specified", "UTE not used"]
+UTE_QUERY_KINDS = ["UTE teach-in", "UTE deletion", "UTE not specified", "UTE not used"]
 
 # The last byte of the reply to a 4BS query, by the result. There is a reply in the mode `answer` only. The other bytes
 # are those of the query.
-REPLIES = {"accepted": 0xF0, "unsupported": 0x90, "full": 0xD0}
+REPLY_CODES_4BS = {"accepted": 0xF0, "unsupported": 0x90, "full": 0xD0}
 
 # Bits 5 and 4 of the first byte of the reply to a UTE query, by the result. Bit 7 is that of the query, bit 6 is 0, and
 # the others are the number 1. There is a reply if bit 6 of the query's first byte is 0. The other bytes are those of
 # the query.
-UTE_REPLIES = {"accepted": 1, "deleted": 2, "unsupported": 3, "full": 0, "general": 0}
+REPLY_CODES_UTE = {"accepted": 1, "deleted": 2, "unsupported": 3, "full": 0, "general": 0}
 
 
-def kind_of(rorg, payload, known):
+def telegram_kind(rorg, payload, known):
     """The kind of a telegram, and the profile and the maker that it names."""
     last = payload[-1]
     if rorg == 0xD4:
@@ -49,7 +49,7 @@ def kind_of(rorg, payload, known):
         if first % 16 != 0:
             return "reply", (None, None)
         eep = "-".join(f"{byte:02X}" for byte in reversed(profile))
-        return REQUESTS[first // 16 % 4], (eep, low + high % 8 * 256)
+        return UTE_QUERY_KINDS[first // 16 % 4], (eep, low + high % 8 * 256)
     if rorg == 0xD5 and last & 0x08 == 0:
         return "1BS teach-in", (None, None)
     if rorg == 0xA5 and last & 0x08 == 0:
@@ -67,10 +67,10 @@ def kind_of(rorg, payload, known):
     return "data", (None, None)
 
 
-def reply(kind, payload, mode, result):
+def teach_in_reply_payload(kind, payload, mode, result):
     """The payload of the reply to a telegram with this result, or None if it gets none."""
     if kind == "4BS query" and mode == "answer":
-        return [*payload[:3], REPLIES[result]]
-    if kind in REQUESTS and payload[0] & 0x40 == 0:
-        return [payload[0] & 0x80 | UTE_REPLIES[result] << 4 | 1, *payload[1:]]
+        return [*payload[:3], REPLY_CODES_4BS[result]]
+    if kind in UTE_QUERY_KINDS and payload[0] & 0x40 == 0:
+        return [payload[0] & 0x80 | REPLY_CODES_UTE[result] << 4 | 1, *payload[1:]]
     return None

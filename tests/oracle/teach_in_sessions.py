@@ -10,22 +10,22 @@ import itertools
 import pathlib
 import re
 
-from oracle.esp3 import ALL, packet, pieces, radio
-from oracle.gateway import BASE, MOST
-from oracle.profiles import FOUR_BYTE, IN_TABLES, eep_of, with_fields
-from oracle.session import read, steps
-from oracle.sessions import MODE_ORDERS, Session, say_again
+from oracle.esp3 import BROADCAST_ID, packet, serial_script_lines, radio_optional_data
+from oracle.gateway import BASE_ID, MAX_DEVICES
+from oracle.profiles import FOUR_BYTE_PROFILES, SUPPORTED_PROFILES, eep_text, bytes_with_fields
+from oracle.session import read_session, session_steps
+from oracle.sessions import MODE_ORDERS, Session, repeat_lines
 
 # The modes. There are two modes `as E` for most RORGs.
-FIRST = ["as F6-02-01", "as D5-00-01", "as A5-02-05", "as D2-01-12"]
-SECOND = ["as F6-03-02", "as A5-12-03", "as D2-05-00"]
-MODES = [*MODE_ORDERS, *FIRST, *SECOND]
+FIRST_PROFILE_MODES = ["as F6-02-01", "as D5-00-01", "as A5-02-05", "as D2-01-12"]
+SECOND_PROFILE_MODES = ["as F6-03-02", "as A5-12-03", "as D2-05-00"]
+LEARN_MODES = [*MODE_ORDERS, *FIRST_PROFILE_MODES, *SECOND_PROFILE_MODES]
 
-STRANGER, OTHER_STRANGER = 0x01800ABC, 0x01800ABD
+UNKNOWN_ID, OTHER_UNKNOWN_ID = 0x01800ABC, 0x01800ABD
 
 # Telegrams: RORG, payload and status. If a bit determines the kind, there is one with all other bits 0, and one with
 # them 1.
-FROM_STRANGERS = [
+TELEGRAMS_OF_UNKNOWN_SENDERS = [
     "D5 00",  # 1BS teach-in
     "D5 F7",
     "D5 08",  # 1BS data
@@ -68,7 +68,7 @@ FROM_STRANGERS = [
 
 # The same for known senders, with data that their profiles read; and, of these, those that may teach. The last of them
 # learns its sender, whatever those before it did.
-FROM_KNOWN = [
+TELEGRAMS_OF_KNOWN_SENDERS = [
     "D5 00",
     "D5 09",
     "A5 00000000",
@@ -85,11 +85,11 @@ FROM_KNOWN = [
     "D4 B00146001201D2",
     "D4 E00146000032D2",
 ]
-TEACHING = ["D5 00", "A5 00000000", "A5 08284680", "A5 50084680", "F6 50 30", "D2 0460E4"]
-TEACHING += ["D4 900146001201D2", "D4 A00146001201D2", "D4 B00146001201D2", "D4 800146001201D2"]
+TEACHING_TELEGRAMS = ["D5 00", "A5 00000000", "A5 08284680", "A5 50084680", "F6 50 30", "D2 0460E4"]
+TEACHING_TELEGRAMS += ["D4 900146001201D2", "D4 A00146001201D2", "D4 B00146001201D2", "D4 800146001201D2"]
 
 # A known sender's profile by the telegram's RORG: one that fits, another one of that RORG, and one of another RORG.
-KNOWN = {
+KNOWN_PROFILES_BY_RORG = {
     "D5": ["D5-00-01", "F6-02-01"],
     "A5": ["A5-02-05", "A5-10-03", "D5-00-01"],
     "F6": ["F6-02-01", "F6-01-01", "D2-01-12"],
@@ -98,195 +98,203 @@ KNOWN = {
 }
 
 
-class Row(Session):
-    def know(self, sender, eep):
+class TeachInSession(Session):
+    def ensure_learned(self, sender, eep):
         """This sender is learned with this profile, and with no maker."""
         if self.gateway.devices.get(sender) != (eep, None):
-            self.forget(sender)
-            self.add({sender: eep})
+            self.remove_device(sender)
+            self.add_devices({sender: eep})
 
 
-def known_by(rorg):
+def known_devices(rorg):
     """Known senders for telegrams of this RORG, and their profiles."""
-    return {0x01900000 + 16 * int(rorg, 16) + place: eep for place, eep in enumerate(KNOWN[rorg])}
+    return {0x01900000 + 16 * int(rorg, 16) + place: eep for place, eep in enumerate(KNOWN_PROFILES_BY_RORG[rorg])}
 
 
-def send_in_mode(row, mode, text, sender, eep):
+def add_telegram_in_mode(row, mode, text, sender, eep):
     """A telegram in this mode, of a sender that is learned with this profile, or not learned if it is None."""
     if eep is None:
-        row.bring(mode, sender)
+        row.set_mode(mode, sender)
     else:
-        row.bring(mode)
-        row.know(sender, eep)
-    row.send(text, sender)
+        row.set_mode(mode)
+        row.ensure_learned(sender, eep)
+    row.add_telegram(text, sender)
 
 
-def reasons(row, *telegram):
+def reasons_for_telegram(row, *telegram):
     """Why the gateway would handle the telegram as it does."""
-    trial = Row()
+    trial = TeachInSession()
     trial.gateway = copy.deepcopy(row.gateway)
-    send_in_mode(trial, *telegram)
+    add_telegram_in_mode(trial, *telegram)
     return tuple(re.findall(r'"(?:result|why)":"(\w+)"', trial.steps[-1][1]))
 
 
-def in_mode(row, mode, number, from_strangers, from_known):
+def try_telegrams_in_mode(row, mode, number, from_strangers, from_known):
     """Telegrams of these kinds in the mode with this number. Removing the device shows what was learned."""
-    row.bring("closed", STRANGER)
-    for sender, eep in itertools.chain(*(known_by(rorg).items() for rorg in KNOWN)):
-        row.know(sender, eep)
-    known = [(text, *device) for text in from_known for device in known_by(text[:2]).items()]
+    row.set_mode("closed", UNKNOWN_ID)
+    for sender, eep in itertools.chain(*(known_devices(rorg).items() for rorg in KNOWN_PROFILES_BY_RORG)):
+        row.ensure_learned(sender, eep)
+    known = [(text, *device) for text in from_known for device in known_devices(text[:2]).items()]
     alike = {}
-    for text, sender, eep in [*((text, STRANGER, None) for text in from_strangers), *known]:
-        kind = text[:2], eep and eep[:2], reasons(row, mode, text, sender, eep)
+    for text, sender, eep in [*((text, UNKNOWN_ID, None) for text in from_strangers), *known]:
+        kind = text[:2], eep and eep[:2], reasons_for_telegram(row, mode, text, sender, eep)
         alike.setdefault(kind, []).append((text, sender, eep))
     for telegrams in alike.values():
-        send_in_mode(row, mode, *telegrams[number % len(telegrams)])
-        row.say("status")
+        add_telegram_in_mode(row, mode, *telegrams[number % len(telegrams)])
+        row.add_lines("status")
 
 
-def each_kind(row):
+def try_each_kind(row):
     """Every kind of telegram in every mode."""
-    for number, mode in enumerate(MODES):
-        in_mode(row, mode, number, FROM_KNOWN if mode in SECOND else FROM_STRANGERS, FROM_KNOWN)
-        row.say("list")
-    row.clear()
+    for number, mode in enumerate(LEARN_MODES):
+        try_telegrams_in_mode(
+            row,
+            mode,
+            number,
+            TELEGRAMS_OF_KNOWN_SENDERS if mode in SECOND_PROFILE_MODES else TELEGRAMS_OF_UNKNOWN_SENDERS,
+            TELEGRAMS_OF_KNOWN_SENDERS,
+        )
+        row.add_lines("list")
+    row.remove_all_devices()
 
 
-def single_bits(length):
+def single_bit_numbers(length):
     """No bit, each single bit, and the complements of these."""
     ones = [0] + [1 << place for place in range(length)]
     return ones + [2**length - 1 - number for number in ones]
 
 
-def bits(row):
+def try_single_bits(row):
     """Bits that determine the kind, and bits that do not."""
-    row.bring("answer", STRANGER)
-    for last in dict.fromkeys([*range(0, 256, 16), *single_bits(8)]):
+    row.set_mode("answer", UNKNOWN_ID)
+    for last in dict.fromkeys([*range(0, 256, 16), *single_bit_numbers(8)]):
         if last & 0x08 == 0:
-            row.send(f"A5 082846{last:02X}", STRANGER)
-    row.say("status")
-    row.bring("on", STRANGER)
+            row.add_telegram(f"A5 082846{last:02X}", UNKNOWN_ID)
+    row.add_lines("status")
+    row.set_mode("on", UNKNOWN_ID)
     for high in range(16):
-        row.send(f"A5 082846{high:X}8", STRANGER)
-    row.say("status", "list")
-    for byte in single_bits(8):
-        row.bring("on", STRANGER)
-        row.send(f"D5 {byte:02X}", STRANGER)
-    row.say("status")
-    for byte in single_bits(8):
-        row.bring("as F6-02-01", STRANGER)
-        row.send(f"F6 {byte:02X} 30", STRANGER)
+        row.add_telegram(f"A5 082846{high:X}8", UNKNOWN_ID)
+    row.add_lines("status", "list")
+    for byte in single_bit_numbers(8):
+        row.set_mode("on", UNKNOWN_ID)
+        row.add_telegram(f"D5 {byte:02X}", UNKNOWN_ID)
+    row.add_lines("status")
+    for byte in single_bit_numbers(8):
+        row.set_mode("as F6-02-01", UNKNOWN_ID)
+        row.add_telegram(f"F6 {byte:02X} 30", UNKNOWN_ID)
     for status in (0x00, 0x0F, 0x10, 0x20, 0xFF):
-        row.bring("as F6-01-01", STRANGER)
-        row.send(f"F6 10 {status:02X}", STRANGER)
-    row.say("status")
+        row.set_mode("as F6-01-01", UNKNOWN_ID)
+        row.add_telegram(f"F6 10 {status:02X}", UNKNOWN_ID)
+    row.add_lines("status")
     for length in range(1, 15):
         for fill in ("00", "FF"):
-            row.bring("as D2-05-00", STRANGER)
-            row.send("D2 " + length * fill, STRANGER)
-    row.say("status")
-    row.bring("on", STRANGER)
+            row.set_mode("as D2-05-00", UNKNOWN_ID)
+            row.add_telegram("D2 " + length * fill, UNKNOWN_ID)
+    row.add_lines("status")
+    row.set_mode("on", UNKNOWN_ID)
     for high in range(16):
         for low in (0, 1, max(2, high)):
-            row.send(f"D4 {high:X}{low:X}0146001201D2", STRANGER)
-        row.say("status", "list")
-    row.bring("answer")
+            row.add_telegram(f"D4 {high:X}{low:X}0146001201D2", UNKNOWN_ID)
+        row.add_lines("status", "list")
+    row.set_mode("answer")
     for number, places in ((0xA00146001201D2, range(56)), (0x20FEB9FFEDFE2D, range(24, 40))):
         for place in places:
-            row.send(f"D4 {number ^ 1 << place:014X}", STRANGER)
-        row.say("status", "list")
-    row.clear()
+            row.add_telegram(f"D4 {number ^ 1 << place:014X}", UNKNOWN_ID)
+        row.add_lines("status", "list")
+    row.remove_all_devices()
 
 
-def query(func, variant, maker, last=0x80):
-    payload = with_fields(4, {(0, 6): func, (6, 7): variant, (13, 11): maker, (24, 8): last})
+def query_telegram_4bs(func, variant, maker, last=0x80):
+    payload = bytes_with_fields(4, {(0, 6): func, (6, 7): variant, (13, 11): maker, (24, 8): last})
     return "A5 " + payload.hex().upper()
 
 
-def one_of_many(place):
+def numbered_sender(place):
     """A sender for each number: the ends and the middle of the range, and two of the gateway's own IDs; from 6 on,
     these with other bits."""
-    return [0x00000000, 0xFFFFFFFE, 0x7FFFFFFF, 0x80000000, BASE, BASE + 127][place % 6] ^ place // 6 << 8
+    return [0x00000000, 0xFFFFFFFE, 0x7FFFFFFF, 0x80000000, BASE_ID, BASE_ID + 127][place % 6] ^ place // 6 << 8
 
 
-def queries(row):
+def try_4bs_queries(row):
     """4BS queries: each profile of the tables, those next to them, and each bit of the fields."""
-    profiles = [tuple(bytes.fromhex(eep[3:].replace("-", ""))) for eep in FOUR_BYTE]
-    row.bring("answer")
+    profiles = [tuple(bytes.fromhex(eep[3:].replace("-", ""))) for eep in FOUR_BYTE_PROFILES]
+    row.set_mode("answer")
     for place, (func, variant) in enumerate(profiles):
-        row.send(query(func, variant, 2047 - 53 * place), one_of_many(place))
-    row.say("status", "list")
-    row.clear()
-    row.bring("on")
+        row.add_telegram(query_telegram_4bs(func, variant, 2047 - 53 * place), numbered_sender(place))
+    row.add_lines("status", "list")
+    row.remove_all_devices()
+    row.set_mode("on")
     near = {(f + a, v + b) for f, v in profiles for a, b in ((0, 1), (0, -1), (1, 0), (-1, 0))} - set(profiles)
     for func, variant in sorted(pair for pair in near if pair[1] >= 0):
-        row.send(query(func, variant, 70), STRANGER)
-    row.say("status", "list")
-    row.bring("answer")
-    for number in single_bits(13):
-        row.send(query(number >> 7, number & 0x7F, 70), STRANGER)
-    row.say("status", "list")
-    for maker in single_bits(11):
-        row.send(query(2, 5, maker), STRANGER)
-        row.say(f"remove {STRANGER:08X}")
-    row.say("status")
-    row.clear()
+        row.add_telegram(query_telegram_4bs(func, variant, 70), UNKNOWN_ID)
+    row.add_lines("status", "list")
+    row.set_mode("answer")
+    for number in single_bit_numbers(13):
+        row.add_telegram(query_telegram_4bs(number >> 7, number & 0x7F, 70), UNKNOWN_ID)
+    row.add_lines("status", "list")
+    for maker in single_bit_numbers(11):
+        row.add_telegram(query_telegram_4bs(2, 5, maker), UNKNOWN_ID)
+        row.add_lines(f"remove {UNKNOWN_ID:08X}")
+    row.add_lines("status")
+    row.remove_all_devices()
 
 
-def universal(number, maker, first=0xA0, channels=1, unused=0):
+def query_telegram_ute(number, maker, first=0xA0, channels=1, unused=0):
     """A UTE query, of the profile with this number; the unused bits are beside those of the maker."""
     fields = {(0, 8): first, (8, 8): channels, (16, 8): maker & 0xFF, (24, 5): unused, (29, 3): maker >> 8}
     profile = {(32, 8): number & 0xFF, (40, 8): number >> 8 & 0xFF, (48, 8): number >> 16}
-    return "D4 " + with_fields(7, {**fields, **profile}).hex().upper()
+    return "D4 " + bytes_with_fields(7, {**fields, **profile}).hex().upper()
 
 
-def universal_queries(row):
+def try_ute_queries(row):
     """UTE queries: each profile of the tables, those next to them and some of another RORG; each bit of the maker, with
     the bits beside it; and channels."""
-    row.bring("on")
-    for place, number in enumerate(sorted(IN_TABLES)):
-        row.send(universal(number, 2047 - 31 * place), one_of_many(place))
-    row.say("status")
-    row.clear()
-    row.bring("answer")
-    firsts = [number for number in IN_TABLES if number - 1 not in IN_TABLES]
-    near = {number + step for number in IN_TABLES for step in (1, -1)}
+    row.set_mode("on")
+    for place, number in enumerate(sorted(SUPPORTED_PROFILES)):
+        row.add_telegram(query_telegram_ute(number, 2047 - 31 * place), numbered_sender(place))
+    row.add_lines("status")
+    row.remove_all_devices()
+    row.set_mode("answer")
+    firsts = [number for number in SUPPORTED_PROFILES if number - 1 not in SUPPORTED_PROFILES]
+    near = {number + step for number in SUPPORTED_PROFILES for step in (1, -1)}
     near |= {number + step for number in firsts for step in (0x100, -0x100)}
     for rorg, kind in itertools.product((0xA5, 0xD2, 0xD4, 0xD5, 0xF6), (0x0201, 0x0001, 0x0205, 0x0112)):
         near.add(rorg << 16 | kind)
-    for place, number in enumerate(sorted(near - IN_TABLES)):
-        row.send(universal(number, 70, [0x80, 0xA0, 0xC0, 0xE0][place % 4]), STRANGER)
-    row.say("status", "list")
+    for place, number in enumerate(sorted(near - SUPPORTED_PROFILES)):
+        row.add_telegram(query_telegram_ute(number, 70, [0x80, 0xA0, 0xC0, 0xE0][place % 4]), UNKNOWN_ID)
+    row.add_lines("status", "list")
     for maker in (0, 255, 1023, 2047, *(1 << place for place in range(11))):
         for unused in (0, 31):
-            row.send(universal(0xD20112, maker, unused=unused), STRANGER)
-            row.say(f"remove {STRANGER:08X}")
+            row.add_telegram(query_telegram_ute(0xD20112, maker, unused=unused), UNKNOWN_ID)
+            row.add_lines(f"remove {UNKNOWN_ID:08X}")
     for channels in (0, 254, 255):
         for first in (0x00, 0x10, 0x30):
-            row.send(universal(0xD20112, 70, first, channels), STRANGER)
-    row.say("status", "list")
-    row.clear()
+            row.add_telegram(query_telegram_ute(0xD20112, 70, first, channels), UNKNOWN_ID)
+    row.add_lines("status", "list")
+    row.remove_all_devices()
 
 
-def each_profile(row):
+def try_learn_as_each_profile(row):
     """`learn as` each profile, and a telegram with which another sender each time is learned."""
-    for place, number in enumerate(sorted(IN_TABLES)):
-        eep = eep_of(number)
-        row.bring("as " + eep)
-        four_byte = "A5 00000000" if place % 2 else query(0x3F, place, 2 * place)
-        row.send({"F6": "F6 10", "D5": "D5 00", "A5": four_byte, "D2": "D2 00"}[eep[:2]], 0x01800000 + place)
-    row.say("status", "list")
-    row.clear()
+    for place, number in enumerate(sorted(SUPPORTED_PROFILES)):
+        eep = eep_text(number)
+        row.set_mode("as " + eep)
+        four_byte = "A5 00000000" if place % 2 else query_telegram_4bs(0x3F, place, 2 * place)
+        row.add_telegram({"F6": "F6 10", "D5": "D5 00", "A5": four_byte, "D2": "D2 00"}[eep[:2]], 0x01800000 + place)
+    row.add_lines("status", "list")
+    row.remove_all_devices()
 
 
-def addresses(row):
+def try_addresses(row):
     """Telegrams that are for others or of no sender, and those to the gateway's own IDs."""
-    row.bring("closed")
-    row.know(OTHER_STRANGER, "D5-00-01")
-    row.send("D5 09", ALL)
-    for destination in (BASE, BASE + 1, BASE + 127, 0, 0x01020304, BASE - 1, BASE + 128, 0xFFFFFF80, ALL - 1):
-        row.send("D5 09", OTHER_STRANGER, radio(1, destination))
-    row.say("status")
+    row.set_mode("closed")
+    row.ensure_learned(OTHER_UNKNOWN_ID, "D5-00-01")
+    row.add_telegram("D5 09", BROADCAST_ID)
+    for destination in (
+        BASE_ID, BASE_ID + 1, BASE_ID + 127, 0, 0x01020304, BASE_ID - 1, BASE_ID + 128, 0xFFFFFF80, BROADCAST_ID - 1
+    ):
+        row.add_telegram("D5 09", OTHER_UNKNOWN_ID, radio_optional_data(1, destination))
+    row.add_lines("status")
     for mode, text in (
         ("on", "D5 00"),
         ("answer", "A5 00000000"),
@@ -299,35 +307,40 @@ def addresses(row):
         ("on", "D4 A00146001201D2"),
         ("answer", "D4 900146001201D2"),
     ):
-        row.bring(mode, STRANGER)
-        row.send(text, ALL)
-        row.send(text, ALL, radio(1, BASE))
-        for destination in (0x01020304, BASE - 1, BASE + 128):
-            row.send(text, STRANGER, radio(1, destination))
-        row.say("status")
-        for destination in (BASE, BASE + 127):
-            row.bring(mode, STRANGER)
-            row.send(text, STRANGER, radio(1, destination))
-        row.say("status", "list")
-    row.clear()
+        row.set_mode(mode, UNKNOWN_ID)
+        row.add_telegram(text, BROADCAST_ID)
+        row.add_telegram(text, BROADCAST_ID, radio_optional_data(1, BASE_ID))
+        for destination in (0x01020304, BASE_ID - 1, BASE_ID + 128):
+            row.add_telegram(text, UNKNOWN_ID, radio_optional_data(1, destination))
+        row.add_lines("status")
+        for destination in (BASE_ID, BASE_ID + 127):
+            row.set_mode(mode, UNKNOWN_ID)
+            row.add_telegram(text, UNKNOWN_ID, radio_optional_data(1, destination))
+        row.add_lines("status", "list")
+    row.remove_all_devices()
 
 
-def optional_data(row):
+def try_optional_data(row):
     """Optional data of fewer than seven bytes is ignored, so the telegram is a broadcast. Of longer ones the first
     seven bytes are read."""
-    for optional in (b"", radio(1, 0x01020304)[:6], radio(1, ALL, 0) + b"\x00", radio(1, BASE, 255) + b"\xff\xff"):
-        row.bring("answer", STRANGER)
-        row.send("A5 08284680", STRANGER, optional)
-        row.send("A5 00007F08", STRANGER, optional)
-        row.send("D4 900146001201D2", STRANGER, optional)
-    row.bring("answer", STRANGER)
-    row.send("A5 08284680", STRANGER, radio(1, 0x01020304) + radio())
-    row.send("D4 A00146001201D2", STRANGER, radio(1, 0x01020304) + radio())
-    row.say("status", "list")
-    row.clear()
+    for optional in (
+        b"",
+        radio_optional_data(1, 0x01020304)[:6],
+        radio_optional_data(1, BROADCAST_ID, 0) + b"\x00",
+        radio_optional_data(1, BASE_ID, 255) + b"\xff\xff",
+    ):
+        row.set_mode("answer", UNKNOWN_ID)
+        row.add_telegram("A5 08284680", UNKNOWN_ID, optional)
+        row.add_telegram("A5 00007F08", UNKNOWN_ID, optional)
+        row.add_telegram("D4 900146001201D2", UNKNOWN_ID, optional)
+    row.set_mode("answer", UNKNOWN_ID)
+    row.add_telegram("A5 08284680", UNKNOWN_ID, radio_optional_data(1, 0x01020304) + radio_optional_data())
+    row.add_telegram("D4 A00146001201D2", UNKNOWN_ID, radio_optional_data(1, 0x01020304) + radio_optional_data())
+    row.add_lines("status", "list")
+    row.remove_all_devices()
 
 
-def no_telegrams(row):
+def try_no_telegrams(row):
     """Packets that are no telegrams, although their bytes would teach in a device: of another length, RORG or type."""
     for mode, rorg, byte in (
         ("on", "D5", "00"),
@@ -338,29 +351,29 @@ def no_telegrams(row):
         ("as D2-01-12", "D2", "04"),
         ("on", "D4", "80"),
     ):
-        row.bring(mode)
+        row.set_mode(mode)
         for length in {"D5": (0, 2), "A5": (0, 1, 3, 5), "F6": (0, 2), "D2": (0, 15, 16), "D4": (0, 6, 8)}[rorg]:
-            row.send(f"{rorg} {byte * length}", STRANGER)
+            row.add_telegram(f"{rorg} {byte * length}", UNKNOWN_ID)
         for other in (0xA6, 0xD0, 0xD1, 0xD3, 0x30, 0x35):
             for length in (1, 4):
-                row.send(f"{other:02X} {byte * length}", STRANGER)
-        row.say("status")
+                row.add_telegram(f"{other:02X} {byte * length}", UNKNOWN_ID)
+        row.add_lines("status")
     for mode, data in (
         ("on", "D50001800ABC00"),
         ("answer", "A50828468001800ABC00"),
         ("as F6-02-01", "F65001800ABC30"),
         ("answer", "D4A00146001201D201800ABC00"),
     ):
-        row.bring(mode)
+        row.set_mode(mode)
         for kind in (0, 3, 5, 10, 255):
-            row.say(pieces(packet(kind, bytes.fromhex(data), radio())).strip())
-        row.say("status")
-    row.clear()
+            row.add_lines(serial_script_lines(packet(kind, bytes.fromhex(data), radio_optional_data())).strip())
+        row.add_lines("status")
+    row.remove_all_devices()
 
 
-def one_after_another(row):
+def try_telegram_sequences(row):
     """The effect of a telegram on the next one: a sender is learned again, the mode is closed, data are read."""
-    row.bring("on", STRANGER)
+    row.set_mode("on", UNKNOWN_ID)
     for text in (
         "A5 08284680",
         "A5 00007F08",
@@ -371,14 +384,14 @@ def one_after_another(row):
         "D5 00",
         "D5 09",
     ):
-        row.send(text, STRANGER)
-        row.say("list")
-    row.say(f"add {STRANGER:08X} A5-02-05", "status")
-    row.send("A5 00007F08", STRANGER)
-    row.send("A5 08284680", STRANGER)
-    row.say(f"add {STRANGER:08X} A5-02-05", "list", f"remove {STRANGER:08X}", "status")
-    row.bring("on", OTHER_STRANGER)
-    row.know(OTHER_STRANGER, "D2-01-12")
+        row.add_telegram(text, UNKNOWN_ID)
+        row.add_lines("list")
+    row.add_lines(f"add {UNKNOWN_ID:08X} A5-02-05", "status")
+    row.add_telegram("A5 00007F08", UNKNOWN_ID)
+    row.add_telegram("A5 08284680", UNKNOWN_ID)
+    row.add_lines(f"add {UNKNOWN_ID:08X} A5-02-05", "list", f"remove {UNKNOWN_ID:08X}", "status")
+    row.set_mode("on", OTHER_UNKNOWN_ID)
+    row.ensure_learned(OTHER_UNKNOWN_ID, "D2-01-12")
     for text in (
         "D4 A00146001201D2",  # not specified: it is learned again each time
         "D2 0460E4",
@@ -398,10 +411,10 @@ def one_after_another(row):
         "D4 D00146001201D2",
         "A5 00007F08",
     ):
-        row.send(text, STRANGER)
-        row.say("list")
-    row.send("D2 0460E4", OTHER_STRANGER)
-    row.say("status", f"remove {OTHER_STRANGER:08X}")
+        row.add_telegram(text, UNKNOWN_ID)
+        row.add_lines("list")
+    row.add_telegram("D2 0460E4", OTHER_UNKNOWN_ID)
+    row.add_lines("status", f"remove {OTHER_UNKNOWN_ID:08X}")
     for mode, texts in (
         ("as D5-00-01", ["D5 09", "D5 00", "D5 00", "D5 09"]),
         ("as A5-02-05", ["A5 E047FF88", "A5 E047FF90", "A5 E047FF80", "A5 08284680", "A5 00000000", "A5 0000FF08"]),
@@ -411,30 +424,32 @@ def one_after_another(row):
         ("as D2-05-00", ["D2 327F0004", "D2 327F0004", "D2 0460E4"]),
         ("as D2-01-12", ["D4 A00146001201D2", "D4 900146001201D2", "D2 0460E4", "D4 900146001201D2"]),
     ):
-        row.bring(mode, STRANGER)
+        row.set_mode(mode, UNKNOWN_ID)
         for text in texts:
-            row.send(text, STRANGER)
-            row.send(text, OTHER_STRANGER)
-            row.say("status")
-        row.say("list", f"remove {STRANGER:08X}")
-        row.bring("closed", OTHER_STRANGER)
-    row.bring("as A5-10-03")
-    row.know(STRANGER, "F6-02-01")
-    row.send("A5 E047FF80", STRANGER)
-    row.say("status", "list")
-    row.bring("as D5-00-01")
-    row.send("D5 00", STRANGER)
-    row.say("status", "list")
-    row.clear()
+            row.add_telegram(text, UNKNOWN_ID)
+            row.add_telegram(text, OTHER_UNKNOWN_ID)
+            row.add_lines("status")
+        row.add_lines("list", f"remove {UNKNOWN_ID:08X}")
+        row.set_mode("closed", OTHER_UNKNOWN_ID)
+    row.set_mode("as A5-10-03")
+    row.ensure_learned(UNKNOWN_ID, "F6-02-01")
+    row.add_telegram("A5 E047FF80", UNKNOWN_ID)
+    row.add_lines("status", "list")
+    row.set_mode("as D5-00-01")
+    row.add_telegram("D5 00", UNKNOWN_ID)
+    row.add_lines("status", "list")
+    row.remove_all_devices()
 
 
-def orders(row):
+def try_learn_orders(row):
     """The orders themselves: an order that is refused does not change the mode, nor does one that sets no mode."""
-    for mode in MODES[:4]:
-        row.bring(mode)
-        row.say("learn as A5-38-08", "status", "learn", "status", "add 01800ABC A5-38-08", "remove 01800ABC", "status")
-        row.say("add 01800ABC D5-00-01", "list", "remove 01800ABC", "add FFFFFFFF D5-00-01", "status")
-    row.say("learn as a5-02-0b", "status", "learn as d2-01-0A", "status", "learn as D2-01-0b", "status")
+    for mode in LEARN_MODES[:4]:
+        row.set_mode(mode)
+        row.add_lines(
+            "learn as A5-38-08", "status", "learn", "status", "add 01800ABC A5-38-08", "remove 01800ABC", "status"
+        )
+        row.add_lines("add 01800ABC D5-00-01", "list", "remove 01800ABC", "add FFFFFFFF D5-00-01", "status")
+    row.add_lines("learn as a5-02-0b", "status", "learn as d2-01-0A", "status", "learn as D2-01-0b", "status")
     for text in (
         "learn as F6-02-03",
         "learn as F6-00-00",
@@ -477,37 +492,37 @@ def orders(row):
         "learn as A5-02-05 answer",
         "learn on A5-02-05",
     ):
-        row.say(text)
-    row.say("status")
-    row.clear()
+        row.add_lines(text)
+    row.add_lines("status")
+    row.remove_all_devices()
 
 
-def verdicts():
-    row = Row()
+def verdicts_session():
+    row = TeachInSession()
     for group in (
-        orders,
-        each_kind,
-        bits,
-        queries,
-        universal_queries,
-        each_profile,
-        addresses,
-        optional_data,
-        no_telegrams,
-        one_after_another,
+        try_learn_orders,
+        try_each_kind,
+        try_single_bits,
+        try_4bs_queries,
+        try_ute_queries,
+        try_learn_as_each_profile,
+        try_addresses,
+        try_optional_data,
+        try_no_telegrams,
+        try_telegram_sequences,
     ):
         group(row)
     return row
 
 
-def verdicts_full():
+def verdicts_full_session():
     """If 1,000 devices are learned, no unknown sender is, and one of the 1,000 may still be learned again."""
-    row = Row()
-    fixed = dict(itertools.chain(*(known_by(rorg).items() for rorg in KNOWN)))
+    row = TeachInSession()
+    fixed = dict(itertools.chain(*(known_devices(rorg).items() for rorg in KNOWN_PROFILES_BY_RORG)))
     for sender, eep in fixed.items():
-        row.know(sender, eep)
-    for sender in range(1, MOST - len(fixed) + 1):
-        row.know(sender, "D5-00-01")
+        row.ensure_learned(sender, eep)
+    for sender in range(1, MAX_DEVICES - len(fixed) + 1):
+        row.ensure_learned(sender, "D5-00-01")
     for number, (mode, text) in enumerate((
         ("on", "D5 00"),
         ("answer", "A5 08284680"),
@@ -516,48 +531,53 @@ def verdicts_full():
         ("as F6-02-01", "F6 10"),
         ("as D2-01-12", "D2 00"),
     )):
-        in_mode(row, mode, number, FROM_KNOWN + ["A5 E047FF80", "A5 10080080"], TEACHING)
+        try_telegrams_in_mode(
+            row, mode, number, TELEGRAMS_OF_KNOWN_SENDERS + ["A5 E047FF80", "A5 10080080"], TEACHING_TELEGRAMS
+        )
         # If 999 are learned, one unknown sender is learned, and not the next.
-        row.say("remove 00000001")
-        row.bring(mode)
-        row.send(text, STRANGER)
-        row.bring(mode)
-        row.send(text, OTHER_STRANGER)
-        row.say("status", "add 00000001 D5-00-01", f"remove {OTHER_STRANGER:08X}", f"remove {STRANGER:08X}")
-        row.know(1, "D5-00-01")
-    row.say(f"add {STRANGER:08X} D5-00-01", f"add {STRANGER:08X} A5-38-08", f"add {ALL:08X} D5-00-01", "status")
+        row.add_lines("remove 00000001")
+        row.set_mode(mode)
+        row.add_telegram(text, UNKNOWN_ID)
+        row.set_mode(mode)
+        row.add_telegram(text, OTHER_UNKNOWN_ID)
+        row.add_lines("status", "add 00000001 D5-00-01", f"remove {OTHER_UNKNOWN_ID:08X}", f"remove {UNKNOWN_ID:08X}")
+        row.ensure_learned(1, "D5-00-01")
+    row.add_lines(
+        f"add {UNKNOWN_ID:08X} D5-00-01", f"add {UNKNOWN_ID:08X} A5-38-08", f"add {BROADCAST_ID:08X} D5-00-01", "status"
+    )
     # After a deletion one more can be learned, unless the deleted sender was not learned.
-    row.bring("on")
+    row.set_mode("on")
     for sender, text in (
-        (STRANGER, "D4 900146001201D2"),
-        (STRANGER, "D4 A00146001201D2"),
+        (UNKNOWN_ID, "D4 900146001201D2"),
+        (UNKNOWN_ID, "D4 A00146001201D2"),
         (1, "D4 D00146001201D2"),
-        (STRANGER, "D4 E00146001201D2"),
-        (OTHER_STRANGER, "D4 800146001201D2"),
+        (UNKNOWN_ID, "D4 E00146001201D2"),
+        (OTHER_UNKNOWN_ID, "D4 800146001201D2"),
         (1, "D5 00"),
         (1, "A5 08284680"),
-        (STRANGER, "D4 900146001201D2"),
+        (UNKNOWN_ID, "D4 900146001201D2"),
         (1, "D5 00"),
     ):
-        row.send(text, sender)
-    row.say("status")
-    before = len(row.text(explains=False))
+        row.add_telegram(text, sender)
+    row.add_lines("status")
+    before = len(row.session_text(explains=False))
     where_full = pathlib.Path(__file__).with_name("where-full.session").read_bytes()
-    say_again(row, where_full)
-    assert row.text(explains=False)[before:].encode() == where_full, "the tables say otherwise than where-full.session"
+    repeat_lines(row, where_full)
+    added = row.session_text(explains=False)[before:].encode()
+    assert added == where_full, "the tables say otherwise than where-full.session"
     return row
 
 
-def every_kind_but(place):
+def session_without_line(place):
     """`every-kind-of-item` without the line of this number, from 1 on."""
     row = Session()
-    lines = [line.decode().strip() for line, _ in steps(read("every-kind-of-item"))]
-    row.say(*lines[: place - 1], *lines[place:])
+    lines = [line.decode().strip() for line, _ in session_steps(read_session("every-kind-of-item"))]
+    row.add_lines(*lines[: place - 1], *lines[place:])
     return row
 
 
-SESSIONS = {
-    "verdicts": verdicts,
-    "verdicts-full": verdicts_full,
-    **{f"every-kind-of-item-but-{place}": functools.partial(every_kind_but, place) for place in range(1, 11)},
+SESSION_BUILDERS = {
+    "verdicts": verdicts_session,
+    "verdicts-full": verdicts_full_session,
+    **{f"every-kind-of-item-but-{place}": functools.partial(session_without_line, place) for place in range(1, 11)},
 }

@@ -9,47 +9,57 @@ import sys
 
 sys.path[:0] = [str(pathlib.Path(__file__).parents[1] / "program")]
 
-from model import ACTUATOR, BARE_TEACH_IN, CONTACT_TEACH_IN, DELETION, PRESS, QUERY, UNIVERSAL  # noqa: E402
-from model import VERSION_1, VERSION_1_DEVICES  # noqa: E402
-from model import Gateway, sent, is_change_of_device  # noqa: E402
+from model import (  # noqa: E402
+    ACTUATOR_DATA,
+    QUERY_4BS,
+    ROCKER_PRESS,
+    TEACH_IN_1BS,
+    TEACH_IN_4BS_WITHOUT_EEP,
+    UTE_DELETION,
+    UTE_QUERY,
+)
+from model import VERSION_1_REGISTRY, VERSION_1_DEVICES  # noqa: E402
+from model import Gateway, telegram_line, is_device_change  # noqa: E402
 
-NAME, BASE = "hall.db", "FF800000"
+DATABASE_NAME, BASE = "hall.db", "FF800000"
 # The lines of a check: another device can be learned.
 CHECK_LINES = ["list", "add 00FACADE D5-00-01", "label 00FACADE Checked", "list"]
-PROFILES = ("D5-00-01", "F6-02-01", "A5-02-05", "A5-04-01", "D2-01-12")
+DEVICE_PROFILES = ("D5-00-01", "F6-02-01", "A5-02-05", "A5-04-01", "D2-01-12")
 # There are few devices, so that each is changed and removed often.
 FIRST_SENDER, DEVICE_COUNT = 0x01800A00, 40
 
 
-def change_lines(number, rng):
+def random_change_lines(number, rng):
     """Lines that make a change of any kind."""
     device, other = (f"{FIRST_SENDER + rng.randrange(DEVICE_COUNT):08X}" for _ in range(2))
     sender = FIRST_SENDER + rng.randrange(DEVICE_COUNT)
     return rng.choice((
-        [f"add {device} {rng.choice(PROFILES)}"], [f"add {device} {rng.choice(PROFILES)}", f"label {device} L{number}"],
+        [f"add {device} {rng.choice(DEVICE_PROFILES)}"],
+        [f"add {device} {rng.choice(DEVICE_PROFILES)}", f"label {device} L{number}"],
         [f"label {device} Lamp {number}", f"label {other}"], [f"remove {device}"],
-        ["learn on", sent(CONTACT_TEACH_IN, sender), sent(QUERY, sender + 1), "learn off"],
-        ["learn on answer", sent(UNIVERSAL, sender), sent(DELETION, sender + 1), "learn off"],
-        ["learn as F6-02-01", sent(PRESS, sender), "learn off"], ["learn as D2-01-12", sent(ACTUATOR, sender)],
-        ["learn as A5-10-03", sent(BARE_TEACH_IN, sender)],
+        ["learn on", telegram_line(TEACH_IN_1BS, sender), telegram_line(QUERY_4BS, sender + 1), "learn off"],
+        ["learn on answer", telegram_line(UTE_QUERY, sender), telegram_line(UTE_DELETION, sender + 1), "learn off"],
+        ["learn as F6-02-01", telegram_line(ROCKER_PRESS, sender), "learn off"],
+        ["learn as D2-01-12", telegram_line(ACTUATOR_DATA, sender)],
+        ["learn as A5-10-03", telegram_line(TEACH_IN_4BS_WITHOUT_EEP, sender)],
     ))
 
 
-def gateway_of_version_1():
+def version_1_gateway():
     """The gateway over the registry of version 1."""
     gateway = Gateway()
     gateway.devices = dict(VERSION_1_DEVICES)
     return gateway
 
 
-def after_restart(gateway):
+def restarted_gateway(gateway):
     """The gateway after another start."""
     new = Gateway()
     new.devices, new.labels = copy.deepcopy(gateway.devices), copy.deepcopy(gateway.labels)
     return new
 
 
-class DatabaseRuns:
+class GatewayRuns:
     """The gateways that run one after the other over the database in this folder. `states` has the gateway after each
     line that changes it. `acknowledged` has the size of the disk's log when this line had been answered, and `places`
     has this size with the places of the database on the disk. `size_of_log` and `places_of` return size and places."""
@@ -60,25 +70,25 @@ class DatabaseRuns:
         self.gateway = Gateway()
         self.states, self.acknowledged, self.places = [self.gateway], [0], []
 
-    def use_version_1(self):
+    def start_with_version_1(self):
         """The first run migrates a registry of version 1."""
-        shutil.copy(VERSION_1, self.path)
-        self.gateway = gateway_of_version_1()
+        shutil.copy(VERSION_1_REGISTRY, self.database_path)
+        self.gateway = version_1_gateway()
         self.states = [self.gateway]
 
     @property
-    def path(self):
-        return os.path.join(self.folder, NAME)
+    def database_path(self):
+        return os.path.join(self.folder, DATABASE_NAME)
 
-    def run(self, rng, changes):
+    def run_gateway(self, rng, changes):
         """Runs a gateway with so many changes, and ends it in any way."""
-        words = [self.program, "replay", "--base", BASE, "--db", self.path]
-        self.gateway = after_restart(self.gateway)
+        words = [self.program, "replay", "--base", BASE, "--db", self.database_path]
+        self.gateway = restarted_gateway(self.gateway)
         with subprocess.Popen(words, stdin=subprocess.PIPE, stdout=subprocess.PIPE, env=self.environment) as process:
             for number in range(changes):
-                for line in change_lines(number, rng):
+                for line in random_change_lines(number, rng):
                     self.give_and_compare(process, line)
-            self.end(process, rng)
+            self.end_run(process, rng)
 
     def give_and_compare(self, process, line):
         """Gives a line, and waits for its answer, which must be that of the oracle."""
@@ -88,7 +98,7 @@ class DatabaseRuns:
         process.stdin.flush()
         found = process.stdout.read(len(wanted))
         assert found == wanted, (line, found, wanted)
-        if is_change_of_device(line, wanted.decode()):
+        if is_device_change(line, wanted.decode()):
             self.keep_state(self.gateway)
 
     def keep_state(self, gateway):
@@ -96,45 +106,45 @@ class DatabaseRuns:
         self.gateway = gateway
         self.states.append(gateway)
         self.acknowledged.append(self.size_of_log())
-        self.places.append((self.acknowledged[-1], self.places_of(self.path)))
+        self.places.append((self.acknowledged[-1], self.places_of(self.database_path)))
 
-    def end(self, process, rng):
+    def end_run(self, process, rng):
         """Ends a run: by the end of its input, by a signal, or by SIGKILL in the middle of a change."""
         way = rng.choice(("input", signal.SIGTERM, signal.SIGKILL, "change"))
         if way == "change":
             # it may be carried out or not; the next run finds what became of it
-            line = f"add {FIRST_SENDER + rng.randrange(DEVICE_COUNT):08X} {rng.choice(PROFILES)}"
+            line = f"add {FIRST_SENDER + rng.randrange(DEVICE_COUNT):08X} {rng.choice(DEVICE_PROFILES)}"
             process.stdin.write(line.encode() + b"\n")
             process.stdin.flush()
             process.kill()
             process.wait()
-            self.find_out_if_done(line)
+            self.keep_state_if_done(line)
         elif way != "input":
             process.send_signal(way)
 
-    def find_out_if_done(self, line):
+    def keep_state_if_done(self, line):
         """Looks in the database whether this line was carried out, and keeps the next state if it was."""
-        before, after = after_restart(self.gateway), after_restart(self.gateway)
+        before, after = restarted_gateway(self.gateway), restarted_gateway(self.gateway)
         after.answer(line)
-        found = subprocess.run([self.program, "replay", "--base", BASE, "--db", self.path], input=b"list\n",
+        found = subprocess.run([self.program, "replay", "--base", BASE, "--db", self.database_path], input=b"list\n",
                                stdout=subprocess.PIPE, env=self.environment).stdout.decode()
-        assert found in (before.listed(), after.listed()), (line, found)
-        if found == after.listed():
+        assert found in (before.device_list(), after.device_list()), (line, found)
+        if found == after.device_list():
             self.keep_state(after)
 
 
-def check_answers(gateway):
+def expected_check_answers(gateway):
     """The answers to the lines of a check if the database has the devices of this gateway."""
-    gateway = after_restart(gateway)
+    gateway = restarted_gateway(gateway)
     return "".join(gateway.answer(line) for line in CHECK_LINES)
 
 
-def states_of_check(gateway):
+def expected_check_states(gateway):
     """The gateway after each line of a check that changes it."""
     found = []
     for line in CHECK_LINES:
-        gateway = after_restart(gateway)
-        if is_change_of_device(line, gateway.answer(line)):
+        gateway = restarted_gateway(gateway)
+        if is_device_change(line, gateway.answer(line)):
             found.append(gateway)
     return found
 
@@ -147,6 +157,6 @@ def check_database(program, path, states):
     found = done.stdout.decode()
     if done.returncode == 0:
         for number, state in enumerate(states):
-            if found == check_answers(state):
+            if found == expected_check_answers(state):
                 return number, ""
     return None, f"status {done.returncode}, {done.stderr.decode()!r}, {found!r}"

@@ -11,10 +11,10 @@ from fusepy import FUSE, FuseOSError, Operations
 
 import records
 
-NAME = "disk"
+DISK_FILE_NAME = "disk"
 
 
-class Disk(Operations):
+class RecordedDisk(Operations):
     """The folder with the file."""
 
     def __init__(self, size, log, image=None):
@@ -27,12 +27,12 @@ class Disk(Operations):
     def getattr(self, path, fh=None):
         if path == "/":
             return {"st_mode": stat.S_IFDIR | 0o755, "st_nlink": 2}
-        if path == f"/{NAME}":
+        if path == f"/{DISK_FILE_NAME}":
             return {"st_mode": stat.S_IFREG | 0o600, "st_nlink": 1, "st_size": len(self.data)}
         raise FuseOSError(errno.ENOENT)
 
     def readdir(self, path, fh):
-        return [".", "..", NAME]
+        return [".", "..", DISK_FILE_NAME]
 
     def open(self, path, flags):
         return 0
@@ -42,7 +42,7 @@ class Disk(Operations):
 
     def write(self, path, data, offset, fh):
         self.data[offset:offset + len(data)] = data
-        self.log.write(records.write_record(offset, data))
+        self.log.write(records.packed_write_record(offset, data))
         return len(data)
 
     def fsync(self, path, datasync, fh):
@@ -58,4 +58,4 @@ class Disk(Operations):
 
 if __name__ == "__main__":
     folder, size, *files = sys.argv[1:]
-    FUSE(Disk(int(size), *files), folder, foreground=True, nothreads=True)
+    FUSE(RecordedDisk(int(size), *files), folder, foreground=True, nothreads=True)

@@ -7,7 +7,7 @@ import subprocess
 ROOT = pathlib.Path(__file__).resolve().parents[2]
 
 
-def lacks():
+def missing_disk_requirement():
     """What this machine lacks for a recorded disk; empty if it lacks nothing."""
     if not importlib.util.find_spec("fusepy"):
         return "python3-fusepy"

@@ -7,20 +7,22 @@ import dataclasses
 import random
 import struct
 
-RECORD_HEAD = struct.Struct("<qI")
-FLUSH_RECORD = RECORD_HEAD.pack(-1, 0)
-PAGE, SECTOR = 4096, 512
+RECORD_HEADER = struct.Struct("<qI")
+FLUSH_RECORD = RECORD_HEADER.pack(-1, 0)
+PAGE_SIZE, SECTOR_SIZE = 4096, 512
 # The modes of a cut, and the size of the parts of a write. Each part may be missing. None means the whole write.
-MODES = {"none": None, "all": None, "writes": None, "pages": PAGE, "sectors": SECTOR, "bytes": SECTOR}
+CUT_MODES = {
+    "none": None, "all": None, "writes": None, "pages": PAGE_SIZE, "sectors": SECTOR_SIZE, "bytes": SECTOR_SIZE
+}
 
 
-def write_record(offset, data):
+def packed_write_record(offset, data):
     """The record of a write."""
-    return RECORD_HEAD.pack(offset, len(data)) + data
+    return RECORD_HEADER.pack(offset, len(data)) + data
 
 
 @dataclasses.dataclass(frozen=True)
-class Record:
+class DiskRecord:
     """A write, or a flush if the offset is negative. `end` is where the record ends in the log."""
     offset: int
     data: bytes
@@ -35,13 +37,13 @@ def records_in(log):
     """The records of a log."""
     found, place = [], 0
     while place < len(log):
-        offset, size = RECORD_HEAD.unpack_from(log, place)
-        place += RECORD_HEAD.size + size
-        found.append(Record(offset, log[place - size:place], place))
+        offset, size = RECORD_HEADER.unpack_from(log, place)
+        place += RECORD_HEADER.size + size
+        found.append(DiskRecord(offset, log[place - size:place], place))
     return found
 
 
-class Image:
+class DiskImage:
     """The contents of a disk: the pages that are not empty, by their numbers."""
 
     def __init__(self, pages=()):
@@ -53,35 +55,35 @@ class Image:
         image = cls()
         with open(path, "rb") as file:
             number = 0
-            while page := file.read(PAGE):
+            while page := file.read(PAGE_SIZE):
                 if any(page):
-                    image.pages[number] = bytearray(page.ljust(PAGE, b"\0"))
+                    image.pages[number] = bytearray(page.ljust(PAGE_SIZE, b"\0"))
                 number += 1
         return image
 
     def copy(self):
-        return Image(self.pages)
+        return DiskImage(self.pages)
 
     def write(self, offset, data):
         """Writes these bytes."""
         place = 0
         while place < len(data):
-            number, start = divmod(offset + place, PAGE)
-            part = data[place:place + PAGE - start]
-            self.pages.setdefault(number, bytearray(PAGE))[start:start + len(part)] = part
+            number, start = divmod(offset + place, PAGE_SIZE)
+            part = data[place:place + PAGE_SIZE - start]
+            self.pages.setdefault(number, bytearray(PAGE_SIZE))[start:start + len(part)] = part
             place += len(part)
 
     def read(self, offset, size):
         """Bytes of one page."""
-        number, start = divmod(offset, PAGE)
-        return bytes(self.pages.get(number, bytearray(PAGE))[start:start + size])
+        number, start = divmod(offset, PAGE_SIZE)
+        return bytes(self.pages.get(number, bytearray(PAGE_SIZE))[start:start + size])
 
     def save(self, path, size):
         """Makes this file the image of a disk of this size."""
         with open(path, "wb") as file:
             file.truncate(size)
             for number, page in self.pages.items():
-                file.seek(number * PAGE)
+                file.seek(number * PAGE_SIZE)
                 file.write(page)
 
 
@@ -110,11 +112,11 @@ class PowerCutter:
 
     def write_part(self, image, record, mode, rng):
         """Writes what this mode leaves of a record."""
-        size = MODES[mode] or len(record.data)
+        size = CUT_MODES[mode] or len(record.data)
         for start in range(0, len(record.data), size):
             part = record.data[start:start + size]
             if mode == "bytes" and self.is_of_gateway(record, start, len(part)):
-                part = interrupted_write(image.read(record.offset + start, len(part)), part, rng)
+                part = interrupted_write_bytes(image.read(record.offset + start, len(part)), part, rng)
             elif mode != "all" and rng.random() < 0.5:
                 continue
             image.write(record.offset + start, part)
@@ -126,7 +128,7 @@ class PowerCutter:
         return any(begin <= first and first + size <= end for begin, end in parts)
 
 
-def interrupted_write(old, new, rng):
+def interrupted_write_bytes(old, new, rng):
     """What a power failure may leave of a write: each byte that was to change has the old, the new, or any value."""
     return bytes(before if before == after else rng.choice((before, after, rng.randrange(256)))
                  for before, after in zip(old, new))
@@ -134,4 +136,4 @@ def interrupted_write(old, new, rng):
 
 def choose_cuts(count, cuts, rng: random.Random):
     """Chooses this many cuts among the places of `count` records, in ascending order, each with a mode."""
-    return sorted((rng.randrange(count) + 1, rng.choice(sorted(MODES))) for _ in range(cuts))
+    return sorted((rng.randrange(count) + 1, rng.choice(sorted(CUT_MODES))) for _ in range(cuts))

@@ -4,105 +4,108 @@ import random
 import tempfile
 import unittest
 
-from records import FLUSH_RECORD, MODES, PAGE, SECTOR, Image, PowerCutter
-from records import choose_cuts, interrupted_write, records_in, write_record
+from records import FLUSH_RECORD, CUT_MODES, PAGE_SIZE, SECTOR_SIZE, DiskImage, PowerCutter
+from records import choose_cuts, interrupted_write_bytes, records_in, packed_write_record
 
 
-def records(*parts):
+def records_of_writes(*parts):
     """The records of these writes; None is a flush."""
-    return records_in(b"".join(FLUSH_RECORD if part is None else write_record(*part) for part in parts))
+    return records_in(b"".join(FLUSH_RECORD if part is None else packed_write_record(*part) for part in parts))
 
 
-def content(image, size):
+def image_bytes(image, size):
     found = bytearray(size)
     for number, page in image.pages.items():
-        found[number * PAGE:number * PAGE + PAGE] = page
+        found[number * PAGE_SIZE:number * PAGE_SIZE + PAGE_SIZE] = page
     return bytes(found[:size])
 
 
-class Records(unittest.TestCase):
+class DiskRecordTest(unittest.TestCase):
     def test_a_log(self):
-        first, second, third = records((5, b"abc"), None, (4096, b""))
+        first, second, third = records_of_writes((5, b"abc"), None, (4096, b""))
         self.assertEqual((first.offset, first.data, first.end, first.is_flush), (5, b"abc", 15, False))
         self.assertEqual((second.is_flush, second.end), (True, 27))
         self.assertEqual((third.offset, third.data, third.end, third.is_flush), (4096, b"", 39, False))
 
     def test_an_image(self):
-        image = Image()
-        image.write(PAGE - 2, b"abcd")
+        image = DiskImage()
+        image.write(PAGE_SIZE - 2, b"abcd")
         image.write(0, b"x")
         with tempfile.TemporaryDirectory() as folder:
             path = pathlib.Path(folder, "image")
-            image.save(path, 3 * PAGE)
+            image.save(path, 3 * PAGE_SIZE)
             text = path.read_bytes()
-            self.assertEqual(Image.from_file(path).pages, image.pages)
-        self.assertEqual(text, b"x" + bytes(PAGE - 3) + b"abcd" + bytes(2 * PAGE - 2))
+            self.assertEqual(DiskImage.from_file(path).pages, image.pages)
+        self.assertEqual(text, b"x" + bytes(PAGE_SIZE - 3) + b"abcd" + bytes(2 * PAGE_SIZE - 2))
         image.copy().write(0, b"y")
         self.assertEqual(image.pages[0][0], ord("x"))
 
 
-class Cuts(unittest.TestCase):
-    def images(self, found, cut, mode, size, tries=200):
+class PowerCutterTest(unittest.TestCase):
+    def images_after_cut(self, found, cut, mode, size, tries=200):
         """All images that a cut leaves."""
         rng = random.Random(1)
-        return {content(PowerCutter(Image(), found).image_after(cut, mode, rng), size) for _ in range(tries)}
+        return {image_bytes(PowerCutter(DiskImage(), found).image_after(cut, mode, rng), size) for _ in range(tries)}
 
     def test_what_was_flushed_is_there(self):
-        found = records((0, b"a"), (1, b"b"), None, (2, b"c"), (3, b"d"), None, (4, b"e"))
-        for mode in MODES:
-            for text in self.images(found, 4, mode, 4):
+        found = records_of_writes((0, b"a"), (1, b"b"), None, (2, b"c"), (3, b"d"), None, (4, b"e"))
+        for mode in CUT_MODES:
+            for text in self.images_after_cut(found, 4, mode, 4):
                 self.assertEqual(text[:2], b"ab", mode)
-            self.assertEqual(self.images(found, 3, mode, 3) if mode in ("none", "all") else {b"ab\0"},
+            self.assertEqual(self.images_after_cut(found, 3, mode, 3) if mode in ("none", "all") else {b"ab\0"},
                              {b"ab\0"})
-        self.assertEqual(self.images(found, 5, "none", 4), {b"ab\0\0"})
-        self.assertEqual(self.images(found, 5, "all", 4), {b"abcd"})
-        self.assertEqual(self.images(found, 5, "writes", 4), {b"ab\0\0", b"abc\0", b"ab\0d", b"abcd"})
+        self.assertEqual(self.images_after_cut(found, 5, "none", 4), {b"ab\0\0"})
+        self.assertEqual(self.images_after_cut(found, 5, "all", 4), {b"abcd"})
+        self.assertEqual(self.images_after_cut(found, 5, "writes", 4), {b"ab\0\0", b"abc\0", b"ab\0d", b"abcd"})
 
     def test_nothing_after_the_cut_is_there(self):
-        found = records((0, b"a"), (1, b"b"), None, (2, b"c"))
-        self.assertEqual(self.images(found, 1, "all", 3), {b"a\0\0"})
+        found = records_of_writes((0, b"a"), (1, b"b"), None, (2, b"c"))
+        self.assertEqual(self.images_after_cut(found, 1, "all", 3), {b"a\0\0"})
 
     def test_parts_of_a_write(self):
-        size = 2 * PAGE
-        found = records((0, b"x" * size))
-        full = {mode: self.images(found, 1, mode, size) for mode in ("writes", "pages", "sectors", "bytes")}
+        size = 2 * PAGE_SIZE
+        found = records_of_writes((0, b"x" * size))
+        full = {mode: self.images_after_cut(found, 1, mode, size) for mode in ("writes", "pages", "sectors", "bytes")}
         self.assertEqual([len(full[mode]) for mode in ("writes", "pages")], [2, 4])
-        for mode, part in (("pages", PAGE), ("sectors", SECTOR), ("bytes", SECTOR)):
+        for mode, part in (("pages", PAGE_SIZE), ("sectors", SECTOR_SIZE), ("bytes", SECTOR_SIZE)):
             for text in full[mode]:
                 for start in range(0, size, part):
                     self.assertIn(text[start:start + part], (bytes(part), b"x" * part))
         self.assertGreater(len(full["sectors"]), 100)
 
     def test_bytes_of_the_files_of_the_gateway(self):
-        found = records((0, b"x" * 2 * SECTOR))
+        found = records_of_writes((0, b"x" * 2 * SECTOR_SIZE))
         rng, values = random.Random(1), set()
         for _ in range(50):
-            image = PowerCutter(Image(), found, [(found[0].end - 1, [(0, SECTOR)]),
-                                                 (found[0].end, [(SECTOR, 2 * SECTOR)]),
-                                                 (found[0].end + 1, [(0, SECTOR)])]).image_after(1, "bytes", rng)
-            text = content(image, 2 * SECTOR)
-            self.assertIn(text[:SECTOR], (bytes(SECTOR), b"x" * SECTOR))
-            self.assertIn(0, text[SECTOR:])
-            self.assertIn(ord("x"), text[SECTOR:])
-            values |= set(text[SECTOR:])
+            places = [
+                (found[0].end - 1, [(0, SECTOR_SIZE)]),
+                (found[0].end, [(SECTOR_SIZE, 2 * SECTOR_SIZE)]),
+                (found[0].end + 1, [(0, SECTOR_SIZE)]),
+            ]
+            image = PowerCutter(DiskImage(), found, places).image_after(1, "bytes", rng)
+            text = image_bytes(image, 2 * SECTOR_SIZE)
+            self.assertIn(text[:SECTOR_SIZE], (bytes(SECTOR_SIZE), b"x" * SECTOR_SIZE))
+            self.assertIn(0, text[SECTOR_SIZE:])
+            self.assertIn(ord("x"), text[SECTOR_SIZE:])
+            values |= set(text[SECTOR_SIZE:])
         self.assertEqual(len(values), 256)
 
     def test_bytes_that_do_not_change(self):
         for _ in range(100):
-            text = interrupted_write(b"abcdef", b"abxdey", random.Random(1))
+            text = interrupted_write_bytes(b"abcdef", b"abxdey", random.Random(1))
             self.assertEqual((text[:2], text[3:5]), (b"ab", b"de"))
 
     def test_later_and_later_cuts(self):
-        found = records((0, b"a"), None, (0, b"b"), (1, b"c"), None, (0, b"d"))
-        cutter, rng = PowerCutter(Image(), found), random.Random(1)
-        self.assertEqual([content(cutter.image_after(cut, "all", rng), 2) for cut in range(1, 7)],
+        found = records_of_writes((0, b"a"), None, (0, b"b"), (1, b"c"), None, (0, b"d"))
+        cutter, rng = PowerCutter(DiskImage(), found), random.Random(1)
+        self.assertEqual([image_bytes(cutter.image_after(cut, "all", rng), 2) for cut in range(1, 7)],
                          [b"a\0", b"a\0", b"b\0", b"bc", b"bc", b"dc"])
 
     def test_the_choice(self):
         places = choose_cuts(50, 400, random.Random(1))
         self.assertEqual(places, sorted(places))
         self.assertEqual({place for place, _ in places}, set(range(1, 51)))
-        self.assertEqual({mode for _, mode in places}, set(MODES))
+        self.assertEqual({mode for _, mode in places}, set(CUT_MODES))
 
 
 if __name__ == "__main__":

@@ -23,7 +23,7 @@ static int is_terminal(int file)
     return syscall(SYS_ioctl, file, TCGETS, &settings) == 0;
 }
 
-static int is_plain(int file)
+static int is_regular_file(int file)
 {
     struct stat what;
     return syscall(SYS_fstat, file, &what) == 0 && S_ISREG(what.st_mode);
@@ -31,7 +31,7 @@ static int is_plain(int file)
 
 ssize_t read(int file, void *to, size_t size)
 {
-    counts[is_terminal(file) ? READ_TERMINAL : is_plain(file) ? READ_FILE : READ_OTHER]++;
+    counts[is_terminal(file) ? READ_TERMINAL : is_regular_file(file) ? READ_FILE : READ_OTHER]++;
     return syscall(SYS_read, file, to, size);
 }
 
@@ -68,7 +68,7 @@ int clock_gettime(clockid_t clock, struct timespec *now)
     return 0;
 }
 
-__attribute__((destructor)) static void report(void)
+__attribute__((destructor)) static void write_counts(void)
 {
     char *path = getenv("COUNT_CALLS");
     FILE *file = path ? fopen(path, "w") : NULL;

@@ -19,7 +19,7 @@ ssize_t write(int file, const void *from, size_t size)
     return next(file, from, size);
 }
 
-__attribute__((destructor)) static void tell(void)
+__attribute__((destructor)) static void write_count(void)
 {
     char *path = getenv("COUNT_WRITES"), text[32];
     if (!path)

@@ -26,7 +26,7 @@ ssize_t read(int file, void *to, size_t size)
     return 1;
 }
 
-__attribute__((destructor)) static void tell(void)
+__attribute__((destructor)) static void write_count(void)
 {
     char *path = getenv("COUNT_READS"), text[32];
     if (!path)

@@ -15,13 +15,13 @@
 static size_t last_size;
 static int late = -1;
 
-static int is(const char *fault)
+static int is_chosen_fault(const char *fault)
 {
     const char *chosen = getenv("LOSE_SYNC");
     return chosen && strcmp(chosen, fault) == 0;
 }
 
-static int ends_with(const char *end, int file)
+static int has_path_ending(const char *end, int file)
 {
     char link[32], path[4096];
     snprintf(link, sizeof link, "/proc/self/fd/%d", file);
@@ -31,18 +31,18 @@ static int ends_with(const char *end, int file)
 
 static int is_log(int file)
 {
-    return ends_with("-wal", file);
+    return has_path_ending("-wal", file);
 }
 
-static int is_lost(int file)
+static int is_lost_sync(int file)
 {
-    if (is("all") || (is("file") && ends_with(".db", file)))
+    if (is_chosen_fault("all") || (is_chosen_fault("file") && has_path_ending(".db", file)))
         return 1;
     if (!is_log(file))
         return 0;
-    if (is("late") && last_size == 1)
+    if (is_chosen_fault("late") && last_size == 1)
         late = file;
-    return (is("commit") || is("late")) && last_size == 1;
+    return (is_chosen_fault("commit") || is_chosen_fault("late")) && last_size == 1;
 }
 
 ssize_t pwrite(int file, const void *from, size_t size, off_t place)
@@ -54,12 +54,12 @@ ssize_t pwrite(int file, const void *from, size_t size, off_t place)
 
 int fsync(int file)
 {
-    return is_lost(file) ? 0 : syscall(SYS_fsync, file);
+    return is_lost_sync(file) ? 0 : syscall(SYS_fsync, file);
 }
 
 int fdatasync(int file)
 {
-    return is_lost(file) ? 0 : syscall(SYS_fdatasync, file);
+    return is_lost_sync(file) ? 0 : syscall(SYS_fdatasync, file);
 }
 
 ssize_t read(int file, void *to, size_t size)

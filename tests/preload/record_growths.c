@@ -12,7 +12,7 @@ void *__libc_malloc(size_t);
 void *__libc_realloc(void *, size_t);
 void *__libc_memalign(size_t, size_t);
 
-static void record(size_t size)
+static void record_allocation(size_t size)
 {
     char *records = getenv("RECORD_GROWTHS"), *from = getenv("RECORD_FROM"), text[32];
     if (!records || !from || size < strtoul(from, NULL, 10))
@@ -25,25 +25,25 @@ static void record(size_t size)
 
 void *malloc(size_t size)
 {
-    record(size);
+    record_allocation(size);
     return __libc_malloc(size);
 }
 
 void *realloc(void *old, size_t size)
 {
-    record(size);
+    record_allocation(size);
     return __libc_realloc(old, size);
 }
 
 void *aligned_alloc(size_t align, size_t size)
 {
-    record(size);
+    record_allocation(size);
     return __libc_memalign(align, size);
 }
 
 int posix_memalign(void **out, size_t align, size_t size)
 {
-    record(size);
+    record_allocation(size);
     *out = __libc_memalign(align, size);
     return *out ? 0 : ENOMEM;
 }

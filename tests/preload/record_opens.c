@@ -8,7 +8,7 @@
 #include <sys/syscall.h>
 #include <unistd.h>
 
-static void record(const char *path, int flags)
+static void record_open(const char *path, int flags)
 {
     static const char *const accesses[] = {"read", "write", "read-write", "none"};
     char *records = getenv("RECORD_OPENS"), text[4352];
@@ -28,7 +28,7 @@ int open(const char *path, int flags, ...)
     va_start(more, flags);
     mode_t mode = va_arg(more, mode_t);
     va_end(more);
-    record(path, flags);
+    record_open(path, flags);
     return syscall(SYS_openat, AT_FDCWD, path, flags, mode);
 }
 

@@ -19,7 +19,7 @@ void *__libc_memalign(size_t, size_t);
 static const char *chosen_kind;
 static long chosen_number, count;
 
-static int refused(const char *kind, int error)
+static int is_call_refused(const char *kind, int error)
 {
     if (!chosen_kind) {
         char *number = getenv("REFUSE_NUMBER");
@@ -42,22 +42,22 @@ static int refused(const char *kind, int error)
 
 void *malloc(size_t size)
 {
-    return refused("growth", ENOMEM) ? NULL : __libc_malloc(size);
+    return is_call_refused("growth", ENOMEM) ? NULL : __libc_malloc(size);
 }
 
 void *realloc(void *old, size_t size)
 {
-    return refused("growth", ENOMEM) ? NULL : __libc_realloc(old, size);
+    return is_call_refused("growth", ENOMEM) ? NULL : __libc_realloc(old, size);
 }
 
 void *aligned_alloc(size_t align, size_t size)
 {
-    return refused("growth", ENOMEM) ? NULL : __libc_memalign(align, size);
+    return is_call_refused("growth", ENOMEM) ? NULL : __libc_memalign(align, size);
 }
 
 int posix_memalign(void **out, size_t align, size_t size)
 {
-    if (refused("growth", ENOMEM))
+    if (is_call_refused("growth", ENOMEM))
         return ENOMEM;
     *out = __libc_memalign(align, size);
     return *out ? 0 : ENOMEM;
@@ -65,32 +65,32 @@ int posix_memalign(void **out, size_t align, size_t size)
 
 ssize_t read(int file, void *to, size_t size)
 {
-    return file == 0 && refused("input", EIO) ? -1 : syscall(SYS_read, file, to, size);
+    return file == 0 && is_call_refused("input", EIO) ? -1 : syscall(SYS_read, file, to, size);
 }
 
 ssize_t pread(int file, void *to, size_t size, off_t place)
 {
-    return refused("read", EIO) ? -1 : syscall(SYS_pread64, file, to, size, place);
+    return is_call_refused("read", EIO) ? -1 : syscall(SYS_pread64, file, to, size, place);
 }
 
 ssize_t pwrite(int file, const void *from, size_t size, off_t place)
 {
-    return refused("write", ENOSPC) ? -1 : syscall(SYS_pwrite64, file, from, size, place);
+    return is_call_refused("write", ENOSPC) ? -1 : syscall(SYS_pwrite64, file, from, size, place);
 }
 
 int fsync(int file)
 {
-    return refused("sync", EIO) ? -1 : syscall(SYS_fsync, file);
+    return is_call_refused("sync", EIO) ? -1 : syscall(SYS_fsync, file);
 }
 
 int fdatasync(int file)
 {
-    return refused("sync", EIO) ? -1 : syscall(SYS_fdatasync, file);
+    return is_call_refused("sync", EIO) ? -1 : syscall(SYS_fdatasync, file);
 }
 
 int ftruncate(int file, off_t length)
 {
-    return refused("truncation", EIO) ? -1 : syscall(SYS_ftruncate, file, length);
+    return is_call_refused("truncation", EIO) ? -1 : syscall(SYS_ftruncate, file, length);
 }
 
 __attribute__((destructor)) static void tell(void)

@@ -2,22 +2,22 @@
 import copy
 import re
 
-from runs import ROOT, run
+from runs import ROOT, run_script
 
-from oracle.esp3 import pieces, telegram
+from oracle.esp3 import serial_script_lines, telegram_packet
 from oracle.gateway import Gateway
-from oracle.lines import OK, error
+from oracle.lines import OK_LINE, error_line
 
 
-def sent(text, sender):
+def telegram_line(text, sender):
     """The line that brings a telegram: its RORG and payload, in hexadecimal."""
     rorg, payload = (bytes.fromhex(word) for word in text.split(" "))
-    return pieces(telegram(rorg[0], payload, sender)).strip()
+    return serial_script_lines(telegram_packet(rorg[0], payload, sender)).strip()
 
 
 # A registry of version 1, its log after a crash, and the devices of the registry by ID: profile and maker. The files
 # are those of an earlier program (version-1.md).
-VERSION_1 = ROOT / "tests/program/version-1.registry"
+VERSION_1_REGISTRY = ROOT / "tests/program/version-1.registry"
 VERSION_1_LOG = ROOT / "tests/program/version-1.log"
 VERSION_1_DEVICES = {
     0x00000000: ("F6-02-01", None),
@@ -29,26 +29,26 @@ VERSION_1_DEVICES = {
     0xFFFFFFFE: ("D2-05-00", None),
 }
 
-CONTACT_TEACH_IN, QUERY, PRESS, ACTUATOR = "D5 00", "A5 08284680", "F6 50", "D2 0460E4"
-UNSUPPORTED, BARE_TEACH_IN, TEACH_IN_REPLY = "A5 50084680", "A5 00000000", "A5 082846F0"
+TEACH_IN_1BS, QUERY_4BS, ROCKER_PRESS, ACTUATOR_DATA = "D5 00", "A5 08284680", "F6 50", "D2 0460E4"
+UNSUPPORTED_QUERY, TEACH_IN_4BS_WITHOUT_EEP, REPLY_4BS = "A5 50084680", "A5 00000000", "A5 082846F0"
 
 # UTE queries, one of them of a profile that is not supported, and a reply.
-UNIVERSAL, DELETION, NOT_USED = "D4 A00146001201D2", "D4 900146001201D2", "D4 B00146001201D2"
-UNIVERSAL_UNSUPPORTED, UNIVERSAL_REPLY = "D4 A00146000032D2", "D4 910146001201D2"
+UTE_QUERY, UTE_DELETION, UTE_NOT_USED = "D4 A00146001201D2", "D4 900146001201D2", "D4 B00146001201D2"
+UTE_UNSUPPORTED_QUERY, UTE_REPLY = "D4 A00146000032D2", "D4 910146001201D2"
 
 
 def joined_lines(lines):
     return "".join(line + "\n" for line in lines)
 
 
-def answers(lines, refused=(), fault="memory", gateway=None):
+def expected_answers(lines, refused=(), fault="memory", gateway=None):
     """The required answer to each line, if the lines with these numbers fail with this error."""
     gateway = gateway or Gateway()
     found = []
     for number, line in enumerate(lines):
         if number in refused:
             gateway.counts["refused"] += 1
-            found.append(error(fault))
+            found.append(error_line(fault))
         else:
             found.append(gateway.answer(line))
     return found
@@ -59,17 +59,17 @@ def expected_run(lines, fault="", status=0):
     return "".join(lines), fault, status
 
 
-def new_databases(work, name):
+def new_database_paths(work, name):
     """By its number, a database for each run, which does not exist yet."""
     return lambda number: work / f"{name}_{number}.db"
 
 
-def is_change_of_device(line, answer):
+def is_device_change(line, answer):
     """Whether the answer to this line says that what is kept of a device is another: learned, forgotten or labelled."""
-    return re.search('"(accepted|deleted)"', answer) or (line.startswith("label ") and answer == OK)
+    return re.search('"(accepted|deleted)"', answer) or (line.startswith("label ") and answer == OK_LINE)
 
 
-def lists_after(lines, refused):
+def possible_lists(lines, refused):
     """The answers to `list` that a start may give after a run in which the lines with these numbers were refused. In
     the first, all that was acknowledged is done, and nothing else. The others are for an end that was not clean: one
     more change is done, which was refused after the last one that was acknowledged."""
@@ -78,22 +78,22 @@ def lists_after(lines, refused):
         if number in refused:
             other = copy.deepcopy(gateway)
             other.answer(line)
-            others.append(other.listed())
-        elif is_change_of_device(line, gateway.answer(line)):
+            others.append(other.device_list())
+        elif is_device_change(line, gateway.answer(line)):
             others = []
-    return [gateway.listed(), *others]
+    return [gateway.device_list(), *others]
 
 
-def lines_failed_in_store(lines, output):
+def failed_line_numbers(lines, output):
     """The numbers of the lines that failed, if each line was answered as the oracle says or, if it needs the database,
     with `store`; otherwise None."""
     gateway, numbers = Gateway(), []
     for number, line in enumerate(lines):
         needs_store = not re.match("learn|status|S 5500010002", line)
-        if needs_store and output.startswith(error("store")):
+        if needs_store and output.startswith(error_line("store")):
             numbers.append(number)
             gateway.counts["refused"] += 1
-            answer = error("store")
+            answer = error_line("store")
         else:
             answer = gateway.answer(line)
         if not output.startswith(answer):
@@ -102,11 +102,11 @@ def lines_failed_in_store(lines, output):
     return numbers if output == "" else None
 
 
-def check_of_kept_devices(lines, refused):
+def kept_devices_check(lines, refused):
     """Whether a start after a run finds what it may, by its case; `refused` has the lines refused in each case."""
 
     def is_so(case, run_result, database):
-        lists = lists_after([] if case == "start" else lines, refused[case])
-        return run("list\n", database=database)[0] in (lists if run_result[2] else lists[:1])
+        lists = possible_lists([] if case == "start" else lines, refused[case])
+        return run_script("list\n", database=database)[0] in (lists if run_result[2] else lists[:1])
 
     return is_so

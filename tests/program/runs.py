@@ -12,22 +12,24 @@ sys.path.insert(0, str(ROOT / "tests"))
 
 PROGRAM = pathlib.Path(os.environ.get("TESTED_PROGRAM", ROOT / "crates/enogate/out/enogate"))
 # If the program is emulated, a limit of the process would limit the emulator.
-MAY_BE_LIMITED = "TESTED_PROGRAM" not in os.environ
-REFUSE_CALL = "refuse_call.c"
+CAN_LIMIT_RESOURCES = "TESTED_PROGRAM" not in os.environ
+REFUSE_CALL_SOURCE = "refuse_call.c"
 
-ADD = "add 01800ABC D5-00-01\n"
-ACCEPTED = '{"eep":"D5-00-01","id":"01800ABC","maker":null,"result":"accepted","type":"teach"}\n'
-READING = '{"dbm":-45,"eep":"D5-00-01","id":"01800ABC","readings":[{"name":"CO","word":"closed"}],"type":"reading"}\n'
-OK = '{"type":"ok"}\n'
+ADD_ORDER = "add 01800ABC D5-00-01\n"
+ACCEPTED_LINE = '{"eep":"D5-00-01","id":"01800ABC","maker":null,"result":"accepted","type":"teach"}\n'
+READING_LINE = (
+    '{"dbm":-45,"eep":"D5-00-01","id":"01800ABC","readings":[{"name":"CO","word":"closed"}],"type":"reading"}\n'
+)
+OK_LINE = '{"type":"ok"}\n'
 
-TEST = pathlib.Path(sys.argv[0]).name
-failed = []
+RUNNING_TEST_FILE = pathlib.Path(sys.argv[0]).name
+failed_checks = []
 
 
 def report_check(name, is_so):
-    print(f"{TEST}: {name} {'ok' if is_so else 'FAILED'}", flush=True)
+    print(f"{RUNNING_TEST_FILE}: {name} {'ok' if is_so else 'FAILED'}", flush=True)
     if not is_so:
-        failed.append(name)
+        failed_checks.append(name)
 
 
 def status_line(ignored=0, readings=0, responses=0, teach=0, mode="closed"):
@@ -49,22 +51,22 @@ def limit_memory():
     resource.setrlimit(resource.RLIMIT_AS, (20 << 20, 20 << 20))
 
 
-REPLAY = ["replay"]
+REPLAY_COMMAND = ["replay"]
 
 
-def live_words(serial=os.devnull, desk="/dev/stdin", turns=8):
+def live_command(serial=os.devnull, desk="/dev/stdin", turns=8):
     """The words of a run of `live` that prints its answers. Without other paths its standard input is the desk, of
     which it reads at most 256 bytes in each turn, and the serial line has no bytes."""
     return ["live", "--serial", serial, "--desk", desk, "--out", "/dev/stdout", "--turns", str(turns)]
 
 
-def program_words(base, database, service=REPLAY):
+def program_command(base, database, service=REPLAY_COMMAND):
     return [PROGRAM, *service, "--base", base] + (["--db", database] if database else [])
 
 
-def run(script, base="FF800000", database=None, service=REPLAY, **settings):
+def run_script(script, base="FF800000", database=None, service=REPLAY_COMMAND, **settings):
     """The text that a run writes to its two streams, and its status. The script comes through a pipe."""
-    words = program_words(base, database, service)
+    words = program_command(base, database, service)
     done = subprocess.run(words, input=script, capture_output=True, text=True, **settings)
     return done.stdout, done.stderr, done.returncode
 
@@ -82,24 +84,26 @@ def preload_environment(work, source, **variables):
 def count_calls(work, kind, script, database=None, **settings):
     """How many calls of this kind a run makes."""
     counted = work / "calls"
-    run(script, database=database, env=preload_environment(
-        work, REFUSE_CALL, REFUSE_KIND=kind, COUNT_CALLS=counted), **settings)
+    run_script(script, database=database, env=preload_environment(
+        work, REFUSE_CALL_SOURCE, REFUSE_KIND=kind, COUNT_CALLS=counted), **settings)
     return int(counted.read_text())
 
 
-def check_each_refused_call(
-    work, name, kind, script, case_of, cases, database=None, is_kept=None, first=1, on=False, service=REPLAY
+def check_each_failed_call(
+    work, name, kind, script, case_of, cases, database=None, is_kept=None, first=1, on=False, service=REPLAY_COMMAND
 ):
     """Each call of this kind fails in turn, from number `first` on, by itself or with all calls after it; in the end
     none fails. Each run is on the database of its number. It ends in a case, `none` if no call fails, and then
     `is_kept` holds for the database. Each of these cases occurs."""
     last = count_calls(work, kind, script, database and database(0), service=service)
-    preload_environment(work, REFUSE_CALL)
+    preload_environment(work, REFUSE_CALL_SOURCE)
 
     def differs(number):
         mark, path = work / f"mark_{number}", database and database(number)
         call = {"REFUSE_KIND": kind, "REFUSE_NUMBER": number, "REFUSE_MARK": mark, **({"REFUSE_ON": 1} if on else {})}
-        ended = run(script, database=path, service=service, env=preload_environment(work, REFUSE_CALL, **call))
+        ended = run_script(
+            script, database=path, service=service, env=preload_environment(work, REFUSE_CALL_SOURCE, **call)
+        )
         case = case_of(ended)
         met.add(case)
         was_refused = mark.exists()

@@ -3,16 +3,16 @@ it ends if its input or its output fails."""
 import os
 import unittest
 
-from runs import ACCEPTED, OK, READING, ROOT
+from runs import ACCEPTED_LINE, OK_LINE, READING_LINE, ROOT
 from testcase import ProgramTest
 
 CONTACT_SCRIPT = ROOT / "examples/contact.txt"
-FOLDER = ROOT / "docs"
-EXPLANATION = (
+EXISTING_FOLDER = ROOT / "docs"
+EXPLANATION_LINE = (
     '{"dbm":-45,"dest":null,"eep":"D5-00-01","id":"01800ABC","maker":null,"payload":"09",'
     '"rorg":"D5","status":"00","type":"packet","why":"read"}\n'
 )
-READINGS = (
+READINGS_OUTPUT = (
     '{"eep":"A5-02-05","id":"01800ABC","maker":null,"result":"accepted","type":"teach"}\n'
     '{"eep":"F6-02-01","id":"01800ABD","maker":null,"result":"accepted","type":"teach"}\n'
     '{"dbm":-45,"eep":"A5-02-05","id":"01800ABC","readings":[{"den":51,"name":"TMP","num":1024,"unit":"C"}],'
@@ -22,8 +22,8 @@ READINGS = (
     '{"code":0,"data":"FF800000","name":"OK","type":"response"}\n'
     '{"ignored":0,"mode":"closed","readings":2,"refused":0,"responses":1,"teach":0,"type":"status"}\n'
 )
-RANGE_ERROR = '{"error":"range","type":"error"}\n'
-HELP = """\
+RANGE_ERROR_LINE = '{"error":"range","type":"error"}\n'
+HELP_TEXT = """\
 A gateway for EnOcean radio devices
 
 Usage: enogate <COMMAND>
@@ -37,7 +37,7 @@ Options:
   -h, --help     Print help
   -V, --version  Print version
 """
-REPLAY_HELP = """\
+REPLAY_HELP_TEXT = """\
 Run a recorded script from standard input to standard output
 
 Usage: enogate replay [OPTIONS] --base <ID>
@@ -48,7 +48,7 @@ Options:
       --explain    Report what was done with each packet, and why
   -h, --help       Print help
 """
-LIVE_HELP = """\
+LIVE_HELP_TEXT = """\
 Run a gateway on a serial port
 
 Usage: enogate live [OPTIONS] --base <ID> --serial <PATH> --desk <PATH> --out <PATH> --turns <N>
@@ -65,90 +65,94 @@ Options:
 """
 
 
-class ReplayRuns(ProgramTest):
+class ReplayRunsTest(ProgramTest):
     """Scripts, and base IDs."""
 
     def test_the_first_example(self):
-        self.assert_ended(self.replay(script=CONTACT_SCRIPT), ACCEPTED + READING)
+        self.assert_run(self.run_replay(script=CONTACT_SCRIPT), ACCEPTED_LINE + READING_LINE)
 
     def test_the_first_example_with_explanations(self):
-        self.assert_ended(self.replay("--explain", script=CONTACT_SCRIPT), ACCEPTED + EXPLANATION + READING)
+        self.assert_run(
+            self.run_replay("--explain", script=CONTACT_SCRIPT), ACCEPTED_LINE + EXPLANATION_LINE + READING_LINE
+        )
 
     def test_the_example_of_readings(self):
-        self.assert_ended(self.replay(script=ROOT / "examples/readings.txt"), READINGS)
+        self.assert_run(self.run_replay(script=ROOT / "examples/readings.txt"), READINGS_OUTPUT)
 
     def test_a_base_in_lower_case(self):
-        self.assert_ended(self.replay(base="ff800000", script=CONTACT_SCRIPT), ACCEPTED + READING)
+        self.assert_run(self.run_replay(base="ff800000", script=CONTACT_SCRIPT), ACCEPTED_LINE + READING_LINE)
 
     def test_an_empty_script(self):
-        self.assert_ended(self.replay(base="FFFFFF80"))
+        self.assert_run(self.run_replay(base="FFFFFF80"))
 
     def test_orders_at_the_greatest_base_id(self):
         """The last sender of this base ID would be the broadcast ID."""
         script = "teach 127\ncentral 127 on\nlevel 127 0 0\nteach 126\ncentral 126 on\n"
         first = "S 55000a0701eba5e047ff80fffffffe0003ffffffffff0061\n"
         second = "S 55000a0701eba501000009fffffffe0003ffffffffff00cc\n"
-        self.assert_ended(self.replay(base="FFFFFF80", script=script), 3 * RANGE_ERROR + first + OK + second + OK)
+        self.assert_run(
+            self.run_replay(base="FFFFFF80", script=script), 3 * RANGE_ERROR_LINE + first + OK_LINE + second + OK_LINE
+        )
 
     def test_bad_bases(self):
         for base in ("FF800001", "FF7FFF80", "FFFFFFFF", "FF80000", "FF8000000", "0xFF8000", ""):
             with self.subTest(base=base):
-                self.assert_fault(self.replay(base=base), "bad base", 2)
+                self.assert_fault(self.run_replay(base=base), "bad base", 2)
 
     def test_an_argument_that_is_no_text(self):
-        self.assert_fault(self.replay(base=b"\377"), "an argument is not text", 2)
+        self.assert_fault(self.run_replay(base=b"\377"), "an argument is not text", 2)
 
 
-class UnusableStreams(ProgramTest):
+class UnusableStreamsTest(ProgramTest):
     """Input that cannot be read, and output that cannot be written."""
 
     def test_a_closed_input(self):
-        self.assert_fault(self.replay(preexec_fn=lambda: os.close(0)), "read")
+        self.assert_fault(self.run_replay(preexec_fn=lambda: os.close(0)), "read")
 
     def test_an_input_that_cannot_be_read(self):
-        folder = os.open(FOLDER, os.O_RDONLY)
+        folder = os.open(EXISTING_FOLDER, os.O_RDONLY)
         self.addCleanup(os.close, folder)
-        self.assert_fault(self.replay(stdin=folder), "read")
+        self.assert_fault(self.run_replay(stdin=folder), "read")
 
     def test_an_output_that_is_full(self):
         with open("/dev/full", "wb") as full:
-            self.assert_fault(self.replay(script=CONTACT_SCRIPT, stdout=full), "write")
+            self.assert_fault(self.run_replay(script=CONTACT_SCRIPT, stdout=full), "write")
 
     def test_a_closed_output(self):
-        self.assert_fault(self.replay(script=CONTACT_SCRIPT, preexec_fn=lambda: os.close(1)), "write")
+        self.assert_fault(self.run_replay(script=CONTACT_SCRIPT, preexec_fn=lambda: os.close(1)), "write")
 
     def test_a_bad_base_that_cannot_be_printed(self):
         with open("/dev/full", "wb") as full:
-            self.assert_ended(self.replay(base="FF800001", stderr=full), status=2)
+            self.assert_run(self.run_replay(base="FF800001", stderr=full), status=2)
 
     def test_a_fault_that_cannot_be_printed(self):
-        folder = os.open(FOLDER, os.O_RDONLY)
+        folder = os.open(EXISTING_FOLDER, os.O_RDONLY)
         self.addCleanup(os.close, folder)
         with open("/dev/full", "wb") as full:
-            self.assert_ended(self.replay(stdin=folder, stderr=full), status=1)
+            self.assert_run(self.run_replay(stdin=folder, stderr=full), status=1)
 
     def test_the_reads_of_a_script_of_1000_bytes(self):
         """A read takes at most 256 bytes: four reads take the script, and the fifth finds its end."""
-        run = self.replay(script=1000 * "0", env=self.count_calls_environment())
-        self.assert_ended(run, '{"error":"too_long","type":"error"}\n')
-        self.assertEqual(self.calls("read"), {"read file": 5})
+        run = self.run_replay(script=1000 * "0", env=self.count_calls_environment())
+        self.assert_run(run, '{"error":"too_long","type":"error"}\n')
+        self.assertEqual(self.counted_calls("read"), {"read file": 5})
 
 
-class HelpAndVersion(ProgramTest):
+class HelpAndVersionTest(ProgramTest):
     """Help, the version, and messages on usage."""
 
     def test_help(self):
-        for program_words, page in (([], HELP), (["replay"], REPLAY_HELP), (["live"], LIVE_HELP)):
+        for program_words, page in (([], HELP_TEXT), (["replay"], REPLAY_HELP_TEXT), (["live"], LIVE_HELP_TEXT)):
             with self.subTest(program_words=program_words):
-                self.assert_ended(self.run_program(*program_words, "--help"), page)
+                self.assert_run(self.run_program(*program_words, "--help"), page)
 
     def test_the_version(self):
         for option in ("--version", "-V"):
             with self.subTest(option=option):
-                self.assert_ended(self.run_program(option), "enogate 0.2.0\n")
+                self.assert_run(self.run_program(option), "enogate 0.2.0\n")
 
     def test_replay_has_no_version(self):
-        self.assert_usage(self.replay("--version"), "unexpected argument '--version'")
+        self.assert_usage(self.run_replay("--version"), "unexpected argument '--version'")
 
     def test_no_command(self):
         self.assert_usage(self.run_program(), "requires a subcommand")
@@ -163,17 +167,17 @@ class HelpAndVersion(ProgramTest):
         self.assert_usage(self.run_program("replay", "--base"), "a value is required for '--base <ID>'")
 
     def test_two_bases(self):
-        self.assert_usage(self.replay("--base", "FF800000"), "cannot be used multiple times")
+        self.assert_usage(self.run_replay("--base", "FF800000"), "cannot be used multiple times")
 
     def test_a_flag_twice(self):
-        run = self.replay("--explain", "--explain")
+        run = self.run_replay("--explain", "--explain")
         self.assert_usage(run, "'--explain' cannot be used multiple times")
 
     def test_a_flag_with_a_value(self):
-        self.assert_usage(self.replay("--explain=yes"), "unexpected value 'yes' for '--explain'")
+        self.assert_usage(self.run_replay("--explain=yes"), "unexpected value 'yes' for '--explain'")
 
     def test_a_word_too_many(self):
-        self.assert_usage(self.replay("more"), "unexpected argument")
+        self.assert_usage(self.run_replay("more"), "unexpected argument")
 
 
 if __name__ == "__main__":

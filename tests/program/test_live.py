@@ -6,13 +6,13 @@ import shutil
 import subprocess
 import unittest
 
-from runs import ACCEPTED, OK, PROGRAM, READING, ROOT
+from runs import ACCEPTED_LINE, OK_LINE, PROGRAM, READING_LINE, ROOT
 from testcase import LiveTest
 
-FOLDER = ROOT / "docs"
+EXISTING_FOLDER = ROOT / "docs"
 CONTACT_PACKET = bytes.fromhex("55000707017AD50901800ABC0001FFFFFFFF2D001F")
-BASE_REQUEST = bytes.fromhex("5500010005700838")
-EXPLANATION = (
+READ_BASE_PACKET = bytes.fromhex("5500010005700838")
+EXPLANATION_LINE = (
     '{"dbm":-45,"dest":null,"eep":"D5-00-01","id":"01800ABC","maker":null,"payload":"09",'
     '"rorg":"D5","status":"00","type":"packet","why":"read"}\n'
 )
@@ -21,7 +21,7 @@ LABEL_ANSWERS = (
     '{"eep":"D5-00-01","id":"01800ABC","label":"Door \\"A\\"","maker":null,"type":"device"}\n'
     '{"count":1,"type":"list"}\n'
 )
-EARLIER_LINE = "an earlier line\n"
+EARLIER_OUTPUT_LINE = "an earlier line\n"
 
 
 def limit_processor_time():
@@ -29,41 +29,41 @@ def limit_processor_time():
     resource.setrlimit(resource.RLIMIT_CPU, (60, 60))
 
 
-class BytesOfLive(LiveTest):
+class LiveInputAndOutputTest(LiveTest):
     """The bytes that `live` reads and writes."""
 
-    def packet_in_the_second_turn(self):
+    def write_packet_for_second_turn(self):
         """A telegram comes in the second turn, and the last line of the desk has no end."""
         self.line.write_bytes(bytes(256) + CONTACT_PACKET)
         self.desk.write_text("add 01800ABC D5-00-01\nlist")
 
     def test_a_turn_reads_256_bytes_and_answers_whole_lines(self):
-        self.packet_in_the_second_turn()
-        self.assert_ended(self.live(turns=2))
-        self.assert_content(self.answers, ACCEPTED + READING)
+        self.write_packet_for_second_turn()
+        self.assert_run(self.run_live(turns=2))
+        self.assert_file_content(self.answers, ACCEPTED_LINE + READING_LINE)
 
     def test_explanations_come_before_what_a_packet_reports_and_orders_have_none(self):
-        self.packet_in_the_second_turn()
-        self.assert_ended(self.live("--explain", turns=2))
-        self.assert_content(self.answers, ACCEPTED + EXPLANATION + READING)
+        self.write_packet_for_second_turn()
+        self.assert_run(self.run_live("--explain", turns=2))
+        self.assert_file_content(self.answers, ACCEPTED_LINE + EXPLANATION_LINE + READING_LINE)
 
     def test_one_turn_in_place_of_earlier_answers(self):
-        self.packet_in_the_second_turn()
-        self.answers.write_text(EARLIER_LINE + ACCEPTED + READING)
-        self.assert_ended(self.live())
-        self.assert_content(self.answers, ACCEPTED)
+        self.write_packet_for_second_turn()
+        self.answers.write_text(EARLIER_OUTPUT_LINE + ACCEPTED_LINE + READING_LINE)
+        self.assert_run(self.run_live())
+        self.assert_file_content(self.answers, ACCEPTED_LINE)
 
     def test_a_label_and_nothing_for_the_serial_line(self):
         self.desk.write_bytes(b'add 01800ABC D5-00-01\nlabel 01800ABC Door "A"\r\nlist\n')
-        self.assert_ended(self.live())
-        self.assert_content(self.answers, ACCEPTED + LABEL_ANSWERS)
+        self.assert_run(self.run_live())
+        self.assert_file_content(self.answers, ACCEPTED_LINE + LABEL_ANSWERS)
         self.assertEqual(self.line.read_bytes(), b"")
 
     def test_an_order_for_the_module(self):
         self.desk.write_text("base\n")
-        self.assert_ended(self.live(turns=3))
-        self.assertEqual(self.line.read_bytes().hex(), BASE_REQUEST.hex())
-        self.assert_content(self.answers, OK)
+        self.assert_run(self.run_live(turns=3))
+        self.assertEqual(self.line.read_bytes().hex(), READ_BASE_PACKET.hex())
+        self.assert_file_content(self.answers, OK_LINE)
 
     def test_a_desk_that_is_a_pipe(self):
         """A program that opens this pipe waits until another program opens its other end."""
@@ -72,34 +72,36 @@ class BytesOfLive(LiveTest):
         writer = subprocess.Popen(["sh", "-c", 'echo base >"$0"', pipe])
         self.addCleanup(writer.wait)
         self.addCleanup(writer.kill)
-        self.assert_ended(self.live(desk=pipe))
-        self.assert_content(self.answers, OK)
+        self.assert_run(self.run_live(desk=pipe))
+        self.assert_file_content(self.answers, OK_LINE)
 
     def test_a_plain_file_as_the_serial_line_is_opened_once_and_not_to_append(self):
         """256 of its 300 bytes are read, and the packet that is sent is written after these."""
         self.line.write_bytes(bytes(300))
         self.desk.write_text("base\n")
-        self.assert_ended(self.live())
-        self.assertEqual(self.line.read_bytes().hex(), (bytes(256) + BASE_REQUEST + bytes(36)).hex())
+        self.assert_run(self.run_live())
+        self.assertEqual(self.line.read_bytes().hex(), (bytes(256) + READ_BASE_PACKET + bytes(36)).hex())
 
     def test_864000_turns_each_read_the_line_and_the_desk_once(self):
         """These are a day, and more than 16 bits count."""
-        silent = self.file("silent")
+        silent = self.write_file("silent")
         files = {"line": silent, "desk": silent, "answers": "/dev/null"}
-        self.assert_ended(self.live(turns=864000, **files, env=self.count_calls_environment(),
+        self.assert_run(self.run_live(turns=864000, **files, env=self.count_calls_environment(),
                           preexec_fn=limit_processor_time))
-        self.assertEqual(self.calls("read"), {"read file": 1728000})
+        self.assertEqual(self.counted_calls("read"), {"read file": 1728000})
 
 
-class OpenedPaths(LiveTest):
+class OpenedPathsTest(LiveTest):
     """How the three files are opened."""
 
     def test_each_file_is_opened_once_in_this_order_with_no_more_access(self):
         self.line.write_bytes(bytes(300))
         self.desk.write_text("base\n")
         opens = self.work / "opens"
-        self.assert_ended(self.live(env=self.preload_environment("record_opens.c", RECORD_OPENS=opens)))
-        self.assert_content(opens, f"{self.line} read-write\n{self.desk} read\n{self.answers} write create truncate\n")
+        self.assert_run(self.run_live(env=self.preload_environment("record_opens.c", RECORD_OPENS=opens)))
+        self.assert_file_content(
+            opens, f"{self.line} read-write\n{self.desk} read\n{self.answers} write create truncate\n"
+        )
 
     def test_a_user_may_only_read_the_desk_and_only_write_the_answers(self):
         rights = self.work / "rights"
@@ -117,13 +119,13 @@ class OpenedPaths(LiveTest):
             for path in (rights, program, line, desk, answers):
                 os.chown(path, 65534, 65534)
             other = {"user": 65534, "group": 65534, "extra_groups": []}
-        run = self.live(program=program, line=line, desk=desk, answers=answers, **other)
-        self.assert_ended(run)
+        run = self.run_live(program=program, line=line, desk=desk, answers=answers, **other)
+        self.assert_run(run)
         answers.chmod(0o600)
-        self.assert_content(answers, '{"count":0,"type":"list"}\n')
+        self.assert_file_content(answers, '{"count":0,"type":"list"}\n')
 
 
-class WrongPaths(LiveTest):
+class WrongPathsTest(LiveTest):
     """The serial line is opened before the desk, and the file of answers last."""
 
     def setUp(self):
@@ -134,44 +136,44 @@ class WrongPaths(LiveTest):
         self.desk.write_text("base\n")
 
     def test_serial_lines_that_do_not_open(self):
-        for path in (self.none, self.no_folder, FOLDER, ""):
+        for path in (self.none, self.no_folder, EXISTING_FOLDER, ""):
             with self.subTest(path=path):
-                self.answers.write_text(EARLIER_LINE)
-                self.assert_fault(self.live(line=path), "cannot open")
-                self.assert_content(self.answers, EARLIER_LINE)
+                self.answers.write_text(EARLIER_OUTPUT_LINE)
+                self.assert_fault(self.run_live(line=path), "cannot open")
+                self.assert_file_content(self.answers, EARLIER_OUTPUT_LINE)
 
     def test_desks_that_do_not_open(self):
         for path in (self.none, self.no_folder, ""):
             with self.subTest(path=path):
-                self.answers.write_text(EARLIER_LINE)
-                self.assert_fault(self.live(desk=path), "cannot open")
-                self.assert_content(self.answers, EARLIER_LINE)
+                self.answers.write_text(EARLIER_OUTPUT_LINE)
+                self.assert_fault(self.run_live(desk=path), "cannot open")
+                self.assert_file_content(self.answers, EARLIER_OUTPUT_LINE)
 
     def test_a_file_of_answers_is_not_made_if_there_is_no_desk(self):
-        self.assert_fault(self.live(desk=self.none, answers=self.new), "cannot open")
+        self.assert_fault(self.run_live(desk=self.none, answers=self.new), "cannot open")
         self.assertFalse(self.new.exists())
 
     def test_files_of_answers_that_do_not_open(self):
-        for path in (self.no_folder, FOLDER, ""):
+        for path in (self.no_folder, EXISTING_FOLDER, ""):
             with self.subTest(path=path):
-                self.assert_fault(self.live(answers=path), "cannot open")
+                self.assert_fault(self.run_live(answers=path), "cannot open")
 
     def test_a_registry_is_made_before_the_paths_are_opened(self):
-        run = self.live("--db", self.database, line=self.none, answers=self.new)
+        run = self.run_live("--db", self.database, line=self.none, answers=self.new)
         self.assert_fault(run, "cannot open")
         self.assertIn(b"enogate_device_v2", self.database.read_bytes())
         self.assertFalse(self.new.exists())
-        self.assert_ended(self.live("--db", self.database))
+        self.assert_run(self.run_live("--db", self.database))
 
     def test_the_serial_line_is_opened_before_a_desk_that_nobody_writes(self):
         pipe = self.work / "pipe"
         os.mkfifo(pipe)
-        self.assert_fault(self.live(line=self.none, desk=pipe, answers=self.new), "cannot open")
+        self.assert_fault(self.run_live(line=self.none, desk=pipe, answers=self.new), "cannot open")
         self.assertFalse(self.new.exists())
 
     def test_a_registry_that_does_not_open_is_reported_before_the_paths(self):
         database = self.work / "no/folder.db"
-        run = self.live("--db", database, line=self.none, desk=self.none, answers=self.new)
+        run = self.run_live("--db", database, line=self.none, desk=self.none, answers=self.new)
         self.assert_fault(run, "store")
         self.assertFalse(self.new.exists())
 
@@ -181,19 +183,19 @@ class WrongPaths(LiveTest):
         self.assertFalse(self.new.exists())
 
     def test_a_desk_that_cannot_be_read(self):
-        self.assert_fault(self.live(desk=FOLDER), "read")
+        self.assert_fault(self.run_live(desk=EXISTING_FOLDER), "read")
 
     def test_answers_that_cannot_be_written(self):
-        self.assert_fault(self.live(answers="/dev/full"), "write")
+        self.assert_fault(self.run_live(answers="/dev/full"), "write")
 
     def test_a_serial_line_that_cannot_be_written(self):
         """The radio bytes are written before the answer, so an order that is not sent has no answer."""
-        self.answers.write_text(EARLIER_LINE)
-        self.assert_fault(self.live(line="/dev/full"), "write")
-        self.assert_content(self.answers, "")
+        self.answers.write_text(EARLIER_OUTPUT_LINE)
+        self.assert_fault(self.run_live(line="/dev/full"), "write")
+        self.assert_file_content(self.answers, "")
 
 
-class CommandLine(LiveTest):
+class LiveCommandLineTest(LiveTest):
     """Messages on usage."""
 
     def test_turns_that_are_refused(self):
@@ -203,11 +205,11 @@ class CommandLine(LiveTest):
             ("1x", "invalid value '1x' for '--turns <N>'"),
         ):
             with self.subTest(turns=turns):
-                self.assert_usage(self.live(turns=turns), text)
+                self.assert_usage(self.run_live(turns=turns), text)
                 self.assertFalse(self.answers.exists())
 
     def test_turns_twice(self):
-        self.assert_usage(self.live("--turns", "2"), "cannot be used multiple times")
+        self.assert_usage(self.run_live("--turns", "2"), "cannot be used multiple times")
         self.assertFalse(self.answers.exists())
 
     def test_each_option_is_needed(self):
@@ -225,7 +227,7 @@ class CommandLine(LiveTest):
                 self.assert_usage(self.run_program("live", *words), text)
 
     def test_a_serial_line_for_a_replay(self):
-        self.assert_usage(self.replay("--serial", self.line), "unexpected argument '--serial' found")
+        self.assert_usage(self.run_replay("--serial", self.line), "unexpected argument '--serial' found")
 
 
 if __name__ == "__main__":

@@ -4,16 +4,16 @@ import subprocess
 import threading
 import unittest
 
-from runs import ACCEPTED, ADD, PROGRAM, READING, ROOT
-from tables import DEVICE_TABLE_1, VERSION_TABLE, DEVICE_TABLE_2
-from testcase import TIMEOUT, NOTHING, ProgramTest
+from runs import ACCEPTED_LINE, ADD_ORDER, PROGRAM, READING_LINE, ROOT
+from tables import CREATE_DEVICE_TABLE_1, CREATE_VERSION_TABLE, CREATE_DEVICE_TABLE_2
+from testcase import RUN_TIMEOUT, EMPTY_INPUT, ProgramTest
 
 CONTACT_SCRIPT = ROOT / "examples/contact.txt"
-PACKET = "S 55000707017AD50901800ABC0001FFFFFFFF2D001F\n"
-LISTED = '{"eep":"D5-00-01","id":"01800ABC","label":"","maker":null,"type":"device"}\n{"count":1,"type":"list"}\n'
+READING_PACKET_LINE = "S 55000707017AD50901800ABC0001FFFFFFFF2D001F\n"
+LIST_OUTPUT = '{"eep":"D5-00-01","id":"01800ABC","label":"","maker":null,"type":"device"}\n{"count":1,"type":"list"}\n'
 # SQL after which rows can be inserted that break the checks of a table, and such rows.
-UNCHECKED = f"PRAGMA ignore_check_constraints = ON; {VERSION_TABLE};"
-BAD_ROWS = ("4294967295, 1, -1", "-1, 1, -1", "5, -5, -1", "5, 16777216, -1", "5, 1, 2048", "5, 1, -2")
+WITHOUT_CHECKS_SQL = f"PRAGMA ignore_check_constraints = ON; {CREATE_VERSION_TABLE};"
+INVALID_DEVICE_ROWS = ("4294967295, 1, -1", "-1, 1, -1", "5, -5, -1", "5, 16777216, -1", "5, 1, 2048", "5, 1, -2")
 
 
 def run_sqlite3(database, *texts):
@@ -33,37 +33,39 @@ class RegistryTest(ProgramTest):
         super().setUp()
         self.database = self.work / "registry.db"
 
-    def replay_on(self, database, script=NOTHING, **settings):
+    def replay_with_registry(self, database, script=EMPTY_INPUT, **settings):
         """Replays this script with the registry in this file."""
-        return self.replay("--db", database, script=script, **settings)
+        return self.run_replay("--db", database, script=script, **settings)
 
 
-class NextStarts(RegistryTest):
+class RestartTest(RegistryTest):
     """The next start knows the devices that one start learned."""
 
     def test_a_second_start_knows_the_devices_of_the_first(self):
-        self.assert_ended(self.replay_on(self.database, CONTACT_SCRIPT), ACCEPTED + READING)
-        self.assert_ended(self.replay_on(self.database, "list\n" + PACKET), LISTED + READING)
+        self.assert_run(self.replay_with_registry(self.database, CONTACT_SCRIPT), ACCEPTED_LINE + READING_LINE)
+        self.assert_run(
+            self.replay_with_registry(self.database, "list\n" + READING_PACKET_LINE), LIST_OUTPUT + READING_LINE
+        )
 
     def test_a_closed_registry_has_at_most_two_files(self):
-        self.assert_ended(self.replay_on(self.database, CONTACT_SCRIPT), ACCEPTED + READING)
+        self.assert_run(self.replay_with_registry(self.database, CONTACT_SCRIPT), ACCEPTED_LINE + READING_LINE)
         self.assertLessEqual(len(list(self.work.glob("registry.db*"))), 2)
 
     def test_a_registry_in_memory_opens_no_file(self):
         opens = self.work / "opens"
         env = self.preload_environment("record_opens.c", RECORD_OPENS=opens)
-        self.assert_ended(self.replay(script=CONTACT_SCRIPT, env=env), ACCEPTED + READING)
+        self.assert_run(self.run_replay(script=CONTACT_SCRIPT, env=env), ACCEPTED_LINE + READING_LINE)
         self.assertFalse(opens.exists())
 
     def test_a_registry_in_a_file_opens_that_file(self):
         opens = self.work / "opens"
-        self.assert_ended(self.replay_on(self.database, CONTACT_SCRIPT), ACCEPTED + READING)
+        self.assert_run(self.replay_with_registry(self.database, CONTACT_SCRIPT), ACCEPTED_LINE + READING_LINE)
         env = self.preload_environment("record_opens.c", RECORD_OPENS=opens)
-        self.assert_ended(self.replay_on(self.database, CONTACT_SCRIPT, env=env), ACCEPTED + READING)
+        self.assert_run(self.replay_with_registry(self.database, CONTACT_SCRIPT, env=env), ACCEPTED_LINE + READING_LINE)
         self.assertIn(f"{self.database} read-write", opens.read_text())
 
 
-class KilledRuns(RegistryTest):
+class KilledRunTest(RegistryTest):
     """A run learned a device, and goes on until the test kills it."""
 
     def setUp(self):
@@ -73,47 +75,47 @@ class KilledRuns(RegistryTest):
         pipes = {"stdin": subprocess.PIPE, "stdout": subprocess.PIPE, "stderr": subprocess.DEVNULL}
         self.running = self.enterContext(subprocess.Popen(program_words, **pipes))
         self.addCleanup(self.running.kill)
-        guard = threading.Timer(TIMEOUT, self.running.kill)
+        guard = threading.Timer(RUN_TIMEOUT, self.running.kill)
         self.addCleanup(guard.cancel)
         guard.start()
-        self.running.stdin.write(ADD.encode())
+        self.running.stdin.write(ADD_ORDER.encode())
         self.running.stdin.flush()
-        self.assertEqual(self.running.stdout.readline().decode(), ACCEPTED)
+        self.assertEqual(self.running.stdout.readline().decode(), ACCEPTED_LINE)
 
-    def kill(self):
+    def kill_program(self):
         self.running.kill()
         self.running.wait()
 
     def test_a_registry_that_another_start_uses(self):
-        self.assert_fault(self.replay_on(self.database), "store")
+        self.assert_fault(self.replay_with_registry(self.database), "store")
 
     def test_a_registry_in_use_is_not_copied(self):
         self.assertNotEqual(run_backup(self.database, self.copy)[0], 0)
         self.assertFalse(self.copy.exists())
 
     def test_a_start_after_a_kill_knows_what_was_answered(self):
-        self.kill()
-        self.assert_ended(self.replay_on(self.database, "list\n"), LISTED)
+        self.kill_program()
+        self.assert_run(self.replay_with_registry(self.database, "list\n"), LIST_OUTPUT)
 
     def test_a_copy_after_a_kill_has_what_was_answered(self):
-        self.kill()
+        self.kill_program()
         self.assertEqual(run_backup(self.database, self.copy), (0, ""))
-        self.assert_ended(self.replay_on(self.copy, "list\n"), LISTED)
-        self.assert_ended(self.replay_on(self.database, "list\n"), LISTED)
+        self.assert_run(self.replay_with_registry(self.copy, "list\n"), LIST_OUTPUT)
+        self.assert_run(self.replay_with_registry(self.database, "list\n"), LIST_OUTPUT)
 
 
-class DatabasePaths(RegistryTest):
+class DatabasePathsTest(RegistryTest):
     def test_paths_that_are_no_registry(self):
         for path in (self.work / "no/folder.db", ":memory:", ""):
             with self.subTest(path=path):
-                self.assert_fault(self.replay_on(path), "store")
+                self.assert_fault(self.replay_with_registry(path), "store")
 
     def test_a_file_that_is_no_database(self):
-        text = self.file("text.db", (ROOT / "docs/guide/orders.md").read_bytes()[:5000])
-        self.assert_fault(self.replay_on(text), "store")
+        text = self.write_file("text.db", (ROOT / "docs/guide/orders.md").read_bytes()[:5000])
+        self.assert_fault(self.replay_with_registry(text), "store")
 
 
-class OtherDatabases(RegistryTest):
+class ForeignDatabasesTest(RegistryTest):
     """Databases that another program made."""
 
     def assert_refused(self, fault, statements):
@@ -121,7 +123,7 @@ class OtherDatabases(RegistryTest):
         self.database.unlink(missing_ok=True)
         run_sqlite3(self.database, statements)
         before = self.database.read_bytes()
-        self.assert_fault(self.replay_on(self.database), fault)
+        self.assert_fault(self.replay_with_registry(self.database), fault)
         self.assertEqual(self.database.read_bytes(), before)
 
     def test_missing_tables_and_a_later_version(self):
@@ -129,46 +131,50 @@ class OtherDatabases(RegistryTest):
         none, new = self.work / "none", self.work / "new"
         paths = ["--base", "FF800000", "--serial", none, "--desk", none, "--out", new, "--turns", "1"]
         for name, statements in (
-            ("one", f"{VERSION_TABLE}; INSERT INTO enogate_meta VALUES (1, 2);"),
-            ("nine", f"{VERSION_TABLE}; {DEVICE_TABLE_2}; INSERT INTO enogate_meta VALUES (1, 9);"),
+            ("one", f"{CREATE_VERSION_TABLE}; INSERT INTO enogate_meta VALUES (1, 2);"),
+            ("nine", f"{CREATE_VERSION_TABLE}; {CREATE_DEVICE_TABLE_2}; INSERT INTO enogate_meta VALUES (1, 9);"),
         ):
             with self.subTest(database=name):
                 database = self.work / f"{name}.db"
                 run_sqlite3(database, statements)
                 before = run_sqlite3(database, ".dump")
-                self.assert_fault(self.replay_on(database), "not a registry")
+                self.assert_fault(self.replay_with_registry(database), "not a registry")
                 self.assert_fault(self.run_program("live", *paths, "--db", database), "not a registry")
                 self.assertEqual(run_sqlite3(database, ".dump"), before)
 
     def test_rows_of_version_2_that_break_the_checks(self):
         """SQLite itself opens no file with such rows."""
-        rest = f"{DEVICE_TABLE_2}; INSERT INTO enogate_meta VALUES (1, 2); INSERT INTO enogate_device_v2"
-        for row in BAD_ROWS:
+        rest = f"{CREATE_DEVICE_TABLE_2}; INSERT INTO enogate_meta VALUES (1, 2); INSERT INTO enogate_device_v2"
+        for row in INVALID_DEVICE_ROWS:
             with self.subTest(row=row):
-                self.assert_refused("store", f"{UNCHECKED} {rest} VALUES ({row}, '');")
+                self.assert_refused("store", f"{WITHOUT_CHECKS_SQL} {rest} VALUES ({row}, '');")
 
     def test_rows_of_version_1_that_break_the_checks(self):
-        rest = f"{DEVICE_TABLE_1}; INSERT INTO enogate_meta VALUES (1, 1); INSERT INTO enogate_device"
-        for row in BAD_ROWS:
+        rest = f"{CREATE_DEVICE_TABLE_1}; INSERT INTO enogate_meta VALUES (1, 1); INSERT INTO enogate_device"
+        for row in INVALID_DEVICE_ROWS:
             with self.subTest(row=row):
-                self.assert_refused("store", f"{UNCHECKED} {rest} VALUES ({row});")
+                self.assert_refused("store", f"{WITHOUT_CHECKS_SQL} {rest} VALUES ({row});")
 
     def test_wrong_version_rows(self):
         for rows in ("(2, 2)", "(1, 2), (2, 2)"):
             with self.subTest(rows=rows):
-                self.assert_refused("store", f"{UNCHECKED} {DEVICE_TABLE_2}; INSERT INTO enogate_meta VALUES {rows};")
+                self.assert_refused(
+                    "store", f"{WITHOUT_CHECKS_SQL} {CREATE_DEVICE_TABLE_2}; INSERT INTO enogate_meta VALUES {rows};"
+                )
 
     def test_a_trigger_on_a_table_of_a_registry(self):
         trigger = "CREATE TRIGGER by_device AFTER INSERT ON enogate_device_v2 BEGIN DELETE FROM enogate_meta; END;"
         self.assert_refused(
-            "not a registry", f"{VERSION_TABLE}; {DEVICE_TABLE_2}; INSERT INTO enogate_meta VALUES (1, 2); {trigger}")
+            "not a registry",
+            f"{CREATE_VERSION_TABLE}; {CREATE_DEVICE_TABLE_2}; INSERT INTO enogate_meta VALUES (1, 2); {trigger}",
+        )
 
     def test_the_stock_sqlite3_reads_a_closed_registry(self):
         """It finds exactly the two tables. One device was learned, and got a label. The second one was removed by
         another start."""
         first = 'add 01800ABC D5-00-01\nadd 00000001 D5-00-01\nlabel 00000001 Door "A"\n'
-        self.replay_on(self.database, first)
-        self.replay_on(self.database, "remove 01800ABC\n")
+        self.replay_with_registry(self.database, first)
+        self.replay_with_registry(self.database, "remove 01800ABC\n")
         shown = run_sqlite3(
             self.database,
             "SELECT type, name, sql FROM sqlite_schema ORDER BY rowid",
@@ -176,7 +182,7 @@ class OtherDatabases(RegistryTest):
             "SELECT id, eep, maker, label FROM enogate_device_v2 ORDER BY id",
             "PRAGMA integrity_check",
         )
-        tables = f"table|enogate_meta|{VERSION_TABLE}\ntable|enogate_device_v2|{DEVICE_TABLE_2}\n"
+        tables = f"table|enogate_meta|{CREATE_VERSION_TABLE}\ntable|enogate_device_v2|{CREATE_DEVICE_TABLE_2}\n"
         self.assertEqual(shown, tables + '1|2\n1|13959169|-1|Door "A"\nok\n')
 
 

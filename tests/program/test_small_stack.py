@@ -3,11 +3,11 @@ as for the packets below, so there is no space for calls that nest once per byte
 MiB of addresses. Measured, it needs about 6 MiB, and about 14 MiB with a registry in a file."""
 import unittest
 
-from runs import ACCEPTED, OK, READING, status_line, limit_memory, limit_stack
+from runs import ACCEPTED_LINE, OK_LINE, READING_LINE, status_line, limit_memory, limit_stack
 from testcase import ProgramTest
 
 from oracle import session
-from oracle.esp3 import packet, pieces, telegram
+from oracle.esp3 import packet, serial_script_lines, telegram_packet
 from oracle.lines import device_lines
 
 
@@ -15,68 +15,70 @@ def packets_of_each_type():
     """A packet of each type with the data of a contact's telegram. In the first five types, the longest packet comes
     after it, which is all zeros. The longest packet with a wrong check comes first: all its bytes are skipped at
     once."""
-    contact = telegram(0xD5, b"\x09", 0x01800ABC)
+    contact = telegram_packet(0xD5, b"\x09", 0x01800ABC)
     longest = [packet(kind, bytes(65535), bytes(255)) for kind in range(5)]
     stream = longest[0][:-1] + b"\x01"
     for kind in range(256):
         stream += packet(kind, contact[6:13], contact[13:20]) + b"".join(longest[kind : kind + 1])
-    return f"add 01800ABC D5-00-01\n{pieces(stream)}status\n"
+    return f"add 01800ABC D5-00-01\n{serial_script_lines(stream)}status\n"
 
 
 # A packet of type 1 is read as a telegram, and zeros are no telegram. Type 2 is a response, whose code is the first
 # byte of the data. All others are ignored: 254 of the short packets, and four of the longest.
-RESPONSES = (
+RESPONSE_LINES = (
     '{"code":213,"data":"0901800ABC00","name":null,"type":"response"}\n'
     + '{"code":0,"data":"' + 131068 * "0" + '","name":"OK","type":"response"}\n'
 )
-ANSWERS = ACCEPTED + READING + RESPONSES + status_line(258, 1, responses=2)
+EXPECTED_OUTPUT = ACCEPTED_LINE + READING_LINE + RESPONSE_LINES + status_line(258, 1, responses=2)
 
 
-class SmallStack(ProgramTest):
+class SmallStackTest(ProgramTest):
     def setUp(self):
         super().setUp()
         self.in_file = ["--db", self.work / "registry.db"]
 
     def test_packets_of_each_type_on_a_small_stack(self):
-        run = self.replay(script=packets_of_each_type(), preexec_fn=limit_stack)
-        self.assert_ended(run, ANSWERS)
+        run = self.run_replay(script=packets_of_each_type(), preexec_fn=limit_stack)
+        self.assert_run(run, EXPECTED_OUTPUT)
 
     def test_packets_of_each_type_on_a_small_stack_with_a_registry_in_a_file(self):
-        run = self.replay(*self.in_file, script=packets_of_each_type(), preexec_fn=limit_stack)
-        self.assert_ended(run, ANSWERS)
+        run = self.run_replay(*self.in_file, script=packets_of_each_type(), preexec_fn=limit_stack)
+        self.assert_run(run, EXPECTED_OUTPUT)
 
     def test_packets_of_each_type_in_little_memory(self):
-        run = self.replay(script=packets_of_each_type(), preexec_fn=limit_memory)
-        self.assert_ended(run, ANSWERS)
+        run = self.run_replay(script=packets_of_each_type(), preexec_fn=limit_memory)
+        self.assert_run(run, EXPECTED_OUTPUT)
 
     def test_packets_of_each_type_in_little_memory_with_a_registry_in_a_file(self):
-        run = self.replay(*self.in_file, script=packets_of_each_type(), preexec_fn=limit_memory)
-        self.assert_ended(run, ANSWERS)
+        run = self.run_replay(*self.in_file, script=packets_of_each_type(), preexec_fn=limit_memory)
+        self.assert_run(run, EXPECTED_OUTPUT)
 
-    def assert_row(self, name, part, *options, limit):
+    def assert_golden_session(self, name, part, *options, limit):
         """The program writes this part of the golden session."""
-        row = session.read(name)
-        run = self.replay(*options, script=self.file("row", session.part(row, "script")), preexec_fn=limit)
-        self.assert_ended(run, session.part(row, part).decode())
+        row = session.read_session(name)
+        run = self.run_replay(
+            *options, script=self.write_file("row", session.text_of_session(row, "script")), preexec_fn=limit
+        )
+        self.assert_run(run, session.text_of_session(row, part).decode())
 
     def test_every_teach_in_telegram_in_every_mode(self):
-        self.assert_row("verdicts", "plain", limit=limit_stack)
-        self.assert_row("verdicts", "plain", *self.in_file, limit=limit_memory)
+        self.assert_golden_session("verdicts", "plain", limit=limit_stack)
+        self.assert_golden_session("verdicts", "plain", *self.in_file, limit=limit_memory)
 
     def test_every_teach_in_telegram_in_every_mode_with_explanations(self):
-        self.assert_row("verdicts", "explained", "--explain", limit=limit_stack)
-        self.assert_row("verdicts", "explained", "--explain", *self.in_file, limit=limit_memory)
+        self.assert_golden_session("verdicts", "explained", "--explain", limit=limit_stack)
+        self.assert_golden_session("verdicts", "explained", "--explain", *self.in_file, limit=limit_memory)
 
     def test_every_teach_in_telegram_in_every_mode_with_1000_devices(self):
-        self.assert_row("verdicts-full", "plain", limit=limit_stack)
-        self.assert_row("verdicts-full", "plain", *self.in_file, limit=limit_memory)
+        self.assert_golden_session("verdicts-full", "plain", limit=limit_stack)
+        self.assert_golden_session("verdicts-full", "plain", *self.in_file, limit=limit_memory)
 
     def test_every_teach_in_telegram_in_every_mode_with_1000_devices_and_explanations(self):
-        self.assert_row("verdicts-full", "explained", "--explain", limit=limit_stack)
-        self.assert_row("verdicts-full", "explained", "--explain", *self.in_file, limit=limit_memory)
+        self.assert_golden_session("verdicts-full", "explained", "--explain", limit=limit_stack)
+        self.assert_golden_session("verdicts-full", "explained", "--explain", *self.in_file, limit=limit_memory)
 
 
-class ThousandDevices(ProgramTest):
+class ThousandDevicesTest(ProgramTest):
     """1,000 devices, learned and listed."""
 
     SENDERS = [f"{sender:08X}" for sender in range(1000)]
@@ -88,19 +90,19 @@ class ThousandDevices(ProgramTest):
     )
 
     def test_1000_devices_in_little_memory(self):
-        run = self.replay(script=self.SCRIPT, preexec_fn=limit_memory)
-        self.assert_ended(run, self.ANSWERS)
+        run = self.run_replay(script=self.SCRIPT, preexec_fn=limit_memory)
+        self.assert_run(run, self.ANSWERS)
 
     def test_1000_devices_and_their_longest_labels_in_little_memory_with_a_registry_in_a_file(self):
         """Each byte of these labels is printed as two."""
         in_file = ["--db", self.work / "registry.db"]
-        run = self.replay(*in_file, script=self.SCRIPT, preexec_fn=limit_memory)
-        self.assert_ended(run, self.ANSWERS)
+        run = self.run_replay(*in_file, script=self.SCRIPT, preexec_fn=limit_memory)
+        self.assert_run(run, self.ANSWERS)
         labels = {sender: 32 * "\\" for sender in range(1000)}
         script = "".join(f"label {sender:08X} {label}\n" for sender, label in labels.items()) + "list\n"
         listed = device_lines(dict.fromkeys(labels, ("D5-00-01", None)), labels)
-        run = self.replay(*in_file, script=script, preexec_fn=limit_memory)
-        self.assert_ended(run, 1000 * OK + listed)
+        run = self.run_replay(*in_file, script=script, preexec_fn=limit_memory)
+        self.assert_run(run, 1000 * OK_LINE + listed)
 
 
 if __name__ == "__main__":

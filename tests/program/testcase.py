@@ -8,11 +8,11 @@ import unittest
 from runs import PROGRAM, preload_environment
 
 # In seconds. Only a run that hangs is stopped: on a busy machine the longest, with 2,022 syncs, took 8 seconds.
-TIMEOUT = 120
-NOTHING = pathlib.Path(os.devnull)
+RUN_TIMEOUT = 120
+EMPTY_INPUT = pathlib.Path(os.devnull)
 
 
-def text_of(content):
+def decoded_text(content):
     """Bytes as a text that has each of them, also if they are no UTF-8."""
     return (content or b"").decode(errors="surrogateescape")
 
@@ -32,7 +32,7 @@ class ProgramTest(unittest.TestCase):
     def setUp(self):
         self.work = pathlib.Path(self.enterContext(tempfile.TemporaryDirectory()))
 
-    def file(self, name, content=""):
+    def write_file(self, name, content=""):
         """Writes a file to the folder, and returns its path."""
         path = self.work / name
         path.write_bytes(content if isinstance(content, bytes) else content.encode())
@@ -46,23 +46,23 @@ class ProgramTest(unittest.TestCase):
         """The environment of a run whose calls are counted by a library. The library reads these variables."""
         return self.preload_environment("count_calls.c", COUNT_CALLS=self.work / "calls", **variables)
 
-    def calls(self, kind=""):
+    def counted_calls(self, kind=""):
         """How many calls that run has made, by those of the names in the library that begin like this."""
         pairs = (line.rsplit(" ", 1) for line in (self.work / "calls").read_text().splitlines())
         return {name: int(count) for name, count in pairs if name.startswith(kind)}
 
-    def run_program(self, *words, script=NOTHING, program=PROGRAM, **settings):
+    def run_program(self, *words, script=EMPTY_INPUT, program=PROGRAM, **settings):
         """Runs the program, or a copy of it. Its standard input is the file `script`, or a new file with this text. The
         settings are those of `subprocess.run`."""
-        script = script if isinstance(script, pathlib.Path) else self.file("script", script)
+        script = script if isinstance(script, pathlib.Path) else self.write_file("script", script)
         with script.open("rb") as stdin:
-            defaults = {"stdin": stdin, "stdout": subprocess.PIPE, "stderr": subprocess.PIPE, "timeout": TIMEOUT}
+            defaults = {"stdin": stdin, "stdout": subprocess.PIPE, "stderr": subprocess.PIPE, "timeout": RUN_TIMEOUT}
             return subprocess.run([program, *words], **{**defaults, **settings})
 
-    def replay(self, *options, base="FF800000", script=NOTHING, **settings):
+    def run_replay(self, *options, base="FF800000", script=EMPTY_INPUT, **settings):
         return self.run_program("replay", "--base", base, *options, script=script, **settings)
 
-    def assert_text(self, found, wanted):
+    def assert_text_equal(self, found, wanted):
         """The texts are equal. If they are not, the message shows a few lines, from the one before the first
         difference."""
         if found != wanted:
@@ -71,27 +71,27 @@ class ProgramTest(unittest.TestCase):
             shown, wanted_shown = ("".join(some[start : start + 10]) for some in (lines, wanted_lines))
             self.assertEqual(shown, wanted_shown, f"from line {start + 1}")
 
-    def assert_ended(self, run, output="", error="", status=0):
+    def assert_run(self, run, output="", error="", status=0):
         """The run printed exactly these texts to standard output and standard error, and ended with this status."""
         with self.subTest(of="standard output"):
-            self.assert_text(text_of(run.stdout), output)
+            self.assert_text_equal(decoded_text(run.stdout), output)
         with self.subTest(of="standard error"):
-            self.assert_text(text_of(run.stderr), error)
+            self.assert_text_equal(decoded_text(run.stderr), error)
         with self.subTest(of="status"):
             self.assertEqual(run.returncode, status)
 
     def assert_fault(self, run, fault, status=1):
         """The run ended with this status, and printed only the line of this fault, to standard error."""
-        self.assert_ended(run, error=f"enogate: {fault}\n", status=status)
+        self.assert_run(run, error=f"enogate: {fault}\n", status=status)
 
     def assert_usage(self, run, text):
         """The run ended with status 2, and printed a message with this text, to standard error only."""
-        self.assertIn(text, text_of(run.stderr))
-        self.assertEqual((text_of(run.stdout), run.returncode), ("", 2))
+        self.assertIn(text, decoded_text(run.stderr))
+        self.assertEqual((decoded_text(run.stdout), run.returncode), ("", 2))
 
-    def assert_content(self, path, text):
+    def assert_file_content(self, path, text):
         """The file has exactly this text."""
-        self.assert_text(text_of(path.read_bytes()), text)
+        self.assert_text_equal(decoded_text(path.read_bytes()), text)
 
 
 class LiveTest(ProgramTest):
@@ -99,16 +99,16 @@ class LiveTest(ProgramTest):
 
     def setUp(self):
         super().setUp()
-        self.line, self.desk, self.answers = self.file("line"), self.file("desk"), self.work / "answers"
+        self.line, self.desk, self.answers = self.write_file("line"), self.write_file("desk"), self.work / "answers"
 
-    def live_words(self, *options, turns=1, line=None, desk=None, answers=None):
+    def live_command(self, *options, turns=1, line=None, desk=None, answers=None):
         """The command line of `live` with these options. The defaults are the files of the test."""
         line, desk = self.line if line is None else line, self.desk if desk is None else desk
         answers = self.answers if answers is None else answers
         words = ["live", "--base", "FF800000", "--serial", line, "--desk", desk, "--out", answers]
         return [*words, "--turns", str(turns), *options]
 
-    def live(self, *options, turns=1, line=None, desk=None, answers=None, **settings):
+    def run_live(self, *options, turns=1, line=None, desk=None, answers=None, **settings):
         """Runs `live` to its end."""
-        words = self.live_words(*options, turns=turns, line=line, desk=desk, answers=answers)
+        words = self.live_command(*options, turns=turns, line=line, desk=desk, answers=answers)
         return self.run_program(*words, **settings)
