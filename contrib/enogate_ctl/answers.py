@@ -37,11 +37,12 @@ from enogate_tools import share
 # A fence, and the last fence of a text, which shows where the text ends. The gateway removes one CR before LF.
 FENCE, LAST_FENCE = b"status\n", b"status\r\n"
 # The minimum number of fences before an order.
-LEAST = 2
+MIN_FENCES = 2
 # The errors that packets have, too.
-SHARED = frozenset({"memory", "store"})
+PACKET_ERRORS = frozenset({"memory", "store"})
 # The errors that each order can have, by its first word.
-ERRORS = {verb: frozenset().union(*(errors for _, errors in forms)) for verb, forms in share.order_forms().items()}
+ERRORS_BY_VERB = {verb: frozenset().union(*(errors for _, errors in forms))
+                  for verb, forms in share.order_forms().items()}
 
 
 class Line(NamedTuple):
@@ -60,9 +61,9 @@ class Line(NamedTuple):
         return str(self.members["error"]) if self.kind == "error" else None
 
     @property
-    def is_own(self) -> bool:
+    def is_from_order(self) -> bool:
         """Whether only orders give such lines."""
-        return self.kind in ("ok", "device", "list") or (self.kind == "error" and self.error not in SHARED)
+        return self.kind in ("ok", "device", "list") or (self.kind == "error" and self.error not in PACKET_ERRORS)
 
 
 class Answer(NamedTuple):
@@ -86,28 +87,28 @@ class Interval:
 
     def __init__(self, opening: Status):
         self.opening = opening
-        self.own: list[Line] = []
-        self.teach: list[Line] = []
-        self.failed: list[Line] = []
+        self.order_lines: list[Line] = []
+        self.teach_lines: list[Line] = []
+        self.errors: list[Line] = []
         # whether the last line explained a packet that failed: the next line is its error
         self.follows_failed = False
 
-    def take(self, line: Line) -> None:
+    def add(self, line: Line) -> None:
         """Adds a line, unless a packet gave it."""
-        if line.is_own:
-            self.own.append(line)
+        if line.is_from_order:
+            self.order_lines.append(line)
         elif line.kind == "teach":
-            self.teach.append(line)
+            self.teach_lines.append(line)
         elif line.kind == "error" and not self.follows_failed:
-            self.failed.append(line)
+            self.errors.append(line)
         self.follows_failed = line.kind == "packet" and line.members.get("why") == "refused"
 
-    def taught_by_orders(self, closing: Status) -> int:
+    def count_order_teach_lines(self, closing: Status) -> int:
         """How many of the teach lines no packet gave."""
-        return len(self.teach) - (closing.counters["teach"] - self.opening.counters["teach"])
+        return len(self.teach_lines) - (closing.counters["teach"] - self.opening.counters["teach"])
 
 
-def line_of(raw: bytes) -> Line | None:
+def parse_line(raw: bytes) -> Line | None:
     """The line, or None if it is not one of a gateway."""
     try:
         members = members_of(raw)
@@ -121,10 +122,10 @@ def line_of(raw: bytes) -> Line | None:
     return Line(raw, members, content)
 
 
-def is_of_order(raw: bytes) -> bool:
+def is_line_of_order(raw: bytes) -> bool:
     """Whether only an order can have given this line."""
-    line = line_of(raw)
-    return line is not None and (line.is_own or isinstance(line.content, Status))
+    line = parse_line(raw)
+    return line is not None and (line.is_from_order or isinstance(line.content, Status))
 
 
 class AnswerFinder:
@@ -134,7 +135,7 @@ class AnswerFinder:
 
     def __init__(self, *orders: str):
         self.orders = [Order(order) for order in orders]
-        self.least = self.least_with_errors = LEAST
+        self.least = self.least_with_errors = MIN_FENCES
         # How many status lines have come without a line of an order between them, and how many of them after the last
         # error `memory` or `store`. An error that the packet line of a failed packet explains does not count.
         self.fences = self.fences_after_error = 0
@@ -145,36 +146,36 @@ class AnswerFinder:
         self.is_done = False
 
     @property
-    def count(self) -> int:
+    def answered_count(self) -> int:
         """How many of the orders may have been answered so far."""
         return max(map(len, self.begun), default=0)
 
     @property
-    def text(self) -> bytes:
+    def desk_text(self) -> bytes:
         """The text for the desk."""
-        if self.is_status:
+        if self.is_status_order:
             return FENCE
-        return FENCE * self.least + FENCE.join(order.text for order in self.orders) + LAST_FENCE
+        return FENCE * self.least + FENCE.join(order.as_line for order in self.orders) + LAST_FENCE
 
     @property
-    def is_status(self) -> bool:
+    def is_status_order(self) -> bool:
         """Whether the order is `status`."""
         return self.orders[0].verb == "status"
 
-    def take(self, raw: bytes) -> list[Answer] | None:
+    def handle_line(self, raw: bytes) -> list[Answer] | None:
         """The answers, if the last one ends with this line."""
-        line = line_of(raw)
+        line = parse_line(raw)
         if line is None:
             return None
         if isinstance(line.content, Status):
-            return self.take_status(line, line.content)
+            return self.handle_status_line(line, line.content)
         if self.interval:
-            self.interval.take(line)
+            self.interval.add(line)
         return None
 
-    def take_status(self, line: Line, closing: Status) -> list[Answer] | None:
+    def handle_status_line(self, line: Line, closing: Status) -> list[Answer] | None:
         """The answers, if this status line is the closing fence of the last order."""
-        if self.is_status:
+        if self.is_status_order:
             return [Answer([line])]
         interval, self.interval = self.interval, Interval(closing)
         if interval is None:
@@ -184,9 +185,9 @@ class AnswerFinder:
             self.begun.append([])
         self.begun = [[*answers, answer] for answers in self.begun
                       if (answer := self.orders[len(answers)].answer_in(interval, closing))]
-        has_order = bool(interval.own) or interval.taught_by_orders(closing) != 0
+        has_order = bool(interval.order_lines) or interval.count_order_teach_lines(closing) != 0
         self.fences = 1 if has_order else self.fences + 1
-        self.fences_after_error = 1 if has_order or interval.failed else self.fences_after_error + 1
+        self.fences_after_error = 1 if has_order or interval.errors else self.fences_after_error + 1
         return next((answers for answers in self.begun if len(answers) == len(self.orders)), None)
 
 
@@ -198,33 +199,33 @@ class Order:
         self.verb = self.words[0]
 
     @property
-    def text(self) -> bytes:
+    def as_line(self) -> bytes:
         """The order as a line."""
         return " ".join(self.words).encode("ascii") + b"\n"
 
     def answer_in(self, interval: Interval, closing: Status) -> Answer | None:
         """The answer between two status lines, if they are those next to the order."""
-        taught = interval.taught_by_orders(closing)
-        if interval.own:
-            return Answer(interval.own) if taught == 0 and self.are_answer(interval.own) else None
+        taught = interval.count_order_teach_lines(closing)
+        if interval.order_lines:
+            return Answer(interval.order_lines) if taught == 0 and self.is_whole_answer(interval.order_lines) else None
         if taught:
-            fitting = [line for line in interval.teach if self.fits(line)]
+            fitting = [line for line in interval.teach_lines if self.is_answered_by(line)]
             return Answer(fitting[-1:]) if taught == 1 and fitting else None
-        fitting = [line for line in interval.failed if self.fits(line)]
+        fitting = [line for line in interval.errors if self.is_answered_by(line)]
         return Answer(fitting[-1:]) if fitting else None
 
-    def are_answer(self, own: list[Line]) -> bool:
+    def is_whole_answer(self, order_lines: list[Line]) -> bool:
         """Whether these lines are exactly one answer that this order can have."""
         if self.verb == "list":
-            *devices, end = own
+            *devices, end = order_lines
             return (isinstance(end.content, EndOfList) and end.content.count == len(devices)
                     and all(isinstance(line.content, Listed) for line in devices))
-        return len(own) == 1 and self.fits(own[0])
+        return len(order_lines) == 1 and self.is_answered_by(order_lines[0])
 
-    def fits(self, line: Line) -> bool:
+    def is_answered_by(self, line: Line) -> bool:
         """Whether this line can answer the order, which is not `list`; or whether it is an error that it can have."""
         if line.kind == "error":
-            return line.error in ERRORS[self.verb]
+            return line.error in ERRORS_BY_VERB[self.verb]
         match self.verb, line.content:
             case "add", Learned(device, eep, maker):
                 return (device, eep, maker) == (self.words[1].upper(), self.words[2].upper(), None)

@@ -10,12 +10,12 @@ import contextlib
 from enogate_lines.contents import Response
 from enogate_tools.port import is_base
 
-from .answers import Answer, Line, line_of
+from .answers import Answer, Line, parse_line
 from .client import PAUSE, Client, Lines, NoAnswer
-from .grammar import BASE
+from .grammar import BASE_ORDER
 
 
-def reported(line: Line | None) -> str | None:
+def base_id_in(line: Line | None) -> str | None:
     """The base ID that a line reports; None if it is another line."""
     match line.content if line else None:
         case Response(0, data) if is_base(data):
@@ -23,21 +23,21 @@ def reported(line: Line | None) -> str | None:
     return None
 
 
-def base_answer(client: Client) -> Answer:
+def ask_base(client: Client) -> Answer:
     """The answer to the order `base` and the response with the base ID, or NoAnswer if one of them does not come in
     time."""
     limit = client.clock() + client.timeout
     with contextlib.closing(client.follow()) as lines:
         # This order has no errors.
-        answer = client.ask(BASE)
-        return Answer([*answer.lines, wait(client, lines, limit)])
+        answer = client.ask(BASE_ORDER)
+        return Answer([*answer.lines, wait_for_base_id(client, lines, limit)])
 
 
-def wait(client: Client, lines: Lines, limit: float) -> Line:
+def wait_for_base_id(client: Client, lines: Lines, limit: float) -> Line:
     """The line that reports the base ID, or NoAnswer if it does not come in time. The desk is not locked meanwhile."""
     while True:
-        for line in map(line_of, lines.read()):
-            if line and reported(line):
+        for line in map(parse_line, lines.read()):
+            if line and base_id_in(line):
                 return line
         if client.clock() >= limit:
             raise NoAnswer(f"the gateway has asked the radio module, which did not report its base ID within "

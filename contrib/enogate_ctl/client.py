@@ -11,18 +11,18 @@ from enogate_lines.follow import Follower, position_at_end, ignore_message
 from enogate_tools.files import Unsafe, open_file
 from enogate_tools.gateways import Paths
 
-from .answers import Answer, AnswerFinder, is_of_order
-from .desk_file import DeskFile, Unusable
-from .fence import is_longest, needed
-from .stops import Stopped, held, restore
+from .answers import Answer, AnswerFinder, is_line_of_order
+from .desk_file import DeskFile, UnusableFile
+from .fence import are_enough_fences, needed_fences
+from .stops import Stopped, block_signals, restore_default_handlers
 
 # The pauses of the command and of the process that keeps the lock, in seconds.
 PAUSE, LONG_PAUSE = 0.01, 0.1
 # How long that process keeps the lock: in all, and after the gateway answers orders again. The second is for an order
 # whose fence failed, which never gets its answer.
-LONGEST_KEPT, KEPT_AFTER_ANSWER = 3600.0, 10.0
+MAX_LOCK_SECONDS, LOCK_SECONDS_AFTER_ANSWER = 3600.0, 10.0
 # A number of fences that never comes. With it, the process keeps the lock as long as for an order without an answer.
-NEVER = sys.maxsize
+UNREACHABLE_FENCES = sys.maxsize
 Taken = TypeVar("Taken")
 
 
@@ -30,15 +30,15 @@ class NoAnswer(Exception):
     """The gateway did not answer in time. The text is a sentence that says why, and what to do."""
 
 
-class Unreadable(Exception):
+class UnreadableLines(Exception):
     """The lines cannot be read. The text is a sentence that says why, and what to do."""
 
 
-class TooLate(Exception):
+class AnswerTimeout(Exception):
     """The time for an answer is over."""
 
 
-class Unrecognizable(Exception):
+class AmbiguousAnswer(Exception):
     """Another program wrote orders at the same moment, and their answers could be taken for those of the command."""
 
 
@@ -52,10 +52,10 @@ class Lines:
             # The file appears with the first line.
             pass
         except Unsafe as error:
-            raise Unusable(f"the lines {path} cannot be read: {error.strerror}") from error
+            raise UnusableFile(f"the lines {path} cannot be read: {error.strerror}") from error
         except OSError as error:
-            raise Unusable(f"the lines {path} cannot be read: {error.strerror}; become root, or a member of the group "
-                           "enogate (log in again afterwards)") from error
+            raise UnusableFile(f"the lines {path} cannot be read: {error.strerror}; become root, or a member of the "
+                               "group enogate (log in again afterwards)") from error
         start = position_at_end(path, earlier)
         self.follower = Follower(path, start, ignore_message)
         # The lines that were read, and not taken.
@@ -69,7 +69,7 @@ class Lines:
         return self.follower.is_at_end
 
     @property
-    def are_rotated(self) -> bool:
+    def is_at_end_of_rotated_file(self) -> bool:
         """Whether the last call of `read` found the end of a rotated file. A line may still be written to it."""
         return self.follower.seen_next is not None
 
@@ -81,7 +81,7 @@ class Lines:
         found, self.unread = self.unread + found, []
         return found
 
-    def first(self, take: Callable[[bytes], Taken | None]) -> Taken | None:
+    def first_result(self, take: Callable[[bytes], Taken | None]) -> Taken | None:
         """What `take` returns of the first of these lines for which it returns something. The lines after that one are
         read again."""
         found = self.read()
@@ -107,7 +107,7 @@ class Client:
         """The lines from now on, or NoAnswer if they cannot be read."""
         try:
             return Lines(self.paths.lines)
-        except Unusable as error:
+        except UnusableFile as error:
             raise NoAnswer(str(error)) from error
 
     def ask(self, order: str) -> Answer:
@@ -129,10 +129,10 @@ class Client:
             file = DeskFile(self.paths.desk)
             try:
                 self.lock(file, limit)
-                return self.ask_locked(file, AnswerFinder(*orders), limit)
+                return self.ask_with_lock(file, AnswerFinder(*orders), limit)
             finally:
                 file.close()
-        except Unusable as error:
+        except UnusableFile as error:
             raise NoAnswer(str(error)) from error
 
     def lock(self, file: DeskFile, limit: float) -> None:
@@ -143,18 +143,18 @@ class Client:
                                "a restart of the gateway ends the wait")
             self.sleep(PAUSE)
 
-    def ask_locked(self, file: DeskFile, finder: AnswerFinder, limit: float) -> tuple[list[Answer], Lines]:
+    def ask_with_lock(self, file: DeskFile, finder: AnswerFinder, limit: float) -> tuple[list[Answer], Lines]:
         """Writes the orders and waits for their answers. Returns these, and the lines after them."""
         lines, answers = Lines(self.paths.lines), None
         try:
-            self.write(file, finder)
+            self.append_orders(file, finder)
             answers = self.wait(file, lines, finder, limit)
             return answers, lines
-        except TooLate as late:
+        except AnswerTimeout as late:
             self.keep_lock(file, lines, finder)
             raise NoAnswer(f"the gateway did not answer within {self.timeout:g} s, and may still carry out the order: "
                            "check the gateway with enogate-check") from late
-        except Unrecognizable as error:
+        except AmbiguousAnswer as error:
             self.keep_lock(file, lines, finder)
             raise NoAnswer("another program gave orders at the same moment, so no answer can be recognized: find out "
                            "with `list` or `status` whether the order was carried out, and give it again if not"
@@ -167,19 +167,19 @@ class Client:
             if answers is None:
                 lines.close()
 
-    def write(self, file: DeskFile, finder: AnswerFinder) -> None:
+    def append_orders(self, file: DeskFile, finder: AnswerFinder) -> None:
         """Writes the orders with the fences that they need. The lines must be open already: then all orders whose
         answers can still come are on the desk when it is read. Other programs may write before the orders are appended,
-        so the desk is read again afterwards. Raises Unrecognizable if the fences turn out to be too few."""
-        finder.least = needed(file.read())
-        with held():
-            file.append(finder.text)
+        so the desk is read again afterwards. Raises AmbiguousAnswer if the fences turn out to be too few."""
+        finder.least = needed_fences(file.read())
+        with block_signals():
+            file.append(finder.desk_text)
             desk = file.read()
-            finder.least_with_errors = needed(desk, with_errors=True)
-            if not finder.is_status and not is_longest(finder.least, desk, file.text):
-                finder.least = finder.least_with_errors = NEVER
-        if finder.least == NEVER:
-            raise Unrecognizable
+            finder.least_with_errors = needed_fences(desk, with_errors=True)
+            if not finder.is_status_order and not are_enough_fences(finder.least, desk, file.text):
+                finder.least = finder.least_with_errors = UNREACHABLE_FENCES
+        if finder.least == UNREACHABLE_FENCES:
+            raise AmbiguousAnswer
 
     def wait(self, file: DeskFile, lines: Lines, finder: AnswerFinder, limit: float) -> list[Answer]:
         """The answers, if they come in time and the desk still has the orders then. The time limit begins again with
@@ -187,16 +187,16 @@ class Client:
         count = 0
         while True:
             # A line is read only once, so a signal must not interrupt this before the line is taken.
-            with held():
-                answers = lines.first(finder.take)
+            with block_signals():
+                answers = lines.first_result(finder.handle_line)
                 finder.is_done = answers is not None
             file.check()
             if answers:
                 return answers
-            if finder.count > count:
-                count, limit = finder.count, self.clock() + self.timeout
+            if finder.answered_count > count:
+                count, limit = finder.answered_count, self.clock() + self.timeout
             if self.clock() >= limit:
-                raise TooLate
+                raise AnswerTimeout
             self.sleep(PAUSE)
 
     def keep_lock(self, file: DeskFile, lines: Lines, finder: AnswerFinder) -> None:
@@ -205,27 +205,27 @@ class Client:
         if self.fork():
             return
         try:
-            restore()
+            restore_default_handlers()
             os.setsid()
             nothing = os.open(os.devnull, os.O_RDWR)
             for number in (0, 1, 2):
                 os.dup2(nothing, number)
-            self.wait_for_end(file, lines, finder)
+            self.wait_for_last_answer(file, lines, finder)
         finally:
             os._exit(0)
 
-    def wait_for_end(self, file: DeskFile, lines: Lines, finder: AnswerFinder) -> None:
-        """Returns or fails once no answer to the orders can come any more. KEPT_AFTER_ANSWER begins again with each
-        answer to them."""
-        end = limit = self.clock() + LONGEST_KEPT
-        count = finder.count
+    def wait_for_last_answer(self, file: DeskFile, lines: Lines, finder: AnswerFinder) -> None:
+        """Returns or fails once no answer to the orders can come any more. LOCK_SECONDS_AFTER_ANSWER begins again with
+        each answer to them."""
+        end = limit = self.clock() + MAX_LOCK_SECONDS
+        count = finder.answered_count
         while self.clock() < limit:
             for line in lines.read():
-                if finder.take(line):
+                if finder.handle_line(line):
                     return
-                if finder.count > count:
-                    count, limit = finder.count, end
-                if is_of_order(line):
-                    limit = min(limit, self.clock() + KEPT_AFTER_ANSWER)
+                if finder.answered_count > count:
+                    count, limit = finder.answered_count, end
+                if is_line_of_order(line):
+                    limit = min(limit, self.clock() + LOCK_SECONDS_AFTER_ANSWER)
             file.check()
             self.sleep(LONG_PAUSE)

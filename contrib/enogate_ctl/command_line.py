@@ -4,6 +4,7 @@ from __future__ import annotations
 import argparse
 import contextlib
 import math
+import re
 from collections.abc import Sequence
 from typing import NamedTuple, NoReturn
 
@@ -15,24 +16,27 @@ from . import grammar
 
 TIMEOUT = 10.0
 # How long a command at a terminal waits for what the device reports after an order, by the first word of the order, in
-# seconds. Devices answer at once. A blind reports when it stands still, and a whole way takes a tall one a minute, more
-# with slow motors.
-ANSWERED_WITHIN, BLIND_WITHIN = 3.0, 120.0
-WAITS = {**dict.fromkeys(("switch", "dim", "query", "meter", "stop"), ANSWERED_WITHIN), "blind": BLIND_WITHIN}
+# seconds. Devices answer at once. A blind reports when it stands still: a full run takes a tall one a minute, or more
+# with a slow motor.
+REPORT_TIMEOUT, BLIND_REPORT_TIMEOUT = 3.0, 120.0
+REPORT_TIMEOUTS = {**dict.fromkeys(("switch", "dim", "query", "meter", "stop"), REPORT_TIMEOUT),
+                   "blind": BLIND_REPORT_TIMEOUT}
 USAGE = """enogatectl [--timeout SECONDS] [--wait SECONDS|--no-wait] [--json] [--desk PATH] [--lines PATH] GATEWAY
                   ORDER..
        enogatectl [..] GATEWAY learn on|on answer|as EEP --for SECONDS
        enogatectl [..] GATEWAY devices [--export|--import]
        enogatectl [..] GATEWAY lines|watch
-       enogatectl help [ORDER]
+       enogatectl [..] GATEWAY replace OLD NEW [EEP]
+       enogatectl [..] GATEWAY backup [DIRECTORY]
+       enogatectl help [ORDER|COMMAND]
        enogatectl base PORT
        enogatectl paths
        enogatectl --serve"""
-# The options that not all commands have, by what their values are called here.
+# The options that not all commands have, by the names of their values.
 OPTIONS = {"json": "json", "seconds": "for", "exports": "export", "imports": "import", "desk": "desk", "lines": "lines",
            "wait": "wait", "no_wait": "no-wait"}
 EPILOG = ("GATEWAY is the name of a gateway, for example `hall` for enogate@hall.service. ORDER is one of: "
-          f"{', '.join(grammar.FORMS)}. Words after -- are part of the order, even if they begin with -. "
+          f"{', '.join(grammar.FORMS_BY_VERB)}. Words after -- are part of the order, even if they begin with -. "
           "The exit status is 0 if the order was carried out, 1 if the gateway refused it or it failed, 2 if the "
           "command line is invalid, 3 if the gateway does not run or did not answer in time, and 4 if the device "
           "reported nothing. See enogatectl(1).")
@@ -48,11 +52,11 @@ class ShowPaths(NamedTuple):
 
 
 class ShowHelp(NamedTuple):
-    """Prints the forms of the orders, or of those with this first word."""
+    """Prints the forms of the orders, or of those with this first word, or the usage of this command."""
     verb: str
 
 
-class Give(NamedTuple):
+class GiveOrder(NamedTuple):
     """Gives an order to a gateway. With `seconds`, it opens the learn window for this time. It waits for the report of
     the device as long as `wait` says: None is the default. With a label, `order` has the word ID in place of the ID of
     the device with this label."""
@@ -65,19 +69,36 @@ class Give(NamedTuple):
     label: str = ""
 
 
-class Export(NamedTuple):
+class ExportDevices(NamedTuple):
     """Writes the devices of a gateway as CSV."""
     paths: Paths
     timeout: float
 
 
-class Import(NamedTuple):
+class ImportDevices(NamedTuple):
     """Learns the devices of a CSV file."""
     paths: Paths
     timeout: float
 
 
-class ShowRecorded(NamedTuple):
+class ReplaceDevice(NamedTuple):
+    """Learns the device `new` in place of the one with the ID or label `old`, with its profile or with `eep`."""
+    paths: Paths
+    timeout: float
+    old: str
+    new: str
+    eep: str = ""
+
+
+class BackUp(NamedTuple):
+    """Writes a backup of the gateway `name` to a directory."""
+    paths: Paths
+    timeout: float
+    name: str
+    folder: str = "/var/backups/enogate"
+
+
+class ShowDevices(NamedTuple):
     """Prints the devices of a gateway as its lines record them."""
     paths: Paths
     is_json: bool
@@ -98,7 +119,8 @@ class Serve(NamedTuple):
 
 
 Following = ShowLines | ShowReadings
-Command = AskBase | ShowPaths | ShowHelp | Serve | Give | Export | Import | ShowRecorded | Following
+OrderCommand = GiveOrder | ExportDevices | ImportDevices | ReplaceDevice | BackUp
+Command = AskBase | ShowPaths | ShowHelp | Serve | OrderCommand | ShowDevices | Following
 
 
 def seconds_of(text: str) -> float:
@@ -110,7 +132,7 @@ def seconds_of(text: str) -> float:
     raise argparse.ArgumentTypeError(f"{text!r} is not a number of seconds greater than 0")
 
 
-# How a message of argparse begins, which has all words that it does not know.
+# The beginning of argparse's message about unknown words.
 UNRECOGNIZED = "unrecognized arguments: "
 
 
@@ -123,7 +145,7 @@ class Parser(argparse.ArgumentParser):
         if message.startswith(UNRECOGNIZED):
             option = message.removeprefix(UNRECOGNIZED).split(" ")[0]
             known = (f"--{name}" for name in ("help", "serve", "timeout", "version", *OPTIONS.values()))
-            message = f"there is no option {option}{grammar.nearest(option, known)}"
+            message = f"there is no option {option}{grammar.suggestion(option, known)}"
         self.exit(2, f"enogatectl: {printable(message)}\n")
 
 
@@ -137,7 +159,7 @@ def parser() -> argparse.ArgumentParser:
                       help=f"how long to wait for the answer (default: {TIMEOUT:g})")
     made.add_argument("--wait", metavar="SECONDS", type=seconds_of,
                       help="with an order to a device: how long to wait until it reports what it did (default at a "
-                      f"terminal: {ANSWERED_WITHIN:g}, for a blind {BLIND_WITHIN:g}; otherwise no wait)")
+                      f"terminal: {REPORT_TIMEOUT:g}, for a blind {BLIND_REPORT_TIMEOUT:g}; otherwise no wait)")
     made.add_argument("--no-wait", action="store_true", help="do not wait for that")
     made.add_argument("--json", action="store_true", help="print the lines of the answer as they are")
     made.add_argument("--desk", metavar="PATH", help="desk of a gateway without a unit")
@@ -197,30 +219,35 @@ class CommandLine:
         if words.order in (["lines"], ["watch"]):
             self.allow(words.order[0], "desk", "lines")
             return (ShowLines if words.order == ["lines"] else ShowReadings)(self.paths())
+        if words.order[:1] == ["backup"] and len(words.order) < 3:
+            self.allow("backup", "desk", "lines")
+            return BackUp(self.paths(), words.timeout, words.gateway, *words.order[1:])
+        if words.order[:1] == ["replace"]:
+            return self.replace(*words.order[1:])
         if hint := self.hint():
             self.fail(hint)
         self.allow("an order", "desk", "lines", "json", "seconds", "wait", "no_wait")
         try:
             order, label = grammar.order_and_label(words.order)
-        except grammar.NoOrder as error:
+        except grammar.InvalidOrder as error:
             self.fail(str(error) if any(words.order) else "an order is required")
         if words.seconds is not None and not opens_window(order.encode()):
             self.fail("--for needs an order that opens the learn window: learn on, learn on answer, or learn as EEP")
-        return Give(self.paths(), words.timeout, words.json, order, words.seconds, self.wait(order), label)
+        return GiveOrder(self.paths(), words.timeout, words.json, order, words.seconds, self.wait(order), label)
 
     def wait(self, order: str) -> float | None:
         """How long the order waits for the report of its device; None if this is not set."""
         words = self.words
         if words.wait and words.no_wait:
             self.fail("--wait and --no-wait cannot be used together")
-        if words.wait and order.split(" ")[0] not in WAITS:
-            self.fail(f"--wait needs an order after which a device reports something: {', '.join(WAITS)}")
+        if words.wait and order.split(" ")[0] not in REPORT_TIMEOUTS:
+            self.fail(f"--wait needs an order after which a device reports something: {', '.join(REPORT_TIMEOUTS)}")
         return 0.0 if words.no_wait else words.wait
 
     def hint(self) -> str:
         """What to write instead, if the name of the gateway or the path of the port is missing; otherwise empty."""
         first, others = self.words.gateway, self.words.order
-        if first not in (*grammar.FORMS, *grammar.COMMANDS) or (others and others[0] in grammar.FORMS):
+        if first not in (*grammar.FORMS_BY_VERB, *grammar.COMMANDS) or (others and others[0] in grammar.FORMS_BY_VERB):
             return ""
         if first == "base" and others:
             return ("base needs the path of a serial port, such as /dev/enocean; give the order as: enogatectl GATEWAY "
@@ -230,20 +257,30 @@ class CommandLine:
     def help(self, verb: str = "") -> Command:
         """The command `help`."""
         self.allow("help", "desk", "lines")
-        if verb and verb not in grammar.FORMS:
-            self.fail(str(grammar.refusal(verb)))
+        if verb and verb not in (*grammar.FORMS_BY_VERB, *grammar.COMMANDS):
+            self.fail(str(grammar.invalid_order(verb)))
         return ShowHelp(verb)
 
     def devices(self) -> Command:
         """The command `devices`."""
         self.allow("devices", "desk", "lines", "json", "exports", "imports")
         if not self.words.exports and not self.words.imports:
-            return ShowRecorded(self.paths(), self.words.json)
+            return ShowDevices(self.paths(), self.words.json)
         if self.words.exports and self.words.imports:
             self.fail("--export and --import cannot be used together")
         self.allow("devices --export and devices --import", "desk", "lines", "exports", "imports")
-        kind = Export if self.words.exports else Import
+        kind = ExportDevices if self.words.exports else ImportDevices
         return kind(self.paths(), self.words.timeout)
+
+    def replace(self, *words: str) -> Command:
+        """The command `replace`."""
+        self.allow("replace", "desk", "lines")
+        one = grammar.ID_PATTERN
+        shape = f"(?:{one}|{grammar.PATTERNS['TEXT']})\0{one}(?:\0{grammar.EEP_PATTERN})?"
+        if not re.fullmatch(shape, "\0".join(words)) or words[0].upper() == words[1].upper():
+            self.fail("the form is replace OLD NEW [EEP]: OLD is the ID or the label of a device, and NEW another ID")
+        old = words[0].upper() if re.fullmatch(one, words[0]) else words[0]
+        return ReplaceDevice(self.paths(), self.words.timeout, old, *map(str.upper, words[1:]))
 
     def paths(self) -> Paths:
         """The files of the gateway."""

@@ -10,7 +10,7 @@ from enogate_tools import share
 from enogate_tools.gateways import Paths
 
 from . import recent, words
-from .readings import readings
+from .readings import readings_text
 from .tables import table
 
 HEADINGS = ("LABEL", "ID", "PROFILE", "NAME", "LAST READINGS", "SIGNAL", "LAST SEEN")
@@ -19,12 +19,12 @@ HEADINGS = ("LABEL", "ID", "PROFILE", "NAME", "LAST READINGS", "SIGNAL", "LAST S
 def device_table(listed: Iterable[Listed], paths: Paths, now: datetime, most: int = 0) -> str:
     """The table of these devices, with at most so many characters in a row, unless that is 0."""
     telegrams = recent.last_telegrams(paths.lines)
-    times = recent.last_times(paths.bridge, paths.lines)
+    times = recent.last_seen_times(paths.bridge, paths.lines)
     names, rows = Table(), [HEADINGS]
     for device in listed:
         telegram, time = telegrams.get(device.device), times.get(device.device)
         is_current = telegram is not None and telegram.eep == device.eep
-        shown = readings(telegram, names) if telegram and is_current else ""
+        shown = readings_text(telegram, names) if telegram and is_current else ""
         signal = f"{telegram.dbm} dBm" if telegram and telegram.dbm is not None else ""
         age = words.age((now - time).total_seconds()) if time else ""
         row = (device.label, device.device, device.eep, share.device_kind(device.eep), shown, signal, age)

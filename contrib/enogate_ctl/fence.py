@@ -20,19 +20,20 @@ import re
 
 from enogate_tools.desk import INVALID_END
 
-from .answers import ERRORS, LEAST, SHARED
+from .answers import ERRORS_BY_VERB, MIN_FENCES, PACKET_ERRORS
 
 # The maximum number of fences before an order. With them, one order and its last fence fit in one read of the desk.
 MAX_FENCES = 24
-TEXT_END = re.compile(rb"^status\n(?!status\n)[^\r\n]+\nstatus\r\n", re.MULTILINE)
+COMMAND_TEXT_END = re.compile(rb"^status\n(?!status\n)[^\r\n]+\nstatus\r\n", re.MULTILINE)
 # The orders that cannot fail with `memory` or `store`.
-SURE = frozenset(verb.encode() for verb, errors in ERRORS.items() if not errors & SHARED)
+VERBS_WITHOUT_PACKET_ERRORS = frozenset(verb.encode() for verb, errors in ERRORS_BY_VERB.items()
+                                        if not errors & PACKET_ERRORS)
 
 
-def needed(desk: bytes, with_errors: bool = False) -> int:
+def needed_fences(desk: bytes, with_errors: bool = False) -> int:
     """The number of status lines in a row which shows that the next order that is not `status` is that of the command,
     if its fences follow what is on the desk. `with_errors`: errors `memory` or `store` are between the status lines."""
-    start = max((found.end() for found in TEXT_END.finditer(desk)), default=0)
+    start = max((found.end() for found in COMMAND_TEXT_END.finditer(desk)), default=0)
     desk += b"" if desk[-1:] in (b"", b"\n") else INVALID_END
     row = longest = 0
     for order in desk[start:].removesuffix(b"\n").split(b"\n"):
@@ -40,12 +41,12 @@ def needed(desk: bytes, with_errors: bool = False) -> int:
             row += 1
             continue
         longest = max(longest, row)
-        if not with_errors or order.split(b" ")[0] in SURE:
+        if not with_errors or order.split(b" ")[0] in VERBS_WITHOUT_PACKET_ERRORS:
             row = 0
-    return max(LEAST, longest + 1) if with_errors else max(LEAST, min(longest + 1, MAX_FENCES))
+    return max(MIN_FENCES, longest + 1) if with_errors else max(MIN_FENCES, min(longest + 1, MAX_FENCES))
 
 
-def is_longest(fences: int, desk: bytes, text: bytes) -> bool:
+def are_enough_fences(fences: int, desk: bytes, text: bytes) -> bool:
     """Whether this number of fences is enough for a text that follows what is on the desk, and whether the first fence
     is a line of its own."""
-    return needed(desk) <= fences and (desk[-1:] in (b"", b"\n") or text.startswith(INVALID_END))
+    return needed_fences(desk) <= fences and (desk[-1:] in (b"", b"\n") or text.startswith(INVALID_END))

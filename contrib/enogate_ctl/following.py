@@ -11,38 +11,38 @@ from enogate_lines.follow import ignore_message
 from enogate_lines.inotify import POLL_PAUSE, WatchedFiles
 from enogate_tools.gateways import Paths
 
-from .client import Lines, Unreadable
-from .desk_file import Unusable
+from .client import Lines, UnreadableLines
+from .desk_file import UnusableFile
 
 # How many bytes of earlier lines are printed.
-EARLIER = 1 << 20
+MAX_EARLIER_BYTES = 1 << 20
 
 
-def opened(paths: Paths, earlier: int = 0) -> Lines:
-    """The lines from now on, and those in so many bytes before. Raises Unreadable, also if there is neither a file of
-    lines nor a desk: the name of the gateway is probably wrong."""
+def open_lines(paths: Paths, earlier: int = 0) -> Lines:
+    """The lines from now on, and those in so many bytes before. Raises UnreadableLines, also if there is neither a file
+    of lines nor a desk: the name of the gateway is probably wrong."""
     if not (os.path.exists(paths.lines) or os.path.exists(paths.desk)):
-        raise Unreadable(f"there are no lines {paths.lines}: correct the name of the gateway, or start it")
+        raise UnreadableLines(f"there are no lines {paths.lines}: correct the name of the gateway, or start it")
     try:
         return Lines(paths.lines, earlier)
-    except Unusable as error:
-        raise Unreadable(str(error)) from error
+    except UnusableFile as error:
+        raise UnreadableLines(str(error)) from error
 
 
-def followed(lines: Lines, wait: Callable[[bool], bool]) -> Iterator[list[bytes]]:
+def follow_lines(lines: Lines, wait: Callable[[bool], bool]) -> Iterator[list[bytes]]:
     """The lines as they come, until nobody reads the output. `wait(True)` waits for new lines, `wait(False)` for a
     short time. Both return whether somebody still reads."""
     is_read = True
     while is_read:
         yield lines.read()
-        is_read = not (lines.is_at_end or lines.are_rotated) or wait(not lines.are_rotated)
+        is_read = not (lines.is_at_end or lines.is_at_end_of_rotated_file) or wait(not lines.is_at_end_of_rotated_file)
 
 
 def print_lines(paths: Paths, out: BinaryIO, wait: Callable[[bool], bool]) -> None:
-    """Prints the lines, or raises Unreadable."""
+    """Prints the lines, or raises UnreadableLines."""
     are_new = False
-    with contextlib.closing(opened(paths, EARLIER)) as lines:
-        for found in followed(lines, wait):
+    with contextlib.closing(open_lines(paths, MAX_EARLIER_BYTES)) as lines:
+        for found in follow_lines(lines, wait):
             out.write(b"".join(line + b"\n" for line in found if line))
             if lines.is_at_end and not are_new:
                 out.write(b"\n")
@@ -50,7 +50,7 @@ def print_lines(paths: Paths, out: BinaryIO, wait: Callable[[bool], bool]) -> No
             out.flush()
 
 
-class Reader:
+class OutputReader:
     """Whoever reads the output, to which the lines at this path are printed."""
 
     def __init__(self, path: str, out: BinaryIO):

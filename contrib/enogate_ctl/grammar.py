@@ -6,76 +6,77 @@ from collections.abc import Iterable, Sequence
 
 from enogate_tools import share
 
-ID = "[0-9A-Fa-f]{8}"
-EEP = "[0-9A-Fa-f]{2}-[0-9A-Fa-f]{2}-[0-9A-Fa-f]{2}"
+ID_PATTERN = "[0-9A-Fa-f]{8}"
+EEP_PATTERN = "[0-9A-Fa-f]{2}-[0-9A-Fa-f]{2}-[0-9A-Fa-f]{2}"
 # How a word in capital letters is written.
-SHAPES = {"ID": ID, "EEP": EEP, "TEXT": "[!-~](?:[ -~]{0,30}[!-~])?",
-          **dict.fromkeys(("CH", "OFF", "VAL", "RAMP"), "(?:0|[1-9][0-9]{0,4})")}
-BASE = "base"
-FORMS = share.order_forms()
-ORDERS = ", ".join(FORMS)
+PATTERNS = {"ID": ID_PATTERN, "EEP": EEP_PATTERN, "TEXT": "[!-~](?:[ -~]{0,30}[!-~])?",
+            **dict.fromkeys(("CH", "OFF", "VAL", "RAMP"), "(?:0|[1-9][0-9]{0,4})")}
+BASE_ORDER = "base"
+FORMS_BY_VERB = share.order_forms()
+VERB_LIST = ", ".join(FORMS_BY_VERB)
 # The commands about a gateway that are no orders.
-COMMANDS = ("devices", "help", "lines", "watch")
+COMMANDS = ("backup", "devices", "help", "lines", "replace", "watch")
 # The word in place of the ID of a device. The orders with these first words have an ID as the second word.
-PLACE, ANY_ID = "ID", "00000000"
-WITH_ID = frozenset(verb for verb, forms in FORMS.items() if forms[0][0].split(" ")[1:2] == [PLACE])
+ID_PLACEHOLDER, SAMPLE_ID = "ID", "00000000"
+VERBS_WITH_ID = frozenset(verb for verb, forms in FORMS_BY_VERB.items()
+                          if forms[0][0].split(" ")[1:2] == [ID_PLACEHOLDER])
 
 
-class NoOrder(ValueError):
+class InvalidOrder(ValueError):
     """A text is not an order. The text of the error says which form is expected."""
 
 
 def check_order(order: str) -> None:
-    """Raises NoOrder if the gateway would answer with `syntax`, or if a label is too long for it."""
+    """Raises InvalidOrder if the gateway would answer with `syntax`, or if a label is too long for it."""
     if not is_order(order):
-        raise refusal(order)
+        raise invalid_order(order)
 
 
 def is_order(text: str) -> bool:
     """Whether a text has the form of an order."""
-    return any(re.fullmatch(pattern(form), text) for form, _ in FORMS.get(text.split(" ", 1)[0], ()))
+    return any(re.fullmatch(pattern_of(form), text) for form, _ in FORMS_BY_VERB.get(text.split(" ", 1)[0], ()))
 
 
-def refusal(order: str) -> NoOrder:
+def invalid_order(order: str) -> InvalidOrder:
     """Why this text is not an order."""
     verb = order.split(" ", 1)[0]
-    if verb not in FORMS:
-        others = [one for one in (*FORMS, *COMMANDS) if one != verb]
-        return NoOrder(f"{order!r} is not an order{nearest(verb, others) or f': the orders are {ORDERS}'}")
-    shown = " | ".join(form for form, _ in FORMS[verb])
+    if verb not in FORMS_BY_VERB:
+        others = [one for one in (*FORMS_BY_VERB, *COMMANDS) if one != verb]
+        return InvalidOrder(f"{order!r} is not an order{suggestion(verb, others) or f': the orders are {VERB_LIST}'}")
+    shown = " | ".join(form for form, _ in FORMS_BY_VERB[verb])
     named = [f"{name}: {meaning}" for name, meaning in share.parameter_meanings().items() if name in shown.split(" ")]
-    return NoOrder(f"{order!r} is not an order: the form is {shown}" + (f" ({'; '.join(named)})" if named else ""))
+    return InvalidOrder(f"{order!r} is not an order: the form is {shown}" + (f" ({'; '.join(named)})" if named else ""))
 
 
 def order_and_label(words: Sequence[str]) -> tuple[str, str]:
-    """The order of these arguments, and an empty text. If the second one is the label of a device: the order with PLACE
-    there, and the label. Raises NoOrder if it is no order."""
+    """The order of these arguments, and an empty text. If the second one is the label of a device: the order with
+    ID_PLACEHOLDER there, and the label. Raises InvalidOrder if it is no order."""
     order = " ".join(words)
     verb, name = (*words, "", "")[:2]
-    if verb not in WITH_ID or re.fullmatch(ID, name):
+    if verb not in VERBS_WITH_ID or re.fullmatch(ID_PATTERN, name):
         check_order(order)
         return order, ""
     # This argument is a whole label, even if it begins with an ID, so that the rest becomes no part of the order.
-    if not re.fullmatch(SHAPES["TEXT"], name) or not is_order(" ".join((verb, ANY_ID, *words[2:]))):
-        raise refusal(order)
-    return " ".join((verb, PLACE, *words[2:])), name
+    if not re.fullmatch(PATTERNS["TEXT"], name) or not is_order(" ".join((verb, SAMPLE_ID, *words[2:]))):
+        raise invalid_order(order)
+    return " ".join((verb, ID_PLACEHOLDER, *words[2:])), name
 
 
-def with_device(order: str, device: str) -> str:
-    """The order with this ID in the place of PLACE."""
+def order_with_id(order: str, device: str) -> str:
+    """The order with this ID in the place of ID_PLACEHOLDER."""
     verb, _, *rest = order.split(" ")
     made = " ".join((verb, device, *rest))
     check_order(made)
     return made
 
 
-def nearest(word: str, known: Iterable[str]) -> str:
+def suggestion(word: str, known: Iterable[str]) -> str:
     """The question whether one of these was meant; empty if none is similar."""
     from difflib import get_close_matches
     found = get_close_matches(word, filter(None, known), 1)
     return f": did you mean `{found[0]}`?" if found else ""
 
 
-def pattern(form: str) -> str:
+def pattern_of(form: str) -> str:
     """The regular expression of the orders of this form."""
-    return " ".join(SHAPES.get(word, word) for word in form.split(" "))
+    return " ".join(PATTERNS.get(word, word) for word in form.split(" "))

@@ -7,32 +7,32 @@ from collections.abc import Iterable
 from enogate_lines.contents import Listed
 
 from . import recorded
-from .client import Client, NoAnswer, Unreadable
-from .desk_file import DeskFile, Unusable
-from .grammar import NoOrder, nearest
+from .client import Client, NoAnswer, UnreadableLines
+from .desk_file import DeskFile, UnusableFile
+from .grammar import InvalidOrder, suggestion
 
 
-def is_current(desk: bytes) -> bool:
+def are_labels_current(desk: bytes) -> bool:
     """Whether no label was set after the last list that was asked for on this desk. A start of the gateway empties the
     desk, and before it a label may have been set, or a backup restored."""
     orders = b"\n" + desk.replace(b"\r\n", b"\n")
     return orders.rfind(b"\nlist\n") > orders.rfind(b"\nlabel ")
 
 
-def devices(client: Client) -> list[Listed] | None:
+def listed_devices(client: Client) -> list[Listed] | None:
     """The learned devices as the lines record them; None if a label may have been set since then."""
     try:
         with contextlib.closing(DeskFile(client.paths.desk)) as file:
             desk = file.read()
-    except Unusable as error:
+    except UnusableFile as error:
         raise NoAnswer(str(error)) from error
-    with contextlib.suppress(Unreadable):
-        return recorded.devices(client.paths) if is_current(desk) else None
+    with contextlib.suppress(UnreadableLines):
+        return recorded.recorded_devices(client.paths) if are_labels_current(desk) else None
     return None
 
 
-def device_of(label: str, listed: Iterable[Listed]) -> str:
-    """The ID of the one device with this label, or NoOrder."""
+def id_of_label(label: str, listed: Iterable[Listed]) -> str:
+    """The ID of the one device with this label, or InvalidOrder."""
     ids: dict[str, list[str]] = {}
     for device in listed:
         ids.setdefault(device.label, []).append(device.device)
@@ -40,5 +40,6 @@ def device_of(label: str, listed: Iterable[Listed]) -> str:
     if len(found) == 1:
         return found[0]
     if found:
-        raise NoOrder(f"several devices have the label {label!r}: give the ID, {' or '.join(found)}")
-    raise NoOrder(f"{label!r} is neither an ID (8 hexadecimal digits) nor the label of a device{nearest(label, ids)}")
+        raise InvalidOrder(f"several devices have the label {label!r}: give the ID, {' or '.join(found)}")
+    raise InvalidOrder(f"{label!r} is neither an ID (8 hexadecimal digits) nor the label of a device"
+                       f"{suggestion(label, ids)}")

@@ -5,18 +5,20 @@ from __future__ import annotations
 import contextlib
 import os
 import sys
+import time
 from collections.abc import Sequence
 
 from enogate_lines.contents import Listed
 from enogate_tools import files
-from enogate_tools.gateways import Paths, all_paths
+from enogate_tools.gateways import Paths, all_paths, why_unknown
 
 from .answers import Answer
-from .command_line import ANSWERED_WITHIN, WAITS, AskBase, Command, Export, Give, Import, Serve, ShowLines, ShowPaths
-from .command_line import ShowHelp, ShowReadings, ShowRecorded, parsed
-from .client import Client, NoAnswer, Unreadable
-from .grammar import BASE, NoOrder, with_device
-from .stops import Stopped, Stops
+from .command_line import REPORT_TIMEOUT, REPORT_TIMEOUTS, AskBase, BackUp, Command, ExportDevices, Following, GiveOrder
+from .command_line import ImportDevices, OrderCommand, ReplaceDevice, Serve, ShowDevices, ShowHelp, ShowLines, ShowPaths
+from .command_line import ShowReadings, parsed
+from .client import Client, NoAnswer, UnreadableLines
+from .grammar import BASE_ORDER, InvalidOrder, order_with_id
+from .stops import Stopped, StopSignals
 
 OK, REFUSED, INVALID, SILENT, UNREPORTED = 0, 1, 2, 3, 4
 
@@ -32,7 +34,7 @@ def main(arguments: Sequence[str] | None = None) -> int:
 
 def carry_out(command: Command) -> int:
     """Carries out a command, prints why it failed if it did, and returns the exit status."""
-    stops = Stops()
+    stops = StopSignals()
     try:
         stops.install()
         status = run(command, stops)
@@ -40,13 +42,13 @@ def carry_out(command: Command) -> int:
         return status
     except OrderFailed as error:
         from .words import advice
-        return complain(advice(str(error)), REFUSED)
-    except Unreadable as error:
-        return complain(str(error), REFUSED)
-    except NoOrder as error:
-        return complain(str(error), INVALID)
+        return report_failure(advice(str(error)), REFUSED)
+    except UnreadableLines as error:
+        return report_failure(str(error), REFUSED)
+    except InvalidOrder as error:
+        return report_failure(str(error), INVALID)
     except NoAnswer as error:
-        return complain(str(error), SILENT)
+        return report_failure(str(error), SILENT)
     except Stopped as stopped:
         return stopped.status
     except BrokenPipeError:
@@ -56,7 +58,7 @@ def carry_out(command: Command) -> int:
     except OSError as error:
         # The modules handle the errors of all other files.
         drop_output()
-        return complain(f"standard input or output failed: {error.strerror}", REFUSED)
+        return report_failure(f"standard input or output failed: {error.strerror}", REFUSED)
 
 
 def drop_output() -> None:
@@ -64,21 +66,21 @@ def drop_output() -> None:
     os.dup2(os.open(os.devnull, os.O_WRONLY), sys.stdout.fileno())
 
 
-def complain(why: str, status: int) -> int:
+def report_failure(why: str, status: int) -> int:
     """Prints the reason of a failure, and returns the status."""
     from .words import printable
     print(f"enogatectl: {printable(why)}", file=sys.stderr)
     return status
 
 
-def run(command: Command, stops: Stops) -> int:
+def run(command: Command, stops: StopSignals) -> int:
     """Carries out a command, and returns the exit status."""
     match command:
         case Serve():
             from .serve import serve
             return serve(sys.stdin.fileno(), sys.stdout.fileno(), stops)
         case AskBase(port):
-            return ask_module(port)
+            return print_module_base(port)
         case ShowPaths():
             return show_paths()
         case ShowHelp(verb):
@@ -86,32 +88,39 @@ def run(command: Command, stops: Stops) -> int:
             print(forms(verb))
             return OK
     become_gateway_user(command.paths)
+    if isinstance(command, ShowDevices | Following) and (why := why_unknown(command.paths)):
+        raise UnreadableLines(why)
     match command:
-        case ShowRecorded(paths, is_json):
-            require_name(paths)
-            return show_recorded(paths, is_json)
+        case ShowDevices(paths, is_json):
+            return print_devices(paths, is_json)
         case ShowLines(paths):
-            require_name(paths)
             from . import following
-            following.print_lines(paths, sys.stdout.buffer, following.Reader(paths.lines, sys.stdout.buffer).wait)
+            following.print_lines(paths, sys.stdout.buffer, following.OutputReader(paths.lines, sys.stdout.buffer).wait)
             return OK
         case ShowReadings(paths):
-            require_name(paths)
             return show_readings(paths)
     return ask_gateway(command, stops)
 
 
-def ask_gateway(command: Give | Export | Import, stops: Stops) -> int:
-    """Carries out a command that gives orders, and returns the exit status."""
-    require_gateway(command.paths)
+def ask_gateway(command: OrderCommand, stops: StopSignals) -> int:
+    """Carries out a command that gives orders, if the gateway runs, and returns the exit status."""
+    if command.paths.name:
+        from .running import System, why_not_running
+        if why := why_not_running(command.paths, System()):
+            raise NoAnswer(why)
+    client = Client(command.paths, command.timeout)
     match command:
-        case Export(paths, timeout):
-            return export_devices(Client(paths, timeout))
-        case Import(paths, timeout):
-            return import_devices(Client(paths, timeout))
-        case Give(seconds=None):
-            return give_order(command)
-    return open_window(command, stops)
+        case ExportDevices():
+            return export_devices(client)
+        case ImportDevices():
+            return import_devices(client)
+        case ReplaceDevice():
+            return replace_device(client, command)
+        case BackUp():
+            return back_up(client, command)
+        case GiveOrder(seconds=None):
+            return give_order(client, command)
+    return open_window(client, command, stops)
 
 
 def become_gateway_user(paths: Paths) -> None:
@@ -123,64 +132,47 @@ def become_gateway_user(paths: Paths) -> None:
         raise NoAnswer(f"the rights of the owner of {folders[0]} cannot be taken on: {error.strerror}") from error
 
 
-def require_name(paths: Paths) -> None:
-    """Raises Unreadable if no gateway has this name. A gateway without a unit needs none."""
-    if paths.name:
-        from .running import why_unknown
-        if why := why_unknown(paths):
-            raise Unreadable(why)
-
-
-def require_gateway(paths: Paths) -> None:
-    """Raises NoAnswer if the gateway of a unit does not run."""
-    if paths.name:
-        from .running import System, why_not
-        if why := why_not(paths, System()):
-            raise NoAnswer(why)
-
-
-def give_order(command: Give) -> int:
+def give_order(client: Client, command: GiveOrder) -> int:
     """Gives an order, and prints its answer."""
-    client = Client(command.paths, command.timeout)
     if command.label:
-        command = command._replace(order=with_device(command.order, device_with(command.label, client)))
+        command = command._replace(order=order_with_id(command.order, id_with_label(command.label, client)))
     if seconds := seconds_to_wait(command):
         return give_and_wait(client, command, seconds)
-    if command.order == BASE:
-        from .base import base_answer
-        answer = base_answer(client)
+    if command.order == BASE_ORDER:
+        from .base import ask_base
+        answer = ask_base(client)
     else:
         answer = client.ask(command.order)
-    show(answer, command)
+    print_answer(answer, command)
     return OK
 
 
-def device_with(label: str, client: Client) -> str:
+def id_with_label(label: str, client: Client) -> str:
     """The ID of the device with this label. Asks the gateway for the devices if the lines do not record all labels."""
     from . import labels
-    listed = labels.devices(client)
-    return labels.device_of(label, checked(client.ask("list")).devices if listed is None else listed)
+    listed = labels.listed_devices(client)
+    return labels.id_of_label(label, require_success(client.ask("list")).devices if listed is None else listed)
 
 
-def show(answer: Answer, command: Give) -> None:
+def print_answer(answer: Answer, command: GiveOrder) -> None:
     """Prints an answer, or raises OrderFailed if it is an error."""
     if command.is_json:
         for line in answer.lines:
             print(line.raw.decode("ascii"))
-    checked(answer)
+    require_success(answer)
     if not command.is_json:
-        print(text_of(answer, command.paths))
+        print(answer_text(answer, command.paths))
 
 
-def seconds_to_wait(command: Give) -> float:
+def seconds_to_wait(command: GiveOrder) -> float:
     """How long to wait for what the device reports after the order."""
     if command.wait is not None:
         return command.wait
-    seconds = WAITS.get(command.order.split(" ")[0], 0.0)
+    seconds = REPORT_TIMEOUTS.get(command.order.split(" ")[0], 0.0)
     return seconds if seconds and sys.stdout.isatty() else 0.0
 
 
-def give_and_wait(client: Client, command: Give, seconds: float) -> int:
+def give_and_wait(client: Client, command: GiveOrder, seconds: float) -> int:
     """Gives an order, and prints what the device reports after it in place of `ok`."""
     from . import report
     from .words import printable
@@ -188,51 +180,53 @@ def give_and_wait(client: Client, command: Give, seconds: float) -> int:
     (answer,), lines = client.ask_and_follow([command.order])
     with contextlib.closing(lines):
         if command.is_json or answer.error:
-            show(answer, command)
-        if command.wait is None and seconds > ANSWERED_WITHIN:
+            print_answer(answer, command)
+        if command.wait is None and seconds > REPORT_TIMEOUT:
             print(f"enogatectl: sent; waiting up to {seconds:g} s until {device} reports (Ctrl-C ends the wait)",
                   file=sys.stderr)
-        found = report.wait(client, lines, command.order, seconds)
+        found = report.wait_for_report(client, lines, command.order, seconds)
     if found:
         print(found.line.decode("ascii") if command.is_json else printable(found.text))
     elif verb == "stop" and command.wait is None:
         # A blind that stood still already need not report anything.
         if not command.is_json:
-            show(answer, command)
+            print_answer(answer, command)
     else:
-        return complain(f"sent, but {device} reported nothing within {seconds:g} s: has it learned this gateway?",
-                        UNREPORTED)
+        return report_failure(f"sent, but {device} reported nothing within {seconds:g} s: has it learned this gateway?",
+                              UNREPORTED)
     return OK
 
 
-def text_of(answer: Answer, paths: Paths) -> str:
+def answer_text(answer: Answer, paths: Paths) -> str:
     """An answer, which is not an error, as text."""
     if answer.lines[-1].kind == "list":
-        return table_of(answer.devices, paths)
+        return device_table_text(answer.devices, paths)
     from .shown import shown
     return shown(answer)
 
 
-def checked(answer: Answer) -> Answer:
+def require_success(answer: Answer) -> Answer:
     """The answer, or OrderFailed if it is an error."""
     if answer.error:
         raise OrderFailed(answer.error)
     return answer
 
 
-def open_window(command: Give, stops: Stops) -> int:
+def open_window(client: Client, command: GiveOrder, stops: StopSignals) -> int:
     """Opens the learn window for the time of the command."""
     from .window import LearnWindow
-    client = Client(command.paths, command.timeout)
 
     def give(order: str) -> None:
-        checked(client.ask(order))
+        require_success(client.ask(order))
 
-    def report(text: str) -> None:
-        print(text, flush=True)
-
-    LearnWindow(client, give, report, stops, command.is_json).open_for(command.order, command.seconds)
+    LearnWindow(client, give, print_at_once, stops, command.is_json).open_for(command.order, command.seconds)
     return OK
+
+
+def print_at_once(text: str) -> None:
+    """Prints a line, also if another program reads the output."""
+    from .words import printable
+    print(printable(text), flush=True)
 
 
 def show_paths() -> int:
@@ -242,11 +236,11 @@ def show_paths() -> int:
     return OK
 
 
-def show_recorded(paths: Paths, is_json: bool) -> int:
+def print_devices(paths: Paths, is_json: bool) -> int:
     """Prints the devices as the lines record them."""
     from . import recorded
-    found = recorded.devices(paths)
-    for line in recorded.as_json(found, paths) if is_json else [table_of(found, paths)]:
+    found = recorded.recorded_devices(paths)
+    for line in recorded.devices_as_json(found, paths) if is_json else [device_table_text(found, paths)]:
         print(line)
     return OK
 
@@ -256,19 +250,17 @@ def show_readings(paths: Paths) -> int:
     import signal
     from datetime import datetime
 
-    from .following import Reader
+    from .following import OutputReader
     from .watching import print_readings
-    from .words import printable
     try:
-        print_readings(paths, datetime.now, lambda text: print(printable(text), flush=True),
-                       Reader(paths.lines, sys.stdout).wait)
+        print_readings(paths, datetime.now, print_at_once, OutputReader(paths.lines, sys.stdout).wait)
     except Stopped as stopped:
         if stopped.number != signal.SIGINT:
             raise
     return OK
 
 
-def table_of(devices: Sequence[Listed], paths: Paths) -> str:
+def device_table_text(devices: Sequence[Listed], paths: Paths) -> str:
     """The table of these devices, for people. At a terminal, it has the width of the terminal."""
     from datetime import datetime, timezone
 
@@ -279,46 +271,63 @@ def table_of(devices: Sequence[Listed], paths: Paths) -> str:
 
 def export_devices(client: Client) -> int:
     """Prints the learned devices as CSV."""
-    from .sheet import exported
-    print(exported(checked(client.ask("list")).devices), end="")
+    from .sheet import devices_as_csv
+    print(devices_as_csv(require_success(client.ask("list")).devices), end="")
     return OK
 
 
 def import_devices(client: Client) -> int:
     """Learns and labels the devices of the CSV file on standard input."""
     from . import sheet
-    from .words import advice, printable
+    from .words import advice
     if sys.stdin.isatty():
         print("enogatectl: enter the devices as CSV, and end with Ctrl-D; to read a file, append <FILE to the command",
               file=sys.stderr)
     text = sys.stdin.buffer.read().decode("utf-8", "replace")
-    known = {device.device: device for device in checked(client.ask("list")).devices}
+    known = {device.device: device for device in require_success(client.ask("list")).devices}
 
-    giver = sheet.Giver(client)
+    giver = sheet.OrderBatches(client)
 
     def give(orders: list[str]) -> list[str | None]:
         return [advice(answer.error) if answer.error else None for answer in giver.give(orders)]
 
-    def report(line: str) -> None:
-        print(printable(line), flush=True)
-
-    return OK if sheet.Importer(known, give, report).run(text) else REFUSED
+    return OK if sheet.DeviceImporter(known, give, print_at_once).run(text) else REFUSED
 
 
-def ask_module(path: str) -> int:
+def replace_device(client: Client, command: ReplaceDevice) -> int:
+    """Learns a device in place of another one, and prints what was done, and what is left to do."""
+    from .replacing import missing_steps
+    steps = missing_steps(command, require_success(client.ask("list")).devices)
+    for order, done in steps:
+        require_success(client.ask(order))
+        with contextlib.suppress(OSError):
+            print_at_once(done)
+    print_at_once(f"{command.old} was replaced by {command.new}{'' if steps else ' already'}. If it is an actuator, "
+                  "teach it this gateway. Automations and other programs that use the ID need the new one.")
+    return OK
+
+
+def back_up(client: Client, command: BackUp) -> int:
+    """Writes the devices and the settings of a gateway to a file, and prints its path."""
+    from .backup import write_backup
+    devices = require_success(client.ask("list")).devices
+    try:
+        path = write_backup(command.folder, command.name, devices, time.time())
+    except OSError as error:
+        why = filter(None, (f"the backup in {command.folder} failed", error.filename, error.strerror))
+        return report_failure(": ".join(why), REFUSED)
+    print(f"{path}: {len(devices)} devices")
+    return OK
+
+
+def print_module_base(path: str) -> int:
     """Asks the radio module at this port for its base ID, and prints it."""
     from enogate_tools import port as ports
     try:
-        port = ports.open_port(path)
-        try:
-            ports.configure(port, path)
-            base = ports.ask_base(port, path)
-        finally:
-            os.close(port)
+        base = ports.module_base(path)
     except ports.PortError as error:
-        return complain(str(error), REFUSED)
+        return report_failure(str(error), REFUSED)
     if not base:
-        raise NoAnswer(f"no radio module answers at {path}: check that this is its port, and that it uses ESP3 at "
-                       "57,600 baud")
+        raise NoAnswer(ports.NO_MODULE.format(path))
     print(base)
     return OK

@@ -14,17 +14,17 @@ from enogate_mqtt.state import last_seen
 from enogate_tools.files import is_safe, open_file
 
 # How much of the lines is read for the last readings, how much at once, and the end of a line with readings.
-MOST_READ = 1 << 20
+MAX_READ_BYTES = 1 << 20
 BLOCK = 1 << 20
-READING = b'"type":"reading"}'
+READING_LINE_END = b'"type":"reading"}'
 
 
-def last_telegrams(path: str, most: int = MOST_READ) -> dict[str, Telegram]:
+def last_telegrams(path: str, most: int = MAX_READ_BYTES) -> dict[str, Telegram]:
     """The last telegram of each device, if it is near the end of the lines."""
     return {device: telegram for device, (telegram, _) in last_reports(path, most).items()}
 
 
-def last_reports(path: str, most: int = MOST_READ) -> dict[str, tuple[Telegram, bytes]]:
+def last_reports(path: str, most: int = MAX_READ_BYTES) -> dict[str, tuple[Telegram, bytes]]:
     """The last telegram of each device, if it is near the end of the lines, and the line that reports it."""
     found: dict[str, tuple[Telegram, bytes]] = {}
     for line in last_lines(path, most):
@@ -35,7 +35,7 @@ def last_reports(path: str, most: int = MOST_READ) -> dict[str, tuple[Telegram, 
 
 def telegram_in(line: bytes) -> Telegram | None:
     """The telegram that a line reports; None if it is another line."""
-    if not line.endswith(READING):
+    if not line.endswith(READING_LINE_END):
         return None
     try:
         content = content_of(line)
@@ -54,13 +54,13 @@ def last_lines(path: str, most: int) -> Iterator[bytes]:
             continue
         with file:
             size = file.seek(0, os.SEEK_END)
-            yield from lines_before(file, size, max(0, size - most))
+            yield from lines_backwards(file, size, max(0, size - most))
         most -= size
         if most <= 0:
             return
 
 
-def lines_before(file: BinaryIO, end: int, start: int) -> Iterator[bytes]:
+def lines_backwards(file: BinaryIO, end: int, start: int) -> Iterator[bytes]:
     """The lines of a file between two offsets, the last line first. What follows the last line end is left out."""
     # the end of a line whose beginning is in the block before
     rest, has_end = b"", False
@@ -77,7 +77,7 @@ def lines_before(file: BinaryIO, end: int, start: int) -> Iterator[bytes]:
         yield without_nuls(rest)
 
 
-def last_times(path: str, lines: str, most: int = MOST_READ) -> dict[str, datetime]:
+def last_seen_times(path: str, lines: str, most: int = MAX_READ_BYTES) -> dict[str, datetime]:
     """When the bridge with this state file received the last telegram of each device. Devices with a later telegram,
     which the bridge has not read yet, are left out. Empty if the bridge does not run, or if this user may not read its
     state."""

@@ -8,32 +8,32 @@ from collections.abc import Iterable, Iterator
 from enogate_lines.contents import BadLine, Content, Deleted, EndOfList, Learned, Listed, content_of
 from enogate_tools.gateways import Paths
 
-from .client import Lines, Unreadable
-from .desk_file import Unusable
-from .recent import last_lines, last_reports, last_times
+from .client import Lines, UnreadableLines
+from .desk_file import UnusableFile
+from .recent import last_lines, last_reports, last_seen_times
 
 # How much of the lines is searched for a list. A gateway with 100 devices that send each minute writes less in a day.
-MOST_SEARCHED = 1 << 26
-ENDS = (b'"type":"list"}', b'"type":"device"}', b'"type":"teach"}')
+MAX_SEARCHED_BYTES = 1 << 26
+LINE_ENDS = (b'"type":"list"}', b'"type":"device"}', b'"type":"teach"}')
 
 
-def devices(paths: Paths) -> list[Listed]:
-    """The devices, by ascending ID, or Unreadable."""
+def recorded_devices(paths: Paths) -> list[Listed]:
+    """The devices, by ascending ID, or UnreadableLines."""
     try:
         Lines(paths.lines).close()
-    except Unusable as error:
-        raise Unreadable(str(error)) from error
-    found = devices_in(last_lines(paths.lines, MOST_SEARCHED))
+    except UnusableFile as error:
+        raise UnreadableLines(str(error)) from error
+    found = devices_in(last_lines(paths.lines, MAX_SEARCHED_BYTES))
     if found is None:
-        raise Unreadable(f"no list of the devices is in the lines {paths.lines}: give the order `list` once")
+        raise UnreadableLines(f"no list of the devices is in the lines {paths.lines}: give the order `list` once")
     return found
 
 
-def as_json(found: list[Listed], paths: Paths) -> Iterator[str]:
+def devices_as_json(found: list[Listed], paths: Paths) -> Iterator[str]:
     """The devices as lines, like those of the order `list`. The member `seen` is the time of the last telegram in
     seconds since 1970, or null if it is not known. The members `dbm` and `readings` are those of the last telegram, if
     it is near the end of the lines and has the profile of the device; otherwise null and an empty list."""
-    times = last_times(paths.bridge, paths.lines)
+    times = last_seen_times(paths.bridge, paths.lines)
     reports = last_reports(paths.lines)
     for device in found:
         seen = int(times[device.device].timestamp()) if device.device in times else None
@@ -63,19 +63,19 @@ def devices_in(lines: Iterable[bytes]) -> list[Listed] | None:
             case Learned() | Deleted():
                 changes.append(content)
         if count == len(listed):
-            return changed(listed, reversed(changes))
+            return apply_changes(listed, reversed(changes))
     return None
 
 
 def content_in(line: bytes) -> Content | None:
     """The content of a line of a list, or of a teach line; None if it is another line."""
     try:
-        return content_of(line) if line.endswith(ENDS) else None
+        return content_of(line) if line.endswith(LINE_ENDS) else None
     except BadLine:
         return None
 
 
-def changed(listed: list[Listed], changes: Iterable[Learned | Deleted]) -> list[Listed]:
+def apply_changes(listed: list[Listed], changes: Iterable[Learned | Deleted]) -> list[Listed]:
     """The devices of a list after these changes, by ascending ID. A device that is learned again keeps its label."""
     known = {device.device: device for device in listed}
     for change in changes:

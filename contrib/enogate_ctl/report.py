@@ -8,13 +8,13 @@ from enogate_lines.contents import Telegram
 from enogate_lines.entities import ALL_CHANNELS, Table
 
 from .client import LONG_PAUSE, Client, Lines
-from .readings import readings
+from .readings import readings_text
 from .recent import telegram_in
 
-# One of these values is asked for by an order. After other orders, any report shows that they arrived.
-ASKED = {"query": {"OV", "POS"}, "meter": {"MV"}}
+# An order with this first word asks for one of these values. After other orders, any report shows that they arrived.
+ASKED_READINGS = {"query": {"OV", "POS"}, "meter": {"MV"}}
 # The profiles whose readings have a channel.
-WITH_CHANNELS, CHANNEL = "D2-01-", "IO"
+CHANNEL_PROFILES, CHANNEL_READING = "D2-01-", "IO"
 
 
 class Report(NamedTuple):
@@ -25,16 +25,17 @@ class Report(NamedTuple):
     @property
     def text(self) -> str:
         """Its readings, for people."""
-        return readings(self.telegram, Table())
+        return readings_text(self.telegram, Table())
 
 
 def is_report(telegram: Telegram, order: str) -> bool:
     """Whether this telegram, which came after the order, reports what the order did."""
     verb, device, *numbers = order.split(" ")
     found = {reading.name: reading.number for reading in telegram.readings}
-    if telegram.device != device.upper() or not ASKED.get(verb, found.keys()) & found.keys():
+    if telegram.device != device.upper() or not ASKED_READINGS.get(verb, found.keys()) & found.keys():
         return False
-    return not telegram.eep.startswith(WITH_CHANNELS) or int(numbers[0]) in (ALL_CHANNELS, found.get(CHANNEL))
+    has_channels = telegram.eep.startswith(CHANNEL_PROFILES)
+    return not has_channels or int(numbers[0]) in (ALL_CHANNELS, found.get(CHANNEL_READING))
 
 
 def report_in(line: bytes, order: str) -> Report | None:
@@ -43,10 +44,10 @@ def report_in(line: bytes, order: str) -> Report | None:
     return Report(telegram, line) if telegram and is_report(telegram, order) else None
 
 
-def wait(client: Client, lines: Lines, order: str, seconds: float) -> Report | None:
+def wait_for_report(client: Client, lines: Lines, order: str, seconds: float) -> Report | None:
     """The report on an order, if it is in these lines within this time. The lines begin after the answer to the order.
     The desk is not locked meanwhile."""
     limit = client.clock() + seconds
-    while not (found := lines.first(lambda line: report_in(line, order))) and client.clock() < limit:
+    while not (found := lines.first_result(lambda line: report_in(line, order))) and client.clock() < limit:
         client.sleep(LONG_PAUSE)
     return found

@@ -6,30 +6,18 @@ from __future__ import annotations
 
 import os
 
-from enogate_tools.gateways import Paths, gateway_names
+from enogate_tools.gateways import Paths, why_unknown
 from enogate_tools.system import Process, System
 
 # What systemctl prints about a unit that does not run, and the sentence for it.
-STOPPED = {"inactive": "{0} is stopped: sudo systemctl start {0}",
-           "failed": "{0} has failed: find out why with sudo journalctl -n 20 -u {0}"}
+STOPPED_TEXTS = {"inactive": "{0} is stopped: sudo systemctl start {0}",
+                 "failed": "{0} has failed: find out why with sudo journalctl -n 20 -u {0}"}
 # How long a start of the gateway takes at most, in seconds. Until then, the desk may have been emptied already, and an
 # order that is written to it is carried out.
-LONGEST_START = 10.0
+MAX_START_SECONDS = 10.0
 
 
-def why_unknown(paths: Paths, root: str = "") -> str:
-    """A sentence if no gateway of this machine has this name; otherwise empty. `root` is put before the directories."""
-    if not paths.name or os.path.exists(paths.desk) or os.path.exists(paths.lines):
-        return ""
-    known = gateway_names(root)
-    if paths.name in known:
-        return ""
-    return f"there is no gateway {paths.name}: " + (
-        f"the gateways of this machine are {', '.join(known)}" if known else
-        f"this machine has none; make one with sudo systemctl enable --now {paths.unit}")
-
-
-def why_not(paths: Paths, system: System) -> str:
+def why_not_running(paths: Paths, system: System) -> str:
     """A sentence that says why the gateway does not run, and what to do. Empty if it runs, or if this is not known: its
     processes may be hidden from this user, and it may be about to start."""
     if not paths.name or system.gateway_at(paths.desk):
@@ -45,7 +33,7 @@ def why_not(paths: Paths, system: System) -> str:
     if any(not os.path.isabs(desk) or os.path.realpath(desk) == os.path.realpath(paths.desk) for desk in desks):
         # This gateway was started by hand with another name of the desk, perhaps in its directory.
         return ""
-    return STOPPED.get(system.unit_state(paths.unit), "").format(paths.unit)
+    return STOPPED_TEXTS.get(system.unit_state(paths.unit), "").format(paths.unit)
 
 
 def why_waiting(paths: Paths, system: System, start: Process) -> str:
@@ -61,5 +49,5 @@ def why_waiting(paths: Paths, system: System, start: Process) -> str:
     except OSError:
         # The stick was unplugged in this moment.
         return ""
-    is_starting = fault == NOT_STARTED.format(paths.name) and system.age_of(start) < LONGEST_START
+    is_starting = fault == NOT_STARTED.format(paths.name) and system.age_of(start) < MAX_START_SECONDS
     return "" if is_starting else f"{paths.unit} waits: {fault}"

@@ -29,35 +29,35 @@ from collections.abc import Callable, Iterable
 from dataclasses import dataclass, field
 
 from . import words
-from .command_line import Following, Import, Serve, parsed
+from .command_line import Following, ImportDevices, Serve, parsed
 from .main import carry_out
-from .stops import SIGNALS, Stopped, Stops, held, restore
+from .stops import SIGNALS, Stopped, StopSignals, block_signals, restore_default_handlers
 
 OK, FAILED, INVALID = 0, 1, 2
-# The modules that commands import only if they need them. They are imported before the first fork, so that no command
-# has to do it.
-MODULES = ("enogate_ctl.base", "enogate_ctl.device_table", "enogate_ctl.labels", "enogate_ctl.recorded",
-           "enogate_ctl.running", "enogate_ctl.sheet", "enogate_ctl.shown", "enogate_ctl.window",
-           "enogate_lines.decimals", "enogate_tools.port")
+# The modules that commands of the page import only if they need them. They are imported before the first fork, so that
+# none of these commands has to do it.
+PRELOADED_MODULES = ("enogate_ctl.base", "enogate_ctl.device_table", "enogate_ctl.labels", "enogate_ctl.recorded",
+                     "enogate_ctl.replacing", "enogate_ctl.running", "enogate_ctl.sheet", "enogate_ctl.shown",
+                     "enogate_ctl.window", "enogate_lines.decimals", "enogate_tools.port")
 # A command line that is only parsed.
-FIRST = ["--json", "hall", "--", "status"]
+WARM_UP_ARGUMENTS = ["--json", "hall", "--", "status"]
 # How much is read at once, the length of the longest request, and how much of a bad one is shown, in bytes.
-BLOCK, LONGEST, SHOWN_OF_A_LINE = 1 << 16, 1 << 16, 60
+BLOCK, MAX_REQUEST_BYTES, SHOWN_OF_A_LINE = 1 << 16, 1 << 16, 60
 
 
-class BadRequest(ValueError):
+class InvalidRequest(ValueError):
     """A line is no request. The text says why."""
 
 
 @dataclass
-class Running:
+class RunningCommand:
     """A running command, and what it has written, by the descriptors from which this is read."""
     number: int
     process: int
     written: dict[int, bytearray] = field(default_factory=dict)
 
 
-def serve(requests: int, answers: int, stops: Stops) -> int:
+def serve(requests: int, answers: int, stops: StopSignals) -> int:
     """Runs the commands that are requested at the first descriptor, and answers them at the second one. Returns the
     exit status. If nobody reads the last answers, a signal ends the wait for that."""
     # The program that started this one may ignore this signal. The system would then drop the exit statuses.
@@ -66,7 +66,7 @@ def serve(requests: int, answers: int, stops: Stops) -> int:
     try:
         try:
             server.serve(requests)
-        except BadRequest as error:
+        except InvalidRequest as error:
             status = INVALID
             print(f"enogatectl: {words.printable(str(error))}", file=sys.stderr)
         server.end()
@@ -83,7 +83,7 @@ def run(arguments: list[str]) -> int:
     """Runs a command, and returns its exit status."""
     try:
         command = parsed(arguments)
-        if isinstance(command, Import | Serve | Following):
+        if isinstance(command, ImportDevices | Serve | Following):
             print("enogatectl: this command cannot be requested", file=sys.stderr)
             return INVALID
         return carry_out(command)
@@ -97,24 +97,24 @@ class Server:
 
     def __init__(self, answers: int, run: Callable[[list[str]], int]):
         self.answers, self.run, self.is_read = answers, run, True
-        self.running: dict[int, Running] = {}
+        self.running: dict[int, RunningCommand] = {}
         # the commands by the descriptors from which their output is read
-        self.sources: dict[int, Running] = {}
+        self.sources: dict[int, RunningCommand] = {}
         self.rest = b""
 
     def serve(self, requests: int) -> None:
-        """Handles the requests up to their end, or raises BadRequest."""
-        for name in MODULES:
+        """Handles the requests up to their end, or raises InvalidRequest."""
+        for name in PRELOADED_MODULES:
             importlib.import_module(name)
         # What argparse loads and compiles for its first command line takes longer than the rest of a command.
-        parsed(FIRST)
+        parsed(WARM_UP_ARGUMENTS)
         # A garbage collection in a forked process then copies none of these objects.
         gc.freeze()
         while self.is_read:
-            for source in ready([requests, *self.sources]):
+            for source in wait_until_readable([requests, *self.sources]):
                 if source != requests:
-                    self.take_output(source)
-                elif not self.take_requests(received(requests)):
+                    self.read_output(source)
+                elif not self.handle_requests(read_requests(requests)):
                     return
 
     def end(self) -> None:
@@ -122,40 +122,40 @@ class Server:
         for number in self.running:
             self.stop(number)
         while self.sources:
-            for source in ready(self.sources):
-                self.take_output(source)
+            for source in wait_until_readable(self.sources):
+                self.read_output(source)
 
-    def take_requests(self, added: bytes) -> bool:
+    def handle_requests(self, added: bytes) -> bool:
         """Handles the requests that these bytes complete. No bytes are the end of the input: this returns False."""
         *lines, self.rest = (self.rest + added).split(b"\n")
-        if max(map(len, (*lines, self.rest))) > LONGEST:
-            raise BadRequest(f"a request has more than {LONGEST} bytes")
+        if max(map(len, (*lines, self.rest))) > MAX_REQUEST_BYTES:
+            raise InvalidRequest(f"a request has more than {MAX_REQUEST_BYTES} bytes")
         for line in lines:
-            self.take_request(line)
+            self.handle_request(line)
         return added != b""
 
-    def take_request(self, line: bytes) -> None:
+    def handle_request(self, line: bytes) -> None:
         """Handles a request."""
-        number, arguments = request_in(line)
+        number, arguments = parse_request(line)
         if arguments is None:
             # A command that has ended meanwhile is already answered.
             self.stop(number)
         elif number in self.running:
-            raise BadRequest(f"the command {number} has not ended")
+            raise InvalidRequest(f"the command {number} has not ended")
         else:
             self.start(number, arguments)
 
     def start(self, number: int, arguments: list[str]) -> None:
         """Starts a command. If the system refuses this, the answer says so."""
         try:
-            self.fork(number, arguments)
+            self.fork_command(number, arguments)
         except OSError as error:
-            self.answer(number, "", f"enogatectl: the command cannot be started: {error.strerror}\n", FAILED)
+            self.write_answer(number, "", f"enogatectl: the command cannot be started: {error.strerror}\n", FAILED)
 
-    def fork(self, number: int, arguments: list[str]) -> None:
+    def fork_command(self, number: int, arguments: list[str]) -> None:
         """Starts a command, or raises OSError."""
         pipes: list[tuple[int, int]] = []
-        with held():
+        with block_signals():
             try:
                 pipes.append(os.pipe())
                 pipes.append(os.pipe())
@@ -165,19 +165,19 @@ class Server:
                     os.close(file)
                 raise
             if process == 0:
-                self.become_command(pipes, arguments)
-            self.running[number] = running = Running(number, process)
+                self.run_in_fork(pipes, arguments)
+            self.running[number] = running = RunningCommand(number, process)
             for reading, writing in pipes:
                 os.close(writing)
                 running.written[reading] = bytearray()
                 self.sources[reading] = running
 
-    def become_command(self, pipes: list[tuple[int, int]], arguments: list[str]) -> None:
+    def run_in_fork(self, pipes: list[tuple[int, int]], arguments: list[str]) -> None:
         """Runs a command in a forked process, with these pipes for its output and errors, and ends the process. No
         exception leaves this method: the process would go on as the server, and end the other commands."""
         status = FAILED
         try:
-            restore()
+            restore_default_handlers()
             signal.pthread_sigmask(signal.SIG_UNBLOCK, SIGNALS)
             nothing = os.open(os.devnull, os.O_RDONLY)
             for number, file in enumerate([nothing, *(writing for _, writing in pipes)]):
@@ -199,9 +199,9 @@ class Server:
         if number in self.running:
             os.kill(self.running[number].process, signal.SIGTERM)
 
-    def take_output(self, source: int) -> None:
+    def read_output(self, source: int) -> None:
         """Reads what a command has written. If this was all, the command is answered."""
-        with held():
+        with block_signals():
             running = self.sources[source]
             added = os.read(source, BLOCK)
             running.written[source] += added
@@ -214,9 +214,9 @@ class Server:
             _, status = os.waitpid(running.process, 0)
             del self.running[running.number]
         output, error = (text.decode("utf-8", "replace") for text in running.written.values())
-        self.answer(running.number, output, error, exit_status(status))
+        self.write_answer(running.number, output, error, exit_status(status))
 
-    def answer(self, number: int, output: str, error: str, status: int) -> None:
+    def write_answer(self, number: int, output: str, error: str, status: int) -> None:
         """Answers a command that has ended."""
         members = {"error": error, "id": number, "output": output, "status": status}
         line = json.dumps(members, separators=(",", ":")).encode() + b"\n"
@@ -227,7 +227,7 @@ class Server:
             self.is_read = False
 
 
-def received(requests: int) -> bytes:
+def read_requests(requests: int) -> bytes:
     """The bytes that have come; none at the end of the input."""
     try:
         return os.read(requests, BLOCK)
@@ -236,7 +236,7 @@ def received(requests: int) -> bytes:
         return b""
 
 
-def request_in(line: bytes) -> tuple[int, list[str] | None]:
+def parse_request(line: bytes) -> tuple[int, list[str] | None]:
     """The number and the arguments of a request; no arguments if it ends a command."""
     try:
         match json.loads(line.decode("ascii")):
@@ -250,10 +250,10 @@ def request_in(line: bytes) -> tuple[int, list[str] | None]:
                     return number, None
     except (ValueError, RecursionError):
         pass
-    raise BadRequest(f"not a request: {line[:SHOWN_OF_A_LINE]!r}")
+    raise InvalidRequest(f"not a request: {line[:SHOWN_OF_A_LINE]!r}")
 
 
-def ready(sources: Iterable[int]) -> list[int]:
+def wait_until_readable(sources: Iterable[int]) -> list[int]:
     """Those of these descriptors that can be read. Waits until there is one."""
     poll = select.poll()
     for source in sources:

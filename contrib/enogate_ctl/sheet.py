@@ -10,25 +10,25 @@ from dataclasses import dataclass
 from enogate_lines.contents import Listed
 
 from . import grammar
-from .answers import SHARED, Answer
+from .answers import PACKET_ERRORS, Answer
 from .client import PAUSE, Client
 
 HEADING = ["id", "eep", "label"]
 # A spreadsheet takes a text that begins like this for a formula. The apostrophe before it says that it is a text.
-FORMULA = re.compile("'*[=+@-]")
-QUOTED = re.compile("'+[=+@-]")
+FORMULA_PATTERN = re.compile("'*[=+@-]")
+QUOTED_PATTERN = re.compile("'+[=+@-]")
 # The characters that may separate the values, as the spreadsheets of different countries write them.
 SEPARATORS = ",;\t"
 # A number that a spreadsheet makes of an ID with the letter E.
-FLOAT = re.compile("[0-9.,]+[Ee][+-]?[0-9]+")
+FLOAT_PATTERN = re.compile("[0-9.,]+[Ee][+-]?[0-9]+")
 
 # How many rows are handled at once: their orders wait for a turn of the gateway together.
-MOST_ROWS = 100
+MAX_GROUP_ROWS = 100
 # How many orders are given at once at first. Later, as many are given as take this time, in seconds.
-FIRST_ORDERS, LONGEST_LOCKED = 16, 2.0
+INITIAL_BATCH_SIZE, MAX_BATCH_SECONDS = 16, 2.0
 
 
-class BadRow(ValueError):
+class InvalidRow(ValueError):
     """A row does not describe a device. The text is a sentence that says why."""
 
 
@@ -40,18 +40,22 @@ class DeviceRow:
     label: str
 
 
-def exported(devices: Iterable[Listed]) -> str:
+# A row, and the number of its line.
+NumberedRow = tuple[int, DeviceRow | InvalidRow]
+
+
+def devices_as_csv(devices: Iterable[Listed]) -> str:
     """The devices as CSV."""
     out = io.StringIO()
     writer = csv.writer(out, lineterminator="\n")
     writer.writerow(HEADING)
     for device in devices:
-        label = f"'{device.label}" if FORMULA.match(device.label) else device.label
+        label = f"'{device.label}" if FORMULA_PATTERN.match(device.label) else device.label
         writer.writerow([device.device, device.eep, label])
     return out.getvalue()
 
 
-def rows_in(text: str) -> Iterator[tuple[int, DeviceRow | BadRow]]:
+def rows_in(text: str) -> Iterator[NumberedRow]:
     """The rows of a CSV file, each with the number of its line, without headings and empty rows."""
     text = text.removeprefix("\ufeff")
     first = text.partition("\n")[0]
@@ -63,49 +67,49 @@ def rows_in(text: str) -> Iterator[tuple[int, DeviceRow | BadRow]]:
         except StopIteration:
             return
         except csv.Error as error:
-            yield reader.line_num, BadRow(f"not CSV: {error}")
+            yield reader.line_num, InvalidRow(f"not CSV: {error}")
             continue
         if any(cells) and [cell.lower() for cell in cells[:3]] != HEADING:
             yield reader.line_num, device_row_of(cells)
 
 
-def device_row_of(cells: list[str]) -> DeviceRow | BadRow:
+def device_row_of(cells: list[str]) -> DeviceRow | InvalidRow:
     """The device of a row, or why it has none."""
     device, eep, label = (*cells, "", "")[:3]
     if re.fullmatch("[0-9]{1,7}", device):
         # A spreadsheet removes leading zeros.
         device = device.zfill(8)
-    if QUOTED.match(label):
+    if QUOTED_PATTERN.match(label):
         label = label[1:]
-    if FLOAT.fullmatch(device) and not re.fullmatch(grammar.ID, device):
-        return BadRow(f"a spreadsheet changed the ID to the number {device}: enter it again, in a column with the "
-                      "format Text")
+    if FLOAT_PATTERN.fullmatch(device) and not re.fullmatch(grammar.ID_PATTERN, device):
+        return InvalidRow(f"a spreadsheet changed the ID to the number {device}: enter it again, in a column with the "
+                          "format Text")
     row = DeviceRow(device.upper(), eep.upper(), label)
     try:
-        for order in (add(row), relabel(row)):
+        for order in (add_order(row), label_order(row)):
             grammar.check_order(order)
-    except grammar.NoOrder as error:
-        return BadRow(str(error))
+    except grammar.InvalidOrder as error:
+        return InvalidRow(str(error))
     return row
 
 
-def add(row: DeviceRow) -> str:
+def add_order(row: DeviceRow) -> str:
     """The order that learns the device."""
     return f"add {row.device} {row.eep}"
 
 
-def relabel(row: DeviceRow) -> str:
+def label_order(row: DeviceRow) -> str:
     """The order for its label."""
     return f"label {row.device} {row.label}".rstrip(" ")
 
 
-def groups(rows: Iterable[tuple[int, DeviceRow | BadRow]]) -> Iterator[list[tuple[int, DeviceRow | BadRow]]]:
+def row_groups(rows: Iterable[NumberedRow]) -> Iterator[list[NumberedRow]]:
     """The rows in groups, which are not too large, and have no device twice."""
-    group: list[tuple[int, DeviceRow | BadRow]] = []
+    group: list[NumberedRow] = []
     devices: set[str] = set()
     for number, row in rows:
         device = row.device if isinstance(row, DeviceRow) else ""
-        if len(group) == MOST_ROWS or device in devices:
+        if len(group) == MAX_GROUP_ROWS or device in devices:
             yield group
             group, devices = [], set()
         group.append((number, row))
@@ -114,12 +118,12 @@ def groups(rows: Iterable[tuple[int, DeviceRow | BadRow]]) -> Iterator[list[tupl
         yield group
 
 
-class Giver:
+class OrderBatches:
     """Gives the orders of an import. The desk is locked until all orders that were given at once are answered,
     and other commands wait meanwhile, so a slow gateway gets fewer orders at once."""
 
     def __init__(self, client: Client):
-        self.client, self.most = client, FIRST_ORDERS
+        self.client, self.most = client, INITIAL_BATCH_SIZE
 
     def give(self, orders: list[str]) -> list[Answer]:
         """The answers to these orders."""
@@ -127,7 +131,7 @@ class Giver:
         while len(answers) < len(orders):
             part = orders[len(answers):len(answers) + self.most]
             found = self.ask(part)
-            if any(answer.error in SHARED for answer in found):
+            if any(answer.error in PACKET_ERRORS for answer in found):
                 # The error may be that of a telegram, and each answer that of another order.
                 found = [self.ask([order])[0] for order in part]
             answers += found
@@ -138,13 +142,13 @@ class Giver:
         start = self.client.clock()
         answers = self.client.ask_all(orders)
         seconds = max(PAUSE, self.client.clock() - start)
-        self.most = max(1, min(MOST_ROWS, int(len(orders) * LONGEST_LOCKED / seconds)))
+        self.most = max(1, min(MAX_GROUP_ROWS, int(len(orders) * MAX_BATCH_SECONDS / seconds)))
         # Other commands look at the lock of the desk once in each pause.
         self.client.sleep(2 * PAUSE)
         return answers
 
 
-class Importer:
+class DeviceImporter:
     """Learns devices and gives them labels. `known` has the learned ones by their IDs, `give` gives orders at once and
     returns for each the sentence of an error or None, `report` prints a line."""
 
@@ -155,18 +159,18 @@ class Importer:
     def run(self, text: str) -> bool:
         """Handles each row, whatever became of the others. Returns whether all succeeded. An empty input is a failure:
         the export that should have written it failed."""
-        results = [self.take(group) for group in groups(rows_in(text))]
+        results = [self.import_group(group) for group in row_groups(rows_in(text))]
         if not results:
             self.report("the input has no devices")
         return all(results) and text.strip() != ""
 
-    def take(self, group: list[tuple[int, DeviceRow | BadRow]]) -> bool:
+    def import_group(self, group: list[NumberedRow]) -> bool:
         """Handles a group of rows, and reports the results. Returns whether all succeeded. A device that is not learned
         gets no label."""
         rows = [row for _, row in group if isinstance(row, DeviceRow)]
         done: dict[str, list[str]] = {row.device: [] for row in rows}
         errors: dict[str, str] = {}
-        for result, order_of in (("learned", self.learning), ("labelled", self.labelling)):
+        for result, order_of in (("learned", self.missing_add_order), ("labelled", self.missing_label_order)):
             orders = {row.device: order for row in rows if row.device not in errors and (order := order_of(row))}
             for (device, order), error in zip(orders.items(), self.give(list(orders.values())) if orders else []):
                 if error:
@@ -174,12 +178,12 @@ class Importer:
                 else:
                     done[device].append(result)
         for number, row in group:
-            self.finish(number, row, "" if isinstance(row, BadRow) else errors.get(row.device, ""), done)
+            self.report_row(number, row, "" if isinstance(row, InvalidRow) else errors.get(row.device, ""), done)
         return not errors and len(rows) == len(group)
 
-    def finish(self, number: int, row: DeviceRow | BadRow, error: str, done: dict[str, list[str]]) -> None:
+    def report_row(self, number: int, row: DeviceRow | InvalidRow, error: str, done: dict[str, list[str]]) -> None:
         """Notes and reports the result of a row."""
-        if isinstance(row, BadRow):
+        if isinstance(row, InvalidRow):
             self.report(f"line {number}: {row}")
             return
         if not error:
@@ -187,13 +191,13 @@ class Importer:
             self.known[row.device] = Listed(row.device, row.eep, label, None)
         self.report(f"line {number}: {row.device}: {error or ' and '.join(done[row.device]) or 'unchanged'}")
 
-    def learning(self, row: DeviceRow) -> str | None:
+    def missing_add_order(self, row: DeviceRow) -> str | None:
         """The order that learns the device, if it needs one. A device that is learned with this profile is not learned
         again, which would remove its manufacturer ID."""
         known = self.known.get(row.device)
-        return None if known and known.eep == row.eep else add(row)
+        return None if known and known.eep == row.eep else add_order(row)
 
-    def labelling(self, row: DeviceRow) -> str | None:
+    def missing_label_order(self, row: DeviceRow) -> str | None:
         """The order for its label, if it needs one. A row without a label leaves the label as it is."""
         known = self.known.get(row.device)
-        return relabel(row) if row.label and row.label != (known.label if known else "") else None
+        return label_order(row) if row.label and row.label != (known.label if known else "") else None

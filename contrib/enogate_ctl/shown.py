@@ -1,10 +1,14 @@
 """What is printed about an answer, and about the forms of orders, for people."""
 from __future__ import annotations
 
+import re
+
 from enogate_lines.contents import Response, Status
 from enogate_tools import share
 
+from . import grammar
 from .answers import Answer
+from .command_line import USAGE
 from .tables import table
 
 
@@ -19,8 +23,16 @@ def shown(answer: Answer) -> str:
     return last.members.get("result", last.kind)
 
 
+# What a parameter of an order on the desk does not accept, but one of this command does.
+MORE_VALUES = {"ID": ", or the label of a device"}
+
+
 def forms(verb: str) -> str:
-    """The forms of the orders, or of those with this first word, each with what it does, and their parameters."""
+    """The forms of the orders, or of those with this first word, each with what it does, and their parameters. Of a
+    command that is no order, its usage."""
+    if verb in grammar.COMMANDS:
+        return "\n".join(line.strip() for line in USAGE.split("\n") if verb in re.split(r"[ |]", line))
     shown = [(form, does) for form, does in share.effects().items() if not verb or form.split(" ")[0] == verb]
     used = {word for form, _ in shown for word in form.split(" ")}
-    return table([*shown, *((name, meaning) for name, meaning in share.parameter_meanings().items() if name in used)])
+    return table([*shown, *((name, meaning + MORE_VALUES.get(name, ""))
+                            for name, meaning in share.parameter_meanings().items() if name in used)])

@@ -21,7 +21,7 @@ class Stopped(BaseException):
         return 128 + self.number
 
 
-class Stops:
+class StopSignals:
     """The signals that stop the command. Only the first one does: systemd and terminals may send two at once, and the
     second one must not stop what the first one has begun."""
 
@@ -31,9 +31,9 @@ class Stops:
     def install(self) -> None:
         """From now on, the first of these signals raises Stopped."""
         for number in SIGNALS:
-            signal.signal(number, self.take)
+            signal.signal(number, self.handle_signal)
 
-    def take(self, number: int, _frame: object = None) -> None:
+    def handle_signal(self, number: int, _frame: object = None) -> None:
         """Handles a signal."""
         if not self.are_ignored:
             self.are_ignored = True
@@ -44,14 +44,14 @@ class Stops:
         self.are_ignored = True
 
 
-def restore() -> None:
+def restore_default_handlers() -> None:
     """From now on, each of these signals ends the process."""
     for number in SIGNALS:
         signal.signal(number, signal.SIG_DFL)
 
 
 @contextlib.contextmanager
-def held() -> Iterator[None]:
+def block_signals() -> Iterator[None]:
     """Holds these signals back in a block that must not be left half done."""
     before = signal.pthread_sigmask(signal.SIG_BLOCK, SIGNALS)
     try:

@@ -3,9 +3,9 @@ from __future__ import annotations
 
 from collections.abc import Sequence
 
-GAP, CUT = "  ", ".."
+GAP, CUT_MARK = "  ", ".."
 # No column is made narrower than this: IDs and profiles are never cut.
-NARROWEST = 8
+MIN_COLUMN_WIDTH = 8
 
 
 def table(rows: Sequence[Sequence[str]], most: int = 0) -> str:
@@ -13,11 +13,11 @@ def table(rows: Sequence[Sequence[str]], most: int = 0) -> str:
     cut so that a row has at most so many characters, unless that is 0."""
     columns = [column for column in zip(*rows) if len(column) == 1 or any(column[1:])]
     widths = [max(map(len, column)) for column in columns]
-    while most and sum(widths) + len(GAP) * (len(widths) - 1) > most and max(widths) > NARROWEST:
+    while most and sum(widths) + len(GAP) * (len(widths) - 1) > most and max(widths) > MIN_COLUMN_WIDTH:
         widths[widths.index(max(widths))] -= 1
-    return "\n".join(GAP.join(map(fitted, row, widths)).rstrip() for row in zip(*columns))
+    return "\n".join(GAP.join(map(fit_cell, row, widths)).rstrip() for row in zip(*columns))
 
 
-def fitted(cell: str, width: int) -> str:
+def fit_cell(cell: str, width: int) -> str:
     """A cell with this width."""
-    return cell.ljust(width) if len(cell) <= width else cell[:width - len(CUT)] + CUT
+    return cell.ljust(width) if len(cell) <= width else cell[:width - len(CUT_MARK)] + CUT_MARK

@@ -7,20 +7,20 @@ from collections.abc import Callable
 from enogate_lines.contents import Status
 
 from . import words
-from .answers import line_of
+from .answers import parse_line
 from .client import Client, Lines, NoAnswer
-from .stops import Stopped, Stops
+from .stops import Stopped, StopSignals
 
 # The pause between two looks at the lines, in seconds.
 PAUSE = 0.1
-CLOSE = "learn off"
+CLOSE_ORDER = "learn off"
 
 
 class LearnWindow:
     """The learn window of a gateway. `give` gives an order, and raises an exception if it fails. `report` prints a
     line; it may fail if nobody reads it any more."""
 
-    def __init__(self, client: Client, give: Callable[[str], None], report: Callable[[str], None], stops: Stops,
+    def __init__(self, client: Client, give: Callable[[str], None], report: Callable[[str], None], stops: StopSignals,
                  is_json: bool = False):
         self.client, self.give, self.print, self.stops, self.is_json = client, give, report, stops, is_json
         self.clock, self.sleep = client.clock, client.sleep
@@ -38,15 +38,15 @@ class LearnWindow:
             except Stopped:
                 # The window is closed in any case.
                 pass
-            self.give(CLOSE)
+            self.give(CLOSE_ORDER)
             self.report("" if self.is_json else "the learn window is closed")
 
     def show(self, lines: Lines, end: float, is_for_one: bool) -> None:
         """Prints what is taught up to this time, or until a window for one device is closed."""
         while (left := end - self.clock()) > 0:
             for raw in lines.read():
-                line = line_of(raw)
-                text = words.taught(line) if line else None
+                line = parse_line(raw)
+                text = words.teach_result_text(line) if line else None
                 if line and text:
                     self.report(raw.decode("ascii") if self.is_json else text)
                     # The order `add` gives such a line too, and leaves the window open.

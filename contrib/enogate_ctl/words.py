@@ -23,7 +23,7 @@ def age(seconds: float) -> str:
     return f"{max(0, int(seconds))} s ago"
 
 
-def taught(line: Line) -> str | None:
+def teach_result_text(line: Line) -> str | None:
     """The result of a teach line in words; None for any other line."""
     result, device, eep = (line.members.get(key) for key in ("result", "id", "eep"))
     if line.kind != "teach" or not isinstance(result, str):

@@ -28,10 +28,10 @@ ASK_TIMEOUT = "5"
 NOT_STARTED = "the gateway is not started yet; see why: sudo journalctl -n 5 -t enogate-{}"
 DEVICE_TABLES = {1: "enogate_device", 2: "enogate_device_v2"}
 # The parts of a file with settings: what is before a key, a key, a value in quotes, and the rest of a value.
-SKIPPED_TEXT = re.compile(r"(?:[ \t\n\r]|[#;][^\n\r]*)*")
-KEY_TEXT = re.compile(r"([^=\n\r]*?)[ \t]*(=|[\n\r]|\Z)")
-QUOTED_VALUE = re.compile(r"""[ \t]*(?:'([^']*)'|"((?:[^"\\]|\\.)*)")""", re.DOTALL)
-PLAIN_VALUE = re.compile(r"[ \t]*((?:[^\n\r\\]|\\.?)*?)[ \t]*(?=[\n\r]|\Z)", re.DOTALL)
+BLANKS_AND_COMMENTS_PATTERN = re.compile(r"(?:[ \t\n\r]|[#;][^\n\r]*)*")
+KEY_PATTERN = re.compile(r"([^=\n\r]*?)[ \t]*(=|[\n\r]|\Z)")
+QUOTED_VALUE_PATTERN = re.compile(r"""[ \t]*(?:'([^']*)'|"((?:[^"\\]|\\.)*)")""", re.DOTALL)
+PLAIN_VALUE_PATTERN = re.compile(r"[ \t]*((?:[^\n\r\\]|\\.?)*?)[ \t]*(?=[\n\r]|\Z)", re.DOTALL)
 
 
 def exists(path: str) -> bool:
@@ -68,15 +68,15 @@ def settings_in(text: str) -> dict[str, str]:
     """The settings in a file, as systemd reads them (systemd.exec(5), EnvironmentFile=): a comment is a line of its
     own. If a quotation mark has no partner, its line is the value, and the rest of the file is not read."""
     found, place = {}, 0
-    while (place := SKIPPED_TEXT.match(text, place).end()) < len(text):
-        key, value = KEY_TEXT.match(text, place), ""
+    while (place := BLANKS_AND_COMMENTS_PATTERN.match(text, place).end()) < len(text):
+        key, value = KEY_PATTERN.match(text, place), ""
         place = key.end()
         if key[2] != "=":
             continue
-        while quoted := QUOTED_VALUE.match(text, place):
+        while quoted := QUOTED_VALUE_PATTERN.match(text, place):
             value += re.sub(r'\\(["\\`$\n])', unescaped_character, quoted[2]) if quoted[1] is None else quoted[1]
             place = quoted.end()
-        plain = PLAIN_VALUE.match(text, place)
+        plain = PLAIN_VALUE_PATTERN.match(text, place)
         place = plain.end()
         if plain[1][:1] in ("'", '"'):
             return {**found, key[1]: plain[1]}
@@ -94,8 +94,7 @@ class Check:
 
     def __init__(self, name: str, system: System, sleep=time.sleep):
         self.name, self.system, self.sleep = name, system, sleep
-        self.desk = system.path(f"/run/enogate/{name}/desk")
-        self.lines = system.path(f"/var/log/enogate/{name}.lines")
+        self.desk, self.lines, *_ = gateways.paths_of(name, system.root)
         self.database = system.path(f"/var/lib/enogate/{name}.db")
         self.gateway = system.gateway_at(self.desk)
         self.start = system.main_process(os.path.dirname(self.desk))
@@ -207,25 +206,16 @@ class Check:
     def check_module(self, path: str):
         """The base ID of the module at a free port."""
         try:
-            port = ports.open_port(path)
+            reported = ports.module_base(path)
         except ports.PortError as error:
             if isinstance(error.__cause__, PermissionError):
                 yield self.unchecked_finding(f"the radio module at {path}")
             else:
                 yield FAULT, str(error)
             return
-        try:
-            ports.configure(port, path)
-            reported = ports.ask_base(port, path)
-        except ports.PortError as error:
-            yield FAULT, str(error)
-            return
-        finally:
-            os.close(port)
         base = self.settings["BASE"].upper()
         if not reported:
-            yield FAULT, (f"no radio module answers at {path}: check that this is its port, and that it uses ESP3 at "
-                          "57,600 baud")
+            yield FAULT, ports.NO_MODULE.format(path)
         elif base not in ("", reported):
             yield FAULT, (f"BASE is {base}, but the base ID of the radio module at {path} is {reported}: correct it in "
                           f"/etc/default/enogate-{self.name}, or remove it")
@@ -455,6 +445,8 @@ def main(arguments: list[str] | None = None, system: System | None = None) -> in
     if words.name is not None and not gateways.is_name(words.name):
         parser.error(str(gateways.InvalidName(words.name)))
     system = system or System()
+    if words.name and (why := gateways.why_unknown(gateways.paths_of(words.name, system.root), system.root)):
+        parser.error(why)
     names = gateways.gateway_names(system.root) if words.name is None else [words.name]
     if not names:
         parser.error("no gateway is found on this machine: give a NAME")

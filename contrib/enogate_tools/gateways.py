@@ -50,24 +50,42 @@ def paths_of(name: str, root: str = "") -> Paths:
 
 def all_paths(root: str = "") -> dict[str, dict[str, str]]:
     """The files of each gateway of this machine, by their names. Each of these files may be missing."""
-    found = {}
-    for name in gateway_names(root):
-        paths = paths_of(name, root)
-        found[name] = {"desk": paths.desk, "lines": paths.lines, "settings": f"{root}{SETTINGS_FOLDER}/enogate-{name}"}
-    return found
+    every = (paths_of(name, root) for name in gateway_names(root))
+    return {paths.name: {"desk": paths.desk, "lines": paths.lines,
+                         "settings": f"{root}{SETTINGS_FOLDER}/enogate-{paths.name}"} for paths in every}
 
 
 def gateway_names(root: str = "") -> list[str]:
-    """The names of the gateways that have settings of their own, a unit that is started at boot, a directory for their
-    desk, which is made when they are started, or a database. A directory that this user may not read counts as empty.
-    `root` is put before the directories."""
+    """The names of the gateways that may be started, and of those that have a desk: its directory may also be that of a
+    unit that was not started. A directory that this user may not read counts as empty. `root` is put before all."""
+    started = names_in_folder(root + RUNTIME_FOLDER, "({})", lambda folder: os.path.lexists(f"{folder}/desk"))
+    return sorted(startable_names(root) | started)
+
+
+def startable_names(root: str = "") -> set[str]:
+    """The names of the gateways that have settings of their own, a database, or a unit that is started at boot."""
     found = names_in_folder(root + SETTINGS_FOLDER, "enogate-({})", os.path.isfile)
-    found |= names_in_folder(root + RUNTIME_FOLDER, "({})", os.path.isdir)
     found |= names_in_folder(root + DATABASE_FOLDER, r"({})\.db")
     for folder in file_names(root + UNITS_FOLDER):
         if folder.endswith(".wants"):
             found |= names_in_folder(f"{root}{UNITS_FOLDER}/{folder}", r"enogate@({})\.service")
-    return sorted(found)
+    return found
+
+
+def why_unknown(paths: Paths, root: str = "") -> str:
+    """A sentence if no gateway of this machine has this name; otherwise empty. One without a unit needs no name."""
+    has_files = not paths.name or os.path.exists(paths.desk) or os.path.exists(paths.lines)
+    return "" if has_files else why_not_among(paths.name, gateway_names(root))
+
+
+def why_not_among(name: str, known: list[str]) -> str:
+    """A sentence if these gateways do not have the one with this name; otherwise empty."""
+    if name in known:
+        return ""
+    if not is_name(name):
+        return str(InvalidName(name))
+    others = f"the gateways of this machine are {', '.join(known)}" if known else "this machine has none"
+    return f"there is no gateway {name}: {others}; to make it, enable it: sudo systemctl enable --now enogate@{name}"
 
 
 def names_in_folder(folder: str, shape: str, is_of_gateway: Callable[[str], bool] = os.path.lexists) -> set[str]:

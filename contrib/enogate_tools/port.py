@@ -17,6 +17,7 @@ RESPONSE = 2
 # A module answers within 0.5 s (ESP3); the rest is for a slow computer.
 ANSWER_TIMEOUT = 2.0
 BASE_FORM = "8 hexadecimal digits from FF800000 to FFFFFF80; the last two are 00 or 80"
+NO_MODULE = "no radio module answers at {}: check that this is its port, and that it uses ESP3 at 57,600 baud"
 
 # The settings as stty prints them: the line of the guide sets the same ones.
 REQUIRED_C_CC = {"min 0": (termios.VMIN, 0), "time 1": (termios.VTIME, 1)}
@@ -143,6 +144,16 @@ def ask_base(port: int, path: str, clock=time.monotonic) -> str | None:
     except OSError as error:
         raise PortError(f"{path} cannot be used: {error.strerror}") from error
     return base_in(stream)
+
+
+def module_base(path: str) -> str | None:
+    """The base ID that the radio module at this port reports, or None. Raises PortError if the port cannot be used."""
+    port = open_port(path)
+    try:
+        configure(port, path)
+        return ask_base(port, path)
+    finally:
+        os.close(port)
 
 
 def unsent_bytes(port: int) -> int:

@@ -8,7 +8,7 @@ import signal
 import sys
 import time
 
-from . import VERSION, desk, lines, port as ports
+from . import VERSION, desk, gateways, lines, port as ports
 from .lines import NOTICE, WARNING
 from .unit import Unit
 
@@ -185,7 +185,14 @@ def main(arguments: list[str] | None = None) -> int:
 
 
 def run_unit(words: argparse.Namespace, starter: PortStarter, say) -> int:
-    """Prepares the files for a start of the unit, or runs the gateway."""
+    """Prepares the files for a start of the unit, or runs the gateway. A unit with a mistyped name does neither.
+    Its main process reports that: systemd does not look at the status of another one when it decides on a restart."""
+    folder, name = os.path.split(words.unit)
+    # Another directory is that of a gateway without a unit.
+    if folder == gateways.RUNTIME_FOLDER and (why := gateways.why_not_among(name, sorted(gateways.startable_names()))):
+        if not words.clean:
+            say(WARNING, why)
+        return 0 if words.clean else 2
     try:
         if not words.clean:
             return Unit(words.port, words.unit, words.lines, starter, say).run()

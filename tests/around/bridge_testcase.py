@@ -102,7 +102,7 @@ class BridgeTest(unittest.TestCase):
         return "\n".join(line for name, lines in shown.items() for line in (f"last lines of {name}:", *lines))
 
     def assert_soon(self, see: Callable[[], Seen], wanted: Seen) -> None:
-        """`see` returns this within ten seconds."""
+        """`see` returns this within WITHIN seconds."""
         self.assert_seen(wait_for(see, lambda seen: seen == wanted), wanted)
 
     def assert_seen(self, seen: object, wanted: object) -> None:

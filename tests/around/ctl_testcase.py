@@ -83,7 +83,7 @@ class CtlTest(unittest.TestCase):
         self.assertIn(err, run.err)
 
     def assert_soon(self, see, wanted: object) -> None:
-        """`see` returns this within ten seconds."""
+        """`see` returns this within WITHIN seconds."""
         self.assertEqual(wait_for(see, lambda seen: seen == wanted), wanted)
 
     def status(self) -> dict[str, Any]:

@@ -9,7 +9,14 @@ import shlex
 import sys
 from fractions import Fraction
 
-from oracle.profiles import BLIND, FOUR_BYTE, MEASUREMENT, STATE, SWITCHES, VARIABLE_LENGTH
+from oracle.profiles import (
+    ACTUATOR_STATE_FIELDS,
+    BLIND_STATE_FIELDS,
+    FOUR_BYTE_PROFILES,
+    METER_READING_FIELDS,
+    SWITCH_PROFILES,
+    VARIABLE_LENGTH_PROFILES,
+)
 
 # The units and the state classes that Home Assistant allows for a device class, and how it writes units of profiles.
 MEASURED_STATES, COUNTED_STATES = {"measurement"}, {"total", "total_increasing"}
@@ -47,10 +54,10 @@ NUMBER_READINGS = {"A5-12": "TI", "D2-01": "IO", "D2-05": "CHN"}
 
 def rows_by_profile():
     """The rows of each profile."""
-    yield from SWITCHES.items()
-    yield from FOUR_BYTE.items()
-    for eep in VARIABLE_LENGTH:
-        yield eep, BLIND if eep == "D2-05-00" else STATE + MEASUREMENT
+    yield from SWITCH_PROFILES.items()
+    yield from FOUR_BYTE_PROFILES.items()
+    for eep in VARIABLE_LENGTH_PROFILES:
+        yield eep, BLIND_STATE_FIELDS if eep == "D2-05-00" else ACTUATOR_STATE_FIELDS + METER_READING_FIELDS
 
 
 def values_of_row(kind, length):

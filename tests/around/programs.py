@@ -9,14 +9,14 @@ import time
 from typing import Callable, Self, Sequence, TypeVar
 
 # How long a test waits for an event, and how long a program runs if the test is killed, in seconds.
-WITHIN = 10.0
-MAX_LIFE = 600
+WITHIN = 30.0
+MAX_LIFE = 1800
 PAUSE = 0.02
 Seen = TypeVar("Seen")
 
 
 def wait_for(see: Callable[[], Seen], is_so: Callable[[Seen], object]) -> Seen:
-    """The result of `see` once it is true, or after ten seconds."""
+    """The result of `see` once it is true, or after WITHIN seconds."""
     end = time.monotonic() + WITHIN
     while not is_so(seen := see()) and time.monotonic() < end:
         time.sleep(PAUSE)

@@ -9,7 +9,7 @@ import subprocess
 import sys
 
 from broker import BRIDGE_LOGIN, Broker
-from oracle.esp3 import packet, telegram
+from oracle.esp3 import packet, telegram_packet
 from programs import Program, lines_of, wait_for
 
 HERE = pathlib.Path(__file__).resolve().parent
@@ -44,7 +44,7 @@ class Stick(Program):
         """Receives telegrams of a device, each as RORG PAYLOAD or RORG PAYLOAD STATUS in hexadecimal digits."""
         for words in map(str.split, telegrams):
             rorg, payload, status = (*words, "0")[:3]
-            self.bring_packet(telegram(int(rorg, 16), bytes.fromhex(payload), int(device, 16), int(status, 16)))
+            self.bring_packet(telegram_packet(int(rorg, 16), bytes.fromhex(payload), int(device, 16), int(status, 16)))
 
     def bring_packet(self, received: bytes) -> None:
         with self.brought.open("a") as file:

@@ -13,7 +13,7 @@ from typing import Callable, Iterable
 
 from pty_stick import Stick
 from runs import PROGRAM
-from testcase import LiveTest, text_of
+from testcase import LiveTest, decoded_text
 
 # In seconds: how long a test waits for an event, which only a failure takes, and how long between two looks.
 WITHIN = 60.0
@@ -48,7 +48,7 @@ class BackgroundProgram:
         return pathlib.Path(f"/proc/{self.process.pid}/stat").read_text().rpartition(") ")[2][0]
 
     def printed(self) -> str:
-        return text_of(self.output.read_bytes())
+        return decoded_text(self.output.read_bytes())
 
     def status_and_output(self) -> str:
         """Whether it still runs, or its status, and what it has printed."""
@@ -85,7 +85,7 @@ class TerminalTest(LiveTest):
     def start_gateway(self, *options: str | pathlib.Path, turns: int = AN_HOUR) -> None:
         """Starts a gateway."""
         self.wanted_lines = ""
-        self.gateway = self.start_program("the gateway", PROGRAM, *self.live_words(*options, turns=turns))
+        self.gateway = self.start_program("the gateway", PROGRAM, *self.live_command(*options, turns=turns))
 
     def start(self, *options: str | pathlib.Path, turns: int = AN_HOUR) -> None:
         """Starts a gateway, and waits until there is a file of answers, which it opens last."""
@@ -113,7 +113,7 @@ class TerminalTest(LiveTest):
 
     def written_lines(self) -> str:
         """The lines that the gateway has written."""
-        return text_of(self.lines.read_bytes()) if self.lines.exists() else ""
+        return decoded_text(self.lines.read_bytes()) if self.lines.exists() else ""
 
     def assert_comes(self, what: str, see: Callable[[], str], wanted: str) -> None:
         """`see` returns this text before the time is over or a program has ended."""

@@ -13,8 +13,8 @@ from typing import Callable
 
 from bridge_testcase import TOPIC_ROOT, GatewayTest
 from ctl_testcase import OK, REFUSED, Run
-from enogate_ctl.fence import needed
-from oracle.esp3 import sent
+from enogate_ctl.fence import needed_fences
+from oracle.esp3 import gateway_telegram_packet
 from programs import WITHIN, lines_of, wait_for
 from services import BASE, CONTRIB, lines_of_type
 
@@ -26,16 +26,16 @@ sys.exit(main.main())"""
 ROUNDS, MESSAGES = 3, 6
 # The pause between two messages, in seconds.
 PAUSE = 1.0
-SWITCH = "D2-01-12"
+SWITCH_PROFILE = "D2-01-12"
 # An order between its fences. Those of another program may be directly before them.
-FENCED = re.compile(rb"^(?:status\n)+(?!status\n)[^\r\n]+\nstatus\r\n", re.MULTILINE)
+FENCED_ORDER = re.compile(rb"^(?:status\n)+(?!status\n)[^\r\n]+\nstatus\r\n", re.MULTILINE)
 # The types of the lines that end an answer.
-ENDS = ("ok", "teach", "error", "list", "status")
+ANSWER_END_TYPES = ("ok", "teach", "error", "list", "status")
 SENSOR, NEVER_HEARD = "01800A02", "01800A03"
 
 
 
-class WithBridge(GatewayTest):
+class StateOfBridgeTest(GatewayTest):
     """The places of the units are below `work`."""
 
     def setUp(self):
@@ -52,7 +52,7 @@ class WithBridge(GatewayTest):
         return Run(done.returncode, done.stdout, done.stderr)
 
 
-class Orders(WithBridge):
+class OrdersOfTwoPrograms(StateOfBridgeTest):
     """Two programs that give orders with enogatectl, messages that the bridge receives, orders that the bridge gives by
     itself, and telegrams."""
 
@@ -74,9 +74,10 @@ class Orders(WithBridge):
         """What a program gives, in rounds. Its devices are its own."""
         for turn in range(ROUNDS):
             device = f"0190{number:02X}{turn:02X}"
-            self.give(f"add {device} {SWITCH}", OK, "accepted\n")
+            self.give(f"add {device} {SWITCH_PROFILE}", OK, "accepted\n")
             self.give(f"label {device} Lamp {number} {turn}", OK, "ok\n")
-            listed = {"eep": SWITCH, "id": device, "label": f"Lamp {number} {turn}", "maker": None, "type": "device"}
+            listed = {"eep": SWITCH_PROFILE, "id": device, "label": f"Lamp {number} {turn}", "maker": None,
+                      "type": "device"}
             lines = self.give("list --json").splitlines()
             if listed not in map(json.loads, lines) or f'"count":{len(lines) - 1},' not in lines[-1]:
                 self.wrong.append((f"list after {device}", Run(OK, "\n".join(lines), "")))
@@ -92,7 +93,7 @@ class Orders(WithBridge):
         the bridge ask for the status, and each label for the list."""
         for turn in range(MESSAGES):
             device = f"0190AA{turn:02X}"
-            orders = f"add {device} {SWITCH}", f"label {device} Message {turn}", "status", "status"
+            orders = f"add {device} {SWITCH_PROFILE}", f"label {device} Message {turn}", "status", "status"
             self.broker.publish(f"{TOPIC_ROOT}/orders", "\n".join(orders))
             self.broker.publish(f"{TOPIC_ROOT}/{device}/OV/{turn}/set", "ON")
             self.broker.publish(f"{TOPIC_ROOT}/learn/set", "OFF" if turn % 2 else "ON")
@@ -131,7 +132,10 @@ class Orders(WithBridge):
         """The packets of the orders `switch` that are not refused."""
         counts = {"01": ROUNDS, "02": ROUNDS, "AA": MESSAGES}
         pairs = [(f"0190{number}{turn:02X}", turn) for number, count in counts.items() for turn in range(count)]
-        return [sent(0xD2, bytes([1, channel, 100]), int(BASE, 16), int(device, 16)).hex() for device, channel in pairs]
+        return [
+            gateway_telegram_packet(0xD2, bytes([1, channel, 100]), int(BASE, 16), int(device, 16)).hex()
+            for device, channel in pairs
+        ]
 
     def wanted(self) -> dict[str, str]:
         """The labels of the devices that are learned in the end."""
@@ -150,14 +154,14 @@ class Orders(WithBridge):
         `status` has fences before it, and one after it, which ends with CR."""
         desk, given = self.gateway.desk.read_bytes(), [order.split(" ")[0] for order in self.given]
         on_desk = desk.decode("ascii").split("\n")
-        fences = sum(needed(desk[:found.start()]) for found in FENCED.finditer(desk))
+        fences = sum(needed_fences(desk[:found.start()]) for found in FENCED_ORDER.finditer(desk))
         statuses = given.count("status") + fences + MESSAGES * 2
         return on_desk.count("list") - given.count("list"), on_desk.count("status") - statuses
 
     def assert_answered(self) -> None:
         """Each order on the desk has one answer."""
         def count() -> tuple[int, int]:
-            answers = sum(len(lines_of_type(self.gateway.lines(), kind)) for kind in ENDS)
+            answers = sum(len(lines_of_type(self.gateway.lines(), kind)) for kind in ANSWER_END_TYPES)
             return answers - len(lines_of(self.gateway.desk)), len(lines_of_type(self.gateway.lines(), "reading"))
         self.assert_soon(count, (0, 2 * MESSAGES))
 
@@ -186,7 +190,7 @@ class Orders(WithBridge):
         self.assert_seen(self.retained(), retained)
 
 
-class LastSeen(WithBridge):
+class LastSeenTimes(StateOfBridgeTest):
     """The times of telegrams, which `list` takes from the state of the bridge."""
 
     def row(self) -> str:

@@ -14,23 +14,24 @@ import unittest
 
 from bridge_testcase import MAY_SKIP
 from ctl_testcase import OK, REFUSED, SILENT, CtlTest
-from enogate_ctl.desk_file import DeskFile, Unusable
+from enogate_ctl.desk_file import DeskFile, UnusableFile
 from enogate_mqtt.desk import Desk
 
-LATE = "the gateway did not answer within 1 s, and may still carry out the order: check the gateway with enogate-check"
-WAITING = ("another order is still waiting for its answer: check the gateway with enogate-check; a restart of the "
-           "gateway ends the wait")
-RESTARTED = ("the gateway was restarted, or its desk was truncated: find out with `list` or `status` whether the order "
-             "was carried out, and give it again if not")
+LATE_TEXT = ("the gateway did not answer within 1 s, and may still carry out the order: check the gateway with "
+             "enogate-check")
+WAITING_TEXT = ("another order is still waiting for its answer: check the gateway with enogate-check; a restart of the "
+                "gateway ends the wait")
+RESTARTED_TEXT = ("the gateway was restarted, or its desk was truncated: find out with `list` or `status` whether the "
+                  "order was carried out, and give it again if not")
 
 
-class Hangs(CtlTest):
+class HangingGateway(CtlTest):
     """A gateway that hangs for a while."""
 
     def test_in_time(self):
         self.hang()
         begin = time.monotonic()
-        self.assert_run(self.ctl("--timeout", "1", "learn", "off"), SILENT, "", LATE)
+        self.assert_run(self.ctl("--timeout", "1", "learn", "off"), SILENT, "", LATE_TEXT)
         self.assertLess(time.monotonic() - begin, 5)
 
     def test_a_late_answer_is_not_that_of_the_next_order(self):
@@ -38,8 +39,8 @@ class Hangs(CtlTest):
         for first in (("learn", "off"), ("add", "01900111", "F6-02-01")):
             with self.subTest(first):
                 self.hang()
-                self.assert_run(self.ctl("--timeout", "1", *first), SILENT, "", LATE)
-                self.assert_run(self.ctl("--timeout", "0.2", "list"), SILENT, "", WAITING)
+                self.assert_run(self.ctl("--timeout", "1", *first), SILENT, "", LATE_TEXT)
+                self.assert_run(self.ctl("--timeout", "0.2", "list"), SILENT, "", WAITING_TEXT)
                 second = self.begin("label", "01900112", "x")
                 time.sleep(0.3)
                 self.go_on()
@@ -68,14 +69,14 @@ class Hangs(CtlTest):
                 process.send_signal(number)
                 # its pipes are closed, although the process that keeps the lock still runs
                 self.assert_run(self.end(process), 128 + number)
-                self.assert_run(self.ctl("--timeout", "0.3", "label", "01900112", "x"), SILENT, "", WAITING)
+                self.assert_run(self.ctl("--timeout", "0.3", "label", "01900112", "x"), SILENT, "", WAITING_TEXT)
                 self.go_on()
                 self.assert_ends(self.ctl("label", "01900112", "x"), REFUSED, "unknown_device: ")
 
     def test_a_lock_that_another_program_holds(self):
         with self.gateway.desk.open("ab") as desk:
             fcntl.flock(desk, fcntl.LOCK_EX)
-            self.assert_run(self.ctl("--timeout", "0.3", "list"), SILENT, "", WAITING)
+            self.assert_run(self.ctl("--timeout", "0.3", "list"), SILENT, "", WAITING_TEXT)
             process = self.begin("learn", "off")
             time.sleep(0.3)
         self.assert_run(self.end(process), OK, "ok\n")
@@ -136,7 +137,7 @@ class FullDesk(unittest.TestCase):
         with contextlib.closing(DeskFile(str(self.desk))) as file:
             try:
                 file.append(order)
-            except Unusable:
+            except UnusableFile:
                 return False
         return True
 
@@ -156,7 +157,7 @@ class FullDesk(unittest.TestCase):
                     self.assertEqual(self.desk.read_bytes()[8175:], b"dim 01800ABC 0 10\x15\nlist\n")
 
 
-class Restarts(CtlTest):
+class GatewayRestarts(CtlTest):
     """A gateway that restarts, or does not run."""
 
     def test_a_restart_before_the_answer(self):
@@ -165,13 +166,13 @@ class Restarts(CtlTest):
         process = self.begin("list")
         self.wait_for_order(size)
         self.start_gateway()
-        self.assert_run(self.end(process), SILENT, "", RESTARTED)
+        self.assert_run(self.end(process), SILENT, "", RESTARTED_TEXT)
         self.assert_run(self.ctl("list"), OK, "no device is learned\n")
 
     def test_it_does_not_run(self):
         self.gateway.end(signal.SIGKILL)
         self.addCleanup(self.start_gateway)
-        self.assert_run(self.ctl("--timeout", "1", "list"), SILENT, "", LATE)
+        self.assert_run(self.ctl("--timeout", "1", "list"), SILENT, "", LATE_TEXT)
         desk = self.gateway.desk
         desk.unlink()
         self.assert_run(self.ctl("list"), SILENT, "",
@@ -198,7 +199,7 @@ class Restarts(CtlTest):
                         f"the desk {desk} was replaced or deleted: restart the gateway, and give the order again")
 
 
-class Database(CtlTest):
+class UnwritableDatabase(CtlTest):
     """A database that cannot be written."""
 
     def test_store_of_packets_is_not_the_answer_to_an_order(self):
@@ -216,7 +217,7 @@ class Database(CtlTest):
         self.assertGreaterEqual(self.status()["refused"], 12)
 
 
-class ExplainedDatabase(Database):
+class UnwritableExplainedDatabase(UnwritableDatabase):
     """The same with packet lines."""
 
     explain = "--explain"

@@ -2,47 +2,110 @@
 from __future__ import annotations
 
 import json
+import subprocess
+import tarfile
 import threading
 import time
 
 from ctl_testcase import OK, REFUSED, USAGE, CtlTest, Run
-from oracle.esp3 import sent
+from oracle.esp3 import gateway_telegram_packet
 from programs import wait_for
 
-RANGE = ("range: a number is out of its range, or an ID is FFFFFFFF: a channel is 0 to 30, an offset 0 to 127, a value "
-         "0 to 100 %, and a time 0 to 255 s")
-UNKNOWN = "unknown_device: no device with this ID is learned: check the ID with `list`, or learn the device with `add`"
-WRONG = "wrong_profile: the order does not apply to the profile of this device: check the profile with `list`"
+RANGE_TEXT = ("range: a number is out of its range, or an ID is FFFFFFFF: a channel is 0 to 30, an offset 0 to 127, a "
+              "value 0 to 100 %, and a time 0 to 255 s")
+UNKNOWN_DEVICE_TEXT = ("unknown_device: no device with this ID is learned: check the ID with `list`, or learn the "
+                       "device with `add`")
+WRONG_PROFILE_TEXT = ("wrong_profile: the order does not apply to the profile of this device: check the profile with "
+                      "`list`")
 
 
-class Orders(CtlTest):
+class EachOrder(CtlTest):
     """Each order, and each exit status but 3."""
 
     def test_each_order(self):
         """The devices are an actuator, a blind and a contact."""
         for words, status, text in (
             ("add 01800ABC d2-01-12", OK, "accepted"), ("add 01800abd D2-05-00", OK, "accepted"),
-            ("add 01800ABE D5-00-01", OK, "accepted"), ("add FFFFFFFF D5-00-01", REFUSED, RANGE),
+            ("add 01800ABE D5-00-01", OK, "accepted"), ("add FFFFFFFF D5-00-01", REFUSED, RANGE_TEXT),
             ("add 01800ABC A5-99-99", REFUSED, "unsupported_profile: the gateway does not support this profile: see "
              "the table of profiles in the guide, and try a similar one"),
             ("label 01800ABE Front door", OK, "ok"), ("label 01800ABE", OK, "ok"),
-            ("label 01800ABF Lamp", REFUSED, UNKNOWN), ("remove 01800ABE", OK, "deleted"),
-            ("remove 01800ABE", REFUSED, UNKNOWN), ("base", OK, "FF800000"), ("learn on answer", OK, "ok"),
+            ("label 01800ABF Lamp", REFUSED, UNKNOWN_DEVICE_TEXT), ("remove 01800ABE", OK, "deleted"),
+            ("remove 01800ABE", REFUSED, UNKNOWN_DEVICE_TEXT), ("base", OK, "FF800000"), ("learn on answer", OK, "ok"),
             ("learn as f6-02-01", OK, "ok"), ("learn on", OK, "ok"), ("learn off", OK, "ok"),
-            ("switch 01800ABC 0 on", OK, "ok"), ("switch 01800ABC 31 on", REFUSED, RANGE),
-            ("switch 01800ABD 0 off", REFUSED, WRONG), ("dim 01800ABC 0 50", OK, "ok"), ("query 01800ABC 0", OK, "ok"),
+            ("switch 01800ABC 0 on", OK, "ok"), ("switch 01800ABC 31 on", REFUSED, RANGE_TEXT),
+            ("switch 01800ABD 0 off", REFUSED, WRONG_PROFILE_TEXT), ("dim 01800ABC 0 50", OK, "ok"),
+            ("query 01800ABC 0", OK, "ok"),
             ("meter 01800ABC 0 power", OK, "ok"), ("blind 01800ABD 50", OK, "ok"), ("stop 01800ABD", OK, "ok"),
-            ("central 5 on", OK, "ok"), ("level 5 40 10", OK, "ok"), ("level 128 0 0", REFUSED, RANGE),
+            ("central 5 on", OK, "ok"), ("level 5 40 10", OK, "ok"), ("level 128 0 0", REFUSED, RANGE_TEXT),
             ("teach 5", OK, "ok"),
         ):
             with self.subTest(words):
                 run = self.ctl(*words.split(" "))
                 wanted = (text, "") if status == OK else ("", f"enogatectl: {text}")
                 self.assertEqual((run.status, run.out.rstrip("\n"), run.err.rstrip("\n")), (status, *wanted))
-        switched = sent(0xD2, bytes.fromhex("010064"), 0xFF800000, 0x01800ABC).hex()
+        switched = gateway_telegram_packet(0xD2, bytes.fromhex("010064"), 0xFF800000, 0x01800ABC).hex()
         self.assertIn(switched, wait_for(self.stick.sent, lambda seen: switched in seen))
         self.assert_run(self.ctl("remove", "01800ABC"), OK, "deleted\n")
         self.assert_run(self.ctl("remove", "01800ABD"), OK, "deleted\n")
+
+    def test_a_device_is_replaced(self):
+        """After each step at which the command may have been interrupted, and again when it was done."""
+        done = ("{} was replaced by 01800C02{}. If it is an actuator, teach it this gateway. Automations and other "
+                "programs that use the ID need the new one.\n")
+        steps = ["01800C02: learned\n", "01800C02: labelled\n", "01800C01: removed\n"]
+        for count in range(3):
+            for words in ("add 01800C01 D2-01-12", "label 01800C01 Lamp C", "add 01800C02 D2-01-12",
+                          "label 01800C02 Lamp C")[:2 + count]:
+                self.assertEqual(self.ctl(*words.split(" ")).status, OK)
+            old = "Lamp C" if count else "01800C01"
+            self.assert_run(self.ctl("replace", old, "01800C02"), OK, "".join(steps[count:]) + done.format(old, ""))
+            for old in ("Lamp C", "01800C01"):
+                self.assert_run(self.ctl("--", "replace", old, "01800C02"), OK, done.format(old, " already"))
+            listed = self.ctl("devices", "--export").out
+            self.assertIn("\n01800C02,D2-01-12,Lamp C\n", listed)
+            self.assertNotIn("01800C01", listed)
+            self.assert_run(self.ctl("remove", "01800C02"), OK, "deleted\n")
+
+    def test_a_device_is_replaced_by_request(self):
+        """As the page does it."""
+        for words in ("add 01800C07 D2-01-12", "label 01800C07 Lamp D"):
+            self.assertEqual(self.ctl(*words.split(" ")).status, OK)
+        words = self.words("--", "replace", "01800C07", "01800C08")
+        start = words.index("--desk")
+        with subprocess.Popen([*words[:start], "--serve"], text=True, stdin=subprocess.PIPE,
+                              stdout=subprocess.PIPE) as server:
+            print(json.dumps({"id": 1, "arguments": [*map(str, words[start:])]}), file=server.stdin, flush=True)
+            answer = json.loads(server.stdout.readline())
+        self.assertEqual((answer["status"], answer["error"], answer["output"].splitlines()[:3]), (
+            OK, "", ["01800C08: learned", "01800C08: labelled", "01800C07: removed"]))
+        self.assert_run(self.ctl("remove", "01800C08"), OK, "deleted\n")
+
+    def test_a_device_that_cannot_be_replaced(self):
+        for words in ("add 01800C03 D2-01-12", "add 01800C04 D5-00-01", "label 01800C04 Gate"):
+            self.assertEqual(self.ctl(*words.split(" ")).status, OK)
+        before = self.ctl("devices", "--export").out
+        for words, status, text in (
+            ("01800C03 01800C04", USAGE, "01800C04 is learned already, with the profile D5-00-01 and the label 'Gate'"),
+            ("01800C05 01800C04", USAGE, "01800C05 is not learned: check the ID with `list`\n"),
+            ("01800C03 01800C03", USAGE, "the form is replace OLD NEW [EEP]: "),
+            ("01800C03 01800C05 A5-99-99", REFUSED, "unsupported_profile: "), ("01800C03 FFFFFFFF", REFUSED, "range: "),
+        ):
+            run = self.ctl("replace", *words.split(" "))
+            self.assertEqual((run.status, run.out, run.err.startswith(f"enogatectl: {text}")), (status, "", True), run)
+        self.assertEqual(self.ctl("devices", "--export").out, before)
+
+    def test_a_backup(self):
+        """The devices in it can be imported."""
+        self.assertEqual(self.ctl("add", "01800C06", "D5-00-01").status, OK)
+        run = self.ctl("backup", str(self.work))
+        path, count = run.out.split(": ")
+        devices = self.ctl("devices", "--export").out
+        self.assertEqual((run.status, count, run.err), (OK, f"{devices.count(chr(10)) - 1} devices\n", ""))
+        self.assertRegex(path, rf"\A{self.work}/hall-[0-9-]+\.tar\.gz\Z")
+        with tarfile.open(path) as archive:
+            self.assertEqual(archive.extractfile("devices.csv").read().decode(), devices)
+        self.assertEqual(self.ctl("devices", "--import", text=devices).status, OK)
 
     def test_bad_usage_is_not_written_to_the_desk(self):
         before = self.gateway.desk.read_bytes()
@@ -68,13 +131,13 @@ class Orders(CtlTest):
         before = self.gateway.desk.read_bytes()
         for label, device in (("Lamp", "01900301"), (hostile, "01900302")):
             self.assert_run(self.ctl("switch", label, "7", "on"), OK, "ok\n")
-            packet = sent(0xD2, bytes.fromhex("010764"), 0xFF800000, int(device, 16)).hex()
+            packet = gateway_telegram_packet(0xD2, bytes.fromhex("010764"), 0xFF800000, int(device, 16)).hex()
             self.assertIn(packet, wait_for(self.stick.sent, lambda seen: packet in seen))
         given = self.gateway.desk.read_bytes().removeprefix(before).replace(b"\r", b"").replace(b"status\n", b"")
         self.assertEqual(given, b"list\nswitch 01900301 7 on\nswitch 01900302 7 on\n")
         self.gateway.order("label 01900301 Other", "label 01900302 Lamp")
         self.assert_run(self.ctl("switch", "Lamp", "8", "on"), OK, "ok\n")
-        packet = sent(0xD2, bytes.fromhex("010864"), 0xFF800000, 0x01900302).hex()
+        packet = gateway_telegram_packet(0xD2, bytes.fromhex("010864"), 0xFF800000, 0x01900302).hex()
         self.assertIn(packet, wait_for(self.stick.sent, lambda seen: packet in seen))
         self.assert_run(self.ctl("label", "Other", "Lamp"), OK, "ok\n")
         self.assert_run(self.ctl("switch", "Lamp", "9", "on"), USAGE, "", "several devices have the label 'Lamp': give "
@@ -104,7 +167,7 @@ class Orders(CtlTest):
         self.assert_run(self.ctl("remove", "01900001"), OK, "deleted\n")
 
 
-class Tables(CtlTest):
+class PrintedTables(CtlTest):
     """What people see, by a gateway with three devices."""
 
     def test_list_and_status(self):
@@ -142,7 +205,7 @@ teach         0
 """)
 
 
-class Several(CtlTest):
+class SeveralPrograms(CtlTest):
     """Several programs that write to the desk, while devices send."""
 
     explain = "--explain"
@@ -205,7 +268,7 @@ class Several(CtlTest):
         self.assertEqual(self.wrong, [])
 
 
-class Sheets(CtlTest):
+class DeviceSheets(CtlTest):
     """Export and import."""
 
     def test_round_trip(self):

@@ -14,23 +14,24 @@ import time
 import tty
 
 from ctl_testcase import OK, REFUSED, CtlTest, Run
-from oracle.esp3 import sent
+from oracle.esp3 import gateway_telegram_packet
 from programs import wait_for
 from services import BASE
 
-UNREPORTED = 4
-LAMP, DEAF, BLIND = "01800B01", "01800B02", "01800B03"
+UNREPORTED_STATUS = 4
+LAMP, UNPAIRED, BLIND = "01800B01", "01800B02", "01800B03"
 # How long the blind moves, in seconds.
-WAY = 4.0
+BLIND_SECONDS = 4.0
 
 
-class Reports(CtlTest):
+class ActuatorReports(CtlTest):
     """An actuator with two channels and a blind obey; a second actuator has not learned the gateway."""
 
     @classmethod
     def setUpClass(cls) -> None:
         super().setUpClass()
-        for order in (f"add {LAMP} D2-01-12", f"add {DEAF} D2-01-12", f"add {BLIND} D2-05-00", f"label {LAMP} Lamp"):
+        for order in (f"add {LAMP} D2-01-12", f"add {UNPAIRED} D2-01-12", f"add {BLIND} D2-05-00",
+                      f"label {LAMP} Lamp"):
             assert cls.ctl(*order.split(" ")).status == OK
         cls.is_over = threading.Event()
         cls.thread = threading.Thread(target=cls.obey)
@@ -43,14 +44,14 @@ class Reports(CtlTest):
         """The devices carry out each packet that is sent to them, and report their states. After each order, another
         device sends, too."""
         def packet(device: str, payload: str) -> str:
-            return sent(0xD2, bytes.fromhex(payload), int(BASE, 16), int(device, 16)).hex()
+            return gateway_telegram_packet(0xD2, bytes.fromhex(payload), int(BASE, 16), int(device, 16)).hex()
 
         acts = {packet(LAMP, f"01{channel:02X}{value:02X}"): [(0.2, LAMP, f"04{0x60 | channel:02X}{0x80 | value:02X}")]
                 for channel in (0, 1) for value in (0, 40, 100)}
         acts[packet(LAMP, "011E64")] = [(0.1, LAMP, "0461E4"), (0.2, LAMP, "0460E4")]
         acts[packet(LAMP, "0301")] = [(0.1, LAMP, "0760000004D2"), (0.2, LAMP, "0460E4"), (0.3, LAMP, "0461A8")]
         acts[packet(LAMP, "0681")] = [(0.1, LAMP, "0461E4"), (0.2, LAMP, "0761000004D2")]
-        acts[packet(BLIND, "467F0001")] = [(0.3, LAMP, "0460E4"), (WAY, BLIND, "467F0004")]
+        acts[packet(BLIND, "467F0001")] = [(0.3, LAMP, "0460E4"), (BLIND_SECONDS, BLIND, "467F0004")]
         acts[packet(BLIND, "02")] = [(0.1, BLIND, "217F0004")]
         done = 0
         while not cls.is_over.is_set():
@@ -96,12 +97,12 @@ class Reports(CtlTest):
         self.assert_run(self.ctl("--wait", "5", *f"dim {LAMP} 0 40".split(" ")), OK, "channel 0: Output 40 %\n")
 
     def test_an_actuator_that_has_not_learned_the_gateway(self):
-        why = f"sent, but {DEAF} reported nothing within {{}} s: has it learned this gateway?"
+        why = f"sent, but {UNPAIRED} reported nothing within {{}} s: has it learned this gateway?"
         begin = time.monotonic()
-        self.assert_run(self.at_terminal("switch", DEAF, "0", "on"), UNREPORTED, "", why.format(3))
+        self.assert_run(self.at_terminal("switch", UNPAIRED, "0", "on"), UNREPORTED_STATUS, "", why.format(3))
         self.assertGreater(time.monotonic() - begin, 3)
-        self.assert_run(self.ctl("--wait", "0.5", "query", DEAF, "0"), UNREPORTED, "", why.format("0.5"))
-        self.assert_run(self.at_terminal("--no-wait", "switch", DEAF, "0", "on"), OK, "ok\n")
+        self.assert_run(self.ctl("--wait", "0.5", "query", UNPAIRED, "0"), UNREPORTED_STATUS, "", why.format("0.5"))
+        self.assert_run(self.at_terminal("--no-wait", "switch", UNPAIRED, "0", "on"), OK, "ok\n")
 
     def test_a_blind_reports_at_the_end_of_its_way(self):
         run = self.at_terminal("blind", BLIND, "70")
@@ -121,9 +122,9 @@ class Reports(CtlTest):
             self.assertNotIn("Electronic switch, 2 channels", cut)
 
     def test_without_a_terminal_nothing_is_waited_for(self):
-        for order in (f"switch {LAMP} 0 on", f"blind {BLIND} 70", f"query {DEAF} 0", f"stop {BLIND}"):
+        for order in (f"switch {LAMP} 0 on", f"blind {BLIND} 70", f"query {UNPAIRED} 0", f"stop {BLIND}"):
             self.assert_run(self.ctl(*order.split(" ")), OK, "ok\n")
-        time.sleep(WAY + 0.5)
+        time.sleep(BLIND_SECONDS + 0.5)
 
     def test_an_order_that_is_refused(self):
         run = self.at_terminal("switch", BLIND, "0", "on")
@@ -131,13 +132,13 @@ class Reports(CtlTest):
 
     def test_other_orders_are_given_while_one_waits(self):
         """The desk is not locked then."""
-        process = self.begin("--wait", "3", "switch", DEAF, "0", "on")
+        process = self.begin("--wait", "3", "switch", UNPAIRED, "0", "on")
         time.sleep(1)
         self.assert_run(self.ctl("--timeout", "1", "learn", "off"), OK, "ok\n")
-        self.assertEqual(self.end(process).status, UNREPORTED)
+        self.assertEqual(self.end(process).status, UNREPORTED_STATUS)
 
 
-class Watch(CtlTest):
+class WatchCommand(CtlTest):
     """`watch`."""
 
     def line(self, process: subprocess.Popen[str]) -> str:

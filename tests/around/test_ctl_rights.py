@@ -3,7 +3,9 @@ settings of the units; only the program is another one. Needs root, but no built
 from __future__ import annotations
 
 import contextlib
+import datetime
 import fcntl
+import gzip
 import os
 import pathlib
 import re
@@ -17,6 +19,7 @@ import unittest
 from typing import Any, Callable, Iterator
 
 from bridge_testcase import MAY_SKIP, PYTHON
+from enogate_ctl.backup import write_backup
 from enogate_tools.check import Check
 from enogate_tools.gateways import gateway_names
 from enogate_tools.system import System
@@ -121,7 +124,7 @@ class RightsTest(unittest.TestCase):
         return f"{path.stat().st_mode & 0o7777:04o}"
 
 
-class Group(RightsTest):
+class GroupMember(RightsTest):
     """A member of the group gives orders, and changes nothing else."""
 
     def modes(self) -> dict[str, str]:
@@ -141,11 +144,12 @@ class Group(RightsTest):
         self.start()
         self.assertEqual(self.modes(), wanted)
 
-    def test_a_gateway_that_has_only_a_database_is_hidden_from_others(self):
+    def test_a_gateway_that_has_only_a_database_or_a_desk_is_hidden_from_others(self):
         self.database.with_name("cellar.db").touch()
         (self.work / "var").mkdir()
         (self.work / "var/lib").symlink_to(self.work / "lib")
-        for user, wanted in ((MEMBER, ["cellar", "hall"]), (OTHER, ["hall"]), (SUPERUSER, ["cellar", "hall"])):
+        self.desk.touch()
+        for user, wanted in ((MEMBER, ["cellar", "hall"]), (OTHER, []), (SUPERUSER, ["cellar", "hall"])):
             self.assertEqual(as_user(user, lambda: gateway_names(str(self.work))), str(wanted))
 
     def test_forged_and_emptied_lines(self):
@@ -223,7 +227,7 @@ class Group(RightsTest):
                              ["True", "True", "PermissionError"])
 
 
-class Cells(RightsTest):
+class RightsTable(RightsTest):
     """Each cell of the table in docs/guide/access.md."""
 
     def setUp(self) -> None:
@@ -247,6 +251,10 @@ class Cells(RightsTest):
         words = [CONTRIB / "enogate-backup", made, backups / "hall.db"]
         run = subprocess.run(words, capture_output=True, text=True, cwd="/")
         self.assertEqual((run.returncode, run.stderr), (0, ""))
+        day = datetime.datetime(2026, 12, 1).timestamp()
+        path = as_user(SERVICE, lambda: write_backup(str(backups), "hall", [], day))
+        self.assertEqual(path, f"{backups}/hall-2026-12-01.tar.gz")
+        self.assertIn(b"devices.csv", gzip.decompress(pathlib.Path(path).read_bytes()))
         for mode, source, target in re.findall(r"^system +(\d+) (\S+) +(/etc/default/\S+)$",
                                                (ROOT / "packaging/files").read_text(), re.MULTILINE):
             shutil.copy(ROOT / source, f"{self.work}{target}")
@@ -276,7 +284,7 @@ class Cells(RightsTest):
 
     def test_each_cell(self):
         table = self.table()
-        self.assertEqual(len(table), 11)
+        self.assertEqual(len(table), 12)
         for name, *cells in table:
             path = self.work / name.removeprefix("/var").removeprefix("/")
             self.assertTrue(path.is_file(), path)

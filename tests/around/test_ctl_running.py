@@ -20,9 +20,10 @@ COMMAND = """import functools, sys
 root = sys.argv.pop(1)
 sys.path.insert(0, root + "/tools")
 from enogate_ctl import command_line, main, running
+from enogate_tools import gateways
 command_line.paths_of = functools.partial(command_line.paths_of, root=root)
 running.System = functools.partial(running.System, root, user=lambda: None)
-running.gateway_names = lambda _root="", names=running.gateway_names: names(root)
+gateways.gateway_names = lambda _root="", names=gateways.gateway_names: names(root)
 sys.exit(main.main())"""
 STOPPED = "enogate@hall is stopped: sudo systemctl start enogate@hall"
 # A member of the group `enogate`, and this group.
@@ -40,6 +41,8 @@ class UnitOfGateway(unittest.TestCase):
         self.stick = self.enterContext(Stick(self.work))
         self.gateway = self.enterContext(Gateway(self.work))
         (self.work / "var").symlink_to(self.work)
+        (self.work / "etc/default").mkdir(parents=True)
+        (self.work / "etc/default/enogate-hall").touch()
         for name in ("enogate_ctl", "enogate_lines", "enogate_mqtt", "enogate_tools", "share"):
             shutil.copytree(CONTRIB / name, self.work / "tools" / name, ignore=shutil.ignore_patterns("__pycache__"))
         systemctl = self.work / "bin/systemctl"
@@ -126,9 +129,9 @@ class UnitOfGateway(unittest.TestCase):
         self.assertTrue(PROGRAM.exists())
 
     def test_the_name_of_no_gateway(self):
-        (self.work / "etc/default").mkdir(parents=True)
         (self.work / "etc/default/enogate-attic").touch()
-        why = "enogatectl: there is no gateway Hall: the gateways of this machine are attic, hall\n"
+        why = ("enogatectl: there is no gateway Hall: the gateways of this machine are attic, hall; to make it, enable "
+               "it: sudo systemctl enable --now enogate@Hall\n")
         for words, status in (("status", SILENT), ("devices", REFUSED), ("lines", REFUSED), ("learn off", SILENT)):
             self.assertEqual(self.ctl(*words.split(" "), name="Hall"), Run(status, "", why))
 

@@ -18,7 +18,7 @@ OPENED = "the learn window is open for {} s; Ctrl-C closes it\n"
 CLOSED = "the learn window is closed\n"
 
 
-class Window(CtlTest):
+class LearnWindowCommand(CtlTest):
     """`learn .. --for`."""
 
     def open(self, *words: str):
@@ -93,7 +93,7 @@ class Window(CtlTest):
         self.assert_run(self.ctl("learn", "off"), OK, "ok\n")
 
 
-class Base(unittest.TestCase):
+class BaseCommand(unittest.TestCase):
     """`enogatectl base PORT`."""
 
     def base(self, *words: str | pathlib.Path) -> tuple[int, str, str]:
@@ -131,7 +131,7 @@ class Base(unittest.TestCase):
             "unit makes the desk\n"))
 
 
-class Paths(unittest.TestCase):
+class PathsCommand(unittest.TestCase):
     """`enogatectl paths`, with the directories of this computer."""
 
     def test_each_gateway_has_its_files(self):

@@ -8,7 +8,7 @@ import unittest
 
 from bridge_testcase import MAY_SKIP, TOPIC_ROOT, PYTHON, BridgeTest, missing_requirement
 from broker import BRIDGE_LOGIN, PEOPLE_LOGIN, Certificates, free_ports
-from programs import WITHIN, lines_of, wait_for
+from programs import WITHIN, lines_of
 from services import CONTRIB, ROOT
 
 # An acceptance of the connection whose properties are longer than the packet, and one of subscriptions that ends early.
@@ -27,7 +27,7 @@ class EncryptedConnections(BridgeTest):
         self.broker.require_certificates(self.work)
         self.start_broker()
 
-    def secure_settings(self, authority: str) -> dict[str, str]:
+    def tls_settings(self, authority: str) -> dict[str, str]:
         """The settings for the second port, with a broker of this authority."""
         files = {"CA": authority, "CERT": "bridge.crt", "KEY": "bridge.key"}
         paths = {f"MQTT_{name}_FILE": str(self.work / file) for name, file in files.items()}
@@ -35,18 +35,18 @@ class EncryptedConnections(BridgeTest):
 
     def test_a_command_by_tls(self):
         self.bridge.desk.touch()
-        self.start_bridge(**self.secure_settings("ca.crt"))
+        self.start_bridge(**self.tls_settings("ca.crt"))
         self.broker.publish(f"{TOPIC_ROOT}/01800ABC/OV/0/set", "ON")
         self.assert_soon(lambda: [it for it in lines_of(self.bridge.desk) if it.startswith("switch")],
                          ["switch 01800ABC 0 on"])
 
     def test_a_broker_of_another_authority(self):
         Certificates(self.work).add_authority("other")
-        self.bridge.start(**self.secure_settings("other.crt"))
+        self.bridge.start(**self.tls_settings("other.crt"))
         self.assert_retries(f"{self.broker.tls_port}: [SSL: CERTIFICATE_VERIFY_FAILED]", "alert unknown ca")
 
     def test_a_missing_certificate(self):
-        settings = self.secure_settings("ca.crt") | {"MQTT_CERT_FILE": "", "MQTT_KEY_FILE": ""}
+        settings = self.tls_settings("ca.crt") | {"MQTT_CERT_FILE": "", "MQTT_KEY_FILE": ""}
         self.bridge.start(**settings)
         self.assert_rejected("peer did not return a certificate")
         # the reason depends on whether the bridge reads the answer of the broker, or writes, after it was rejected
@@ -106,8 +106,6 @@ class RefusedPublications(BridgeTest):
         self.start_broker()
         self.bridge.start()
         refused = f"the broker at localhost:{self.broker.port} accepts the connection, but refuses what is published: "
-        # a wait takes ten seconds
-        wait_for(lambda: any(refused in line for line in self.bridge.journal()), bool)
         self.assert_logged(f"{refused}{TOPIC_ROOT}/status did not come back within 15 seconds")
         self.assert_seen([line for line in self.bridge.journal() if "connected to" in line], [])
         self.assert_seen(self.heard.messages(), [])

@@ -2,7 +2,7 @@
 from __future__ import annotations
 
 from bridge_testcase import TOPIC_ROOT, BridgeTest, GatewayTest
-from oracle.esp3 import sent
+from oracle.esp3 import gateway_telegram_packet
 from programs import lines_of
 from services import BASE
 
@@ -38,8 +38,8 @@ class ActuatorQueries(GatewayTest):
     def test_each_actuator_is_asked_once_after_a_start_of_the_gateway(self):
         """Two channels, one channel, and a blind, as the guide has its packet."""
         self.order("add 01800ABC D2-01-12", "add 01800A10 D2-01-02", "add 01800ABD D2-05-00", "add 01800A01 D5-00-01")
-        packets = (sent(0xD2, bytes.fromhex("0300"), int(BASE, 16), 0x01800A10).hex()
-                   + sent(0xD2, bytes.fromhex("031E"), int(BASE, 16), 0x01800ABC).hex()
+        packets = (gateway_telegram_packet(0xD2, bytes.fromhex("0300"), int(BASE, 16), 0x01800A10).hex()
+                   + gateway_telegram_packet(0xD2, bytes.fromhex("031E"), int(BASE, 16), 0x01800ABC).hex()
                    + "55000707017ad203ff800000000301800abdff0038")
         self.start_bridge(MQTT_QUERY="yes")
         self.assert_soon(self.stick.sent, packets)
@@ -78,7 +78,7 @@ class PublishedOrders(GatewayTest):
         """Each is sent as one packet."""
         for place, command, packet in COMMANDS:
             if not packet.startswith("55"):
-                packet = sent(0xD2, bytes.fromhex(packet), int(BASE, 16), int(place[:8], 16)).hex()
+                packet = gateway_telegram_packet(0xD2, bytes.fromhex(packet), int(BASE, 16), int(place[:8], 16)).hex()
             with self.subTest(place=place, command=command):
                 before = self.stick.sent()
                 self.broker.publish(f"{TOPIC_ROOT}/{place}/set", command)

@@ -33,7 +33,7 @@ class Clock:
         self.acts.pop(len(self.slept), lambda: None)()
 
 
-class Limited(unittest.TestCase):
+class TimeLimitedTest(unittest.TestCase):
     """A test that may not hang: after some time it ends the run, which fails, and prints what each thread was doing."""
 
     def run(self, result: unittest.TestResult | None = None) -> unittest.TestResult | None:
@@ -44,7 +44,7 @@ class Limited(unittest.TestCase):
             faulthandler.cancel_dump_traceback_later()
 
 
-class Site(Limited):
+class GatewayFilesTest(TimeLimitedTest):
     """The desk and the lines of a gateway, which are empty."""
 
     maxDiff = None
@@ -64,7 +64,7 @@ class Site(Limited):
                 file.write((line if isinstance(line, str) else json.dumps(line, separators=(",", ":"))) + "\n")
 
 
-def within(seconds: int, see: Callable[[], Any]) -> Any:
+def call_within(seconds: int, see: Callable[[], Any]) -> Any:
     """What `see` returns, unless it takes longer than this."""
     def fail(*_words: object) -> None:
         raise AssertionError("it waits")

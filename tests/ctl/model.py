@@ -8,7 +8,7 @@ import random
 IDS = ("01800A01", "01800A02", "01800A03", "01800A04", "01800A05", "01800A06")
 EEPS = ("D5-00-01", "F6-02-01", "D2-01-12", "D2-05-00")
 UNSUPPORTED = "A5-99-99"
-MOST_DEVICES = 5
+MAX_DEVICES = 5
 COUNTERS = ("ignored", "readings", "refused", "responses", "teach")
 
 
@@ -30,7 +30,7 @@ def teach(device: str, eep: str | None, maker: int | None, result: str) -> bytes
 OK = line(type="ok")
 
 
-class Model:
+class GatewayModel:
     """A gateway. `failing` is the share of the orders and packets that fail with `memory` or `store`, and `fences_fail`
     says whether `status` does so, too."""
 
@@ -44,7 +44,7 @@ class Model:
         """A start: the devices stay."""
         self.counts, self.mode = dict.fromkeys(COUNTERS, 0), "closed"
 
-    def fails(self) -> bytes | None:
+    def failure_line(self) -> bytes | None:
         """The error line of an order or a packet that fails."""
         if self.source.random() >= self.failing:
             return None
@@ -55,12 +55,12 @@ class Model:
         """The lines that answer an order."""
         verb, *words = text.split(" ")
         if verb == "status":
-            failed = self.fails() if self.fences_fail else None
+            failed = self.failure_line() if self.fences_fail else None
             return [error("memory") if failed else line(type="status", mode=self.mode, **self.counts)]
         return getattr(self, verb)(words)
 
     def list(self, _words: list[str]) -> list[bytes]:
-        failed = self.fails()
+        failed = self.failure_line()
         devices = [line(type="device", id=name, eep=eep, label=self.labels.get(name, ""), maker=maker)
                    for name, (eep, maker) in sorted(self.devices.items())]
         return [failed] if failed else [*devices, line(type="list", count=len(devices))]
@@ -69,19 +69,19 @@ class Model:
         name, eep = words[0].upper(), words[1].upper()
         if name == "FFFFFFFF" or eep == UNSUPPORTED:
             return [error("range" if name == "FFFFFFFF" else "unsupported_profile")]
-        if failed := self.fails():
+        if failed := self.failure_line():
             return [failed]
-        if name not in self.devices and len(self.devices) >= MOST_DEVICES:
+        if name not in self.devices and len(self.devices) >= MAX_DEVICES:
             return [error("full")]
         self.devices[name] = eep, None
         return [teach(name, eep, None, "accepted")]
 
     def remove(self, words: list[str]) -> list[bytes]:
-        if failed := self.fails():
+        if failed := self.failure_line():
             return [failed]
-        return self.forget(words[0].upper()) or [error("unknown_device")]
+        return self.delete_lines(words[0].upper()) or [error("unknown_device")]
 
-    def forget(self, name: str) -> list[bytes]:
+    def delete_lines(self, name: str) -> list[bytes]:
         """The teach line of a device that is deleted."""
         if name not in self.devices:
             return []
@@ -89,7 +89,7 @@ class Model:
         return [teach(name, *self.devices.pop(name), "deleted")]
 
     def label(self, words: list[str]) -> list[bytes]:
-        if failed := self.fails():
+        if failed := self.failure_line():
             return [failed]
         if words[0].upper() not in self.devices:
             return [error("unknown_device")]
@@ -99,7 +99,7 @@ class Model:
     def switch(self, words: list[str]) -> list[bytes]:
         if int(words[1]) > 30:
             return [error("range")]
-        if failed := self.fails():
+        if failed := self.failure_line():
             return [failed]
         if words[0].upper() not in self.devices:
             return [error("unknown_device")]
@@ -121,11 +121,11 @@ class Model:
         """The lines of a packet."""
         name = self.source.choice(IDS)
         kind = self.source.choice(("read", "teach", "teach", "delete", "response", "ignore"))
-        if kind in ("read", "teach", "delete") and (failed := self.fails()):
-            return [*self.explained(name, "refused"), failed]
+        if kind in ("read", "teach", "delete") and (failed := self.failure_line()):
+            return [*self.packet_lines(name, "refused"), failed]
         return getattr(self, kind)(name)
 
-    def explained(self, name: str, why: str) -> list[bytes]:
+    def packet_lines(self, name: str, why: str) -> list[bytes]:
         """The packet line of a packet, if there is one."""
         return [line(type="packet", id=name, why=why, dbm=-45, dest=None, rorg="D5")] if self.explains else []
 
@@ -135,31 +135,31 @@ class Model:
         self.counts["readings"] += 1
         readings = [{"name": "CO", "word": "closed"}]
         reading = line(type="reading", id=name, eep=self.devices[name][0], dbm=-45, readings=readings)
-        return [*self.explained(name, "read"), reading]
+        return [*self.packet_lines(name, "read"), reading]
 
     def teach(self, name: str) -> list[bytes]:
         if self.mode == "closed":
             return self.ignore(name)
         eep, maker = self.source.choice(EEPS), self.source.choice((None, None, 70))
-        result = "accepted" if name in self.devices or len(self.devices) < MOST_DEVICES else "full"
+        result = "accepted" if name in self.devices or len(self.devices) < MAX_DEVICES else "full"
         result = self.source.choice((result, result, result, "unsupported", "general", "no_profile"))
         if result == "accepted":
             self.devices[name] = eep, maker
         self.counts["teach"] += 1
         none = result == "no_profile"
-        return [*self.explained(name, result), teach(name, None if none else eep, None if none else maker, result)]
+        return [*self.packet_lines(name, result), teach(name, None if none else eep, None if none else maker, result)]
 
     def delete(self, name: str) -> list[bytes]:
         if self.mode == "closed":
             return self.ignore(name)
         self.counts["teach"] += 1
-        deleted = self.forget(name) or [teach(name, self.source.choice(EEPS), 70, "deleted")]
-        return [*self.explained(name, "deleted"), *deleted]
+        deleted = self.delete_lines(name) or [teach(name, self.source.choice(EEPS), 70, "deleted")]
+        return [*self.packet_lines(name, "deleted"), *deleted]
 
     def response(self, _name: str) -> list[bytes]:
         self.counts["responses"] += 1
-        return [*self.explained("", "response"), line(type="response", code=0, data="", name="OK")]
+        return [*self.packet_lines("", "response"), line(type="response", code=0, data="", name="OK")]
 
     def ignore(self, name: str) -> list[bytes]:
         self.counts["ignored"] += 1
-        return self.explained(name, "unknown_sender")
+        return self.packet_lines(name, "unknown_sender")

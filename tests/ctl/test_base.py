@@ -5,14 +5,14 @@ import unittest
 from unittest import mock
 
 from enogate_ctl import main as program
-from enogate_ctl.base import base_answer
+from enogate_ctl.base import ask_base
 from enogate_ctl.client import PAUSE, Client, NoAnswer
 from enogate_tools import port as ports
-from fakes import OK, Limited, Site, status, teach
+from fakes import OK, GatewayFilesTest, TimeLimitedTest, status, teach
 
 ANSWER = (status(), status(), OK, status())
-SILENT = ("the gateway has asked the radio module, which did not report its base ID within {} s: check with "
-          "enogate-check that the stick is at SERIAL")
+NO_REPORT = ("the gateway has asked the radio module, which did not report its base ID within {} s: check with "
+             "enogate-check that the stick is at SERIAL")
 
 
 def response(data, code=0):
@@ -23,13 +23,13 @@ def response(data, code=0):
 REPORT = response("FFA1B280")
 
 
-class AskBase(Site):
+class BaseAnswers(GatewayFilesTest):
     """The gateway answers the order, and the module reports its base ID, after so many pauses."""
 
     def ask(self, timeout=10.0):
         self.desk.write_text("")
         client = Client(self.paths, timeout, self.clock, self.clock.sleep, lambda: 1)
-        return [line.members for line in base_answer(client).lines]
+        return [line.members for line in ask_base(client).lines]
 
     def test_the_report_follows_the_answer(self):
         self.clock.acts[2] = lambda: self.write(*ANSWER)
@@ -56,7 +56,7 @@ class AskBase(Site):
         self.clock.acts[3] = lambda: self.write(*ANSWER, response("", code=2))
         with self.assertRaises(NoAnswer) as found:
             self.ask(0.05)
-        self.assertEqual(str(found.exception), SILENT.format("0.05"))
+        self.assertEqual(str(found.exception), NO_REPORT.format("0.05"))
         self.assertEqual(len(self.clock.slept), 5)
 
     def test_a_report_at_the_last_moment(self):
@@ -82,7 +82,7 @@ class AskBase(Site):
         self.assertEqual(close.call_count, 2)
 
 
-class Command(Site):
+class BaseCommand(GatewayFilesTest):
     """What the command prints."""
 
     def run_command(self, *options, report=REPORT):
@@ -92,8 +92,8 @@ class Command(Site):
         out, err = io.StringIO(), io.StringIO()
         files = ["--desk", str(self.desk), "--lines", str(self.lines), "--timeout", "0.2"]
         with contextlib.redirect_stdout(out), contextlib.redirect_stderr(err), \
-                mock.patch.object(program, "Stops"), mock.patch.object(Client.__init__, "__defaults__",
-                                                                       (self.clock, self.tick(sleep), lambda: 1)):
+                mock.patch.object(program, "StopSignals"), mock.patch.object(Client.__init__, "__defaults__",
+                                                                             (self.clock, self.tick(sleep), lambda: 1)):
             return program.main([*files, *options, "hall", "base"]), out.getvalue(), err.getvalue()
 
     def tick(self, act):
@@ -109,10 +109,10 @@ class Command(Site):
             0, '{"type":"ok"}\n{"code":0,"data":"FFA1B280","name":"OK","type":"response"}\n', ""))
 
     def test_a_silent_module(self):
-        self.assertEqual(self.run_command(report=response("")), (3, "", f"enogatectl: {SILENT.format('0.2')}\n"))
+        self.assertEqual(self.run_command(report=response("")), (3, "", f"enogatectl: {NO_REPORT.format('0.2')}\n"))
 
 
-class OneForm(Limited):
+class BaseIdForms(TimeLimitedTest):
     def test_it_is_that_of_the_module_itself(self):
         """What a module must report at its port, and in the lines of a gateway, has the same form."""
         for base, is_one in (("FF800000", True), ("FFFFFF80", True), ("FF800001", False), ("FF7FFF80", False)):

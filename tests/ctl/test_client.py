@@ -11,24 +11,24 @@ from unittest import mock
 
 from enogate_ctl import client as clients, main as program
 from enogate_ctl.answers import AnswerFinder
-from enogate_ctl.client import KEPT_AFTER_ANSWER, LONGEST_KEPT, LONG_PAUSE, PAUSE, Client, Lines, NoAnswer
-from enogate_ctl.command_line import Export, Give, Import, ShowLines, ShowRecorded
-from enogate_ctl.desk_file import DeskFile, Unusable
+from enogate_ctl.client import LOCK_SECONDS_AFTER_ANSWER, MAX_LOCK_SECONDS, LONG_PAUSE, PAUSE, Client, Lines, NoAnswer
+from enogate_ctl.command_line import ExportDevices, GiveOrder, ImportDevices, ShowLines, ShowDevices
+from enogate_ctl.desk_file import DeskFile, UnusableFile
 from enogate_tools.gateways import Paths
-from enogate_ctl.stops import SIGNALS, Stopped, Stops
+from enogate_ctl.stops import SIGNALS, Stopped, StopSignals
 from enogate_tools import files
-from fakes import OK, Limited, Site, error, status, teach, within
+from fakes import OK, GatewayFilesTest, TimeLimitedTest, call_within, error, status, teach
 
-RESTARTED = ("the gateway was restarted, or its desk was truncated: find out with `list` or `status` whether the order "
-             "was carried out, and give it again if not")
-LOCKED = ("another order is still waiting for its answer: check the gateway with enogate-check; a restart of the "
-          "gateway ends the wait")
+RESTARTED_TEXT = ("the gateway was restarted, or its desk was truncated: find out with `list` or `status` whether the "
+                  "order was carried out, and give it again if not")
+LOCKED_TEXT = ("another order is still waiting for its answer: check the gateway with enogate-check; a restart of the "
+               "gateway ends the wait")
 ANSWER = (status(), status(), OK, status())
-SAFE = ("it must be a regular file with one name, which belongs to the owner of its directory; delete it, and restart "
-        "the gateway")
+UNSAFE_ADVICE = ("it must be a regular file with one name, which belongs to the owner of its directory; delete it, and "
+                 "restart the gateway")
 
 
-class DeskTest(Site):
+class ClientTest(GatewayFilesTest):
     """A desk with this clock. A process that would be forked is counted."""
 
     def setUp(self):
@@ -39,13 +39,13 @@ class DeskTest(Site):
         self.forks += 1
         return 1
 
-    def made(self, timeout=10.0):
+    def make_client(self, timeout=10.0):
         return Client(self.paths, timeout, self.clock, self.clock.sleep, self.fork)
 
     def assert_no_answer(self, text, order="learn on", timeout=10.0):
         """The order gets no answer, for this reason."""
         with self.assertRaises(NoAnswer) as found:
-            self.made(timeout).ask(order)
+            self.make_client(timeout).ask(order)
         self.assertEqual(str(found.exception), text)
 
     def lock(self):
@@ -57,31 +57,31 @@ class DeskTest(Site):
         return other
 
 
-class Asking(DeskTest):
+class OrderAnswers(ClientTest):
     def test_the_answer(self):
         self.write(*ANSWER[:3], "half")
         self.clock.acts[3] = lambda: self.write(*ANSWER)
-        answer = self.made().ask("learn on")
+        answer = self.make_client().ask("learn on")
         self.assertEqual(([line.members for line in answer.lines], answer.error), ([OK], None))
         self.assertEqual(self.desk.read_bytes(), b"status\nstatus\nlearn on\nstatus\r\n")
         self.assertEqual((self.clock.slept, self.forks), ([PAUSE] * 3, 0))
 
     def test_an_error(self):
         self.clock.acts[1] = lambda: self.write(status(), status(), error("unsupported_profile"), status())
-        self.assertEqual(self.made().ask("learn as A5-99-99").error, "unsupported_profile")
+        self.assertEqual(self.make_client().ask("learn as A5-99-99").error, "unsupported_profile")
 
     def test_it_is_appended_in_one_write(self):
         self.desk.write_text("list\n")
         with mock.patch("os.write", wraps=os.write) as write:
             self.clock.acts[1] = lambda: self.write(*ANSWER)
-            self.made().ask("learn on")
+            self.make_client().ask("learn on")
         self.assertEqual([call.args[1] for call in write.call_args_list], [b"status\nstatus\nlearn on\nstatus\r\n"])
         self.assertEqual(self.desk.read_bytes(), b"list\nstatus\nstatus\nlearn on\nstatus\r\n")
 
     def test_the_desk_is_unlocked_and_files_are_closed(self):
         before = len(os.listdir("/proc/self/fd"))
         self.clock.acts[1] = lambda: self.write(*ANSWER)
-        self.made().ask("learn on")
+        self.make_client().ask("learn on")
         self.assertEqual(len(os.listdir("/proc/self/fd")), before)
         fcntl.flock(self.lock(), fcntl.LOCK_UN)
 
@@ -94,16 +94,16 @@ class Asking(DeskTest):
                 self.assertRaises(BlockingIOError, fcntl.flock, other, kind | fcntl.LOCK_NB)
             self.write(*ANSWER)
         self.clock.acts[1] = look
-        self.made().ask("learn on")
+        self.make_client().ask("learn on")
 
     def test_a_locked_desk(self):
         other = self.lock()
-        self.assert_no_answer(LOCKED, timeout=0.05)
+        self.assert_no_answer(LOCKED_TEXT, timeout=0.05)
         self.assertEqual((len(self.clock.slept), self.desk.read_text(), self.forks), (5, "", 0))
         self.clock.slept.clear()
         self.clock.acts[2] = lambda: os.close(other) or self.opened.clear()
         self.clock.acts[4] = lambda: self.write(*ANSWER)
-        self.made().ask("learn on")
+        self.make_client().ask("learn on")
         self.assertEqual(len(self.clock.slept), 4)
 
     def test_the_time_for_the_lock_and_for_the_answer_is_one(self):
@@ -115,7 +115,7 @@ class Asking(DeskTest):
 
     def test_an_answer_at_the_last_moment(self):
         self.clock.acts[5] = lambda: self.write(*ANSWER)
-        self.made(0.05).ask("learn on")
+        self.make_client(0.05).ask("learn on")
 
     def test_a_stop_while_it_waits_for_the_lock(self):
         self.lock()
@@ -128,20 +128,20 @@ class Asking(DeskTest):
         """A signal comes while the command takes the first line that it reads."""
         for number in SIGNALS:
             self.addCleanup(signal.signal, number, signal.getsignal(number))
-        Stops().install()
-        take, signals = AnswerFinder.take, [signal.SIGTERM]
+        StopSignals().install()
+        take, signals = AnswerFinder.handle_line, [signal.SIGTERM]
 
         def stop(finder, line):
             while signals:
                 signal.raise_signal(signals.pop())
             return take(finder, line)
-        self.enterContext(mock.patch.object(AnswerFinder, "take", stop))
+        self.enterContext(mock.patch.object(AnswerFinder, "handle_line", stop))
 
     def test_a_stop_while_it_reads_the_answer(self):
         """No lock is kept: no answer can come any more."""
         self.stops_at_the_first_line()
         self.clock.acts[2] = lambda: self.write(*ANSWER)
-        self.assertRaises(Stopped, self.made().ask, "learn on")
+        self.assertRaises(Stopped, self.make_client().ask, "learn on")
         self.assertEqual(self.forks, 0)
 
     def test_a_stop_while_it_reads_half_of_the_answer(self):
@@ -153,10 +153,10 @@ class Asking(DeskTest):
         def keep(_desk, file, lines, finder):
             self.clock.acts[len(self.clock.slept) + 1] = lambda: self.write(*ANSWER[3:])
             begin = self.clock.now
-            self.made().wait_for_end(file, lines, finder)
+            self.make_client().wait_for_last_answer(file, lines, finder)
             kept.append(self.clock.now - begin)
         with mock.patch.object(Client, "keep_lock", keep):
-            self.assertRaises(Stopped, self.made().ask, "learn on")
+            self.assertRaises(Stopped, self.make_client().ask, "learn on")
         self.assertAlmostEqual(kept[0], LONG_PAUSE)
 
     def assert_stop(self, forks):
@@ -164,12 +164,12 @@ class Asking(DeskTest):
         def stop():
             raise Stopped(signal.SIGTERM)
         self.clock.acts[2] = stop
-        self.assertRaises(Stopped, self.made().ask, "learn on")
+        self.assertRaises(Stopped, self.make_client().ask, "learn on")
         self.assertEqual(self.forks, forks)
 
     def test_a_restart(self):
         self.clock.acts[2] = lambda: self.desk.write_text("")
-        self.assert_no_answer(RESTARTED)
+        self.assert_no_answer(RESTARTED_TEXT)
         self.assertEqual(self.forks, 0)
 
     def test_a_restart_that_is_noticed_late(self):
@@ -178,7 +178,7 @@ class Asking(DeskTest):
             self.desk.write_text("list\n" * 20)
             self.write(*ANSWER)
         self.clock.acts[1] = restart
-        self.assert_no_answer(RESTARTED)
+        self.assert_no_answer(RESTARTED_TEXT)
 
     def test_a_desk_that_is_replaced_or_deleted(self):
         def replace():
@@ -197,7 +197,7 @@ class Asking(DeskTest):
             self.lines.rename(self.folder / "hall.lines.1")
             self.write(*ANSWER[2:])
         self.clock.acts[1] = rotate
-        self.made().ask("learn on")
+        self.make_client().ask("learn on")
 
     def test_a_desk_that_is_longer_than_the_memory(self):
         real = os.pread
@@ -216,7 +216,7 @@ class Asking(DeskTest):
         with self.lines.open("a") as file:
             file.write("{" * 100)
         self.clock.acts[1] = lambda: self.write('{"type":"ok"}', *ANSWER)
-        self.made().ask("learn on")
+        self.make_client().ask("learn on")
 
     def test_the_end_of_an_incomplete_line_is_not_a_fence(self):
         with self.lines.open("a") as file:
@@ -224,12 +224,12 @@ class Asking(DeskTest):
         refused = error("unsupported_profile")
         lines = (status(), status(), OK, status(), status(), refused, status())
         self.clock.acts[1] = lambda: self.write(*lines)
-        self.assertEqual(self.made().ask("learn as A5-99-99").error, "unsupported_profile")
+        self.assertEqual(self.make_client().ask("learn as A5-99-99").error, "unsupported_profile")
 
     def test_no_lines_yet(self):
         self.lines.unlink()
         self.clock.acts[1] = lambda: self.write(*ANSWER)
-        self.made().ask("learn on")
+        self.make_client().ask("learn on")
 
     def test_lines_that_cannot_be_read(self):
         def refuse(path, *words, **keywords):
@@ -242,7 +242,7 @@ class Asking(DeskTest):
         self.assertEqual(self.desk.read_text(), "")
 
 
-class OrdersOfOthers(DeskTest):
+class OrdersOfOthers(ClientTest):
     """Orders that another program wrote without a lock, and that are not answered yet."""
 
     def setUp(self):
@@ -254,14 +254,14 @@ class OrdersOfOthers(DeskTest):
         """What the order has appended to the desk."""
         self.clock.acts[len(self.clock.slept) + 1] = lambda: self.write(*[status()] * 9, self.refused, status())
         before = self.desk.read_bytes()
-        self.assertEqual(self.made().ask("label 01800ABD x").error, "unknown_device")
+        self.assertEqual(self.make_client().ask("label 01800ABD x").error, "unknown_device")
         return self.desk.read_bytes().removeprefix(before).count(b"status\n")
 
     def test_their_answer_is_not_taken(self):
         self.desk.write_text(self.others)
         self.clock.acts[1] = lambda: self.write(status(), status(), OK, status(), status(), status())
         self.clock.acts[2] = lambda: self.write(self.refused, status())
-        self.assertEqual(self.made().ask("label 01800ABD x").error, "unknown_device")
+        self.assertEqual(self.make_client().ask("label 01800ABD x").error, "unknown_device")
         self.assertEqual(self.desk.read_bytes(),
                          self.others.encode() + b"status\nstatus\nstatus\nlabel 01800ABD x\nstatus\r\n")
 
@@ -270,7 +270,7 @@ class OrdersOfOthers(DeskTest):
         self.desk.write_text("status\nlist\nstatus\nlabel 01800ABC x\n")
         self.clock.acts[1] = lambda: self.write(status(), error("store"), status(), OK, status(), status())
         self.clock.acts[2] = lambda: self.write(self.refused, status())
-        self.assertEqual(self.made().ask("label 01800ABD x").error, "unknown_device")
+        self.assertEqual(self.make_client().ask("label 01800ABD x").error, "unknown_device")
 
     def test_after_the_next_order_they_do_not_count(self):
         self.desk.write_text(self.others)
@@ -280,13 +280,13 @@ class OrdersOfOthers(DeskTest):
         self.desk.write_text(self.others)
         self.clock.acts[1] = lambda: self.write(status(), status(), OK, *[status()] * 3, self.refused, status(), OK,
                                                 status())
-        answers = self.made().ask_all(["label 01800ABD x", "label 01800ABE x"])
+        answers = self.make_client().ask_all(["label 01800ABD x", "label 01800ABE x"])
         self.assertEqual([answer.error for answer in answers], ["unknown_device", None])
 
     def test_each_answer_gives_time_for_the_next_one(self):
         orders = [f"label 01800A{number:02X} x" for number in range(5)]
         for seconds, is_late in ((9.5, False), (10.5, True)):
-            client = self.made()
+            client = self.make_client()
             pauses = round(seconds / PAUSE)
             self.clock.slept.clear()
             self.clock.acts = {1: lambda: self.write(status(), status())} | {
@@ -311,7 +311,7 @@ class OrdersOfOthers(DeskTest):
             self.clock.acts = {place: lambda place=place: self.write(*texts[place % len(texts)])
                                for place in range(10, 2000, 7)}
             with self.assertRaises(NoAnswer):
-                self.made().ask_all(orders)
+                self.make_client().ask_all(orders)
             self.assertAlmostEqual(sum(self.clock.slept), seconds, delta=PAUSE)
 
     def write_at_once(self, text):
@@ -334,7 +334,7 @@ class OrdersOfOthers(DeskTest):
         for other in ("status\n", "status\nlist\n"):
             with self.subTest(other), self.write_at_once(other):
                 self.clock.acts[len(self.clock.slept) + 1] = lambda: self.write(*ANSWER)
-                self.made().ask("learn on")
+                self.make_client().ask("learn on")
 
     def test_signals_are_held_until_the_desk_is_looked_at_again(self):
         """The process that keeps the lock would otherwise take a wrong answer for that of the order."""
@@ -342,15 +342,15 @@ class OrdersOfOthers(DeskTest):
             self.assertIn(signal.SIGTERM, signal.pthread_sigmask(signal.SIG_BLOCK, []))
             return True
         self.clock.acts[1] = lambda: self.write(*ANSWER)
-        with mock.patch.object(clients, "is_longest", side_effect=look) as looked:
-            self.made().ask("learn on")
+        with mock.patch.object(clients, "are_enough_fences", side_effect=look) as looked:
+            self.make_client().ask("learn on")
         looked.assert_called_once()
         self.assertNotIn(signal.SIGTERM, signal.pthread_sigmask(signal.SIG_BLOCK, []))
 
     def test_the_order_status_takes_any_status_line(self):
         with self.write_at_once(self.others):
             self.clock.acts[1] = lambda: self.write(status())
-            self.made().ask("status")
+            self.make_client().ask("status")
 
     def test_the_lock_is_kept_then(self):
         """Also if lines look like the answer."""
@@ -362,11 +362,11 @@ class OrdersOfOthers(DeskTest):
         def keep(_desk, file, lines, finder):
             self.clock.acts[len(self.clock.slept) + 1] = lambda: self.write(*[status()] * 9, *ANSWER)
             begin = self.clock.now
-            self.made().wait_for_end(file, lines, finder)
+            self.make_client().wait_for_last_answer(file, lines, finder)
             kept.append(self.clock.now - begin)
         with self.write_at_once(self.others), mock.patch.object(Client, "keep_lock", keep):
-            self.assertRaises(NoAnswer, self.made().ask, "learn on")
-        self.assertAlmostEqual(kept[0], KEPT_AFTER_ANSWER, 0)
+            self.assertRaises(NoAnswer, self.make_client().ask, "learn on")
+        self.assertAlmostEqual(kept[0], LOCK_SECONDS_AFTER_ANSWER, 0)
 
     def test_the_desk_is_read_after_the_lines_are_opened(self):
         """An order that comes between the two may be answered after the offset at which the lines were opened."""
@@ -379,7 +379,7 @@ class OrdersOfOthers(DeskTest):
             self.assertEqual(self.appended() - 2, 3)
 
 
-class Keeping(DeskTest):
+class KeptLocks(ClientTest):
     """The process that keeps the lock."""
 
     def keep(self, *orders):
@@ -387,11 +387,11 @@ class Keeping(DeskTest):
         file = DeskFile(self.paths.desk)
         self.addCleanup(file.close)
         finder = clients.AnswerFinder(*orders or ["learn on"])
-        file.append(finder.text)
+        file.append(finder.desk_text)
         lines = Lines(self.paths.lines)
         try:
-            self.made().wait_for_end(file, lines, finder)
-        except Unusable:
+            self.make_client().wait_for_last_answer(file, lines, finder)
+        except UnusableFile:
             return self.clock.now, "unusable"
         return self.clock.now, "returned"
 
@@ -410,8 +410,8 @@ class Keeping(DeskTest):
         for number in (50, 90):
             self.clock.acts[number] = lambda: self.write(error("memory"), error("range"))
         seconds, end = self.keep()
-        self.assertAlmostEqual(seconds, 5 + KEPT_AFTER_ANSWER, 0)
-        self.assertEqual((end, KEPT_AFTER_ANSWER), ("returned", 10))
+        self.assertAlmostEqual(seconds, 5 + LOCK_SECONDS_AFTER_ANSWER, 0)
+        self.assertEqual((end, LOCK_SECONDS_AFTER_ANSWER), ("returned", 10))
 
     def test_each_answer_gives_time_for_the_next_one(self):
         self.clock.acts = {50: lambda: self.write(status(), status(), OK, status())} | {
@@ -424,10 +424,10 @@ class Keeping(DeskTest):
         for number in range(1, 300, 10):
             self.clock.acts[number] = lambda: self.write(error("memory"))
         seconds, end = self.keep()
-        self.assertAlmostEqual(seconds, LONGEST_KEPT, 0)
-        self.assertEqual((end, LONGEST_KEPT), ("returned", 3600))
+        self.assertAlmostEqual(seconds, MAX_LOCK_SECONDS, 0)
+        self.assertEqual((end, MAX_LOCK_SECONDS), ("returned", 3600))
 
-    def leave(self):
+    def start_lock_keeper(self):
         """An order gets no answer. Returns the process that keeps the lock."""
         numbers = []
 
@@ -442,7 +442,7 @@ class Keeping(DeskTest):
         """It is that of its own session: a signal to the terminal does not end it."""
         before = signal.signal(signal.SIGTERM, lambda *_: None)
         self.addCleanup(signal.signal, signal.SIGTERM, before)
-        number = self.leave()
+        number = self.start_lock_keeper()
         self.addCleanup(lambda: number and os.kill(number, signal.SIGKILL))
         end = time.monotonic() + 10
         while os.getsid(number) != number and time.monotonic() < end:
@@ -481,7 +481,7 @@ class Keeping(DeskTest):
         fcntl.flock(other, fcntl.LOCK_EX | fcntl.LOCK_NB)
 
 
-class Files(DeskTest):
+class UnusableFiles(ClientTest):
     """The file of a desk."""
 
     def test_no_desk(self):
@@ -507,10 +507,11 @@ class Files(DeskTest):
         other.write_text("root\n")
         self.desk.unlink()
         self.desk.symlink_to(other)
-        self.assert_no_answer(f"the desk {self.desk} is not used, because it is a symbolic link: {SAFE}")
+        self.assert_no_answer(f"the desk {self.desk} is not used, because it is a symbolic link: {UNSAFE_ADVICE}")
         self.desk.unlink()
         self.desk.hardlink_to(other)
-        self.assert_no_answer(f"the desk {self.desk} is not used, because it has a second name (a hard link): {SAFE}")
+        self.assert_no_answer(f"the desk {self.desk} is not used, because it has a second name (a hard link): "
+                              f"{UNSAFE_ADVICE}")
         self.assertEqual(other.read_text(), "root\n")
 
     def test_a_desk_of_another_user(self):
@@ -518,14 +519,14 @@ class Files(DeskTest):
         with mock.patch.object(files, "owner_of", return_value=os.getuid() + 1), \
                 mock.patch("os.geteuid", return_value=0):
             self.assert_no_answer(f"the desk {self.desk} is not used, because it does not belong to the owner of its "
-                                  f"directory: {SAFE}")
+                                  f"directory: {UNSAFE_ADVICE}")
         self.assertEqual((self.desk.read_text(), len(os.listdir("/proc/self/fd"))), ("", before))
 
     def test_a_desk_that_is_exchanged_meanwhile(self):
         """The open file is looked at, and not only its name."""
         self.exchange_for(pathlib.Path.hardlink_to, "is not used, because it has a second name (a hard link): "
-                          f"{SAFE}")
-        self.exchange_for(pathlib.Path.symlink_to, f"is not used, because it is a symbolic link: {SAFE}")
+                          f"{UNSAFE_ADVICE}")
+        self.exchange_for(pathlib.Path.symlink_to, f"is not used, because it is a symbolic link: {UNSAFE_ADVICE}")
 
     def exchange_for(self, link, why):
         """Another name of a file is put in place of the desk just before the desk is opened."""
@@ -553,7 +554,7 @@ class Files(DeskTest):
                           (lambda path: path.symlink_to(self.desk), "it is a symbolic link")):
             make(self.lines)
             text = f"the lines {self.lines} cannot be read: {why}"
-            within(10, lambda: self.assert_no_answer(text))
+            call_within(10, lambda: self.assert_no_answer(text))
             self.lines.unlink()
         self.assertEqual((self.desk.read_text(), len(os.listdir("/proc/self/fd"))), ("", before))
 
@@ -590,7 +591,7 @@ class Files(DeskTest):
             left -= written
             return written
         real, file = os.write, DeskFile(self.paths.desk)
-        with mock.patch("os.write", write), contextlib.suppress(Unusable), contextlib.closing(file):
+        with mock.patch("os.write", write), contextlib.suppress(UnusableFile), contextlib.closing(file):
             file.append(orders)
 
     def test_a_part_is_ended_at_once_if_it_fits(self):
@@ -617,7 +618,7 @@ class Files(DeskTest):
             other.write("list\n")
         file.check()
         self.desk.write_text("list\nstat")
-        self.assertRaisesRegex(Unusable, "was restarted", file.check)
+        self.assertRaisesRegex(UnusableFile, "was restarted", file.check)
 
     def test_signals_are_held_while_it_is_written(self):
         def write(_file, text):
@@ -631,10 +632,10 @@ class Files(DeskTest):
         self.assertNotIn(signal.SIGTERM, signal.pthread_sigmask(signal.SIG_BLOCK, []))
 
 
-class Rights(Limited):
+class OwnerRights(TimeLimitedTest):
     """As root, the command takes on the rights of the user of the service."""
 
-    def taken(self, *owners, user=0, entry=None):
+    def rights_calls(self, *owners, user=0, entry=None):
         """The calls that take on rights, if the directories have these owners, each with the group 7. A directory
         without an owner is missing."""
         def status(folder):
@@ -651,18 +652,19 @@ class Rights(Limited):
 
     def test_the_owner_of_a_directory(self):
         entry = mock.Mock(pw_name="enogate", pw_gid=8)
-        self.assertEqual(self.taken(5, 6, entry=entry), [("groups", ([8, 20],)), ("group", (8, 8, 8)),
-                                                         ("user", (5, 5, 5))])
+        self.assertEqual(self.rights_calls(5, 6, entry=entry), [("groups", ([8, 20],)), ("group", (8, 8, 8)),
+                                                                ("user", (5, 5, 5))])
         alone = [("groups", ([7],)), ("group", (7, 7, 7)), ("user", (6, 6, 6))]
-        self.assertEqual([self.taken(*owners) for owners in ((6, 5), (None, 6), (0, 6))], [alone] * 3)
+        self.assertEqual([self.rights_calls(*owners) for owners in ((6, 5), (None, 6), (0, 6))], [alone] * 3)
 
     def test_no_other_user(self):
-        self.assertEqual([self.taken(0, 0), self.taken(None, None), self.taken(5, 5, user=9)], [[], [], []])
+        for owners, user in (((0, 0), 0), ((None, None), 0), ((5, 5), 9)):
+            self.assertEqual(self.rights_calls(*owners, user=user), [], owners)
 
     def test_each_command_at_a_gateway_takes_them_on(self):
         paths = Paths("/d/desk", "/l/hall.lines", "/b/hall.db")
-        for command in (Give(paths, 1, False, "list", None), Export(paths, 1), Import(paths, 1),
-                        ShowRecorded(paths, False), ShowLines(paths)):
+        for command in (GiveOrder(paths, 1, False, "list", None), ExportDevices(paths, 1), ImportDevices(paths, 1),
+                        ShowDevices(paths, False), ShowLines(paths)):
             with mock.patch.object(program.files, "become_owner", side_effect=OSError(1, "Not allowed")) as become, \
                     self.assertRaises(NoAnswer) as found:
                 program.run(command, mock.Mock())

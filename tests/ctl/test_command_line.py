@@ -1,5 +1,6 @@
 """The command line, and what the program does without a gateway."""
 import contextlib
+import datetime
 import io
 import os
 import pathlib
@@ -7,24 +8,25 @@ import re
 import shlex
 import subprocess
 import sys
+import tempfile
 import unittest
 from unittest import mock
 
 from enogate_ctl import command_line, following, grammar, main as program, running
-from enogate_ctl.answers import Answer, line_of
-from enogate_ctl.client import NoAnswer, Unreadable
-from enogate_ctl.command_line import AskBase, Export, Give, Import, Serve, ShowHelp, ShowLines, ShowPaths
-from enogate_ctl.command_line import ShowRecorded, parsed
+from enogate_ctl.answers import Answer, parse_line
+from enogate_ctl.client import NoAnswer, UnreadableLines
+from enogate_ctl.command_line import AskBase, BackUp, ExportDevices, GiveOrder, ImportDevices, ReplaceDevice, Serve
+from enogate_ctl.command_line import ShowDevices, ShowHelp, ShowLines, ShowPaths, parsed
 from enogate_tools.gateways import Paths, paths_of
 from enogate_ctl.stops import Stopped
 from enogate_tools import VERSION, port as ports
-from fakes import Limited
+from fakes import TimeLimitedTest
 
 ROOT = pathlib.Path(__file__).parents[2]
 HALL, DEVICES = paths_of("hall"), paths_of("devices")
 
 
-class Output(io.StringIO):
+class FakeOutput(io.StringIO):
     """A standard output that may be a terminal."""
     is_terminal = False
 
@@ -35,13 +37,14 @@ class Output(io.StringIO):
         return 77
 
 
-def run(*arguments, text="", is_terminal=False, why_not=""):
-    """The status of the program, what it printed, and its errors. `why_not` says why no gateway runs."""
-    out, err = Output(), io.StringIO()
+def run_ctl(*arguments, text="", is_terminal=False, why_not_running=""):
+    """The status of the program, what it printed, and its errors. `why_not_running` says why no gateway runs."""
+    out, err = FakeOutput(), io.StringIO()
     stdin = mock.Mock(buffer=io.BytesIO(text.encode("utf-8", "surrogateescape")), isatty=lambda: is_terminal)
     with contextlib.redirect_stdout(out), contextlib.redirect_stderr(err), mock.patch("sys.stdin", stdin), \
-            mock.patch.object(program.Stops, "install"), mock.patch.object(running, "why_not", return_value=why_not), \
-            mock.patch.object(running, "why_unknown", return_value=why_not):
+            mock.patch.object(program.StopSignals, "install"), \
+            mock.patch.object(running, "why_not_running", return_value=why_not_running), \
+            mock.patch.object(program, "why_unknown", return_value=why_not_running):
         try:
             status = program.main(arguments)
         except SystemExit as end:
@@ -49,34 +52,46 @@ def run(*arguments, text="", is_terminal=False, why_not=""):
     return status, out.getvalue(), err.getvalue()
 
 
-class CommandLines(Limited):
+class CommandLines(TimeLimitedTest):
     def test_orders(self):
         for words, wanted in (
-            ("hall list", Give(HALL, 10.0, False, "list", None)),
-            ("--json hall list", Give(HALL, 10.0, True, "list", None)),
-            ("hall --timeout 2.5 list --json", Give(HALL, 2.5, True, "list", None)),
-            ("hall add 01800ABC D5-00-01", Give(HALL, 10.0, False, "add 01800ABC D5-00-01", None)),
-            ("hall learn as F6-02-01 --for 120", Give(HALL, 10.0, False, "learn as F6-02-01", 120.0)),
-            ("hall learn --for 120 on", Give(HALL, 10.0, False, "learn on", 120.0)),
-            ("hall label 01800ABC -- -x --json", Give(HALL, 10.0, False, "label 01800ABC -x --json", None)),
-            ("--desk d --lines l hall status", Give(Paths("d", "l", HALL.bridge), 10.0, False, "status", None)),
-            ("base base", Give(paths_of("base"), 10.0, False, "base", None)),
-            ("base status", Give(paths_of("base"), 10.0, False, "status", None)),
+            ("hall list", GiveOrder(HALL, 10.0, False, "list", None)),
+            ("--json hall list", GiveOrder(HALL, 10.0, True, "list", None)),
+            ("hall --timeout 2.5 list --json", GiveOrder(HALL, 2.5, True, "list", None)),
+            ("hall add 01800ABC D5-00-01", GiveOrder(HALL, 10.0, False, "add 01800ABC D5-00-01", None)),
+            ("hall learn as F6-02-01 --for 120", GiveOrder(HALL, 10.0, False, "learn as F6-02-01", 120.0)),
+            ("hall learn --for 120 on", GiveOrder(HALL, 10.0, False, "learn on", 120.0)),
+            ("hall label 01800ABC -- -x --json", GiveOrder(HALL, 10.0, False, "label 01800ABC -x --json", None)),
+            ("--desk d --lines l hall status", GiveOrder(Paths("d", "l", HALL.bridge), 10.0, False, "status", None)),
+            ("base base", GiveOrder(paths_of("base"), 10.0, False, "base", None)),
+            ("base status", GiveOrder(paths_of("base"), 10.0, False, "status", None)),
             ("base /dev/enocean", AskBase("/dev/enocean")), ("paths", ShowPaths()),
-            ("paths list", Give(paths_of("paths"), 10.0, False, "list", None)),
-            ("paths list --json", Give(paths_of("paths"), 10.0, True, "list", None)),
-            ("paths devices --export", Export(paths_of("paths"), 10.0)),
-            ("hall devices --export", Export(HALL, 10.0)), ("--timeout 3 hall devices --export", Export(HALL, 3.0)),
-            ("hall devices", ShowRecorded(HALL, False)), ("--json devices devices", ShowRecorded(DEVICES, True)),
-            ("hall devices --import", Import(HALL, 10.0)), ("hall --timeout 3 devices --import", Import(HALL, 3.0)),
+            ("paths list", GiveOrder(paths_of("paths"), 10.0, False, "list", None)),
+            ("paths list --json", GiveOrder(paths_of("paths"), 10.0, True, "list", None)),
+            ("paths devices --export", ExportDevices(paths_of("paths"), 10.0)),
+            ("hall devices --export", ExportDevices(HALL, 10.0)),
+            ("--timeout 3 hall devices --export", ExportDevices(HALL, 3.0)),
+            ("hall devices", ShowDevices(HALL, False)), ("--json devices devices", ShowDevices(DEVICES, True)),
+            ("hall devices --import", ImportDevices(HALL, 10.0)),
+            ("hall --timeout 3 devices --import", ImportDevices(HALL, 3.0)),
             ("hall lines", ShowLines(HALL)), ("--timeout 3 hall lines", ShowLines(HALL)),
             ("--desk d --lines l hall lines", ShowLines(Paths("d", "l", HALL.bridge))),
+            ("hall replace 01800abd 01800af0", ReplaceDevice(HALL, 10.0, "01800ABD", "01800AF0", "")),
+            ("--timeout 3 hall -- replace Lamp 01800AF0 d2-01-12",
+             ReplaceDevice(HALL, 3.0, "Lamp", "01800AF0", "D2-01-12")),
+            ("--desk d --lines l hall replace -x 01800AF0".replace("-x", "+x"),
+             ReplaceDevice(Paths("d", "l", HALL.bridge), 10.0, "+x", "01800AF0", "")),
+            ("hall backup", BackUp(HALL, 10.0, "hall", "/var/backups/enogate")),
+            ("backup backup", BackUp(paths_of("backup"), 10.0, "backup", "/var/backups/enogate")),
+            ("--timeout 3 hall backup /mnt", BackUp(HALL, 3.0, "hall", "/mnt")),
+            ("--desk d --lines l hall backup .", BackUp(Paths("d", "l", HALL.bridge), 10.0, "hall", ".")),
             ("--serve", Serve()),
         ):
             with self.subTest(words):
                 found = parsed(words.split(" "))
                 self.assertEqual((type(found), found), (type(wanted), wanted))
         self.assertEqual(parsed(["hall", "label", "01800ABC", "a  b"]).order, "label 01800ABC a  b")
+        self.assertEqual(parsed(["hall", "--", "replace", "-Lamp a", "01800AF0"]).old, "-Lamp a")
 
     def test_bad_usage(self):
         for words, text in (
@@ -124,9 +139,27 @@ class CommandLines(Limited):
         ):
             self.assert_bad(words, text)
 
+    def test_bad_usage_of_replace_and_backup(self):
+        form = "the form is replace OLD NEW [EEP]: OLD is the ID or the label of a device, and NEW another ID"
+        for words in ("hall replace", "hall replace 01800ABD", "hall replace 01800ABD Lamp",
+                      "hall replace A B 01800AF0", "hall replace 01800ABD 01800AF0 D2-01",
+                      "hall replace 01800ABD 01800AF0 D2-01-12 x",
+                      "hall replace 01800ABD 01800AF0D2-01-12", "hall replace 01800ABD 01800abd",
+                      f"hall replace {33 * 'x'} 01800AF0", "hall replace ö 01800AF0"):
+            self.assert_bad(words, form)
+        for words, text in (
+            ("replace 01800ABD 01800AF0", "the name of the gateway comes first: enogatectl GATEWAY replace .."),
+            ("backup", "the name of the gateway comes first: enogatectl GATEWAY backup .."),
+            ("hall backup a b", "'backup a b' is not an order"), ("hall bakup", "did you mean `backup`?"),
+            *((f"hall {words} --{option}", f"--{option.split(' ')[0]} cannot be used with {words.split(' ')[0]}")
+              for words in ("replace 01800ABD 01800AF0", "backup")
+              for option in ("json", "for 5", "export", "import", "wait 3", "no-wait")),
+        ):
+            self.assert_bad(words, text)
+
     def assert_bad(self, words, text):
         with self.subTest(words):
-            status, out, err = run(*filter(None, words.split(" ")))
+            status, out, err = run_ctl(*filter(None, words.split(" ")))
             self.assertEqual((status, out), (2, ""))
             self.assertRegex(err, r"\Aenogatectl: [^\n]+\n\Z")
             self.assertIn(text, err)
@@ -141,28 +174,32 @@ class CommandLines(Limited):
             ("hall --jsn list", "there is no option --jsn: did you mean `--json`?"),
             ("hall --no-wiat list x", "there is no option --no-wiat: did you mean `--no-wait`?"),
         ):
-            self.assertEqual(run(*words.split(" ")), (2, "", f"enogatectl: {text}\n"))
+            self.assertEqual(run_ctl(*words.split(" ")), (2, "", f"enogatectl: {text}\n"))
         for words, text in (("hall frob", "'frob' is not an order: the orders are learn, add, "),
-                            ("help devices", "'devices' is not an order: the orders are learn, "),
+                            ("help frob", "'frob' is not an order: the orders are learn, "),
                             ("hall --frobnicate list", "there is no option --frobnicate\n")):
             self.assert_bad(words, text)
-        self.assertEqual(run("hall", "list", "--\x1b[2J")[2], "enogatectl: there is no option --?[2J\n")
+        self.assertEqual(run_ctl("hall", "list", "--\x1b[2J")[2], "enogatectl: there is no option --?[2J\n")
 
     def test_help_about_orders(self):
         for words, wanted in (("hall help", ""), ("help", ""), ("help switch", "switch"), ("hall help stop", "stop"),
                               ("nosuch help", "")):
             self.assertEqual(parsed(words.split(" ")), ShowHelp(wanted))
-        self.assertEqual(run("help", "meter"), (0, """\
+        self.assertEqual(run_ctl("help", "meter"), (0, """\
 meter ID CH energy  asks for the energy that a channel has measured
 meter ID CH power   asks for the power that a channel measures
-ID                  8 hexadecimal digits
+ID                  8 hexadecimal digits, or the label of a device
 CH                  a channel, 0 to 30
 """, ""))
-        self.assertEqual(run("hall", "help", "list"), (0, "list  lists all learned devices\n", ""))
-        status, out, err = run("hall", "help")
+        self.assertEqual(run_ctl("hall", "help", "list"), (0, "list  lists all learned devices\n", ""))
+        for command, usage in (("backup", "backup [DIRECTORY]"), ("devices", "devices [--export|--import]"),
+                               ("lines", "lines|watch"), ("replace", "replace OLD NEW [EEP]"),
+                               ("watch", "lines|watch")):
+            self.assertEqual(run_ctl("help", command), (0, f"enogatectl [..] GATEWAY {usage}\n", ""))
+        status, out, err = run_ctl("hall", "help")
         self.assertEqual((status, err), (0, ""))
         self.assertEqual([line.split("  ")[0] for line in out.splitlines()],
-                         [*(form for forms in grammar.FORMS.values() for form, _ in forms), *grammar.SHAPES])
+                         [*(form for forms in grammar.FORMS_BY_VERB.values() for form, _ in forms), *grammar.PATTERNS])
         self.assertLessEqual(max(map(len, out.splitlines())), 80)
         for words, text in (("hall help stop x", "'help stop x' is not an order"), ("help list x", "not an order"),
                             ("help --json", "--json cannot be used with help"),
@@ -170,10 +207,11 @@ CH                  a channel, 0 to 30
             self.assert_bad(words, text)
 
     def test_help_and_version(self):
-        self.assertEqual(run("--version"), (0, f"enogatectl {VERSION}\n", ""))
-        status, out, err = run("--help")
+        self.assertEqual(run_ctl("--version"), (0, f"enogatectl {VERSION}\n", ""))
+        status, out, err = run_ctl("--help")
         self.assertEqual((status, err), (0, ""))
-        for word in (*grammar.FORMS, "--timeout", "--json", "--for", "--export", "--import", "--desk", "--lines", "10"):
+        for word in (*grammar.FORMS_BY_VERB, "--timeout", "--json", "--for", "--export", "--import", "--desk",
+                     "--lines", "10"):
             self.assertIn(word, out)
 
     def test_the_manual_page(self):
@@ -181,16 +219,16 @@ CH                  a channel, 0 to 30
         page = (ROOT / "contrib/enogatectl.1").read_text().replace("\\-", "-")
         self.assertIn(f"The default is {command_line.TIMEOUT:g}.", page)
         forms, examples = re.findall(r"(?ms)^\.EX\n(.*?)^\.EE$", page)
-        self.assertEqual(forms.splitlines(), [form for order in grammar.FORMS.values() for form, _ in order])
+        self.assertEqual(forms.splitlines(), [form for order in grammar.FORMS_BY_VERB.values() for form, _ in order])
         for line in examples.splitlines():
             name, *words = shlex.split(line.partition(" >")[0])
             self.assertEqual((name, parsed(words).paths), ("enogatectl", HALL))
 
 
-class Programs(Limited):
+class ProgramRuns(TimeLimitedTest):
     """The program, with a fake desk."""
 
-    def ask(self, *answers):
+    def patch_answers(self, *answers):
         """Each order gets the next of these: lines, or an exception."""
         self.orders = []
 
@@ -198,7 +236,7 @@ class Programs(Limited):
             lines = answers[min(sum(map(len, self.orders)), len(answers)) - 1]
             if isinstance(lines, BaseException):
                 raise lines
-            return Answer([line_of(line.encode()) for line in lines])
+            return Answer([parse_line(line.encode()) for line in lines])
 
         def ask_all(_desk, orders):
             found = []
@@ -215,57 +253,121 @@ class Programs(Limited):
             (ok, ["learn", "off"], (0, "ok\n", "")), (ok, ["learn", "off", "--json"], (0, '{"type":"ok"}\n', "")),
             (NoAnswer("why\x1b"), ["list"], (3, "", "enogatectl: why?\n")), (Stopped(2), ["list"], (130, "", "")),
         ):
-            with self.ask(answer):
-                self.assertEqual(run("hall", *words), wanted)
-        with self.ask(store):
-            status, out, err = run("hall", "list")
+            with self.patch_answers(answer):
+                self.assertEqual(run_ctl("hall", *words), wanted)
+        with self.patch_answers(store):
+            status, out, err = run_ctl("hall", "list")
             self.assertEqual((status, out, err[:37]), (1, "", "enogatectl: store: the database faile"))
-            status, out, err = run("hall", "list", "--json")
+            status, out, err = run_ctl("hall", "list", "--json")
             self.assertEqual((status, out, err[:18]), (1, store[0] + "\n", "enogatectl: store:"))
-            self.assertEqual(run("hall", "devices", "--export")[0], 1)
-            self.assertEqual(run("hall", "devices", "--import")[0], 1)
-            self.assertEqual(run("hall", "learn", "on", "--for", "1")[0], 1)
+            self.assertEqual(run_ctl("hall", "devices", "--export")[0], 1)
+            self.assertEqual(run_ctl("hall", "devices", "--import")[0], 1)
+            self.assertEqual(run_ctl("hall", "learn", "on", "--for", "1")[0], 1)
 
     def test_no_gateway_runs(self):
         """Each command that gives an order says so, and gives none. The others only need the name of a gateway."""
         why = "enogate@hall is stopped"
         for words in ("list", "status", "base", "switch 01800ABC 0 on", "learn on --for 5", "devices --export",
-                      "devices --import"):
-            with self.ask(['{"type":"ok"}']), self.subTest(words):
-                self.assertEqual(run("hall", *words.split(" "), why_not=why), (3, "", f"enogatectl: {why}\n"))
+                      "devices --import", "replace 01800ABD 01800AF0", "backup /none"):
+            with self.patch_answers(['{"type":"ok"}']), self.subTest(words):
+                self.assertEqual(run_ctl("hall", *words.split(" "), why_not_running=why),
+                                 (3, "", f"enogatectl: {why}\n"))
                 self.assertEqual(self.orders, [])
-                run("--desk", "d", "--lines", "l", "hall", *words.split(" "), why_not=why)
+                run_ctl("--desk", "d", "--lines", "l", "hall", *words.split(" "), why_not_running=why)
                 self.assertNotEqual(self.orders, [])
         for words in ("devices", "lines", "devices --json"):
-            self.assertEqual(run("hall", *words.split(" "), why_not=why), (1, "", f"enogatectl: {why}\n"))
+            self.assertEqual(run_ctl("hall", *words.split(" "), why_not_running=why), (1, "", f"enogatectl: {why}\n"))
 
     def test_devices(self):
         lines = ['{"eep":"D5-00-01","id":"01800ABC","label":"Door","maker":null,"type":"device"}',
                  '{"count":1,"type":"list"}']
-        with self.ask(lines):
-            self.assertEqual(run("hall", "devices", "--export"), (0, "id,eep,label\n01800ABC,D5-00-01,Door\n", ""))
+        with self.patch_answers(lines):
+            self.assertEqual(run_ctl("hall", "devices", "--export"), (0, "id,eep,label\n01800ABC,D5-00-01,Door\n", ""))
         text = "01800ABC,D5-00-01,Door\n01800ABD,D5-00-01,\udcff\n"
-        with self.ask(lines, ['{"type":"ok"}']):
-            self.assertEqual(run("hall", "devices", "--import", text=text[:23]),
+        with self.patch_answers(lines, ['{"type":"ok"}']):
+            self.assertEqual(run_ctl("hall", "devices", "--import", text=text[:23]),
                              (0, "line 1: 01800ABC: unchanged\n", ""))
-            status, out, _ = run("hall", "devices", "--import", text=text)
+            status, out, _ = run_ctl("hall", "devices", "--import", text=text)
             self.assertEqual((status, out.splitlines()[1][:40]), (1, "line 2: 'label 01800ABD \ufffd' is not an ord"))
-        with self.ask(lines):
-            self.assertEqual(run("hall", "devices", "--import", text=text[:23], is_terminal=True), (
+        with self.patch_answers(lines):
+            self.assertEqual(run_ctl("hall", "devices", "--import", text=text[:23], is_terminal=True), (
                 0, "line 1: 01800ABC: unchanged\n", "enogatectl: enter the devices as CSV, and end with Ctrl-D; to "
                 "read a file, append <FILE to the command\n"))
-        with self.ask(lines, ['{"error":"full","type":"error"}']):
-            status, out, _ = run("hall", "devices", "--import", text="01800ABE,D5-00-01\n")
+        with self.patch_answers(lines, ['{"error":"full","type":"error"}']):
+            status, out, _ = run_ctl("hall", "devices", "--import", text="01800ABE,D5-00-01\n")
             self.assertEqual((status, out[:57]), (1, "line 1: 01800ABE: `add 01800ABE D5-00-01` was refused: fu"))
+
+    def test_replace(self):
+        """Each step is printed when it is done. After one that failed there is none."""
+        device = '{"eep":"D2-01-12","id":"%s","label":"Lamp","maker":70,"type":"device"}'
+        added = '{"eep":"D2-01-12","id":"01800AF0","maker":null,"result":"accepted","type":"teach"}'
+        listed, ok = [device % "01800ABD", '{"count":1,"type":"list"}'], ['{"type":"ok"}']
+        words = ("--desk", "d", "--lines", "l", "hall", "replace", "Lamp", "01800AF0")
+        orders = [["list"], ["add 01800AF0 D2-01-12"], ["label 01800AF0 Lamp"], ["remove 01800ABD"]]
+        with self.patch_answers(listed, [added], ok, [added.replace("accepted", "deleted")]):
+            self.assertEqual(run_ctl(*words), (
+                0, "01800AF0: learned\n01800AF0: labelled\n01800ABD: removed\nLamp was replaced by 01800AF0. If it is "
+                "an actuator, teach it this gateway. Automations and other programs that use the ID need the new "
+                "one.\n", ""))
+            self.assertEqual(self.orders, orders)
+        for number, printed in enumerate(("", "01800AF0: learned\n", "01800AF0: learned\n01800AF0: labelled\n"), 2):
+            answers = [listed, [added], ok][:number - 1] + [['{"error":"store","type":"error"}']]
+            with self.patch_answers(*answers):
+                status, out, err = run_ctl(*words)
+            self.assertEqual((status, out, err[:19], self.orders), (1, printed, "enogatectl: store: ", orders[:number]))
+        # All steps are carried out even if nobody reads what is printed.
+        with self.patch_answers(listed, [added], ok, [added.replace("accepted", "deleted")]), \
+                mock.patch("builtins.print", side_effect=BrokenPipeError), mock.patch("os.dup2"):
+            self.assertEqual(run_ctl(*words), (0, "", ""))
+            self.assertEqual(self.orders, orders)
+        # A signal ends the command after the step in which it comes.
+        with self.patch_answers(listed, [added], ok), mock.patch("builtins.print", side_effect=Stopped(15)):
+            self.assertEqual((run_ctl(*words), self.orders), ((143, "", ""), orders[:2]))
+        # Each step is printed at once, also into a pipe.
+        with self.patch_answers(listed, [added], ok, [added.replace("accepted", "deleted")]), \
+                mock.patch("builtins.print") as printed:
+            run_ctl(*words)
+        self.assertEqual([call.kwargs for call in printed.call_args_list], [{"flush": True}] * 4)
+        with self.patch_answers(['{"count":0,"type":"list"}']):
+            status, out, err = run_ctl(*words[:-2], "01800ABD", "01800AF0")
+            self.assertEqual((status, out, self.orders), (2, "", [["list"]]))
+            self.assertEqual(err, "enogatectl: 01800ABD is not learned: check the ID with `list`\n")
+
+    def test_a_device_that_was_replaced_already(self):
+        listed = ['{"eep":"D2-01-12","id":"01800AF0","label":"Lamp","maker":70,"type":"device"}',
+                  '{"count":1,"type":"list"}']
+        with tempfile.NamedTemporaryFile("w") as lines, self.patch_answers(listed):
+            lines.write(listed[0].replace("01800AF0", "01800ABD") + "\n")
+            lines.flush()
+            status, out, err = run_ctl("--desk", "d", "--lines", lines.name, "hall", "replace", "01800abd", "01800AF0")
+            self.assertEqual((status, out[:46], err), (0, "01800ABD was replaced by 01800AF0 already. If ", ""))
+            self.assertEqual(self.orders, [["list"]])
+
+    def test_backup(self):
+        with tempfile.TemporaryDirectory() as folder, mock.patch.object(program.time, "time", return_value=1e9):
+            words = ("--desk", "d", "--lines", "l", "hall", "backup", folder)
+            with self.patch_answers(['{"count":0,"type":"list"}']):
+                path = f"{folder}/hall-{datetime.date.fromtimestamp(1e9)}.tar.gz"
+                self.assertEqual(run_ctl(*words), (0, f"{path}: 0 devices\n", ""))
+                self.assertEqual(self.orders, [["list"]])
+            for answer, status in ((['{"error":"memory","type":"error"}'], 1), (NoAnswer("why"), 3)):
+                with self.patch_answers(answer):
+                    self.assertEqual(run_ctl(*words)[:2], (status, ""))
+            with self.patch_answers(['{"count":0,"type":"list"}']):
+                self.assertEqual(run_ctl(*words[:-1], "/none/x"), (
+                    1, "", "enogatectl: the backup in /none/x failed: /none/x: No such file or directory\n"))
+                with mock.patch("os.fsync", side_effect=OSError(28, "No space left on device")):
+                    self.assertEqual(run_ctl(*words), (
+                        1, "", f"enogatectl: the backup in {folder} failed: No space left on device\n"))
 
     def test_the_width_of_a_table(self):
         """That of a terminal on which it is printed; without one, it has no limit."""
         lines = ['{"eep":"D2-01-12","id":"01800ABC","label":"%s","maker":null,"type":"device"}' % ("x" * 32),
                  '{"count":1,"type":"list"}']
         for is_terminal, columns, wanted in ((True, 50, 50), (True, 0, 83), (True, 200, 83), (False, 50, 83)):
-            with self.ask(lines), mock.patch.object(Output, "is_terminal", is_terminal), \
+            with self.patch_answers(lines), mock.patch.object(FakeOutput, "is_terminal", is_terminal), \
                     mock.patch("os.get_terminal_size", return_value=os.terminal_size((columns, 24))) as asked:
-                status, out, _ = run("--desk", "d", "--lines", "l", "hall", "list")
+                status, out, _ = run_ctl("--desk", "d", "--lines", "l", "hall", "list")
             self.assertEqual((status, max(map(len, out.splitlines()))), (0, wanted))
             self.assertEqual([call.args for call in asked.call_args_list if call.args != (1,)], [(77,)] * is_terminal)
 
@@ -275,61 +377,63 @@ class Programs(Limited):
         adds = ["add 01800ABC D5-00-01", "add 01800ABD D5-00-01"]
         nothing, ok, accepted = ['{"count":0,"type":"list"}'], ['{"type":"ok"}'], [
             '{"eep":"D5-00-01","id":"01800ABC","maker":null,"result":"accepted","type":"teach"}']
-        with self.ask(nothing, accepted, accepted, ok):
-            status, out, _ = run("hall", "devices", "--import", text=text)
+        with self.patch_answers(nothing, accepted, accepted, ok):
+            status, out, _ = run_ctl("hall", "devices", "--import", text=text)
             self.assertEqual(self.orders, [["list"], adds, ["label 01800ABC Door"]])
             self.assertEqual((status, out.splitlines()), (0, ["line 1: 01800ABC: learned and labelled",
                                                               "line 2: 01800ABD: learned"]))
         for name in ("memory", "store"):
             failed = ['{"error":"%s","type":"error"}' % name]
-            with self.ask(nothing, failed, accepted, accepted, failed, ok):
-                status, out, _ = run("hall", "devices", "--import", text=text)
+            with self.patch_answers(nothing, failed, accepted, accepted, failed, ok):
+                status, out, _ = run_ctl("hall", "devices", "--import", text=text)
                 self.assertEqual(self.orders, [["list"], adds, adds[:1], adds[1:], ["label 01800ABC Door"]])
                 self.assertEqual((status, out.splitlines()[0]), (1, "line 1: 01800ABC: learned and labelled"))
                 self.assertIn(f"line 2: 01800ABD: `add 01800ABD D5-00-01` was refused: {name}: ", out)
-            with self.ask(nothing, accepted, failed, accepted, accepted, ok):
-                self.assertEqual(run("hall", "devices", "--import", text=text)[0], 0)
+            with self.patch_answers(nothing, accepted, failed, accepted, accepted, ok):
+                self.assertEqual(run_ctl("hall", "devices", "--import", text=text)[0], 0)
                 self.assertEqual(self.orders, [["list"], adds, adds[:1], adds[1:], ["label 01800ABC Door"]])
-        with self.ask(nothing, ['{"error":"full","type":"error"}']):
-            self.assertEqual(run("hall", "devices", "--import", text=text)[0], 1)
+        with self.patch_answers(nothing, ['{"error":"full","type":"error"}']):
+            self.assertEqual(run_ctl("hall", "devices", "--import", text=text)[0], 1)
             self.assertEqual(self.orders, [["list"], adds])
 
     def test_base(self):
         with mock.patch.object(ports, "open_port", return_value=99), mock.patch("os.close") as close, \
                 mock.patch.object(ports, "configure") as configure:
             with mock.patch.object(ports, "ask_base", return_value="FFA1B280"):
-                self.assertEqual(run("base", "/dev/x"), (0, "FFA1B280\n", ""))
+                self.assertEqual(run_ctl("base", "/dev/x"), (0, "FFA1B280\n", ""))
             with mock.patch.object(ports, "ask_base", return_value=None):
-                status, out, err = run("base", "/dev/x")
+                status, out, err = run_ctl("base", "/dev/x")
                 self.assertEqual((status, out, err[:46]), (3, "", "enogatectl: no radio module answers at /dev/x:"))
             with mock.patch.object(ports, "ask_base", side_effect=ports.PortError("why")):
-                self.assertEqual(run("base", "/dev/x"), (1, "", "enogatectl: why\n"))
+                self.assertEqual(run_ctl("base", "/dev/x"), (1, "", "enogatectl: why\n"))
             configure.assert_called_with(99, "/dev/x")
             self.assertEqual(close.call_count, 3)
 
     def test_paths(self):
         with mock.patch.object(program, "all_paths", return_value={"hall": {"lines": "l", "desk": "d"}, "attic": {}}):
-            self.assertEqual(run("paths"), (0, '{"attic":{},"hall":{"desk":"d","lines":"l"}}\n', ""))
+            self.assertEqual(run_ctl("paths"), (0, '{"attic":{},"hall":{"desk":"d","lines":"l"}}\n', ""))
         with mock.patch.object(program, "all_paths", return_value={}):
-            self.assertEqual(run("paths"), (0, "{}\n", ""))
+            self.assertEqual(run_ctl("paths"), (0, "{}\n", ""))
 
     def test_lines(self):
-        for why, status in ((None, 0), (Unreadable("why"), 1)):
+        for why, status in ((None, 0), (UnreadableLines("why"), 1)):
             with mock.patch.object(following, "print_lines", side_effect=why) as printed, \
-                    mock.patch.object(following, "Reader") as reader, mock.patch("sys.stdout", mock.Mock(buffer=7)), \
-                    mock.patch.object(program.Stops, "install"), contextlib.redirect_stderr(io.StringIO()) as err, \
-                    mock.patch.object(running, "why_unknown", return_value=""):
+                    mock.patch.object(following, "OutputReader") as reader, \
+                    mock.patch("sys.stdout", mock.Mock(buffer=7)), \
+                    mock.patch.object(program.StopSignals, "install"), \
+                    contextlib.redirect_stderr(io.StringIO()) as err, \
+                    mock.patch.object(program, "why_unknown", return_value=""):
                 self.assertEqual(program.main(["hall", "lines"]), status)
             self.assertEqual(err.getvalue(), "enogatectl: why\n" if why else "")
             reader.assert_called_once_with(HALL.lines, 7)
             printed.assert_called_once_with(HALL, 7, reader.return_value.wait)
 
     def test_a_signal_before_the_command_begins(self):
-        with mock.patch.object(program.Stops, "install", side_effect=Stopped(15)):
+        with mock.patch.object(program.StopSignals, "install", side_effect=Stopped(15)):
             self.assertEqual(program.main(["paths"]), 143)
 
     def test_nobody_reads(self):
-        with self.ask(['{"type":"ok"}']), mock.patch("builtins.print", side_effect=BrokenPipeError), \
+        with self.patch_answers(['{"type":"ok"}']), mock.patch("builtins.print", side_effect=BrokenPipeError), \
                 mock.patch("os.dup2") as dup2, mock.patch("sys.stdout", mock.Mock(fileno=lambda: 1)):
             self.assertEqual(program.main(["--desk", "d", "--lines", "l", "hall", "list", "--json"]), 0)
         self.assertEqual(dup2.call_args.args[1], 1)

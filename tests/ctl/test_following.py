@@ -7,12 +7,12 @@ import unittest
 from unittest import mock
 
 from enogate_ctl import following
-from enogate_ctl.client import Unreadable
+from enogate_ctl.client import UnreadableLines
 from enogate_ctl.stops import Stopped
-from fakes import Site
+from fakes import GatewayFilesTest
 
 
-class Following(Site):
+class PrintedLines(GatewayFilesTest):
     def printed(self, *acts):
         """What is printed while each of these is done in a pause; then nobody reads it any more."""
         out, left, self.woken = io.BytesIO(), list(acts), []
@@ -31,11 +31,11 @@ class Following(Site):
                          ["a", "b", "", "c", "d", "e", ""])
 
     def test_only_the_end_of_a_long_file(self):
-        self.write("x" * following.EARLIER, "a" * 40)
+        self.write("x" * following.MAX_EARLIER_BYTES, "a" * 40)
         self.assertEqual(self.printed(), ["a" * 40, "", ""])
         self.lines.write_text("")
-        self.write("x", "a" * (following.EARLIER - 1))
-        self.assertEqual([len(line) for line in self.printed()], [following.EARLIER - 1, 0, 0])
+        self.write("x", "a" * (following.MAX_EARLIER_BYTES - 1))
+        self.assertEqual([len(line) for line in self.printed()], [following.MAX_EARLIER_BYTES - 1, 0, 0])
 
     def test_a_line_that_is_begun_before_and_ends_later(self):
         with self.lines.open("a") as file:
@@ -80,7 +80,7 @@ class Following(Site):
         self.lines.unlink()
         self.desk.unlink()
         why = f"^there are no lines {self.lines}: correct the name of the gateway, or start it$"
-        with self.assertRaisesRegex(Unreadable, why):
+        with self.assertRaisesRegex(UnreadableLines, why):
             self.printed()
 
     def test_a_link_or_a_pipe(self):
@@ -88,7 +88,7 @@ class Following(Site):
                           (lambda: os.mkfifo(self.lines), "it is not a regular file")):
             self.lines.unlink()
             make()
-            with self.assertRaisesRegex(Unreadable, f"^the lines {self.lines} cannot be read: {why}$"):
+            with self.assertRaisesRegex(UnreadableLines, f"^the lines {self.lines} cannot be read: {why}$"):
                 self.printed()
 
     def test_a_signal_closes_the_file(self):
@@ -100,13 +100,13 @@ class Following(Site):
         self.assertEqual(os.listdir("/proc/self/fd"), before)
 
 
-class Reader(Site):
+class OutputReader(GatewayFilesTest):
     def setUp(self):
         super().setUp()
         self.reads, writes = os.pipe()
         self.addCleanup(lambda: os.close(self.reads))
         self.out = self.enterContext(os.fdopen(writes, "wb"))
-        self.reader = following.Reader(str(self.lines), self.out)
+        self.reader = following.OutputReader(str(self.lines), self.out)
         self.waits = []
         poll = mock.Mock(register=lambda *_: None, poll=lambda wait: self.waits.append(wait) or [])
         self.poll = mock.patch.object(following.select, "poll", return_value=poll)
@@ -142,7 +142,7 @@ class Reader(Site):
         library = mock.Mock(inotify_init1=lambda _: -1)
         with mock.patch("enogate_lines.inotify.ctypes.CDLL", return_value=library), \
                 contextlib.redirect_stderr(io.StringIO()) as err:
-            reader = following.Reader(str(self.lines), self.out)
+            reader = following.OutputReader(str(self.lines), self.out)
         with self.poll:
             self.assertTrue(reader.wait(True))
         self.assertEqual((self.waits, err.getvalue()), ([100], ""))

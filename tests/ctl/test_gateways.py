@@ -6,13 +6,14 @@ import tempfile
 import unittest
 from unittest import mock
 
-from enogate_tools.gateways import InvalidName, Paths, all_paths, gateway_names, is_name, paths_of
-from fakes import Limited
+from enogate_tools.gateways import InvalidName, Paths, all_paths, gateway_names, is_name, paths_of, startable_names
+from enogate_tools.gateways import why_not_among
+from fakes import TimeLimitedTest
 
 CONTRIB = pathlib.Path(__file__).parents[2] / "contrib"
 
 
-class Names(Limited):
+class GatewayNamePatterns(TimeLimitedTest):
     def test_files(self):
         self.assertEqual(paths_of("an-attic_2"), Paths("/run/enogate/an-attic_2/desk",
                          "/var/log/enogate/an-attic_2.lines", "/var/lib/enogate-mqtt/an-attic_2.db", "an-attic_2"))
@@ -37,7 +38,7 @@ class Names(Limited):
                                    "not begin it with - or mqtt$", paths_of, name)
 
 
-class Machine(Limited):
+class GatewayFolders(TimeLimitedTest):
     """The gateways of a machine whose files are below a directory."""
 
     maxDiff = None
@@ -57,12 +58,41 @@ class Machine(Limited):
         for folder, name in ((wants[0], "barn"), (wants[0], "hall"), (wants[1], "cabin"), (wants[1], "hall")):
             (folder / f"enogate@{name}.service").symlink_to("/nowhere")
         for name in ("den", "hall"):
-            (self.running / name).mkdir()
+            self.make_desk(name)
         for name in ("east_2", "hall"):
             (self.databases / f"{name}.db").touch()
 
+    def make_desk(self, name):
+        (self.running / name).mkdir(parents=True)
+        (self.running / name / "desk").touch()
+
     def names(self):
         return gateway_names(str(self.root))
+
+    def test_those_that_may_be_started(self):
+        """Not those that have nothing but a desk."""
+        self.make()
+        self.assertEqual(startable_names(str(self.root)), {"attic", "barn", "cabin", "east_2", "hall"})
+
+    def test_a_unit_that_was_not_started(self):
+        """Its directory remains, without a desk."""
+        self.make()
+        before = self.names()
+        (self.running / "hal").mkdir()
+        self.assertEqual(self.names(), before)
+        self.make_desk("hall2")
+        self.assertEqual(self.names(), sorted([*before, "hall2"]))
+
+    def test_a_name_that_is_not_known(self):
+        for name, known, why in (
+            ("hall", ["attic", "hall"], ""),
+            ("hal", ["attic", "hall"], "there is no gateway hal: the gateways of this machine are attic, hall; to make "
+             "it, enable it: sudo systemctl enable --now enogate@hal"),
+            ("hal", [], "there is no gateway hal: this machine has none; to make it, enable it: sudo systemctl enable "
+             "--now enogate@hal"),
+            ("mqtt-hall", ["hall"], str(InvalidName("mqtt-hall"))),
+        ):
+            self.assertEqual(why_not_among(name, known), why)
 
     def test_each_that_left_a_trace_is_there_once(self):
         self.make()
@@ -77,7 +107,7 @@ class Machine(Limited):
     def test_the_files_of_all(self):
         self.settings.mkdir(parents=True)
         (self.settings / "enogate-attic").touch()
-        (self.running / "hall").mkdir(parents=True)
+        self.make_desk("hall")
         self.assertEqual(all_paths(str(self.root)), {
             name: {"desk": f"{self.root}/run/enogate/{name}/desk", "lines": f"{self.root}/var/log/enogate/{name}.lines",
                    "settings": f"{self.root}/etc/default/enogate-{name}"} for name in ("attic", "hall")})
@@ -126,7 +156,7 @@ class Machine(Limited):
         with mock.patch.object(os, "listdir", return_value=[]) as listed:
             gateway_names()
         self.assertEqual([call.args for call in listed.call_args_list],
-                         [("/etc/default",), ("/run/enogate",), ("/var/lib/enogate",), ("/etc/systemd/system",)])
+                         [("/run/enogate",), ("/etc/default",), ("/var/lib/enogate",), ("/etc/systemd/system",)])
 
 
 if __name__ == "__main__":

@@ -6,18 +6,18 @@ import random
 import unittest
 from dataclasses import dataclass
 
-from enogate_ctl.answers import SHARED, AnswerFinder, line_of
-from enogate_ctl.client import Client, Lines, TooLate
-from enogate_ctl.desk_file import Unusable
-from enogate_ctl.fence import is_longest, needed
+from enogate_ctl.answers import PACKET_ERRORS, AnswerFinder, parse_line
+from enogate_ctl.client import Client, Lines, AnswerTimeout
+from enogate_ctl.desk_file import UnusableFile
+from enogate_ctl.fence import are_enough_fences, needed_fences
 from enogate_tools.gateways import paths_of
-from fakes import Limited
-from model import EEPS, IDS, UNSUPPORTED, Model
+from fakes import TimeLimitedTest
+from model import EEPS, IDS, UNSUPPORTED, GatewayModel
 
-COUNT = 24000
+CASE_COUNT = 24000
 
 
-def some_order(source: random.Random) -> str:
+def random_order(source: random.Random) -> str:
     """An order, which may be refused."""
     name, eep = source.choice((*IDS, IDS[0].lower(), "FFFFFFFF")), source.choice((*EEPS, EEPS[0].lower(), UNSUPPORTED))
     return source.choice((
@@ -26,16 +26,16 @@ def some_order(source: random.Random) -> str:
         f"learn as {eep}", f"central {source.choice((5, 128))} on", "status"))
 
 
-def some_orders(source: random.Random) -> list[str]:
+def random_orders(source: random.Random) -> list[str]:
     """Orders of an import, all of one kind, for different devices."""
     count, kind = source.randrange(2, 5), source.choice(("add", "label"))
     words = [*EEPS, UNSUPPORTED] if kind == "add" else ["Lamp", "Lamp 2"]
     return [f"{kind} {name} {source.choice(words)}" for name in source.sample(IDS, count)]
 
 
-def of_others(source: random.Random) -> list[str]:
+def orders_of_other_program(source: random.Random) -> list[str]:
     """What another program gives at once."""
-    order = some_order(source)
+    order = random_order(source)
     return source.choice(([order], [order], ["status"], [order, "status"], ["status", order], ["list", "status"],
                           ["status", order, "status"]))
 
@@ -56,28 +56,28 @@ class Event:
         return self.who == "packet" and bool(self.lines) and is_shared(self.lines[-1])
 
 
-class Case:
+class InterleavingCase:
     """An interleaving of packets and of the orders of the command with those of other programs."""
 
     def __init__(self, source: random.Random, failing: float, fences_fail: bool, has_pair: bool,
                  orders: list[str] | None = None):
-        self.source, self.explains, self.order = source, source.random() < 0.5, some_order(source)
+        self.source, self.explains, self.order = source, source.random() < 0.5, random_order(source)
         self.orders = orders or [self.order]
         self.order = self.orders[0]
-        self.model = Model(source, self.explains, failing, fences_fail)
+        self.model = GatewayModel(source, self.explains, failing, fences_fail)
         self.model.mode = source.choice(("closed", "on", "on"))
         for name in source.sample(IDS, source.randrange(len(IDS))):
             self.model.devices[name] = source.choice(EEPS), source.choice((None, 70))
-        self.before = [text for _ in range(source.choice((0, 0, 1, 2))) for text in of_others(source)]
+        self.before = [text for _ in range(source.choice((0, 0, 1, 2))) for text in orders_of_other_program(source)]
         if has_pair:
-            self.before += ["status"] * source.choice((2, 2, 2, 3, 4)) + [some_order(source)]
+            self.before += ["status"] * source.choice((2, 2, 2, 3, 4)) + [random_order(source)]
         if orders:
             # another program gives orders that look like a part of these
             self.before += [text for order in source.choices(orders, k=source.randrange(3))
                             for text in source.choice(([order], [order, "status"], ["status", "status", order]))]
         self.write()
-        self.after = [text for _ in range(source.choice((0, 1, 2))) for text in of_others(source)]
-        self.events = list(self.play())
+        self.after = [text for _ in range(source.choice((0, 1, 2))) for text in orders_of_other_program(source)]
+        self.events = list(self.play_events())
         # the command finds the end of the lines before its orders are handled
         own = [number for number, event in enumerate(self.events) if event.who in ("own", "restart")]
         self.seen = self.events[source.randrange(min(own) + 1):]
@@ -87,16 +87,18 @@ class Case:
         self.finder = AnswerFinder(*self.orders)
         seen = len(self.before) if self.source.random() < 0.8 else self.source.randrange(len(self.before) + 1)
         texts = [b"".join(order.encode() + b"\n" for order in orders) for orders in (self.before[:seen], self.before)]
-        self.finder.least, self.finder.least_with_errors = needed(texts[0]), needed(texts[1], with_errors=True)
-        self.own = self.finder.text.decode().replace("\r", "").split("\n")[:-1]
-        self.is_recognizable = self.finder.is_status or is_longest(self.finder.least, texts[1], self.finder.text)
+        self.finder.least = needed_fences(texts[0])
+        self.finder.least_with_errors = needed_fences(texts[1], with_errors=True)
+        self.own = self.finder.desk_text.decode().replace("\r", "").split("\n")[:-1]
+        self.is_recognizable = (self.finder.is_status_order
+                                or are_enough_fences(self.finder.least, texts[1], self.finder.desk_text))
 
-    def play(self):
+    def play_events(self):
         """What a gateway does. At a restart the desk is emptied, and other programs go on."""
         orders = [("other", text) for text in self.before] + [("own", text) for text in self.own]
         if self.source.random() < 0.1:
             del orders[self.source.randrange(len(orders)):]
-            orders += [("restart", ""), *(("other", text) for text in ("status", "status", some_order(self.source)))]
+            orders += [("restart", ""), *(("other", text) for text in ("status", "status", random_order(self.source)))]
         for who, text in orders + [("other", text) for text in self.after]:
             for _ in range(self.source.choice((0, 0, 1, 2, 3))):
                 yield Event("packet", "", self.model.packet())
@@ -141,20 +143,20 @@ class Case:
                 return not self.explains
         return False
 
-    def pieces(self) -> list[list[Event]]:
+    def random_pieces(self) -> list[list[Event]]:
         """What the command reads at a time."""
-        pieces: list[list[Event]] = [[]]
+        random_pieces: list[list[Event]] = [[]]
         for event in self.seen:
             if self.source.random() < 0.4:
-                pieces.append([])
-            pieces[-1].append(event)
-        return pieces
+                random_pieces.append([])
+            random_pieces[-1].append(event)
+        return random_pieces
 
     @property
     def answers(self) -> list[list[bytes]]:
         """The right answers to several orders."""
         own = [event.lines for event in self.events if event.who == "own"]
-        return own[0 if self.finder.is_status else self.finder.least::2][:len(self.orders)]
+        return own[0 if self.finder.is_status_order else self.finder.least::2][:len(self.orders)]
 
     def run(self) -> list[bytes] | str:
         """The answer that the command finds to its order, or why it finds none."""
@@ -165,21 +167,21 @@ class Case:
         """The answers that the command finds, or why it finds none."""
         if not self.is_recognizable:
             return "unrecognizable"
-        self.left, self.read_events, self.now = self.pieces(), [], 0.0
+        self.left, self.read_events, self.now = self.random_pieces(), [], 0.0
         client = Client(paths_of("hall"), 10.0, lambda: self.now, self.sleep)
         try:
             found = client.wait(self, self, self.finder, 10.0)
             return [[line.raw for line in answer.lines] for answer in found]
-        except TooLate:
+        except AnswerTimeout:
             return "late"
-        except Unusable:
+        except UnusableFile:
             return "restarted"
 
     def sleep(self, _seconds: float) -> None:
         """After the last piece, time passes."""
         self.now += 0.0 if self.left else 99.0
 
-    first = Lines.first
+    first_result = Lines.first_result
 
     def read(self) -> list[bytes]:
         """The next piece of the lines."""
@@ -190,16 +192,16 @@ class Case:
     def check(self) -> None:
         """Fails after a restart, which empties the desk."""
         if any(event.who == "restart" for event in self.read_events):
-            raise Unusable
+            raise UnusableFile
 
 
 def is_shared(raw: bytes) -> bool:
     """Whether this line is the error `memory` or `store`."""
-    line = line_of(raw)
-    return line is not None and line.error in SHARED
+    line = parse_line(raw)
+    return line is not None and line.error in PACKET_ERRORS
 
 
-class Interleavings(Limited):
+class Interleavings(TimeLimitedTest):
     """The command finds the right answer, or none."""
 
     def results(self, count: int, seed: int, failing: float = 0.05, fences_fail: bool = False,
@@ -208,12 +210,12 @@ class Interleavings(Limited):
         source, found = random.Random(seed), collections.Counter()
         self.wrong: list[tuple] = []
         for _ in range(count):
-            case = Case(source, failing, fences_fail, has_pair)
+            case = InterleavingCase(source, failing, fences_fail, has_pair)
             result = case.run()
             found[self.result(case, result)] += 1
         return found
 
-    def result(self, case: Case, result: list[bytes] | str) -> str:
+    def result(self, case: InterleavingCase, result: list[bytes] | str) -> str:
         """What became of the order of a case."""
         if isinstance(result, str):
             return "unsure" if result == "late" and case.may_be_late else result
@@ -232,7 +234,7 @@ class Interleavings(Limited):
 
     def test_no_answer_is_wrong_or_late(self):
         """Except for the cases that the guide names."""
-        found = self.results(COUNT, 1)
+        found = self.results(CASE_COUNT, 1)
         self.assertEqual(self.wrong[:1], [])
         self.assertEqual(found["late"], 0)
         self.assertGreater(found["right"], 20000)
@@ -261,7 +263,7 @@ class Interleavings(Limited):
         self.assertGreater(found["late"], 100)
 
 
-class SeveralOrders(Limited):
+class SeveralOrders(TimeLimitedTest):
     """The command finds the right answers to several orders, or none. If one of them is an error that packets have too,
     it gives the orders again, one by one."""
 
@@ -271,13 +273,13 @@ class SeveralOrders(Limited):
         source, found = random.Random(seed), collections.Counter()
         self.wrong: list[tuple] = []
         for _ in range(count):
-            orders = some_orders(source)
-            case = Case(source, failing, fences_fail, has_pair, orders)
+            orders = random_orders(source)
+            case = InterleavingCase(source, failing, fences_fail, has_pair, orders)
             result = case.run_all()
             found[self.result(case, result)] += 1
         return found
 
-    def result(self, case: Case, result: list[list[bytes]] | str) -> str:
+    def result(self, case: InterleavingCase, result: list[list[bytes]] | str) -> str:
         """What became of the orders of a case."""
         if isinstance(result, str):
             return "unsure" if result == "late" and case.may_be_late else result

@@ -7,21 +7,21 @@ from unittest import mock
 from enogate_ctl import main as program
 from enogate_ctl.client import PAUSE, Client, NoAnswer
 from enogate_ctl.command_line import parsed
-from enogate_ctl.grammar import FORMS, WITH_ID, NoOrder, check_order, order_and_label, with_device
-from enogate_ctl.labels import device_of, devices, is_current
+from enogate_ctl.grammar import FORMS_BY_VERB, VERBS_WITH_ID, InvalidOrder, check_order, order_and_label, order_with_id
+from enogate_ctl.labels import are_labels_current, id_of_label, listed_devices
 from enogate_lines.contents import Listed
-from fakes import OK, Limited, Site, device, end_of_list, error, status, teach
+from fakes import OK, GatewayFilesTest, TimeLimitedTest, device, end_of_list, error, status, teach
 
 # Labels that would change an order if a part of them got into it.
-HOSTILE = ("0 on", "01800ABD 0", "01800ABD 0 on", "ID", "ID 0 on", "on", "list", "; remove 01800ABD", "$(remove)",
-           "a`b`", "'", '"', "\\n", "%s {0}", "--", "~")
+HOSTILE_LABELS = ("0 on", "01800ABD 0", "01800ABD 0 on", "ID", "ID 0 on", "on", "list", "; remove 01800ABD",
+                  "$(remove)", "a`b`", "'", '"', "\\n", "%s {0}", "--", "~")
 
 
-class Arguments(Limited):
+class LabelArguments(TimeLimitedTest):
     """Which argument is a label."""
 
     def test_the_orders_with_an_id(self):
-        self.assertEqual(WITH_ID, {"add", "remove", "label", "switch", "dim", "query", "meter", "blind", "stop"})
+        self.assertEqual(VERBS_WITH_ID, {"add", "remove", "label", "switch", "dim", "query", "meter", "blind", "stop"})
 
     def test_an_id(self):
         """In either case; in one argument with the rest of the order, too."""
@@ -48,26 +48,26 @@ class Arguments(Limited):
         self.assertEqual(order_and_label(["label", "01800ABC Lamp"]), ("label ID", "01800ABC Lamp"))
         for words in (["switch", "01800ABC 0", "on"], ["switch", "01800ABC 0 on"], ["blind", "01800ABC 50"],
                       ["add", "01800ABC D5-00-01"], ["stop", ""], ["remove", "01800ABC "]):
-            self.assertRaises(NoOrder, order_and_label, words)
+            self.assertRaises(InvalidOrder, order_and_label, words)
 
     def test_no_order(self):
         for words in (["switch", "Lamp", "on"], ["switch", "Lamp", "0", "up"], ["switch"], ["stop", "Lamp", "0"],
                       ["stop", " Lamp"], ["stop", "ö"], ["stop", "a\nlist"], ["stop", "x" * 33], ["list", "Lamp"],
                       ["central", "Lamp", "on"], ["learn", "Lamp"], ["label", "Lamp", "ö"], ["stop", "\x1b[2J"]):
-            self.assertRaises(NoOrder, order_and_label, words)
+            self.assertRaises(InvalidOrder, order_and_label, words)
 
     def test_an_order_with_a_label_is_no_order_yet(self):
         """A gateway would refuse it."""
-        for label in ("Lamp", *HOSTILE):
+        for label in ("Lamp", *HOSTILE_LABELS):
             order, found = order_and_label(["switch", label, "0", "on"])
             self.assertEqual((order, found), ("switch ID 0 on", label))
-            self.assertRaises(NoOrder, check_order, order)
+            self.assertRaises(InvalidOrder, check_order, order)
 
     def test_the_id_of_the_device(self):
-        self.assertEqual(with_device("switch ID 0 on", "01800ABC"), "switch 01800ABC 0 on")
-        self.assertEqual(with_device("label ID ID  ID", "01800ABC"), "label 01800ABC ID  ID")
+        self.assertEqual(order_with_id("switch ID 0 on", "01800ABC"), "switch 01800ABC 0 on")
+        self.assertEqual(order_with_id("label ID ID  ID", "01800ABC"), "label 01800ABC ID  ID")
         for name in ("01800ABC 1 off\nlist", "ID", "", "01800ABC 0"):
-            self.assertRaises(NoOrder, with_device, "switch ID 0 on", name)
+            self.assertRaises(InvalidOrder, order_with_id, "switch ID 0 on", name)
 
     def test_command_lines(self):
         found = parsed(["hall", "switch", "Front door", "--timeout", "3", "0", "on"])
@@ -77,15 +77,16 @@ class Arguments(Limited):
         self.assertEqual(parsed(["hall", "list"]).label, "")
 
 
-class Devices(Limited):
+class LabelLookups(TimeLimitedTest):
     """The device with a label."""
 
     LISTED = [Listed(f"01800AB{number}", "D2-01-12", label, None) for number, label in enumerate(
-        ("Lamp", "Lamp 2", "", "Door", "Door", "", "lamp", *HOSTILE))]
+        ("Lamp", "Lamp 2", "", "Door", "Door", "", "lamp", *HOSTILE_LABELS))]
 
     def test_one_device(self):
-        for label in ("Lamp", "Lamp 2", "lamp", *HOSTILE):
-            self.assertEqual([one.label for one in self.LISTED if one.device == device_of(label, self.LISTED)], [label])
+        for label in ("Lamp", "Lamp 2", "lamp", *HOSTILE_LABELS):
+            device = id_of_label(label, self.LISTED)
+            self.assertEqual([one.label for one in self.LISTED if one.device == device], [label])
 
     def test_several_or_none(self):
         for label, text in (
@@ -94,13 +95,13 @@ class Devices(Limited):
             ("LAMP", "'LAMP' is neither an ID (8 hexadecimal digits) nor the label of a device"),
             ("", "several devices have the label '': give the ID, 01800AB2 or 01800AB5"),
         ):
-            with self.assertRaises(NoOrder) as found:
-                device_of(label, self.LISTED)
+            with self.assertRaises(InvalidOrder) as found:
+                id_of_label(label, self.LISTED)
             self.assertEqual(str(found.exception), text)
-        self.assertRaises(NoOrder, device_of, "Lamp", [])
+        self.assertRaises(InvalidOrder, id_of_label, "Lamp", [])
 
 
-class Recorded(Site):
+class RecordedLabels(GatewayFilesTest):
     """Whether the labels are those of the lines."""
 
     def test_a_list_after_the_last_label(self):
@@ -112,10 +113,10 @@ class Recorded(Site):
             (b"list\nadd 01800ABC D5-00-01\nstatus\n", True), (b"label 01800ABC x\n list\n", False),
             (b"list\nxlabel 01800ABC x\n", True),
         ):
-            self.assertEqual(is_current(desk), wanted, desk)
+            self.assertEqual(are_labels_current(desk), wanted, desk)
 
     def devices(self):
-        return devices(Client(self.paths, 1.0, self.clock, self.clock.sleep, lambda: 1))
+        return listed_devices(Client(self.paths, 1.0, self.clock, self.clock.sleep, lambda: 1))
 
     def test_the_devices(self):
         self.write(device("01800ABC", "Lamp"), end_of_list(1), teach("01800ABC", result="deleted"), teach("01800ABD"))
@@ -135,7 +136,7 @@ class Recorded(Site):
         self.assertRaises(NoAnswer, self.devices)
 
 
-class Orders(Site):
+class OrdersWithLabels(GatewayFilesTest):
     """The program, at a gateway that answers after a pause."""
 
     def give(self, *words):
@@ -145,7 +146,7 @@ class Orders(Site):
         def made(paths, timeout):
             return Client(paths, timeout, self.clock, self.clock.sleep, lambda: 1)
         with contextlib.redirect_stdout(out), contextlib.redirect_stderr(err), \
-                mock.patch.object(program, "Client", made), mock.patch.object(program.Stops, "install"):
+                mock.patch.object(program, "Client", made), mock.patch.object(program.StopSignals, "install"):
             result = program.main(["--desk", str(self.desk), "--lines", str(self.lines), "hall", *words])
         return result, out.getvalue(), err.getvalue()
 
@@ -176,7 +177,7 @@ class Orders(Site):
         self.assertEqual(self.orders()[-1], "switch 01800ABD 0 on")
 
     def test_hostile_labels(self):
-        for label in HOSTILE:
+        for label in HOSTILE_LABELS:
             with self.subTest(label):
                 self.clock.slept.clear()
                 self.write(device("01800ABC", label), device("01800ABD", "Other"), end_of_list(2))
@@ -190,8 +191,8 @@ class Orders(Site):
         """In the form that it has with an ID."""
         values = {"EEP": "D5-00-01", "TEXT": "New name", "CH": "1", "VAL": "50"}
         self.write(device("01800ABC", "Old name"), end_of_list(1))
-        for verb in WITH_ID:
-            for form, _ in FORMS[verb]:
+        for verb in VERBS_WITH_ID:
+            for form, _ in FORMS_BY_VERB[verb]:
                 rest = [values.get(word, word) for word in form.split(" ")[2:]]
                 result = {"add": teach("01800ABC"), "remove": teach("01800ABC", result="deleted")}.get(verb, OK)
                 self.clock.slept.clear()

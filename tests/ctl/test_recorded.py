@@ -9,20 +9,20 @@ from datetime import datetime, timezone
 from unittest import mock
 
 from enogate_ctl import main as program, recent, recorded
-from enogate_ctl.client import Unreadable
+from enogate_ctl.client import UnreadableLines
 from enogate_lines.follow import position_at_end
 from enogate_mqtt.devices import Device
 from enogate_mqtt.state import last_seen
 from enogate_mqtt.store import Store
-from fakes import OK, Limited, Site, device, end_of_list, packet, reading, status, teach
+from fakes import OK, GatewayFilesTest, TimeLimitedTest, device, end_of_list, packet, reading, status, teach
 
 SEEN = datetime(2026, 11, 28, 12, 0, 0, tzinfo=timezone.utc)
 
 
-class Recorded(Site):
+class RecordedDevices(GatewayFilesTest):
     def found(self):
         """The label and the profile of each device."""
-        return {one.device: (one.label, one.eep) for one in recorded.devices(self.paths)}
+        return {one.device: (one.label, one.eep) for one in recorded.recorded_devices(self.paths)}
 
     def test_the_last_list(self):
         self.write(device("01800AB1", "Old"), end_of_list(1), reading("01800AB9"), device("01800ABC", "Door"),
@@ -57,16 +57,16 @@ class Recorded(Site):
         self.write(teach("01800ABC"), device("01800ABC"), status())
         for act in (lambda: None, self.lines.unlink):
             act()
-            with self.assertRaises(Unreadable) as why:
-                recorded.devices(self.paths)
+            with self.assertRaises(UnreadableLines) as why:
+                recorded.recorded_devices(self.paths)
             self.assertEqual(str(why.exception),
                              f"no list of the devices is in the lines {self.lines}: give the order `list` once")
 
     def test_lines_that_cannot_be_read(self):
         with mock.patch("os.open", side_effect=PermissionError(13, "Permission denied")):
-            with self.assertRaisesRegex(Unreadable, "cannot be read: Permission denied; become root, or a member of "
-                                        "the group enogate"):
-                recorded.devices(self.paths)
+            with self.assertRaisesRegex(UnreadableLines, "cannot be read: Permission denied; become root, or a member "
+                                        "of the group enogate"):
+                recorded.recorded_devices(self.paths)
 
     def test_a_list_that_was_rotated(self):
         self.write(device("01800ABC", "Door"))
@@ -79,13 +79,13 @@ class Recorded(Site):
         self.write(device("01800ABC", "Door"), end_of_list(1), *[reading("01800ABC")] * 20000)
         self.assertGreater(self.lines.stat().st_size, 2 * recent.BLOCK)
         self.assertEqual(set(self.found()), {"01800ABC"})
-        with mock.patch.object(recorded, "MOST_SEARCHED", 1000):
-            self.assertRaises(Unreadable, recorded.devices, self.paths)
+        with mock.patch.object(recorded, "MAX_SEARCHED_BYTES", 1000):
+            self.assertRaises(UnreadableLines, recorded.recorded_devices, self.paths)
 
     def run_command(self, *options):
         """The exit status and what is printed."""
         out = io.StringIO()
-        with mock.patch("sys.stdout", out), mock.patch.object(program, "Stops"), \
+        with mock.patch("sys.stdout", out), mock.patch.object(program, "StopSignals"), \
                 mock.patch("enogate_ctl.command_line.paths_of", return_value=self.paths):
             return program.main([*options, "hall", "devices"]), out.getvalue()
 
@@ -125,7 +125,7 @@ class Recorded(Site):
         self.bridge("01800ABC")
         with contextlib.closing(sqlite3.connect(self.state)) as connection, connection:
             connection.execute("UPDATE place SET offset = -1, last = x'00'")
-        self.assertEqual(recent.last_times(str(self.state), str(self.lines)), {})
+        self.assertEqual(recent.last_seen_times(str(self.state), str(self.lines)), {})
 
     def test_the_last_readings_are_in_json(self):
         """Also those before a rotation, but not those of another profile."""
@@ -160,7 +160,7 @@ class Recorded(Site):
         self.assertEqual((self.desk.read_bytes(), self.lines.read_bytes()), (b"", before))
 
 
-class Backwards(Limited):
+class LinesBackwards(TimeLimitedTest):
     """The lines of a file from its end."""
 
     def test_they_are_those_of_the_text(self):
@@ -171,7 +171,7 @@ class Backwards(Limited):
             wanted = text[start:].split(b"\n")[-2::-1]
             for size in (1, 2, 7, 100):
                 with mock.patch.object(recent, "BLOCK", size):
-                    found = list(recent.lines_before(io.BytesIO(text), len(text), start))
+                    found = list(recent.lines_backwards(io.BytesIO(text), len(text), start))
                 self.assertEqual(found, wanted, (text, start, size))
 
 

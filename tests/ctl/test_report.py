@@ -8,10 +8,10 @@ from unittest import mock
 
 from enogate_ctl import main as program
 from enogate_ctl.client import LONG_PAUSE, PAUSE, Client, Lines, NoAnswer
-from enogate_ctl.command_line import ANSWERED_WITHIN, BLIND_WITHIN, WAITS, parsed
+from enogate_ctl.command_line import REPORT_TIMEOUT, BLIND_REPORT_TIMEOUT, REPORT_TIMEOUTS, parsed
 from enogate_ctl.report import is_report, report_in
 from enogate_tools import share
-from fakes import OK, Limited, Site, error, packet, reading, status
+from fakes import OK, GatewayFilesTest, TimeLimitedTest, error, packet, reading, status
 
 DEVICE, BLIND = "01800ABC", "01800ABD"
 ANSWER = status(), status(), OK, status()
@@ -39,7 +39,7 @@ def line_of(members):
     return json.dumps(members, separators=(",", ":")).encode()
 
 
-class Reports(Limited):
+class ReportRules(TimeLimitedTest):
     """Which lines report what an order did."""
 
     def test_the_channel(self):
@@ -81,12 +81,12 @@ class Reports(Limited):
         self.assertTrue(report_in(line_of(bare), "switch 01800ABC 30 on"))
 
 
-class Terminal(io.StringIO):
+class FakeTerminal(io.StringIO):
     def isatty(self):
         return True
 
 
-class Waiting(Site):
+class ReportWaits(GatewayFilesTest):
     """The program, with a fake clock. Its gateway answers the order after the first pause."""
 
     def run_order(self, *words, out=None):
@@ -96,7 +96,7 @@ class Waiting(Site):
         def made(paths, timeout):
             return Client(paths, timeout, self.clock, self.clock.sleep, lambda: 1)
         with contextlib.redirect_stdout(out), contextlib.redirect_stderr(err), \
-                mock.patch.object(program, "Client", made), mock.patch.object(program.Stops, "install"):
+                mock.patch.object(program, "Client", made), mock.patch.object(program.StopSignals, "install"):
             status = program.main(["--desk", str(self.desk), "--lines", str(self.lines), "hall", *words])
         return status, out.getvalue(), err.getvalue()
 
@@ -105,7 +105,7 @@ class Waiting(Site):
         self.clock.acts[pause] = lambda: self.write(*lines)
 
     def order(self, text="switch 01800ABC 0 on", *options, out=None):
-        return self.run_order(*options, *text.split(" "), out=out or Terminal())
+        return self.run_order(*options, *text.split(" "), out=out or FakeTerminal())
 
     def silence(self, device, seconds):
         return 4, "", (f"enogatectl: sent, but {device} reported nothing within {seconds} s: has it learned this "
@@ -140,7 +140,7 @@ class Waiting(Site):
     def test_a_device_that_reports_nothing(self):
         self.at(1, *ANSWER, state(1), state(device="01800ABE"))
         self.assertEqual(self.order(), self.silence(DEVICE, 3))
-        self.assertAlmostEqual(self.clock.now, PAUSE + ANSWERED_WITHIN, delta=LONG_PAUSE + 0.001)
+        self.assertAlmostEqual(self.clock.now, PAUSE + REPORT_TIMEOUT, delta=LONG_PAUSE + 0.001)
 
     def test_the_last_moment(self):
         pauses = round(0.5 / LONG_PAUSE) + 1
@@ -213,21 +213,21 @@ class Waiting(Site):
         self.assertEqual(self.clock.slept, [PAUSE])
 
 
-class LinesAfterAnAnswer(Site):
+class LinesAfterAnAnswer(GatewayFilesTest):
     def test_the_lines_that_were_not_taken(self):
         with contextlib.closing(Lines(str(self.lines))) as lines:
             self.write("a", "b", "c")
-            self.assertEqual(lines.first(lambda line: line == b"b" and "found"), "found")
+            self.assertEqual(lines.first_result(lambda line: line == b"b" and "found"), "found")
             self.write("d")
-            self.assertIsNone(lines.first(lambda line: line == b"x" and "found"))
+            self.assertIsNone(lines.first_result(lambda line: line == b"x" and "found"))
             self.assertEqual(lines.read(), [])
             self.write("e", "f")
-            self.assertTrue(lines.first(lambda line: line == b"e"))
+            self.assertTrue(lines.first_result(lambda line: line == b"e"))
             self.assertEqual(lines.read(), [b"f"])
             self.write("g", "h")
             seen = []
-            lines.first(lambda line: seen.append(line) or line == b"g")
-            lines.first(lambda line: seen.append(line))
+            lines.first_result(lambda line: seen.append(line) or line == b"g")
+            lines.first_result(lambda line: seen.append(line))
             self.assertEqual(seen, [b"g", b"h"])
 
     def test_without_an_answer_they_are_closed(self):
@@ -244,11 +244,11 @@ class LinesAfterAnAnswer(Site):
             self.assertEqual((answer.lines[0].kind, lines.read()), ("ok", [b"x"]))
 
 
-class Options(Limited):
+class Options(TimeLimitedTest):
     def test_times(self):
-        self.assertEqual(WAITS, {"switch": 3, "dim": 3, "query": 3, "meter": 3, "stop": 3, "blind": 120})
-        self.assertLessEqual(WAITS.keys(), share.order_forms().keys())
-        self.assertLess(ANSWERED_WITHIN, BLIND_WITHIN)
+        self.assertEqual(REPORT_TIMEOUTS, {"switch": 3, "dim": 3, "query": 3, "meter": 3, "stop": 3, "blind": 120})
+        self.assertLessEqual(REPORT_TIMEOUTS.keys(), share.order_forms().keys())
+        self.assertLess(REPORT_TIMEOUT, BLIND_REPORT_TIMEOUT)
 
     def test_command_lines(self):
         for words, wanted in (("hall switch 01800ABC 0 on", None), ("hall --no-wait switch 01800ABC 0 on", 0.0),

@@ -8,10 +8,10 @@ import tempfile
 from unittest import mock
 
 from enogate_ctl import running
-from enogate_ctl.running import LONGEST_START, why_not, why_unknown
-from enogate_tools.gateways import paths_of
+from enogate_ctl.running import MAX_START_SECONDS, why_not_running
+from enogate_tools.gateways import paths_of, why_unknown
 from enogate_tools.system import System
-from fakes import Limited
+from fakes import TimeLimitedTest
 
 STOPPED = "enogate@hall is stopped: sudo systemctl start enogate@hall"
 NO_STICK = "enogate@hall waits: no stick at {}: plug it in, or correct SERIAL in /etc/default/enogate-hall"
@@ -21,7 +21,7 @@ START, GATEWAY = 60, 70
 UPTIME = 5000.0
 
 
-class Machine(Limited):
+class FakeMachineTest(TimeLimitedTest):
     """A machine with the gateway `hall`, whose unit was started once."""
 
     maxDiff = None
@@ -69,10 +69,10 @@ class Machine(Limited):
 
     def why(self, paths=None):
         system = System(str(self.root), str(self.root / "proc"), run=self.answer, user=lambda: None)
-        return why_not(paths or self.paths, system)
+        return why_not_running(paths or self.paths, system)
 
 
-class Stopped(Machine):
+class StoppedGateways(FakeMachineTest):
     def test_a_unit_that_is_stopped_or_has_failed(self):
         self.assertEqual(self.why(), STOPPED)
         self.assertEqual(self.asked, [["systemctl", "is-active", "enogate@hall"]])
@@ -123,7 +123,7 @@ class Stopped(Machine):
         self.assertEqual(self.why(), STOPPED)
 
 
-class Waits(Machine):
+class WaitingGateways(FakeMachineTest):
     def test_no_stick(self):
         """The port is that of the start, not the one that was set after it."""
         for age in (0.0, 100.0):
@@ -161,7 +161,7 @@ class Waits(Machine):
     def test_a_start(self):
         """The unit asks the module, or starts the gateway: an order may be written. Later, it waits for a module."""
         self.port()
-        for age, wanted in ((0.0, ""), (LONGEST_START - 0.1, ""), (LONGEST_START + 0.1, NOT_STARTED)):
+        for age, wanted in ((0.0, ""), (MAX_START_SECONDS - 0.1, ""), (MAX_START_SECONDS + 0.1, NOT_STARTED)):
             self.unit(age=age)
             self.assertEqual(self.why(), wanted, age)
 
@@ -193,13 +193,14 @@ class Waits(Machine):
         self.assertEqual(self.why(), STOPPED)
 
 
-class Names(Machine):
+class UnknownGatewayNames(FakeMachineTest):
     def unknown(self, name):
         return why_unknown(paths_of(name, str(self.root)), str(self.root))
 
     def test_a_name_that_no_gateway_has(self):
         self.put("etc/default/enogate-attic", "")
-        text = "there is no gateway Hall: the gateways of this machine are attic, hall"
+        text = ("there is no gateway Hall: the gateways of this machine are attic, hall; to make it, enable it: sudo "
+                "systemctl enable --now enogate@Hall")
         self.assertEqual(self.unknown("Hall"), text)
         self.assertEqual((self.why(paths_of("Hall", str(self.root))), self.asked), (text, []))
 
@@ -215,13 +216,13 @@ class Names(Machine):
     def test_no_gateway(self):
         with contextlib.suppress(FileNotFoundError), tempfile.TemporaryDirectory() as empty:
             self.assertEqual(why_unknown(paths_of("hall", empty), empty), "there is no gateway hall: this machine has "
-                             "none; make one with sudo systemctl enable --now enogate@hall")
+                             "none; to make it, enable it: sudo systemctl enable --now enogate@hall")
 
     def test_files_that_were_named(self):
         self.assertEqual(why_unknown(paths_of("Hall", str(self.root))._replace(name=""), str(self.root)), "")
 
 
-class Ages(Machine):
+class ProcessAges(FakeMachineTest):
     def test_the_age_of_a_process(self):
         system = System(str(self.root), str(self.root / "proc"), run=self.answer, user=lambda: None)
         self.process(90, "a) (b", age=12.5)

@@ -13,9 +13,9 @@ import unittest
 from unittest import mock
 
 from enogate_ctl import serve as program
-from enogate_ctl.serve import BLOCK, LONGEST, MODULES, BadRequest, Server, exit_status
-from enogate_ctl.stops import SIGNALS, Stopped, Stops
-from fakes import Limited, Site, status
+from enogate_ctl.serve import BLOCK, MAX_REQUEST_BYTES, PRELOADED_MODULES, InvalidRequest, Server, exit_status
+from enogate_ctl.stops import SIGNALS, Stopped, StopSignals
+from fakes import GatewayFilesTest, TimeLimitedTest, status
 
 CONTRIB = pathlib.Path(__file__).parents[2] / "contrib"
 
@@ -28,7 +28,7 @@ def stop(number):
     return json.dumps({"id": number, "stop": True}).encode() + b"\n"
 
 
-class Served(Limited):
+class ServerCommands(TimeLimitedTest):
     """A server whose commands are functions of this test."""
 
     def setUp(self):
@@ -59,8 +59,8 @@ class Served(Limited):
     def wait_for(server, *numbers):
         """Waits for the ends of these commands."""
         while server.running.keys() & set(numbers):
-            for source in program.ready(server.sources):
-                server.take_output(source)
+            for source in program.wait_until_readable(server.sources):
+                server.read_output(source)
 
     def test_an_answer(self):
         def run(arguments):
@@ -72,7 +72,7 @@ class Served(Limited):
             {"error": "wrong\n", "id": 3, "output": "a b c é\n\ufffd", "status": 7}])
 
     def test_the_form_of_an_answer(self):
-        Server(self.answers, lambda _: 0).answer(7, '{"count":0}\n', "é", 0)
+        Server(self.answers, lambda _: 0).write_answer(7, '{"count":0}\n', "é", 0)
         self.assertEqual(self.answered.readline(),
                          '{"error":"\\u00e9","id":7,"output":"{\\"count\\":0}\\n","status":0}\n')
 
@@ -108,7 +108,7 @@ class Served(Limited):
         why = OSError(11, "Resource temporarily unavailable")
         for call, effect in (("fork", why), ("pipe", why), ("pipe", [os.pipe(), why])):
             with mock.patch.object(program.os, call, side_effect=effect):
-                server.take_requests(request(1))
+                server.handle_requests(request(1))
             self.assertEqual(json.loads(self.answered.readline()), {
                 "error": "enogatectl: the command cannot be started: Resource temporarily unavailable\n", "id": 1,
                 "output": "", "status": 1})
@@ -130,14 +130,14 @@ class Served(Limited):
             os.close(writes)
             Server(self.answers, lambda _: 0).serve(reads)
             os.close(reads)
-        self.assertEqual(done, [*program.MODULES, ["--json", "hall", "--", "status"], "start"])
+        self.assertEqual(done, [*program.PRELOADED_MODULES, ["--json", "hall", "--", "status"], "start"])
 
     def test_a_request_in_parts(self):
         text = request(1, "a") + request(2, "b")
         reads, writes = os.pipe()
         server = Server(self.answers, lambda arguments: ord(arguments[0]))
         for place in range(0, len(text), 9):
-            server.take_requests(text[place:place + 9])
+            server.handle_requests(text[place:place + 9])
         self.assertEqual(sorted(server.running), [1, 2])
         self.wait_for(server, 1, 2)
         found = [json.loads(self.answered.readline()) for _ in range(2)]
@@ -173,12 +173,12 @@ class Served(Limited):
             return 0
         reads, writes = os.pipe()
         server = Server(self.answers, run)
-        server.take_requests(request(1) + request(2) + stop(9))
-        server.take_requests(stop(1))
+        server.handle_requests(request(1) + request(2) + stop(9))
+        server.handle_requests(stop(1))
         self.wait_for(server, 1)
         self.assertEqual(json.loads(self.answered.readline()), {"error": "", "id": 1, "output": "", "status": 143})
         self.assertEqual(list(server.running), [2])
-        server.take_requests(stop(1))
+        server.handle_requests(stop(1))
         server.end()
         self.assertEqual(json.loads(self.answered.readline())["status"], 143)
         os.close(reads)
@@ -188,7 +188,7 @@ class Served(Limited):
         """Otherwise each command would import them, and a garbage collection would copy them."""
         with mock.patch.object(program.importlib, "import_module") as load, mock.patch.object(program, "gc") as garbage:
             self.answered_to(lambda _: 0)
-        self.assertEqual([call.args for call in load.mock_calls], [(name,) for name in MODULES])
+        self.assertEqual([call.args for call in load.mock_calls], [(name,) for name in PRELOADED_MODULES])
         garbage.freeze.assert_called_once_with()
 
     def test_a_command_has_the_signals_of_a_new_process(self):
@@ -211,7 +211,7 @@ class Served(Limited):
             return 0
         server = Server(self.answers, run)
         mine = sorted(map(int, os.listdir("/proc/self/fd")))
-        server.take_requests(request(1, "wait") + request(2))
+        server.handle_requests(request(1, "wait") + request(2))
         self.wait_for(server, 2)
         # the last one is that of the directory, which is read
         found = list(map(int, json.loads(self.answered.readline())["output"].split()))[:-1]
@@ -226,24 +226,25 @@ class Served(Limited):
                      b'{"id": 1, "stop": 1}\n', b'{"id": true, "stop": true}\n', b"[" * 60000 + b"\n",
                      *(json.dumps(good | change).encode() + b"\n" for change in changes)):
             server = Server(self.answers, lambda _: 0)
-            with self.assertRaisesRegex(BadRequest, "^not a request: "):
-                server.take_requests(text)
+            with self.assertRaisesRegex(InvalidRequest, "^not a request: "):
+                server.handle_requests(text)
             self.assertEqual(server.running, {}, text)
-        for text in (b" " * (LONGEST + 1), b" " * (LONGEST + 1) + b"\n", b" " * (LONGEST + 1) + b"\n{"):
-            with self.assertRaisesRegex(BadRequest, "^a request has more than 65536 bytes$"):
-                Server(self.answers, lambda _: 0).take_requests(text)
+        too_long = b" " * (MAX_REQUEST_BYTES + 1)
+        for text in (too_long, too_long + b"\n", too_long + b"\n{"):
+            with self.assertRaisesRegex(InvalidRequest, "^a request has more than 65536 bytes$"):
+                Server(self.answers, lambda _: 0).handle_requests(text)
         server = Server(self.answers, lambda _: 0)
-        server.take_requests(request(1)[:-1].ljust(LONGEST) + b"\n" + b" " * LONGEST)
+        server.handle_requests(request(1)[:-1].ljust(MAX_REQUEST_BYTES) + b"\n" + b" " * MAX_REQUEST_BYTES)
         self.wait_for(server, 1)
-        self.assertFalse(Server(self.answers, lambda _: 0).take_requests(b""))
-        with self.assertRaises(BadRequest) as why:
-            Server(self.answers, lambda _: 0).take_requests(b"x" * 61 + b"\n")
+        self.assertFalse(Server(self.answers, lambda _: 0).handle_requests(b""))
+        with self.assertRaises(InvalidRequest) as why:
+            Server(self.answers, lambda _: 0).handle_requests(b"x" * 61 + b"\n")
         self.assertEqual(str(why.exception), f"not a request: {b'x' * 60!r}")
 
     def test_a_number_is_used_once_at_a_time(self):
         server = Server(self.answers, lambda _: signal.pause())
-        with self.assertRaisesRegex(BadRequest, "^the command 1 has not ended$"):
-            server.take_requests(request(1) + request(1))
+        with self.assertRaisesRegex(InvalidRequest, "^the command 1 has not ended$"):
+            server.handle_requests(request(1) + request(1))
         server.end()
         self.assertEqual(json.loads(self.answered.readline())["status"], 143)
         self.assertEqual([answer["id"] for answer in self.answered_to(lambda _: 0, request(1), request(1))], [1, 1])
@@ -262,13 +263,13 @@ class Served(Limited):
     def test_a_socket_whose_other_end_is_closed_with_answers_in_it(self):
         theirs, ours = socket.socketpair()
         server = Server(ours.fileno(), lambda _: 0)
-        server.answer(0, "", "", 0)
+        server.write_answer(0, "", "", 0)
         theirs.close()
         server.serve(ours.fileno())
         ours.close()
         self.assertTrue(server.is_read)
         with mock.patch.object(program.os, "write", side_effect=ConnectionResetError):
-            server.answer(1, "", "", 0)
+            server.write_answer(1, "", "", 0)
         self.assertFalse(server.is_read)
 
     def test_a_program_that_ignores_the_ends_of_its_processes(self):
@@ -278,10 +279,10 @@ class Served(Limited):
         self.assertIn(json.loads(self.answered.readline())["status"], (7, 143))
 
     def test_a_signal_while_nobody_reads_the_last_answer(self):
-        stops = Stops()
+        stops = StopSignals()
 
         def write(*_):
-            stops.take(15)
+            stops.handle_signal(15)
             raise BrokenPipeError
         with mock.patch.object(program.os, "write", side_effect=write):
             self.assertEqual(self.served(lambda _: 0, stops), 143)
@@ -292,7 +293,7 @@ class Served(Limited):
         with os.fdopen(asks, "wb") as file:
             file.write(request(1))
         with mock.patch.object(program, "run", run):
-            status = program.serve(asked, self.answers, stops or Stops())
+            status = program.serve(asked, self.answers, stops or StopSignals())
         os.close(asked)
         return status
 
@@ -306,9 +307,9 @@ class Served(Limited):
             self.assertEqual(exit_status(found), code)
 
     def test_ends(self):
-        for event, wanted, text in ((None, 0, ""), (BadRequest("why\n"), 2, "enogatectl: why?\n"),
+        for event, wanted, text in ((None, 0, ""), (InvalidRequest("why\n"), 2, "enogatectl: why?\n"),
                                     (Stopped(15), 143, "")):
-            stops, err = Stops(), io.StringIO()
+            stops, err = StopSignals(), io.StringIO()
             with mock.patch.object(Server, "serve", side_effect=event), contextlib.redirect_stderr(err), \
                     mock.patch.object(Server, "end") as end:
                 self.assertEqual(program.serve(0, 1, stops), wanted)
@@ -316,8 +317,8 @@ class Served(Limited):
             end.assert_called_with()
 
     def test_an_error_of_the_server_ends_all_commands(self):
-        for event in (OSError("why"), BadRequest("why")):
-            stops = Stops()
+        for event in (OSError("why"), InvalidRequest("why")):
+            stops = StopSignals()
             with mock.patch.object(Server, "serve", side_effect=event), mock.patch.object(Server, "end") as end, \
                     mock.patch.object(program, "print", side_effect=BrokenPipeError, create=True), \
                     self.assertRaises(OSError):
@@ -326,7 +327,7 @@ class Served(Limited):
             self.assertTrue(stops.are_ignored)
 
 
-class Requested(Site):
+class ServeProgram(GatewayFilesTest):
     """The program itself."""
 
     def setUp(self):
@@ -343,7 +344,7 @@ class Requested(Site):
     def answer(self):
         return json.loads(self.process.stdout.readline())
 
-    def at_the_site(self, *words):
+    def with_gateway_files(self, *words):
         return ("--desk", str(self.desk), "--lines", str(self.lines), "--timeout", "60", "hall", *words)
 
     def answer_on_desk(self, texts, answers):
@@ -353,12 +354,12 @@ class Requested(Site):
         self.write(*answers)
 
     def test_an_order(self):
-        self.give(1, *self.at_the_site("status"))
+        self.give(1, *self.with_gateway_files("status"))
         self.answer_on_desk("status\n", [status()])
         answer = self.answer()
         self.assertEqual((answer["id"], answer["status"], answer["error"]), (1, 0, ""))
         self.assertTrue(answer["output"].startswith("learn window"))
-        self.give(2, *self.at_the_site("--json", "--", "status"))
+        self.give(2, *self.with_gateway_files("--json", "--", "status"))
         self.answer_on_desk("status\nstatus\n", [status("on")])
         self.assertEqual(json.loads(self.answer()["output"])["mode"], "on")
         self.process.stdin.close()
@@ -373,18 +374,21 @@ class Requested(Site):
         for number in (1, 2, 3):
             self.assertEqual(found[number] | {"id": 0}, {
                 "error": "enogatectl: this command cannot be requested\n", "id": 0, "output": "", "status": 2})
+        self.give(7, *self.with_gateway_files("--", "replace", "01800ABD", "01800ABD"))
+        answer = self.answer()
+        self.assertEqual((answer["status"], answer["error"][:31]), (2, "enogatectl: the form is replace"))
         self.give(4, "hall", "nonsense")
         answer = self.answer()
         self.assertEqual((answer["status"], "'nonsense' is not an order" in answer["error"]), (2, True))
         self.give(5, "--version")
         self.assertEqual((self.answer()["status"]), 0)
         self.desk.unlink()
-        self.give(6, *self.at_the_site("list"))
+        self.give(6, *self.with_gateway_files("list"))
         answer = self.answer()
         self.assertEqual((answer["status"], answer["error"][:22]), (3, "enogatectl: there is n"))
 
     def test_the_end_of_the_input_closes_a_window(self):
-        self.give(1, *self.at_the_site("--for", "600", "--", "learn", "on"))
+        self.give(1, *self.with_gateway_files("--for", "600", "--", "learn", "on"))
         self.answer_on_desk("status\nstatus\nlearn on\nstatus\r\n", [status(), status(), {"type": "ok"}, status("on")])
         self.process.stdin.close()
         self.answer_on_desk("status\nstatus\nlearn on\nstatus\r\nstatus\nstatus\nlearn off\nstatus\r\n",
@@ -395,7 +399,7 @@ class Requested(Site):
         self.process.stdin = None
 
     def test_a_signal_closes_a_window(self):
-        self.give(1, *self.at_the_site("--for", "600", "--", "learn", "on"))
+        self.give(1, *self.with_gateway_files("--for", "600", "--", "learn", "on"))
         self.answer_on_desk("status\nstatus\nlearn on\nstatus\r\n", [status(), status(), {"type": "ok"}, status("on")])
         self.process.terminate()
         self.answer_on_desk("status\nstatus\nlearn on\nstatus\r\nstatus\nstatus\nlearn off\nstatus\r\n",

@@ -4,11 +4,11 @@ import unittest
 from unittest import mock
 
 from enogate_ctl import sheet
-from enogate_ctl.answers import Answer, line_of
+from enogate_ctl.answers import Answer, parse_line
 from enogate_ctl.client import PAUSE
-from enogate_ctl.sheet import MOST_ROWS, BadRow, DeviceRow
+from enogate_ctl.sheet import MAX_GROUP_ROWS, InvalidRow, DeviceRow
 from enogate_lines.contents import Listed
-from fakes import OK, Clock, Limited, error
+from fakes import OK, Clock, TimeLimitedTest, error
 
 ADD = "the form is add ID EEP (ID: 8 hexadecimal digits; EEP: a profile such as D5-00-01)"
 LABEL = "the form is label ID TEXT | label ID (ID: 8 hexadecimal digits; TEXT: 1 to 32 ASCII characters)"
@@ -19,25 +19,25 @@ def listed(*labels):
     return [Listed(f"01800A{number:02X}", "D5-00-01", label, 70) for number, label in enumerate(labels)]
 
 
-class Sheets(Limited):
+class CsvRows(TimeLimitedTest):
     maxDiff = None
 
     def rows(self, text):
-        return [(number, str(row) if isinstance(row, BadRow) else row) for number, row in sheet.rows_in(text)]
+        return [(number, str(row) if isinstance(row, InvalidRow) else row) for number, row in sheet.rows_in(text)]
 
     def test_export(self):
-        self.assertEqual(sheet.exported(listed("Door, \"A\"", "=x", "")),
+        self.assertEqual(sheet.devices_as_csv(listed("Door, \"A\"", "=x", "")),
                          'id,eep,label\n01800A00,D5-00-01,"Door, ""A"""\n01800A01,D5-00-01,\'=x\n01800A02,D5-00-01,\n')
-        self.assertEqual(sheet.exported([]), "id,eep,label\n")
+        self.assertEqual(sheet.devices_as_csv([]), "id,eep,label\n")
 
     def test_no_cell_begins_a_formula(self):
-        for row in sheet.exported(listed(*LABELS)).splitlines():
+        for row in sheet.devices_as_csv(listed(*LABELS)).splitlines():
             for cell in sheet.csv.reader([row]):
                 self.assertNotIn(cell[-1][:1], tuple("=+-@"))
 
     def test_round_trip(self):
         devices = listed(*LABELS)
-        self.assertEqual([row for _, row in sheet.rows_in(sheet.exported(devices))],
+        self.assertEqual([row for _, row in sheet.rows_in(sheet.devices_as_csv(devices))],
                          [DeviceRow(device.device, device.eep, device.label) for device in devices])
 
     def test_separators_headings_and_empty_rows(self):
@@ -80,7 +80,7 @@ class Sheets(Limited):
                                 (2, DeviceRow("01800ABC", "D5-00-01", ""))])
 
 
-class Importing(Limited):
+class DeviceImports(TimeLimitedTest):
     def setUp(self):
         self.orders, self.lines, self.refused, self.groups = [], [], {}, []
 
@@ -92,7 +92,7 @@ class Importing(Limited):
 
     def run_import(self, text, *known):
         devices = {device.device: device for device in known}
-        return sheet.Importer(devices, self.give, self.lines.append).run(text)
+        return sheet.DeviceImporter(devices, self.give, self.lines.append).run(text)
 
     def test_new_devices(self):
         self.assertTrue(self.run_import("01800ABC,D5-00-01,Door\n01800ABD,F6-02-01\n"))
@@ -127,7 +127,7 @@ class Importing(Limited):
 
     def test_groups(self):
         """So many rows are handled at once. A device that occurs again begins a group."""
-        self.assertEqual(MOST_ROWS, 100)
+        self.assertEqual(MAX_GROUP_ROWS, 100)
         rows = [f"{number:08X},D5-00-01,Lamp {number}" for number in range(235)]
         self.assertTrue(self.run_import("\n".join(rows)))
         self.assertEqual(self.groups, [100, 100, 100, 100, 35, 35])
@@ -150,19 +150,19 @@ class Importing(Limited):
         self.assertEqual((self.orders, self.lines), ([], ["the input has no devices"] * 3))
 
 
-class Giving(Limited):
+class BatchSizes(TimeLimitedTest):
     """The orders of an import at a desk that needs so many seconds for each of them."""
 
     def setUp(self):
         self.clock, self.orders, self.parts, self.seconds, self.errors = Clock(), [], [], 0.0, {}
-        self.giver = sheet.Giver(mock.Mock(clock=self.clock, sleep=self.clock.sleep, ask_all=self.ask_all))
+        self.giver = sheet.OrderBatches(mock.Mock(clock=self.clock, sleep=self.clock.sleep, ask_all=self.ask_all))
 
     def ask_all(self, orders):
         self.clock.now += self.seconds * len(orders)
         self.orders += orders
         self.parts.append(len(orders))
         lines = [error(self.errors[order]) if order in self.errors else OK for order in orders]
-        return [Answer([line_of(json.dumps(line).encode())]) for line in lines]
+        return [Answer([parse_line(json.dumps(line).encode())]) for line in lines]
 
     def test_a_slow_gateway_gets_fewer_orders_at_once(self):
         orders = list(map(str, range(250)))

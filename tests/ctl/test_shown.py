@@ -9,16 +9,17 @@ from datetime import datetime, timedelta, timezone
 from unittest import mock
 
 from enogate_ctl import recent, words
-from enogate_ctl.answers import Answer, line_of
+from enogate_ctl.answers import Answer, parse_line
 from enogate_ctl.device_table import device_table
-from enogate_ctl.readings import readings
+from enogate_ctl.readings import readings_text
 from enogate_ctl.shown import shown
 from enogate_ctl.tables import table
 from enogate_lines.entities import Table
 from enogate_lines.follow import Position, position_at_end
 from enogate_mqtt.devices import Device
 from enogate_mqtt.store import Store
-from fakes import OK, Limited, Site, device, end_of_list, packet, reading, status, teach, within
+from fakes import OK, GatewayFilesTest, TimeLimitedTest, call_within
+from fakes import device, end_of_list, packet, reading, status, teach
 
 GUIDE = pathlib.Path(__file__).parents[2] / "docs" / "guide"
 NOW = datetime(2026, 11, 28, 12, 0, 0, tzinfo=timezone.utc)
@@ -26,10 +27,10 @@ TEMPERATURE = [{"den": 51, "name": "TMP", "num": 1024, "unit": "C"}]
 
 
 def lines_of(*members):
-    return [line_of(json.dumps(one).encode()) for one in members]
+    return [parse_line(json.dumps(one).encode()) for one in members]
 
 
-class Words(Limited):
+class TextsForPeople(TimeLimitedTest):
     def test_advice(self):
         self.assertTrue(words.advice("full").startswith("full: 1,000 devices are learned"))
         self.assertEqual(words.advice("new"), "new")
@@ -68,7 +69,7 @@ class Words(Limited):
         ):
             with self.subTest(text):
                 telegram, = lines_of(reading("01800ABC", eep, members))
-                self.assertEqual(readings(telegram.content, Table()), text)
+                self.assertEqual(readings_text(telegram.content, Table()), text)
 
     def test_ages(self):
         for seconds, text in ((-5, "0 s ago"), (0.9, "0 s ago"), (59.9, "59 s ago"), (60, "1 min ago"),
@@ -87,13 +88,13 @@ class Words(Limited):
             (teach("01800ABC", result="new"), "01800ABC new"), (OK, None), (packet("accepted"), None),
             ({"type": "teach", "result": 3}, None), ({"type": "other", "result": "accepted"}, None),
         ):
-            self.assertEqual(words.taught(*lines_of(line)), text)
+            self.assertEqual(words.teach_result_text(*lines_of(line)), text)
 
     def test_control_characters(self):
         self.assertEqual(words.printable("a\x1b[2J\n\x7f°C"), "a?[2J??°C")
 
 
-class Tables(Limited):
+class TextTables(TimeLimitedTest):
     def test_columns(self):
         rows = [("A", "LONG", "EMPTY", "C"), ("aaa", "x", "", ""), ("", "", "", "c")]
         self.assertEqual(table(rows), "A    LONG  C\naaa  x\n           c")
@@ -120,7 +121,7 @@ Door            01800ABD  Contact""")
         self.assertEqual(table([("A", "B"), ("abc", "d")], 1), "A    B\nabc  d")
 
 
-class Shown(Site):
+class AnswerTexts(GatewayFilesTest):
     def shown(self, *lines):
         return device_table(Answer(lines_of(*lines)).devices, self.paths, NOW)
 
@@ -168,30 +169,30 @@ def bridge(site, name, time, position=None):
     return store
 
 
-class Recent(Site):
+class RecentTelegrams(GatewayFilesTest):
     def test_the_last_telegram(self):
         self.write(reading("01800ABC", dbm=-50), reading("01800ABD"), reading("01800ABC", dbm=-60), "{", OK,
                    '{"x":1,"type":"reading"}', '{"dbm":-99,"half')
         found = recent.last_telegrams(str(self.lines))
         self.assertEqual({name: telegram.dbm for name, telegram in found.items()}, {"01800ABC": -60, "01800ABD": -45})
 
-    def put(self, path, *names):
+    def append_readings(self, path, *names):
         """Lines as the gateway writes them."""
         path.write_text("".join(json.dumps(reading(name, dbm=-10 - number), separators=(",", ":")) + "\n"
                                 for number, name in enumerate(names)))
         return path.stat().st_size // len(names)
 
     def test_only_the_end_is_read(self):
-        size = self.put(self.lines, "01800AB1", "01800AB2", "01800AB3")
+        size = self.append_readings(self.lines, "01800AB1", "01800AB2", "01800AB3")
         for most, names in ((3 * size, {"01800AB1", "01800AB2", "01800AB3"}), (3 * size - 5, {"01800AB2", "01800AB3"}),
                             (size + 5, {"01800AB3"}), (5, set())):
             self.assertEqual(recent.last_telegrams(str(self.lines), most).keys(), names, most)
-        self.assertEqual(recent.MOST_READ, 1 << 20)
+        self.assertEqual(recent.MAX_READ_BYTES, 1 << 20)
 
     def test_rotated_files(self):
-        size = self.put(self.folder / "hall.lines.2", "01800AB1")
-        self.put(self.folder / "hall.lines.1", "01800AB2", "01800AB1")
-        self.put(self.lines, "01800AB3")
+        size = self.append_readings(self.folder / "hall.lines.2", "01800AB1")
+        self.append_readings(self.folder / "hall.lines.1", "01800AB2", "01800AB1")
+        self.append_readings(self.lines, "01800AB3")
         path = str(self.lines)
         self.assertEqual(list(recent.last_telegrams(path)), ["01800AB3", "01800AB1", "01800AB2"])
         self.assertEqual(recent.last_telegrams(path)["01800AB1"].dbm, -11)
@@ -203,15 +204,15 @@ class Recent(Site):
     def test_rotated_files_that_are_none(self):
         """A pipe would hold up the command for good, and a link of either kind may lead to a file that only root may
         read."""
-        self.put(self.folder / "other", "01800AB9")
+        self.append_readings(self.folder / "other", "01800AB9")
         (self.folder / "hall.lines.3").hardlink_to(self.folder / "other")
         (self.folder / "hall.lines.2").symlink_to(self.folder / "other")
         os.mkfifo(self.folder / "hall.lines.1")
-        self.put(self.lines, "01800AB1")
-        self.assertEqual(within(10, lambda: list(recent.last_telegrams(str(self.lines)))), ["01800AB1"])
+        self.append_readings(self.lines, "01800AB1")
+        self.assertEqual(call_within(10, lambda: list(recent.last_telegrams(str(self.lines)))), ["01800AB1"])
 
     def test_a_state_that_is_no_file(self):
-        self.put(self.lines, "01800ABC")
+        self.append_readings(self.lines, "01800ABC")
         for name in ("bridge.db", "bridge.db-wal"):
             bridge(self, "01800ABC", NOW)
             self.assertEqual(self.times(), {"01800ABC": NOW})
@@ -225,8 +226,8 @@ class Recent(Site):
                 path.unlink()
                 (self.folder / "moved").rename(path)
 
-    def times(self, most=recent.MOST_READ):
-        return recent.last_times(str(self.state), str(self.lines), most)
+    def times(self, most=recent.MAX_READ_BYTES):
+        return recent.last_seen_times(str(self.state), str(self.lines), most)
 
     def test_times(self):
         self.assertEqual(self.times(), {})
@@ -236,12 +237,12 @@ class Recent(Site):
         self.assertEqual(self.times(), {})
 
     def test_a_place_that_is_lost(self):
-        self.put(self.lines, "01800ABC")
+        self.append_readings(self.lines, "01800ABC")
         bridge(self, "01800ABC", NOW, Position(1, 5, b"lost"))
         self.assertEqual(self.times(), {})
 
     def test_what_the_bridge_has_not_read_yet(self):
-        self.put(self.lines, "01800ABC")
+        self.append_readings(self.lines, "01800ABC")
         bridge(self, "01800ABC", NOW)
         with self.lines.open("a") as file:
             file.write('{"type":"ok"}\n' + json.dumps(reading("01800ABD"), separators=(",", ":")) + "\n")
@@ -252,7 +253,7 @@ class Recent(Site):
         self.assertEqual(self.times(), {})
 
     def test_only_so_much_is_read_after_the_place(self):
-        self.put(self.lines, *["01800ABC"] * 50)
+        self.append_readings(self.lines, *["01800ABC"] * 50)
         start = Position(self.lines.stat().st_ino, 0, b"")
         with mock.patch("enogate_lines.follow.MAX_READ", 500), \
                 mock.patch.object(recent.Follower, "read", autospec=True, side_effect=recent.Follower.read) as read:
@@ -269,7 +270,7 @@ class Recent(Site):
         self.assertEqual(self.times(), {})
 
     def test_files_are_closed(self):
-        self.put(self.lines, "01800ABC")
+        self.append_readings(self.lines, "01800ABC")
         before = len(os.listdir("/proc/self/fd"))
         start = Position(self.lines.stat().st_ino, 0, b"")
         self.assertEqual(recent.devices_after(start, str(self.lines), 999), {"01800ABC"})

@@ -8,16 +8,16 @@ from datetime import datetime, timedelta
 from unittest import mock
 
 from enogate_ctl import following, main as program, serve, watching
-from enogate_ctl.client import Unreadable
+from enogate_ctl.client import UnreadableLines
 from enogate_ctl.command_line import ShowReadings, parsed
 from enogate_ctl.stops import Stopped
 from enogate_tools.gateways import Paths, paths_of
-from fakes import OK, Limited, Site, device, end_of_list, packet, reading, status, teach
+from fakes import OK, GatewayFilesTest, TimeLimitedTest, device, end_of_list, packet, reading, status, teach
 
 TEMPERATURE = [{"den": 51, "name": "TMP", "num": 1024, "unit": "C"}]
 
 
-class Watching(Site):
+class PrintedReadings(GatewayFilesTest):
     def watched(self, *acts):
         """What is printed. Before each wait but the last, the next of these happens, and takes ten minutes."""
         printed, left, time = [], list(acts), [datetime(2026, 11, 30, 23, 45)]
@@ -62,7 +62,7 @@ class Watching(Site):
         self.assertEqual(self.watched(lambda: self.write(reading("01800ABC")), lambda: None)[0][10:18], "01800ABC")
         self.lines.unlink()
         self.desk.unlink()
-        self.assertRaises(Unreadable, self.watched)
+        self.assertRaises(UnreadableLines, self.watched)
 
     def test_the_file_is_closed(self):
         before = os.listdir("/proc/self/fd")
@@ -75,7 +75,7 @@ class Watching(Site):
         raise Stopped(number)
 
 
-class Command(Limited):
+class WatchCommand(TimeLimitedTest):
     def run_with(self, why, *words):
         """The status, the output and the errors of the program, which ends for this reason."""
         out, err = io.StringIO(), io.StringIO()
@@ -84,8 +84,8 @@ class Command(Limited):
             self.paths, self.now = paths, now()
             report("a\x1b[2J °C")
             raise why
-        with mock.patch.object(watching, "print_readings", printed), mock.patch.object(following, "Reader"), \
-                mock.patch.object(program.Stops, "install"), contextlib.redirect_stdout(out), \
+        with mock.patch.object(watching, "print_readings", printed), mock.patch.object(following, "OutputReader"), \
+                mock.patch.object(program.StopSignals, "install"), contextlib.redirect_stdout(out), \
                 contextlib.redirect_stderr(err):
             result = program.main([*words, "watch"])
         return result, out.getvalue(), err.getvalue()
@@ -93,7 +93,7 @@ class Command(Limited):
     def test_how_it_ends(self):
         words = ("--desk", "d", "--lines", "l", "hall")
         for why, wanted, text in ((Stopped(signal.SIGINT), 0, ""), (Stopped(signal.SIGTERM), 143, ""),
-                                  (Stopped(signal.SIGHUP), 129, ""), (Unreadable("why"), 1, "enogatectl: why\n"),
+                                  (Stopped(signal.SIGHUP), 129, ""), (UnreadableLines("why"), 1, "enogatectl: why\n"),
                                   (BrokenPipeError(), 0, "")):
             with mock.patch.object(program, "drop_output"):
                 self.assertEqual(self.run_with(why, *words), (wanted, "a?[2J °C\n", text))
@@ -101,8 +101,8 @@ class Command(Limited):
         self.assertLess(abs((self.now - datetime.now()).total_seconds()), 60)
 
     def test_the_name_of_no_gateway(self):
-        with mock.patch("enogate_ctl.running.why_unknown", return_value="there is no gateway"):
-            self.assertEqual(self.run_with(Unreadable(""), "hall"), (1, "", "enogatectl: there is no gateway\n"))
+        with mock.patch.object(program, "why_unknown", return_value="there is no gateway"):
+            self.assertEqual(self.run_with(UnreadableLines(""), "hall"), (1, "", "enogatectl: there is no gateway\n"))
 
     def test_command_lines(self):
         self.assertEqual(parsed(["hall", "watch"]), ShowReadings(paths_of("hall")))

@@ -4,17 +4,17 @@ import signal
 import unittest
 
 from enogate_ctl.client import Client, NoAnswer
-from enogate_ctl.stops import Stopped, Stops
+from enogate_ctl.stops import Stopped, StopSignals
 from enogate_ctl.window import PAUSE, LearnWindow
-from fakes import OK, Site, error, status, teach
+from fakes import OK, GatewayFilesTest, error, status, teach
 
 OPENED, CLOSED = "the learn window is open for 0.25 s; Ctrl-C closes it", "the learn window is closed"
 
 
-class Window(Site):
+class LearnWindowRuns(GatewayFilesTest):
     def setUp(self):
         super().setUp()
-        self.orders, self.printed, self.failing, self.stops = [], [], {}, Stops()
+        self.orders, self.printed, self.failing, self.stops = [], [], {}, StopSignals()
 
     def give(self, order):
         self.orders.append(order)
@@ -35,7 +35,7 @@ class Window(Site):
         self.assertTrue(self.stops.are_ignored)
 
     def test_a_signal_closes_it(self):
-        self.clock.acts[2] = lambda: self.stops.take(signal.SIGTERM)
+        self.clock.acts[2] = lambda: self.stops.handle_signal(signal.SIGTERM)
         self.open()
         self.assertEqual((self.orders, self.printed), (["learn on", "learn off"], [OPENED, CLOSED]))
         self.assertEqual(len(self.clock.slept), 2)
