@@ -26,7 +26,7 @@ UNIT = "/etc/systemd/system/multi-user.target.wants/enogate@{name}.service"
 SYSTEMCTL = """#!/bin/sh
 for unit; do :; done
 case $1 in
-start | restart)
+start | restart | enable)
     echo "$*" >>"{folder}/orders"
     printf 'ActiveState=active\\nSubState=running\\n' >"{folder}/$unit" ;;
 *) cat "{folder}/$unit" 2>/dev/null || printf 'ActiveState=inactive\\nSubState=dead\\n' ;;
@@ -60,11 +60,24 @@ class Machine:
         for folder in ("/var/lib/enogate", "/etc/default", "/etc/systemd/system"):
             mount("-t", "tmpfs", "test", folder)
         os.mkdir("/etc/systemd/system/multi-user.target.wants")
+        self.mount_devices()
         shutil.copy(CONTRIB / "enogate.default", "/etc/default/enogate")
         (work / "bin/enogatectl").symlink_to(CONTRIB / "enogatectl")
         systemctl = work / "bin/systemctl"
         systemctl.write_text(SYSTEMCTL.format(folder=self.services))
         systemctl.chmod(0o755)
+
+    def mount_devices(self) -> None:
+        """Mounts a directory over /dev that has the same files, and can get others."""
+        parts = ("pts", "shm")
+        for name in (*parts, "upper-dev", "work-dev"):
+            os.mkdir(f"/run/{name}")
+        for name in parts:
+            mount("--bind", f"/dev/{name}", f"/run/{name}")
+        mount("-t", "overlay", "test", "/dev", "-o", "lowerdir=/dev,upperdir=/run/upper-dev,workdir=/run/work-dev")
+        for name in parts:
+            mount("--bind", f"/run/{name}", f"/dev/{name}")
+        os.makedirs("/dev/serial/by-id", exist_ok=True)
 
     def add(self, name: str, serial: pathlib.Path) -> None:
         """Adds the settings of a gateway."""
@@ -182,6 +195,11 @@ class Browser:
         """The page has this size from now on, as on a phone."""
         size = {"width": width, "height": height, "deviceScaleFactor": 1, "mobile": True}
         self.driver.execute_cdp_cmd("Emulation.setDeviceMetricsOverride", size)
+
+    def set_language(self, languages: str) -> None:
+        """The user prefers these languages from now on, as the header Accept-Language has them."""
+        words = {"userAgent": self.run("return navigator.userAgent"), "acceptLanguage": languages}
+        self.driver.execute_cdp_cmd("Network.setUserAgentOverride", words)
 
     def reset_size(self) -> None:
         self.driver.execute_cdp_cmd("Emulation.clearDeviceMetricsOverride", {})

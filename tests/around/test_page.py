@@ -23,15 +23,23 @@ from cockpit import Browser, Cockpit, Machine
 from enogate_lines.follow import position_at_end
 from enogate_mqtt.devices import Device
 from enogate_mqtt.store import Store
-from oracle.esp3 import telegram
+from oracle.esp3 import telegram_packet
 from programs import wait_for
-from services import Gateway, Stick
+from services import CONTRIB, Gateway, Stick
 
 SCREENSHOTS = os.environ.get("SCREENSHOTS")
 SECTIONS = ("overview", "devices", "add", "packets")
-SECONDS_OF_A_CLICK = 0.2
+# The limit of a click holds for a machine that needs this time for the probe, in ms. A slower one has more time.
+MAX_CLICK_SECONDS, PROBE_MS = 0.2, 90.0
+SPEED_PROBE = """
+const begun = performance.now();
+const words = new Map(Array.from({ length: 40000 }, (_, number) => [`${number * 7919 % 40009}`, { number }]));
+[...words].sort(([a], [b]) => a < b ? -1 : 1).map(([word, { number }]) => `${word} ${number}`).join();
+return performance.now() - begun;
+"""
 ROUNDS = 3
-MOST_HEAP = 2_000_000
+# The page uses 1.9 MB in this test, with the 500 senders that it keeps.
+MAX_HEAP_BYTES = 2_500_000
 EARLIER_PACKET = ('{"dbm":-45,"dest":null,"eep":null,"id":"01800A07","maker":null,"payload":"50","rorg":"F6",'
                   '"status":"30","type":"packet","why":"unknown_sender"}\n')
 PRESS, RELEASE = "F6 50 30", "F6 00 20"
@@ -54,24 +62,48 @@ HOSTILE = [
 PHONE = (390, 844)
 KINDS = {"D2-01-12": "D2 046064", "D2-01-02": "D2 046023", "D2-05-00": "D2 327F0004", "A5-08-01": "A5 96807E0D",
          "F6-02-01": "F6 50 30", "A5-09-04": "A5 64508D0B"}
-TARGET = 36
-# The targets that are not on the screen, are too small, or are below something else; and a page that is too wide.
-UNFIT = """
+MIN_TARGET_PIXELS = 36
+# The targets that are not on the screen, are too small or cut off, or are below something else; and a page that is too
+# wide.
+FIND_UNFIT_ELEMENTS = """
 const [width, height] = arguments;
 const dialog = document.querySelector("dialog[open]");
-const names = "a[href], button, select, input:not([type=radio]), label:has([type=radio])";
+const names = "a[href], button, select, input:not([type=radio], [type=checkbox]), " +
+    "label:has([type=radio], [type=checkbox])";
 const unfit = [...(dialog ?? document).querySelectorAll(names)].filter(target => {
     if (!target.checkVisibility() || dialog === null && target.closest("dialog"))
         return false;
     target.scrollIntoView({ block: "center" });
     const { left, right, top, bottom } = target.getBoundingClientRect();
+    const isCut = target.matches("button, .button") && target.scrollWidth > target.clientWidth;
     const found = document.elementFromPoint((left + right) / 2, (top + bottom) / 2);
-    return left < 0 || right > width || top < 0 || bottom > height || right - left < TARGET || bottom - top < TARGET ||
+    return isCut || left < 0 || right > width || top < 0 || bottom > height ||
+        right - left < TARGET || bottom - top < TARGET ||
         !(target.contains(found) || found?.contains(target) && target.matches("[disabled]"));
 }).map(target => target.outerHTML.slice(0, 80) + JSON.stringify(target.getBoundingClientRect()));
 const { scrollWidth } = document.documentElement;
 return scrollWidth > width ? [...unfit, `the page is ${scrollWidth} px wide`] : unfit;
-""".replace("TARGET", str(TARGET))
+""".replace("TARGET", str(MIN_TARGET_PIXELS))
+# The languages of a browser, and the cookie of the language that a user has chosen in Cockpit.
+ENGLISH, GERMAN = "en-US,en;q=0.9", "de-DE,de;q=0.9,en;q=0.8"
+CHOOSE_LANGUAGE = "document.cookie = `CockpitLang=${arguments[0]}; path=/`"
+GET_MENU_WORDS = "const [done] = arguments; fetch('../*/po.js').then(response => response.text()).then(done);"
+# The results of the learn window that are cut off, or have a text that leaves its row.
+FIND_CUT_RESULTS = """
+const box = document.querySelector(".short").getBoundingClientRect();
+return [...document.querySelectorAll("#teach-rows tr")].filter(row => {
+    const { top, bottom } = row.getBoundingClientRect();
+    return top < box.bottom - 1 && bottom > box.bottom + 1 ||
+        row.querySelector(".why").getBoundingClientRect().bottom > bottom;
+}).map(row => row.textContent);
+"""
+# The page forgets which gateway was open last.
+FORGET_GATEWAY = "sessionStorage.clear(); localStorage.removeItem('enogate-gateway')"
+# A stand-in for enogatectl, which finds no gateway before the settings of one are written.
+CTL_WITHOUT_GATEWAY = """#!/bin/sh
+[ "$*" = paths ] && [ ! -e /etc/default/enogate-cellar ] && echo '{{}}' && exit
+exec {program} "$@"
+"""
 MARKUP = "main :is(img, script, b, i, u), main svg:not(.plot)"
 WATCH_CLICKS = """
 new PerformanceObserver(list => {
@@ -85,7 +117,7 @@ window.watched = performance.now();
 new MutationObserver(() => window.repaints++).observe(document.querySelector(arguments[0]),
                                                       { childList: true, characterData: true, subtree: true });
 """
-MOST_REPAINTS_A_SECOND = 5
+MAX_REPAINTS_PER_SECOND = 5
 GET_POLICY = """
 const [done] = arguments;
 fetch("index.html").then(response => done(response.headers.get("content-security-policy")));
@@ -106,6 +138,7 @@ def setUpModule() -> None:
     machine.set_state("hall", "active", "running")
     stick.start()
     gateway.start(stick, "--explain")
+    unittest.addModuleCleanup(check_that_all_processes_have_ended)
     cockpit = unittest.enterModuleContext(Cockpit(work))
     cockpit.start()
     browser = unittest.enterModuleContext(Browser())
@@ -115,7 +148,12 @@ def setUpModule() -> None:
 def ctl(*words: str) -> str:
     """What enogatectl prints about an order to the gateway."""
     command = [work / "bin/enogatectl", "--json", "hall", *words]
-    return subprocess.run(command, check=True, capture_output=True, text=True).stdout
+    return subprocess.run(command, check=True, stdout=subprocess.PIPE, text=True).stdout
+
+
+def ctl_program() -> pathlib.Path:
+    """The program enogatectl of this tree."""
+    return CONTRIB / "enogatectl"
 
 
 def running(*words: str) -> set[int]:
@@ -130,6 +168,12 @@ def running(*words: str) -> set[int]:
     return found
 
 
+def check_that_all_processes_have_ended() -> None:
+    """After the end of Cockpit, no process of enogatectl may run."""
+    left = wait_for(running, lambda found: not found)
+    assert not left, f"these processes run without Cockpit: {left}"
+
+
 class PageTest(unittest.TestCase):
     """The page is open, and shows the gateway `hall`."""
 
@@ -137,7 +181,13 @@ class PageTest(unittest.TestCase):
     maxDiff = None
 
     def setUp(self) -> None:
+        # Cockpit may take its time to end the processes of the page that the test before had opened.
+        self.earlier = running()
         self.open()
+
+    def running(self, *words: str) -> set[int]:
+        """The processes that this test has started, with these words on their command lines."""
+        return running(*words) - self.earlier
 
     def shortDescription(self) -> None:
         """Only the names of tests are printed, without their docstrings."""
@@ -219,7 +269,7 @@ class PageTest(unittest.TestCase):
         self.wait(lambda: browser.find(selector).is_displayed(), lambda shown: not shown, f"{selector} is hidden")
 
 
-class Reads(PageTest):
+class ShownContents(PageTest):
     """What the page shows of devices, gateways and packets."""
 
     def test_the_reading_of_a_contact_appears(self):
@@ -288,7 +338,7 @@ class Reads(PageTest):
         self.wait(lambda: any(device in line for line in gateway.lines()), bool, device)
 
     def test_each_gateway_has_a_tab_and_remains_open(self):
-        self.addCleanup(browser.run, "sessionStorage.clear()")
+        self.addCleanup(browser.run, FORGET_GATEWAY)
         self.tab("devices")
         browser.click("[data-gateway=yard]")
         self.wait_for_text("#trouble", "/var/log/enogate/yard.lines is missing", "The gateway yard is stopped")
@@ -300,6 +350,50 @@ class Reads(PageTest):
         self.wait_for_text("#feed", "live")
         self.wait_until_hidden("#trouble")
 
+    def test_the_gateway_that_was_open_last_is_opened_first_or_one_that_runs(self):
+        self.machine.add("attic", work / "attic-stick")
+        self.addCleanup(os.unlink, "/etc/default/enogate-attic")
+        browser.run(FORGET_GATEWAY)
+        self.open()
+        self.addCleanup(browser.run, FORGET_GATEWAY)
+        browser.click("[data-gateway=attic]")
+        self.wait_for_text("#gateways [aria-selected=true]", "attic")
+        browser.run("sessionStorage.clear()")
+        browser.driver.refresh()
+        self.wait_for_text("#gateways [aria-selected=true]", "attic")
+
+    def test_devices_are_grouped_by_the_first_word_of_their_labels(self):
+        labels = ("Qattic 2 window", "Qattic lamp", "Qgate", "Qstairs", "Qyard lamp", "Qyard door")
+        for number, label in enumerate(labels):
+            self.learn(f"01800A6{number}", "D5-00-01", label)
+        self.addCleanup(browser.run, "localStorage.removeItem('enogate-grouping')")
+        browser.type("#search", "q")
+        browser.click("#devices-group")
+        wanted = ["Qattic (2)", *labels[:2], "Qyard (2)", labels[5], labels[4], "Other (2)", *labels[2:4]]
+        self.wait(self.headings_and_labels, lambda seen: seen == wanted, "the groups")
+        self.leave()
+        self.shoot("groups-by-word")
+        browser.driver.refresh()
+        browser.type("#search", "q")
+        self.wait(self.headings_and_labels, lambda seen: seen == wanted, "the groups after a reload")
+        # Nothing moves while the pointer is on the list.
+        ActionChains(browser.driver).move_to_element(browser.find(self.row("01800A60"))).perform()
+        ctl("label", "01800A60", "Qcellar window")
+        ctl("list")
+        self.wait_for_text(self.row("01800A60"), "Qcellar window")
+        wanted[1] = "Qcellar window"
+        self.assertEqual(self.headings_and_labels(), ["Qattic (1)", *wanted[1:]])
+        self.leave()
+        self.wait(self.headings_and_labels, lambda seen: seen[:4] == ["Qattic (1)", "Qattic lamp", "Qcellar (1)",
+                                                                     "Qcellar window"], "the groups")
+        browser.click("#devices-group")
+        self.wait(self.headings_and_labels, lambda seen: "(" not in str(seen), "no groups")
+
+    def headings_and_labels(self) -> list[str]:
+        """The headings of the groups, and the labels of the devices."""
+        script = "return [...document.querySelectorAll('#devices-rows :is(th, .label)')].map(one => one.textContent)"
+        return list(browser.run(script))
+
     def test_a_gateway_without_settings_has_a_tab_too(self):
         """One is started at boot and was not started yet, one has only a database."""
         database = pathlib.Path("/var/lib/enogate/shed.db")
@@ -310,7 +404,7 @@ class Reads(PageTest):
         self.open()
         names = "return [...document.querySelectorAll('[data-gateway]')].map(tab => tab.textContent)"
         self.assertEqual(browser.run(names), ["hall", "roof", "shed", "yard"])
-        self.addCleanup(browser.run, "sessionStorage.clear()")
+        self.addCleanup(browser.run, FORGET_GATEWAY)
         browser.click("[data-gateway=roof]")
         self.wait_for_text("#attention", "/var/log/enogate/roof.lines is missing", "The gateway roof is stopped")
 
@@ -319,7 +413,7 @@ class Reads(PageTest):
         other.write_text('{"eep":"D5-00-01","id":"01800AE1","label":"","maker":null,"type":"device"}\n'
                          '{"count":1,"type":"list"}\n')
         self.addCleanup(lines.unlink, missing_ok=True)
-        self.addCleanup(browser.run, "sessionStorage.clear()")
+        self.addCleanup(browser.run, FORGET_GATEWAY)
         self.tab("devices")
         for make, why in ((lambda: lines.symlink_to(other), "it is a symbolic link"),
                           (lambda: os.mkfifo(lines), "it is not a regular file"),
@@ -376,7 +470,7 @@ class Reads(PageTest):
             self.assertNotIn(more, policy)
 
 
-class Acts(PageTest):
+class UserActions(PageTest):
     """What a user does by clicks."""
 
     def test_an_unknown_rocker_is_found_learned_and_labelled(self):
@@ -402,7 +496,7 @@ class Acts(PageTest):
         self.assertIn({"eep": "F6-02-01", "id": "01800B01", "label": 'Rocker "<b>"', "maker": None, "type": "device"},
                       [json.loads(line) for line in ctl("list").splitlines()])
 
-    def test_a_label_that_the_gateway_cannot_store_is_not_sent(self):
+    def test_a_label_that_the_gateway_cannot_store_is_not_sent_but_spelled_in_another_way(self):
         self.tab("add")
         stick.bring("01800B02", PRESS)
         self.wait_for_text(self.row("01800B02", "unknown"), "switch")
@@ -412,6 +506,55 @@ class Acts(PageTest):
         time.sleep(0.3)
         self.assertEqual(browser.text("#learn-result"), "")
         self.assertNotIn("01800B02", ctl("list"))
+        self.assertEqual(browser.text("#learn-spelling"), "Use “Tuer”")
+        self.assertTrue(browser.find("#learn-label-error").is_displayed())
+        self.assertTrue(browser.run("return document.activeElement.id === 'learn-spelling'"))
+        self.shoot("spelling")
+        browser.click("#learn-close")
+        self.wait_until_hidden("#learn")
+        browser.click(self.row("01800B02", "unknown") + " button")
+        browser.type("#learn-label", "Tür")
+        browser.click("#learn-spelling")
+        browser.click("#learn-go")
+        self.wait_for_text("#learn-result", "Learned.")
+        self.assertIn('"id":"01800B02","label":"Tuer"', ctl("list"))
+
+    def test_a_device_is_replaced_by_one_that_was_heard(self):
+        self.learn("01800B51", "D5-00-01", "Cellar door")
+        for device in ("01800B52", "01800B53"):
+            stick.bring(device, CLOSED)
+        stick.bring("01800B54", PRESS)
+        browser.click(self.row("01800B51") + " a")
+        browser.click("#device-edit")
+        browser.click("#edit-replace")
+        ids = "return [...document.querySelectorAll('#edit-senders button')].map(one => one.firstChild.data)"
+        self.wait(lambda: browser.run(ids), lambda seen: seen[:2] == ["01800B53", "01800B52"], "the senders")
+        self.assertNotIn("01800B54", browser.run(ids))
+        self.shoot("replace")
+        self.press("#edit-senders", browser.text("#edit-senders button:nth-child(2)"))
+        self.assertEqual(browser.find("#edit-new").get_attribute("value"), "01800B52")
+        browser.type("#edit-new", "01800B5")
+        browser.click("#edit-swap")
+        time.sleep(0.3)
+        self.assertIn('"id":"01800B51"', ctl("list"))
+        browser.type("#edit-new", "01:80:0b:52")
+        browser.click("#edit-swap")
+        self.wait_for_text("#device-label", "Cellar door")
+        self.wait_for_text("#device-id", "01800B52")
+        self.assertEqual(browser.run("return location.hash"), "#/device/01800B52")
+        listed = ctl("list")
+        self.assertIn('{"eep":"D5-00-01","id":"01800B52","label":"Cellar door"', listed)
+        self.assertNotIn("01800B51", listed)
+        stick.bring("01800B52", OPEN)
+        self.wait_for_text("#device-readings", "Contact open")
+        # It is learned with another profile.
+        ctl("add", "01800B54", "F6-02-01")
+        browser.click("#device-edit")
+        browser.click("#edit-replace")
+        browser.type("#edit-new", "01800B54")
+        browser.click("#edit-swap")
+        self.wait_for_text("#edit-result", "01800B54")
+        self.assertTrue(browser.find("#edit").is_displayed())
 
     def test_a_device_is_renamed_and_removed(self):
         self.learn("01800B05", "D5-00-01", "Old name")
@@ -419,8 +562,7 @@ class Acts(PageTest):
         browser.click("#device-edit")
         browser.click("#edit-remove")
         browser.click("#edit-sure")
-        self.wait(lambda: browser.find("#device-gone").is_displayed(), bool, "the removed device")
-        self.tab("devices")
+        self.wait(lambda: browser.run("return location.hash"), lambda address: address == "#/devices", "the devices")
         self.wait(lambda: self.ids("devices"), lambda ids: "01800B05" not in ids, "the removed device")
         self.assertNotIn("01800B05", ctl("list"))
 
@@ -441,25 +583,25 @@ class Acts(PageTest):
         self.tab("add")
         browser.click("#teach-open")
         self.wait_for_text("#window", "Learn window open")
-        self.wait(lambda: running("--serve"), lambda found: len(found) == 2, "the processes for orders")
+        self.wait(lambda: self.running("--serve"), lambda found: len(found) == 2, "the processes for orders")
         browser.open("about:blank")
         self.wait(lambda: json.loads(ctl("status"))["mode"], lambda mode: mode == "closed", "the learn window")
-        self.wait(running, lambda found: not found, "the processes of the page")
+        self.wait(self.running, lambda found: not found, "the processes of the page")
 
     def test_one_process_gives_the_orders_and_is_started_again_if_it_was_killed(self):
         self.learn("01800B07", "D5-00-01", "One")
-        [server] = self.wait(lambda: running("--serve"), lambda found: len(found) == 1, "the process")
+        [server] = self.wait(lambda: self.running("--serve"), lambda found: len(found) == 1, "the process")
         self.rename("01800B07", "Two")
         self.tab("add")
         browser.click("#teach-open")
         self.wait_for_text("#window", "Learn window open")
-        [window] = self.wait(lambda: running("--serve") - {server}, lambda found: len(found) == 1, "the window")
+        [window] = self.wait(lambda: self.running("--serve") - {server}, lambda found: len(found) == 1, "the window")
         os.kill(server, signal.SIGKILL)
         self.wait_for_text("#problem-text", "enogatectl has ended, and may not have carried out the order")
         os.kill(window, signal.SIGTERM)
         self.wait_until_hidden("#window")
         self.rename("01800B07", "Three")
-        self.wait(lambda: running("--serve"), lambda found: len(found - {server, window}) == 1, "another process")
+        self.wait(lambda: self.running("--serve"), lambda found: len(found - {server, window}) == 1, "another process")
 
     def rename(self, device: str, label: str) -> None:
         """Changes the label of a device, in its view."""
@@ -606,7 +748,94 @@ class Acts(PageTest):
             self.wait(lambda: browser.run(ground), lambda seen, wanted=colour: seen == wanted, style)
 
 
-class Phone(PageTest):
+class GatewaySetUp(PageTest):
+    """How a gateway is set up, also if the machine has none."""
+
+    def setUp(self) -> None:
+        super().setUp()
+        folder = work / "cellar"
+        folder.mkdir(exist_ok=True)
+        self.stick = Stick(folder)
+        self.stick.start()
+        self.addCleanup(self.stick.path.unlink)
+        self.addCleanup(self.stick.end)
+        self.port = pathlib.Path("/dev/serial/by-id/usb-EnOcean_GmbH_USB_300_DC_FT57WS9M-if00-port0")
+        for path, target in ((self.port, self.stick.path), (pathlib.Path("/dev/ttyUSB7"), "/dev/null")):
+            path.symlink_to(target)
+            self.addCleanup(path.unlink)
+        self.addCleanup(self.forget, "cellar")
+
+    def forget(self, name: str) -> None:
+        """Removes the settings of a gateway, and the state of its service."""
+        pathlib.Path(f"/etc/default/enogate-{name}").unlink(missing_ok=True)
+        (self.machine.services / f"enogate@{name}.service").unlink(missing_ok=True)
+        browser.run(FORGET_GATEWAY)
+
+    def hide_gateways(self) -> None:
+        """The machine has no gateway until the settings of one are written."""
+        program = work / "bin/enogatectl"
+        program.unlink()
+        program.write_text(CTL_WITHOUT_GATEWAY.format(program=ctl_program()))
+        program.chmod(0o755)
+
+        def show() -> None:
+            program.unlink()
+            program.symlink_to(ctl_program())
+        self.addCleanup(show)
+        browser.driver.refresh()
+
+    def fill(self, name: str, port: object) -> None:
+        self.wait(lambda: browser.find("#setup-go").is_enabled(), bool, "the ports")
+        browser.type("#setup-name", name)
+        Select(browser.find("#setup-port")).select_by_value(str(port))
+
+    def test_a_gateway_is_set_up_and_started_on_a_machine_without_one(self):
+        self.hide_gateways()
+        self.wait_for_text("#no-gateway", "No gateway is set up on this machine")
+        self.wait(lambda: browser.find("#no-gateway-setup").is_enabled(), bool, "the button")
+        self.assertFalse(browser.find("main").is_displayed())
+        self.shoot("no-gateway")
+        browser.click("#no-gateway-setup")
+        self.wait(lambda: browser.find("#setup-go").is_enabled(), bool, "the ports")
+        self.assertEqual(browser.find("#setup-name").get_attribute("value"), "hall")
+        ports = [option.get_attribute("value") for option in Select(browser.find("#setup-port")).options]
+        self.assertEqual([port for port in ports if port in (str(self.port), "/dev/ttyUSB7")],
+                         [str(self.port), "/dev/ttyUSB7"])
+        self.fill("cellar", "/dev/ttyUSB7")
+        browser.click("#setup-look")
+        self.wait_for_text("#setup-result", "/dev/ttyUSB7 is not a serial port")
+        self.fill("cellar", self.port)
+        browser.click("#setup-look")
+        self.wait_for_text("#setup-result", "Its base ID is FF800000.")
+        self.shoot("set-up")
+        before = len(self.machine.orders())
+        browser.click("#setup-go")
+        self.wait_for_text("#gateways [aria-selected=true]", "cellar")
+        self.wait_until_hidden("#setup")
+        self.assertEqual(self.machine.orders()[before:], ["enable --now enogate@cellar.service"])
+        settings = pathlib.Path("/etc/default/enogate-cellar")
+        self.assertEqual((settings.read_text(), oct(settings.stat().st_mode)), (f"SERIAL={self.port}\n", "0o100644"))
+        self.assertTrue(browser.find("main").is_displayed())
+        self.wait_for_text("#gateway-stick", f"plugged in ({self.port})")
+
+    def test_another_gateway_is_set_up_but_none_twice(self):
+        other = pathlib.Path("/etc/default/enogate-cellar")
+        browser.click("#gateway-setup")
+        self.fill("hall", self.port)
+        browser.click("#setup-go")
+        other.write_text("SERIAL=/dev/null\n")
+        self.fill("cellar", self.port)
+        before = self.machine.orders()
+        browser.click("#setup-go")
+        self.wait_for_text("#setup-result", "There is a gateway with this name already")
+        self.assertEqual((other.read_text(), self.machine.orders()), ("SERIAL=/dev/null\n", before))
+        other.unlink()
+        browser.click("#setup-go")
+        self.wait_for_text("#gateways [aria-selected=true]", "cellar")
+        self.assertEqual(other.read_text(), f"SERIAL={self.port}\n")
+
+
+class PageOnPhone(PageTest):
     """The page on a phone."""
 
     def setUp(self) -> None:
@@ -626,13 +855,43 @@ class Phone(PageTest):
 
     def test_every_target_is_on_the_screen_and_large_enough(self):
         self.learn_some()
+        self.check_places("phone")
+
+    def check_places(self, picture: str) -> None:
+        """Checks the targets of all views."""
         places = [*SECTIONS, "groups", "devices/silent", *(f"device/01800F0{number}" for number in range(len(KINDS)))]
         for place in places:
             with self.subTest(place=place):
                 self.go(f"#/{place}")
                 self.wait_for_some_target(place)
-                self.assertEqual(browser.run(UNFIT, *PHONE), [])
-                self.shoot(f"phone-{place.replace('/', '-')}")
+                self.assertEqual(browser.run(FIND_UNFIT_ELEMENTS, *PHONE), [])
+                self.shoot(f"{picture}-{place.replace('/', '-')}")
+
+    def test_the_cards_of_devices_can_be_grouped(self):
+        self.learn_some()
+        for number, label in enumerate(("Kitchen window", "Kitchen lamp", "2.14 Window", "Gate", "")):
+            ctl("label", f"01800F0{number}", label) if label else ctl("label", f"01800F0{number}")
+        ctl("list")
+        self.addCleanup(browser.run, "localStorage.removeItem('enogate-grouping')")
+        self.tab("devices")
+        browser.click("label.check")
+        browser.type("#search", "01800F0")
+        titles = "return [...document.querySelectorAll('#devices-rows th')].map(cell => cell.textContent)"
+        self.wait(lambda: browser.run(titles), lambda seen: seen[:2] == ["2.14 (1)", "Kitchen (2)"], "the groups")
+        self.assertEqual(browser.run(FIND_UNFIT_ELEMENTS, *PHONE), [])
+        self.shoot("phone-groups-by-word")
+
+    def test_no_result_of_the_learn_window_is_cut_off(self):
+        ctl("learn", "on")
+        self.addCleanup(ctl, "learn", "off")
+        for number in range(4):
+            stick.bring(f"01800F2{number}", "D5 00")
+        # Its profile is A5-3F-01.
+        stick.bring("01800F24", "A5 FC080B80")
+        self.tab("add")
+        self.wait_for_text("#teach-rows", "01800F20", "01800F24")
+        self.assertEqual(browser.run(FIND_CUT_RESULTS), [])
+        self.shoot("phone-results")
 
     def wait_for_some_target(self, place: str) -> None:
         """Waits until the view is shown with its rows."""
@@ -649,16 +908,45 @@ class Phone(PageTest):
         for place in ("overview", "devices"):
             self.go(f"#/{place}")
             self.wait_for_text("#attention" if place == "overview" else "#trouble", "The gateway hall is stopped")
-            self.assertEqual(browser.run(UNFIT, *PHONE), [], place)
+            self.assertEqual(browser.run(FIND_UNFIT_ELEMENTS, *PHONE), [], place)
             self.shoot(f"phone-stopped-{place}")
-        for place, button in (("device/01800F00", "#device-edit"),
-                              ("add", self.row("01800F10", "unknown") + " button")):
+        self.check_dialogs("phone")
+
+    def check_dialogs(self, picture: str) -> None:
+        """Checks the targets of all dialogs."""
+        for place, button, more in (("device/01800F00", "#device-edit", "remove"),
+                                    ("device/01800F04", "#device-edit", "replace"),
+                                    ("add", self.row("01800F10", "unknown") + " button", "label"),
+                                    ("overview", "#gateway-setup", "")):
             self.go(f"#/{place}")
             self.wait(lambda wanted=button: browser.find(wanted).is_displayed(), bool, button)
             browser.click(button)
-            self.assertEqual(browser.run(UNFIT, *PHONE), [], button)
-            self.shoot(f"phone-dialog-{place.partition('/')[0]}")
+            self.open_part(more)
+            self.assertEqual(browser.run(FIND_UNFIT_ELEMENTS, *PHONE), [], button)
+            self.shoot(f"{picture}-dialog-{place.partition('/')[0]}-{more}")
             browser.run("document.querySelector('dialog[open]').close()")
+
+    def test_every_target_is_large_enough_in_german(self):
+        self.learn_some()
+        browser.set_language(GERMAN)
+        self.addCleanup(browser.set_language, ENGLISH)
+        self.open()
+        self.wait_for_text("#tab-overview", "Überblick")
+        self.check_places("phone-german")
+        self.machine.set_state("hall", "inactive", "dead")
+        self.addCleanup(self.machine.set_state, "hall", "active", "running")
+        self.wait_for_text("#trouble", "Das Gateway hall ist angehalten", "Starten")
+        self.assertEqual(browser.run(FIND_UNFIT_ELEMENTS, *PHONE), [])
+        self.check_dialogs("phone-german")
+
+    def open_part(self, name: str) -> None:
+        """Shows what is hidden in a dialog at first."""
+        if name == "label":
+            browser.type("#learn-label", "Tür")
+        elif name:
+            # The gateway is stopped.
+            browser.run("arguments[0].disabled = false", browser.find(f"#edit-{name}"))
+            browser.click(f"#edit-{name}")
 
     def test_the_buttons_of_a_card_can_be_clicked(self):
         """A click fails if something else is at its place."""
@@ -680,7 +968,73 @@ class Phone(PageTest):
         self.wait(lambda: browser.find("#devices").is_displayed(), bool, "the devices that were heard")
 
 
-class Holds(PageTest):
+class GermanPage(PageTest):
+    """The page of a user who prefers German."""
+
+    def setUp(self) -> None:
+        browser.set_language(GERMAN)
+        self.addCleanup(browser.set_language, ENGLISH)
+        super().setUp()
+
+    def test_tabs_readings_dialogs_and_the_verdict_are_german(self):
+        tabs = [browser.find(f"#tab-{name}").text for name in SECTIONS]
+        self.assertEqual([re.sub(r"\W*\d+", "", tab) for tab in tabs],
+                         ["Überblick", "Geräte", "Gerät hinzufügen", "Pakete"])
+        self.assertEqual((browser.driver.title, browser.run("return document.documentElement.lang")),
+                         ("EnOcean-Gateway", "de"))
+        self.assertEqual(browser.find("#search").get_attribute("placeholder"), "Name, ID oder Profil")
+        self.learn("01800E01", "A5-02-05", "Flur")
+        self.learn("01800E02", "D5-00-01", "Tuer")
+        for payload in ("00007F08", "00006008"):
+            stick.bring("01800E01", f"A5 {payload}")
+        stick.bring("01800E02", OPEN)
+        self.wait_for_text(self.row("01800E01"), "Flur", "Temperatursensor", "24,94 °C", "vor")
+        self.wait_for_text(self.row("01800E02"), "Kontakt offen")
+        self.shoot("german-devices")
+        browser.click(self.row("01800E01") + " a")
+        self.wait_for_text("#device-readings", "Temperatur", "20,08 bis 24,94 seit")
+        self.shoot("german-device")
+        browser.click("#device-edit")
+        self.wait_for_text("#edit", "Gerät", "Bezeichnung", "Speichern", "Ersetzen …", "Schließen")
+        browser.click("#edit-close")
+        self.tab("overview")
+        self.wait_for_text("#verdict-text", "empfangen")
+        self.assertRegex(browser.text("#verdict-title"), "Alles in Ordnung|Kein Fehler bekannt|Aufmerksamkeit")
+        self.shoot("german-overview")
+        for name in ("add", "packets"):
+            self.tab(name)
+            self.shoot(f"german-{name}")
+
+    def test_the_german_button_of_a_problem_helps(self):
+        self.machine.set_state("hall", "inactive", "dead")
+        self.addCleanup(self.machine.set_state, "hall", "active", "running")
+        self.wait_for_text("#attention", "Das Gateway hall ist angehalten", "Starten")
+        self.shoot("german-attention")
+        self.tab("devices")
+        self.wait_for_text("#trouble-help", "Starten")
+        before = len(self.machine.orders())
+        browser.click("#trouble-help")
+        self.wait_until_hidden("#trouble")
+        self.assertEqual(self.machine.orders()[before:], ["start enogate@hall.service"])
+
+    def test_the_language_that_the_user_has_chosen_in_cockpit_comes_first(self):
+        self.addCleanup(browser.driver.delete_cookie, "CockpitLang")
+        browser.run(CHOOSE_LANGUAGE, "en-us")
+        self.open()
+        self.wait_for_text("#tab-overview", "Overview")
+        browser.set_language(ENGLISH)
+        browser.run(CHOOSE_LANGUAGE, "de-de")
+        self.open()
+        self.wait_for_text("#tab-overview", "Überblick")
+        # Cockpit's menu has the words of all pages.
+        words = browser.driver.execute_async_script(GET_MENU_WORDS)
+        self.assertIn('"EnOcean gateway": [null, "EnOcean-Gateway"]', words)
+        browser.driver.delete_cookie("CockpitLang")
+        self.open()
+        self.wait_for_text("#tab-overview", "Overview")
+
+
+class LoadAndHostileText(PageTest):
     """What the page must withstand."""
 
     def test_hostile_texts_stay_texts_and_hostile_lines_stop_nothing(self):
@@ -717,6 +1071,17 @@ class Holds(PageTest):
         stick.bring("01800C11", CLOSED)
         self.wait_for_text(self.row("01800C11"), "Contact closed")
         self.assertTrue(browser.run("return window.isSame"))
+
+    def test_a_gateway_that_starts_has_no_desk_and_no_lines_at_first_and_needs_no_reload(self):
+        gateway.end()
+        gateway.rotate()
+        gateway.desk.unlink()
+        browser.driver.refresh()
+        self.wait_for_text("#problem-text", "there is no desk")
+        self.wait_for_text("#feed", "lost")
+        gateway.start(stick, "--explain")
+        self.wait_until_hidden("#problem")
+        self.wait_for_text("#feed", "live")
 
     def test_an_unplugged_stick_is_shown_and_plugged_in_again(self):
         self.learn("01800C12", "D5-00-01")
@@ -765,7 +1130,7 @@ class Holds(PageTest):
         self.tab("add")
         browser.run(WATCH_REPAINTS, "#unknown-rows")
         for first in range(0, 10000, 100):
-            stick.bring_packet(b"".join(telegram(0xF6, b"\x50", 0x02000000 + number, 0x30)
+            stick.bring_packet(b"".join(telegram_packet(0xF6, b"\x50", 0x02000000 + number, 0x30)
                                         for number in range(first, first + 100)))
             if first % 1000 == 900:
                 # What a poll returns remains in the heap of the page, so this asks for one sender only.
@@ -776,18 +1141,21 @@ class Holds(PageTest):
         self.wait_for_text("#unknown-note", "There were more than 500 senders; only the last 500 are kept.")
         self.assertEqual(len(self.ids("unknown")), 100)
         browser.run(WATCH_CLICKS)
+        probe = min(browser.run(SPEED_PROBE) for _ in range(ROUNDS))
+        limit = 1000 * MAX_CLICK_SECONDS * max(1.0, probe / PROBE_MS)
         # A machine that is busy with something else may hold up a click, but not in each round.
         longest = 1000.0
         for _ in range(ROUNDS):
             longest = min(longest, self.longest_click_in_a_flood())
-            if longest < 1000 * SECONDS_OF_A_CLICK:
+            if longest < limit:
                 break
         self.tab("add")
         heap = browser.heap()
-        print(f"the longest click {longest:.0f} ms; heap {heap / 1e6:.1f} MB; {repaints:.1f} repaints a second")
-        self.assertLess(repaints, MOST_REPAINTS_A_SECOND)
-        self.assertLess(longest, 1000 * SECONDS_OF_A_CLICK)
-        self.assertLess(heap, MOST_HEAP)
+        print(f"the longest click {longest:.0f} ms (limit {limit:.0f}, probe {probe:.0f}); heap {heap / 1e6:.1f} MB; "
+              f"{repaints:.1f} repaints a second")
+        self.assertLess(repaints, MAX_REPAINTS_PER_SECOND)
+        self.assertLess(longest, limit)
+        self.assertLess(heap, MAX_HEAP_BYTES)
         self.shoot("many")
 
     def longest_click_in_a_flood(self) -> float:
@@ -798,7 +1166,7 @@ class Holds(PageTest):
         number = 0
         sections = ("add", "packets", "devices", "overview")
         while time.monotonic() < end:
-            stick.bring_packet(b"".join(telegram(0xF6, b"\x70", 0x02000000 + (number + step) % 10000, 0x30)
+            stick.bring_packet(b"".join(telegram_packet(0xF6, b"\x70", 0x02000000 + (number + step) % 10000, 0x30)
                                         for step in range(40)))
             number += 40
             browser.click(f"#tab-{sections[number // 40 % len(sections)]}")
@@ -827,10 +1195,12 @@ class LimitedTest(PageTest):
         browser.open(self.limited.address)
 
 
-class Member(LimitedTest):
+class GroupMemberPage(LimitedTest):
     """The page of a user who may write the desk, as a member of the group may, but may not become root."""
 
     def setUp(self) -> None:
+        # The gateway keeps the group of its desk when it is started again.
+        self.addCleanup(shutil.chown, gateway.desk, group=gateway.desk.group())
         shutil.chown(gateway.desk, group="nogroup")
         gateway.desk.chmod(0o660)
         self.addCleanup(gateway.desk.chmod, 0o600)
@@ -851,17 +1221,17 @@ class Member(LimitedTest):
         browser.type("#edit-label", "Lamp of the caretaker")
         browser.click("#edit-save")
         self.wait_for_text("#device-label", "Lamp of the caretaker")
-        self.assertEqual({pathlib.Path(f"/proc/{process}").owner() for process in running("--serve")}, {"nobody"})
+        self.assertEqual({pathlib.Path(f"/proc/{process}").owner() for process in self.running("--serve")}, {"nobody"})
         self.shoot("member")
 
 
-class Rights(LimitedTest):
+class ReadOnlyPage(LimitedTest):
     """The page of a user who may only look."""
 
     def test_the_page_is_read_only_and_says_why(self):
         self.wait_for_text("#read-only", "You can look, but not change anything.", "administrative access")
         self.wait_for_text("#feed", "live")
-        for name in ("refresh", "restart"):
+        for name in ("refresh", "restart", "setup"):
             self.assertFalse(browser.find(f"#gateway-{name}").is_enabled(), name)
         self.shoot("read-only")
         stick.bring("01800D01", PRESS)

@@ -12,8 +12,8 @@ const { PROFILES } = await import("../../contrib/cockpit/enogate/words.js");
 const ID = READING.id;
 const given = [];
 const page = {
-    mayAct: true, sent: new Map(), command: (id, order) => given.push(order.join(" ")),
-    errorOf: async order => {
+    canOrderNow: true, sent: new Map(), giveToDevice: (id, order) => given.push(order.join(" ")),
+    orderError: async order => {
         given.push(order.join(" "));
         return order[0] === "teach" ? "why" : "";
     },
@@ -21,7 +21,7 @@ const page = {
 
 beforeEach(() => {
     given.length = 0;
-    page.mayAct = true;
+    page.canOrderNow = true;
     page.sent.clear();
 });
 
@@ -122,10 +122,10 @@ test("the answer is next to the buttons: sent, answered, none, or why it failed"
 
 test("nothing can be pressed without the right to give orders, or if the gateway does not run", () => {
     const { made, targets } = controls("D2-01-12", true);
-    for (const mayAct of [true, false, true]) {
-        page.mayAct = mayAct;
+    for (const canOrderNow of [true, false, true]) {
+        page.canOrderNow = canOrderNow;
         made.fill(device("D2-01-12"), 0);
-        assert.ok([...targets.values()].every(({ disabled }) => disabled !== mayAct), String(mayAct));
+        assert.ok([...targets.values()].every(({ disabled }) => disabled !== canOrderNow), String(canOrderNow));
     }
 });
 
@@ -153,10 +153,10 @@ test("groups are switched, dimmed and taught, and a number that is none is not s
     assert.equal(byId("groups-number").why, "Enter a whole number from 0 to 127.");
     groups.clear();
     assert.equal(byId("groups-result").textContent, "");
-    for (const mayAct of [false, true]) {
-        page.mayAct = mayAct;
+    for (const canOrderNow of [false, true]) {
+        page.canOrderNow = canOrderNow;
         groups.paint();
         for (const name of ["on", "off", "level", "teach"])
-            assert.equal(byId(`groups-${name}`).disabled, !mayAct, name);
+            assert.equal(byId(`groups-${name}`).disabled, !canOrderNow, name);
     }
 });

@@ -1,6 +1,7 @@
 import assert from "node:assert/strict";
 import { test } from "node:test";
 
+import "./page.mjs";
 import * as health from "../../contrib/cockpit/enogate/health.js";
 import { Model } from "../../contrib/cockpit/enogate/model.js";
 import { HOSTILE, LIST, PACKET, READING, RESPONSE, STATUS } from "./samples.mjs";
@@ -22,16 +23,16 @@ function modelOf(...devices) {
 
 /** What needs attention: the level, the text and the button of each problem. */
 function attention(model, { sent = new Map(), minutes = 10, ...more } = {}) {
-    const groups = health.groupsOf(model, sent, NOW, minutes);
+    const groups = health.devicesByState(model, sent, NOW, minutes);
     const facts = { name: "hall", why: "", states: RUNNING, hasStick: true, settings: new Map() };
-    return health.attention({ ...facts, model, groups, now: NOW, ...more });
+    return health.findProblems({ ...facts, model, groups, now: NOW, ...more });
 }
 const texts = (...given) => attention(...given).map(({ level, text, action }) => `${level}: ${text} [${action}]`);
 
 test("a signal has one to four bars, and one bar is weak", () => {
     const levels = [null, -100, -86, -85, -76, -75, -66, -65, 0];
-    assert.deepEqual(levels.map(health.bars), [0, 1, 1, 2, 2, 3, 3, 4, 4]);
-    assert.deepEqual(levels.map(dbm => health.isWeak({ dbm })), levels.map(dbm => health.bars(dbm) === 1));
+    assert.deepEqual(levels.map(health.signalBars), [0, 1, 1, 2, 2, 3, 3, 4, 4]);
+    assert.deepEqual(levels.map(dbm => health.isWeak({ dbm })), levels.map(dbm => health.signalBars(dbm) === 1));
 });
 
 test("a device that was not received since the page was opened is quiet after the same time", () => {
@@ -50,12 +51,12 @@ test("devices are grouped by what is known of them", () => {
     model.take({ ...READING, id: "01800A04", eep: "D2-01-00", dbm: -86, readings: [] }, NOW);
     const sent = new Map([["01800A04", { order: ["query", "01800A04", "0"], at: 0, done: 0, error: "" }],
                           ["01800A99", { order: ["query", "01800A99", "0"], at: 0, done: 0, error: "" }]]);
-    const groups = health.groupsOf(model, sent, NOW, 10);
+    const groups = health.devicesByState(model, sent, NOW, 10);
     const ids = Object.fromEntries(Object.entries(groups).map(([name, found]) =>
         [name, found.map(([id]) => id.slice(-2)).join()]));
     assert.deepEqual(ids, { all: "01,02,03,04", silent: "02", heard: "01,04", weak: "02,04", actuators: "04",
                             unanswered: "04" });
-    const sentence = minutes => health.heardSentence(health.groupsOf(model, sent, NOW, minutes), model, minutes);
+    const sentence = minutes => health.heardSentence(health.devicesByState(model, sent, NOW, minutes), model, minutes);
     assert.equal(sentence(10), "2 of 4 devices were heard in the last 10 min; for 1 this is not known yet.");
     assert.equal(sentence(120), "3 of 4 devices were heard in the last 2 h; for 1 this is not known yet.");
     assert.equal(sentence(Infinity), "3 of 4 devices were heard; for 1 this is not known yet.");
@@ -65,7 +66,7 @@ test("devices are grouped by what is known of them", () => {
 
 test("no devices are learned, or this is not known", () => {
     const model = new Model(0);
-    const sentence = () => health.heardSentence(health.groupsOf(model, new Map(), 0, 1), model, 1);
+    const sentence = () => health.heardSentence(health.devicesByState(model, new Map(), 0, 1), model, 1);
     assert.equal(sentence(), "The devices are not known yet.");
     assert.deepEqual(texts(model).filter(text => text.includes("learned")), []);
     model.take({ ...LIST, count: 0 }, 0);
@@ -105,14 +106,35 @@ test("an open learn window, and packets that do not come, need no haste", () => 
     const model = modelOf(["01", -50, NOW]);
     model.take({ ...STATUS, mode: "on" }, NOW);
     model.hasPackets = false;
-    assert.deepEqual(texts(model), ["info: The learn window is open [Close]",
-                                    "info: No packet line has arrived [Restart]"]);
+    const settings = new Map([["SERIAL", "/dev/x"], ["EXPLAIN", ""]]);
+    assert.deepEqual(texts(model, { settings }), ["info: The learn window is open [Close]",
+                                                  "info: No packet line has arrived [Restart]"]);
     assert.deepEqual(texts(model, { states: { ActiveState: "inactive" } }),
                      ["bad: The gateway hall is stopped [Start]", "info: The learn window is open [Close]"]);
     const empty = new Model(0);
     empty.take({ ...LIST, count: 0 }, NOW);
     empty.take(PACKET, NOW);
     assert.deepEqual(texts(empty), ["info: No device is learned [Add]"]);
+});
+
+test("packet lines are asked for only if the settings turn them off", () => {
+    const model = new Model(0);
+    model.take({ ...LIST, count: 0 }, NOW);
+    const [learned, hint, silence] = ["info: No device is learned [Add]", "info: No packet line has arrived [Restart]",
+                                      "info: Nothing was heard yet [undefined]"];
+    const seen = (...settings) => texts(model, { settings: new Map(settings) });
+    const serial = ["SERIAL", "/dev/x"];
+    assert.deepEqual(seen(serial), [learned, hint]);
+    assert.deepEqual(seen(serial, ["EXPLAIN", ""]), [learned, hint]);
+    assert.deepEqual(seen(serial, ["EXPLAIN", "--explain"]), [learned, silence]);
+    assert.equal(attention(model).at(-1).detail, "Press a button of a device near the stick.");
+    // The settings are not known yet.
+    assert.deepEqual(seen(), [learned, silence]);
+    const heard = modelOf(["01", -50, NOW]);
+    heard.hasPackets = false;
+    assert.deepEqual(texts(heard, { settings: new Map([["EXPLAIN", "--explain"]]) }), []);
+    assert.deepEqual(texts(model, { states: { ActiveState: "inactive" } }),
+                     ["bad: The gateway hall is stopped [Start]", learned]);
 });
 
 test("up to three devices with a problem have a line each, and more of them one", () => {

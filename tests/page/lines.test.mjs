@@ -2,10 +2,10 @@ import assert from "node:assert/strict";
 import { readFileSync } from "node:fs";
 import { test } from "node:test";
 
-import { parse, recordedIn } from "../../contrib/cockpit/enogate/lines.js";
+import { parseLine, recordedDevicesIn } from "../../contrib/cockpit/enogate/lines.js";
 import { ALL, DEVICE, HOSTILE, LIST, PACKET, READING, RESPONSE, STATUS, TAUGHT } from "./samples.mjs";
 
-const parsed = line => parse(JSON.stringify(line));
+const parsed = line => parseLine(JSON.stringify(line));
 
 /** All lines that the pages of the guide show. */
 function linesOfGuide() {
@@ -23,21 +23,21 @@ test("all lines of the guide are accepted", () => {
     const lines = linesOfGuide();
     assert.ok(lines.length > 50, `${lines.length} lines`);
     for (const line of lines)
-        assert.deepEqual(parse(line), JSON.parse(line), line);
+        assert.deepEqual(parseLine(line), JSON.parse(line), line);
 });
 
 test("a line that follows NUL bytes is read", () => {
     const nuls = "\0".repeat(5000);
     for (const before of [nuls, `{"type":${nuls}`])
-        assert.deepEqual(parse(before + JSON.stringify(READING)), READING);
-    assert.deepEqual([parse(nuls), parse(JSON.stringify(READING) + nuls)], [null, null]);
+        assert.deepEqual(parseLine(before + JSON.stringify(READING)), READING);
+    assert.deepEqual([parseLine(nuls), parseLine(JSON.stringify(READING) + nuls)], [null, null]);
 });
 
 test("texts that are no lines are dropped", () => {
     const texts = ["", "{", "null", "1", "[]", "[1]", '"ok"', "{}", '{"type":1}', '{"type":"other"}', '{"type":"ok"',
         '{"type":"__proto__"}', '{"type":"constructor"}', "x".repeat(100000), "\u0000", "[".repeat(10000)];
     for (const text of texts)
-        assert.equal(parse(text), null, text.slice(0, 40));
+        assert.equal(parseLine(text), null, text.slice(0, 40));
 });
 
 test("a line that lacks a member is dropped", () => {
@@ -91,24 +91,24 @@ test("readings of another form are dropped", () => {
 
 test("numbers that are not finite or whole are dropped", () => {
     for (const number of ["1e999", "-1", "1.5"])
-        assert.equal(parse(`{"count":${number},"type":"list"}`), null, number);
-    assert.ok(parse(JSON.stringify(STATUS).replace('"ignored":1', '"ignored":18446744073709551615')));
+        assert.equal(parseLine(`{"count":${number},"type":"list"}`), null, number);
+    assert.ok(parseLine(JSON.stringify(STATUS).replace('"ignored":1', '"ignored":18446744073709551615')));
 });
 
 test("recorded devices have a time in ms, or none, and readings", () => {
     const recorded = { ...DEVICE, dbm: -45, readings: [{ name: "CO", word: "open" }], seen: 1795867200 };
     const unheard = { ...recorded, id: "01800ABD", dbm: null, readings: [], seen: null };
-    assert.deepEqual(recordedIn([recorded, unheard, LIST].map(line => `${JSON.stringify(line)}\n`).join("")),
+    assert.deepEqual(recordedDevicesIn([recorded, unheard, LIST].map(line => `${JSON.stringify(line)}\n`).join("")),
                      [{ ...recorded, seen: 1795867200000 }, unheard]);
     const bad = [DEVICE, { ...recorded, seen: "1" }, { ...recorded, seen: -1 }, { ...recorded, id: "<b>" }, 5, null,
         { ...recorded, dbm: "<b>" }, { ...recorded, readings: [{ name: "<b>", word: "x" }] },
         { ...recorded, readings: null }];
-    assert.deepEqual(recordedIn(bad.map(line => JSON.stringify(line)).join("\n")), []);
-    assert.deepEqual(recordedIn(""), []);
+    assert.deepEqual(recordedDevicesIn(bad.map(line => JSON.stringify(line)).join("\n")), []);
+    assert.deepEqual(recordedDevicesIn(""), []);
 });
 
 test("a member __proto__ changes nothing", () => {
     const line = '{"__proto__":{"id":"01800ABC"},"eep":"D5-00-01","label":"","type":"device"}';
-    assert.equal(parse(line), null);
+    assert.equal(parseLine(line), null);
     assert.equal({}.id, undefined);
 });

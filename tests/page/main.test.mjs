@@ -2,7 +2,7 @@ import assert from "node:assert/strict";
 import { mock, test } from "node:test";
 
 import { byId, jumps, machine, permission, settle, started, view } from "./page.mjs";
-import { DEVICE, HOSTILE, READING, RESPONSE, STATUS, TAUGHT } from "./samples.mjs";
+import { DEVICE, HOSTILE, PACKET, READING, RESPONSE, STATUS, TAUGHT } from "./samples.mjs";
 
 const SECTIONS = ["overview", "devices", "device", "groups", "add", "packets"];
 const [LIST, BASE] = ["list", "base"].map(order => ["enogatectl", "--json", "hall", "--", order]);
@@ -129,14 +129,16 @@ test("a page that is hidden does not look at the service", async () => {
 test("a base ID of the module that differs is reported while it does, and asked for after each start", async () => {
     const reports = data => bring({ ...RESPONSE, data });
     view.open("#/devices");
-    const asked = started(...BASE).length;
+    // Until the earlier lines are read, the answer could be one of them, which have no time.
+    assert.equal(started(...BASE).length, 0);
     await reports("FFA1B280");
+    assert.equal(started(...BASE).length, 1);
     assert.match(byId("trouble-text").textContent,
                  /^BASE is FF800000, but the base ID of the radio module is FFA1B280\. Correct or remove BASE in /);
     assert.equal(byId("trouble").hidden, false);
     run = 3;
     await pass(20);
-    assert.equal(started(...BASE).length, asked + 1);
+    assert.equal(started(...BASE).length, 2);
     // The stick may be another one now.
     assert.equal(byId("trouble").hidden, true);
     await reports("FFA1B280");
@@ -254,6 +256,28 @@ test("an order to a device is shown as sent, and then as not answered, also in t
     view.open("#/device/01800AD1");
     await pass(1);
     assert.match(byId("device-act").textContent, /why$/);
+    machine.outputOf = outputOf;
+});
+
+test("a new sender appears in the open dialog that replaces a device", async () => {
+    await bring({ ...READING, eep: "F6-02-01", id: "01800AE1", readings: [{ name: "EB", word: "pressed" }] });
+    view.open("#/device/01800AE1");
+    byId("device-edit").click();
+    byId("edit-replace").click();
+    assert.equal(byId("edit-senders").children.length, 0);
+    await bring({ ...PACKET, id: "01800AE2" });
+    assert.deepEqual(byId("edit-senders").children.map(({ firstChild }) => firstChild.textContent), ["01800AE2"]);
+    const { outputOf } = machine;
+    machine.outputOf = words => words.includes("replace") ? null : outputOf(words);
+    byId("edit-senders").children[0].click();
+    byId("edit-swap").click();
+    const replace = started("enogatectl", "hall", "replace").at(-1);
+    assert.deepEqual(replace.words.slice(3), ["01800AE1", "01800AE2"]);
+    const asked = started(...LIST).length;
+    replace.resolve("01800AE2: learned\n");
+    await pass(1);
+    assert.deepEqual([location.hash, byId("edit").open, started(...LIST).length],
+                     ["#/device/01800AE2", false, asked + 1]);
     machine.outputOf = outputOf;
 });
 

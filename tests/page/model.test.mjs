@@ -5,7 +5,9 @@ import * as limits from "../../contrib/cockpit/enogate/model.js";
 import { TABLES } from "../../contrib/cockpit/enogate/tables.js";
 import { DEVICE, ERROR, LIST, OK, OTHER_PACKET, PACKET, READING, RESPONSE, STATUS, TAUGHT } from "./samples.mjs";
 
-const { lastHeard, Model, MOST_DEVICES, MOST_PACKETS, MOST_TAUGHT, MOST_UNKNOWN, MOST_VALUES } = limits;
+const {
+    lastHeardTime, MAX_DEVICES, MAX_PACKETS, MAX_PLOT_POINTS, MAX_TEACH_RESULTS, MAX_UNKNOWN_SENDERS, Model,
+} = limits;
 const hexId = number => number.toString(16).toUpperCase().padStart(8, "0");
 
 /** A model that has taken these lines, one each second. */
@@ -33,9 +35,9 @@ test("an earlier reading has neither a time nor a place in the plot", () => {
 });
 
 test("a plot keeps the last values", () => {
-    const model = modelOf(...Array(MOST_VALUES + 5).fill(READING));
+    const model = modelOf(...Array(MAX_PLOT_POINTS + 5).fill(READING));
     const [{ values: kept }] = model.devices.get("01800ABC").readings.values();
-    assert.equal(kept.length, MOST_VALUES);
+    assert.equal(kept.length, MAX_PLOT_POINTS);
     assert.equal(kept[0][0], 6000);
 });
 
@@ -98,19 +100,19 @@ test("recorded devices are shown with their labels and times until there is a li
     const model = new Model(0);
     model.take({ ...READING, id: "01800ABC", eep: "D5-00-01", readings: [] }, null);
     model.takeRecorded([RECORDED, { ...RECORDED, id: "01800ABD", label: "", seen: null }]);
-    const shown = [...model.devices].map(([id, device]) => [id, device.eep, device.label, lastHeard(device)]);
+    const shown = [...model.devices].map(([id, device]) => [id, device.eep, device.label, lastHeardTime(device)]);
     assert.deepEqual(shown, [["01800ABC", "D5-00-01", "Front door", 500], ["01800ABD", "D5-00-01", "", null]]);
     assert.deepEqual([model.isRecorded, model.isListed], [true, false]);
     model.take({ ...DEVICE, label: "New" }, 1000);
     model.take(LIST, 1000);
-    assert.deepEqual([...model.devices].map(([id, device]) => [id, device.label, lastHeard(device)]),
+    assert.deepEqual([...model.devices].map(([id, device]) => [id, device.label, lastHeardTime(device)]),
                      [["01800ABC", "New", 500]]);
 });
 
 test("a list that was read before the recorded devices is newer; only their times are used", () => {
     const model = modelOf({ ...DEVICE, label: "New" }, LIST);
     model.takeRecorded([RECORDED, { ...RECORDED, id: "01800ABD" }]);
-    assert.deepEqual([...model.devices].map(([id, device]) => [id, device.label, lastHeard(device)]),
+    assert.deepEqual([...model.devices].map(([id, device]) => [id, device.label, lastHeardTime(device)]),
                      [["01800ABC", "New", 500]]);
 });
 
@@ -125,9 +127,9 @@ test("a telegram is later than a recorded one", () => {
     const model = new Model(0);
     model.takeRecorded([{ ...RECORDED, eep: READING.eep }]);
     model.take(READING, null);
-    assert.equal(lastHeard(model.devices.get("01800ABC")), 500);
+    assert.equal(lastHeardTime(model.devices.get("01800ABC")), 500);
     model.take(READING, 9000);
-    assert.equal(lastHeard(model.devices.get("01800ABC")), 9000);
+    assert.equal(lastHeardTime(model.devices.get("01800ABC")), 9000);
 });
 
 test("recorded readings are shown, without a time, until the lines have readings of the device", () => {
@@ -165,14 +167,14 @@ test("an ID that is the name of a member is a device like all others", () => {
 
 test("more devices than a gateway can learn are counted and left out", () => {
     const model = new Model(0);
-    for (let number = 0; number < MOST_DEVICES + 7; number++)
+    for (let number = 0; number < MAX_DEVICES + 7; number++)
         model.take({ ...READING, id: hexId(number) }, 1);
-    assert.deepEqual([model.devices.size, model.devicesLeftOut], [MOST_DEVICES, 7]);
+    assert.deepEqual([model.devices.size, model.devicesLeftOut], [MAX_DEVICES, 7]);
 });
 
 test("a list that replaces all devices of a full model is shown as a whole", () => {
     const model = new Model(0);
-    for (let number = 0; number < MOST_DEVICES; number++)
+    for (let number = 0; number < MAX_DEVICES; number++)
         model.take({ ...READING, id: hexId(number) }, 1);
     model.take(DEVICE, 2);
     model.take(LIST, 2);
@@ -181,9 +183,9 @@ test("a list that replaces all devices of a full model is shown as a whole", () 
 
 test("a list of more devices than a gateway can have is not read", () => {
     const model = new Model(0);
-    for (let number = 0; number <= MOST_DEVICES; number++)
+    for (let number = 0; number <= MAX_DEVICES; number++)
         model.take({ ...DEVICE, id: hexId(number) }, 1);
-    model.take({ ...LIST, count: MOST_DEVICES + 1 }, 1);
+    model.take({ ...LIST, count: MAX_DEVICES + 1 }, 1);
     assert.deepEqual([model.devices.size, model.isListed], [0, false]);
 });
 
@@ -217,9 +219,9 @@ test("lists are limited, and the oldest entries are left out", () => {
         model.take({ ...PACKET, id: hexId(number) }, number);
         model.take({ ...TAUGHT, id: hexId(number), result: "full" }, number);
     }
-    assert.deepEqual([model.unknown.size, model.unknownLeftOut], [MOST_UNKNOWN, 3000 - MOST_UNKNOWN]);
-    assert.ok(model.packets.length >= MOST_PACKETS && model.packets.length <= 2 * MOST_PACKETS);
-    assert.equal(model.taught.length, MOST_TAUGHT);
+    assert.deepEqual([model.unknown.size, model.unknownLeftOut], [MAX_UNKNOWN_SENDERS, 3000 - MAX_UNKNOWN_SENDERS]);
+    assert.ok(model.packets.length >= MAX_PACKETS && model.packets.length <= 2 * MAX_PACKETS);
+    assert.equal(model.taught.length, MAX_TEACH_RESULTS);
     assert.equal([...model.unknown.keys()].at(-1), hexId(2999));
     assert.equal(model.packets.at(-1).line.id, hexId(2999));
 });
@@ -263,7 +265,8 @@ test("each reading has the time at which it was received", () => {
 });
 
 test("the learn window is open in each mode but one, and not if no mode is known", () => {
-    const isOpen = mode => modelOf({ ...STATUS, mode }).isOpen;
-    assert.deepEqual([isOpen("on"), isOpen("answer"), isOpen("as F6-02-01"), isOpen("closed"), new Model(0).isOpen],
+    const isOpen = mode => modelOf({ ...STATUS, mode }).isWindowOpen;
+    assert.deepEqual([isOpen("on"), isOpen("answer"), isOpen("as F6-02-01"), isOpen("closed"),
+                      new Model(0).isWindowOpen],
                      [true, true, true, false, false]);
 });

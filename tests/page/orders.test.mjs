@@ -3,6 +3,7 @@ import { execFileSync } from "node:child_process";
 import { readFileSync } from "node:fs";
 import { test } from "node:test";
 
+import "./page.mjs";
 import * as orders from "../../contrib/cockpit/enogate/orders.js";
 import { HOSTILE } from "./samples.mjs";
 
@@ -47,7 +48,7 @@ test("enogatectl takes each command of the page for the order that is meant", ()
         ["level 3 100 255", orders.levelOrder(3, 100, 255)], ["teach 5", orders.teachOrder(5)],
         ["list", ["list"]], ["base", ["base"]], ["learn off", ["learn", "off"]],
     ]);
-    const commands = [...wanted.values()].map(order => orders.command("hall", order));
+    const commands = [...wanted.values()].map(order => orders.orderCommand("hall", order));
     assert.deepEqual(ordersOfCommands(commands), [...wanted.keys()].map(order => [order, null, true]));
     const windows = [["learn", "on"], ["learn", "on", "answer"], ["learn", "as", "F6-02-01"]];
     assert.deepEqual(ordersOfCommands(windows.map(order => orders.windowCommand("hall", order, 120))),
@@ -59,13 +60,13 @@ test("enogatectl takes the command for the recorded devices for one that gives n
     const contrib = new URL("../../contrib", import.meta.url).pathname;
     const words = ["-B", "-c", program, ...orders.recordedCommand("hall").slice(1)];
     const shown = String(execFileSync("python3", words, { env: { ...process.env, PYTHONPATH: contrib } }));
-    assert.match(shown, /^ShowRecorded\(.*hall\.lines.*is_json=True\)\n$/);
+    assert.match(shown, /^ShowDevices\(.*hall\.lines.*is_json=True\)\n$/);
 });
 
 test("a hostile label is one argument, which is a label of enogatectl or refused by it", () => {
     for (const text of HOSTILE.filter(Boolean))
-        assert.equal(orders.command("hall", orders.label(ID, text)).filter(word => word === text).length, 1, text);
-    const results = ordersOfCommands(HOSTILE.map(text => orders.command("hall", orders.label(ID, text))));
+        assert.equal(orders.orderCommand("hall", orders.label(ID, text)).filter(word => word === text).length, 1, text);
+    const results = ordersOfCommands(HOSTILE.map(text => orders.orderCommand("hall", orders.label(ID, text))));
     results.forEach((result, index) => {
         const text = HOSTILE[index];
         assert.deepEqual(result, orders.isLabel(text) ? [`label ${ID}${text && ` ${text}`}`, null, true] : null, text);
@@ -87,8 +88,17 @@ test("the fields for a label take no longer one", () => {
     assert.deepEqual([0, 1].map(more => orders.isLabel("x".repeat(orders.LONGEST_LABEL + more))), [true, false]);
 });
 
+test("an ID may have marks between its digits", () => {
+    for (const text of ["01800ABC", "01800abc", " 01:80:0a:bc ", "0x01800ABC", "01-80-0A-BC", "01.80.0a.bc",
+                        "0180 0ABC"])
+        assert.equal(orders.idIn(text), ID, text);
+    for (const text of [...HOSTILE, "01800AB", "001800ABC", "01800ABG", "0x01800AB", "x01800ABC", "01800A0xBC",
+                        "--json"])
+        assert.equal(orders.idIn(text), null, text);
+});
+
 test("numbers in fields", () => {
-    const number = (text, greatest = 100) => orders.numberIn(text, greatest);
+    const number = (text, greatest = 100) => orders.wholeNumberIn(text, greatest);
     assert.deepEqual(["0", "50", "100", "007"].map(text => number(text)), [0, 50, 100, 7]);
     assert.deepEqual(["", " 5", "-1", "101", "1e2", "5.0", "x"].map(text => number(text)), Array(7).fill(null));
     assert.deepEqual([number("127", 127), number("128", 127)], [127, null]);
@@ -104,9 +114,9 @@ test("the fields for groups have the ranges of the orders", () => {
 });
 
 test("the sentence of an error", () => {
-    assert.equal(orders.sentence({ message: "enogatectl: unknown_device: learn it\n" }), "unknown_device: learn it");
-    assert.equal(orders.sentence({ message: "usage: enogatectl\nenogatectl: error: an order is required" }),
+    assert.equal(orders.failureText({ message: "enogatectl: unknown_device: learn it\n" }), "unknown_device: learn it");
+    assert.equal(orders.failureText({ message: "usage: enogatectl\nenogatectl: error: an order is required" }),
                  "error: an order is required");
-    assert.match(orders.sentence({ problem: "access-denied", message: "Not permitted" }), /administrative access/);
-    assert.match(orders.sentence({ problem: "not-found" }), /not installed/);
+    assert.match(orders.failureText({ problem: "access-denied", message: "Not permitted" }), /administrative access/);
+    assert.match(orders.failureText({ problem: "not-found" }), /not installed/);
 });

@@ -105,6 +105,10 @@ class Element {
         this.listeners.get("keydown")({ key: "Enter", preventDefault: () => {} });
     }
 
+    focus() {
+        Element.focused = this;
+    }
+
     showModal() {
         this.open = true;
     }
@@ -135,6 +139,9 @@ class Element {
             [...names.split(", ").includes(child.name) ? [child] : [], ...child.querySelectorAll(names)]);
     }
 }
+
+/** The element that has got the focus last. */
+export const focused = () => Element.focused;
 
 /** The element with this ID. */
 export function byId(id) {
@@ -195,9 +202,10 @@ class Serve extends Process {
 
 export const processes = [];
 /**
- * What a process prints before it ends; null if it does not end by itself, and an Error if it fails. The test sets it.
+ * What a process prints before it ends; null if it does not end by itself, and an Error if it fails. What happens when
+ * a file is written. The test sets both.
  */
-export const machine = { outputOf: () => null };
+export const machine = { outputOf: () => null, writeFile: async () => {} };
 
 function start(process) {
     processes.push(process);
@@ -242,16 +250,39 @@ export const view = {
     },
 };
 
+const translations = new Map();
+const translation = (id, form) => translations.get(id)?.[form];
+/** The messages of Cockpit, as its base1/cockpit.js translates them. */
+const messages = {
+    language: "en",
+    locale: ({ "": { language, "plural-forms": formOf }, ...texts }) => {
+        Object.assign(window.cockpit, { language, formOf });
+        Object.entries(texts).forEach(([id, forms]) => translations.set(id, forms));
+    },
+    gettext: id => translation(id, 1) || id,
+    ngettext: (id, many, count) => translation(id, 1 + Number(window.cockpit.formOf?.(count))) ||
+        (count === 1 ? id : many),
+    format: (message, ...values) => message.replace(/\$([0-9])/g, (_, index) => values[index] || values[index] === 0
+        ? String(values[index]) : ""),
+    noop: id => id,
+    translate: () => {},
+};
+
 globalThis.window = {
     cockpit: {
+        ...messages,
         spawn,
-        file: () => ({ read: () => Promise.resolve("SERIAL=/dev/enocean\nBASE=ff800000\n") }),
+        file: (path, options) => ({
+            read: () => Promise.resolve("SERIAL=/dev/enocean\nBASE=ff800000\n"),
+            replace: (text, tag) => machine.writeFile(path, options, text, tag),
+        }),
         permission: () => permission,
         jump: path => jumps.push(path),
     },
 };
 globalThis.document = {
     hidden: false,
+    documentElement: new Element(),
     getElementById: byId,
     createElement: name => new Element(name),
     createElementNS: (_, name) => new Element(name),

@@ -38,7 +38,7 @@ beforeEach(() => {
 
 test("a page that is always asked to repaint does so four times a second", () => {
     const { made, times } = painter();
-    pass(10000, () => made.ask());
+    pass(10000, () => made.requestPaint());
     const pauses = times.slice(1).map((time, index) => time - times[index]);
     assert.equal(times[0], 1001);
     assert.ok(Math.min(...pauses) >= 250, pauses.join());
@@ -47,19 +47,19 @@ test("a page that is always asked to repaint does so four times a second", () =>
 
 test("after a quiet time it repaints in the next frame, once", () => {
     const { made, times } = painter();
-    pass(1, () => [1, 2, 3].forEach(() => made.ask()));
+    pass(1, () => [1, 2, 3].forEach(() => made.requestPaint()));
     pass(5000);
-    pass(1, () => made.ask());
+    pass(1, () => made.requestPaint());
     pass(5000);
     assert.deepEqual(times, [1001, 6002]);
 });
 
 test("a click repaints at once, and the next repaint waits", () => {
     const { made, times } = painter();
-    pass(1, () => made.ask());
+    pass(1, () => made.requestPaint());
     pass(9);
-    made.now();
-    made.ask();
+    made.paintNow();
+    made.requestPaint();
     pass(1000);
     assert.deepEqual(times.slice(0, 2), [1001, 1010]);
     assert.equal(times.length, 3);
@@ -71,17 +71,17 @@ test("clicks while a repaint is due do not make more repaints after them", () =>
     for (const isHidden of [false, true, false]) {
         page.hidden = isHidden;
         for (let click = 0; click < 20; click++) {
-            pass(37, () => made.ask());
-            made.now();
+            pass(37, () => made.requestPaint());
+            made.paintNow();
         }
-        made.ask();
+        made.requestPaint();
         mock.timers.tick(250);
-        made.now();
+        made.paintNow();
     }
     const clicked = times.length;
     pass(1000);
     assert.equal(times.length, clicked);
-    pass(10000, () => made.ask());
+    pass(10000, () => made.requestPaint());
     assert.ok(times.length - clicked <= 40, `${times.length - clicked} repaints in ten seconds`);
     const pauses = times.slice(clicked + 1).map((time, index) => time - times[clicked + index]);
     assert.ok(Math.min(...pauses) >= 250, pauses.join());
@@ -91,7 +91,7 @@ test("a hidden page, which has no frames, repaints", () => {
     const { made, times } = painter();
     page.hidden = true;
     globalThis.requestAnimationFrame = assert.fail;
-    pass(2000, () => made.ask());
+    pass(2000, () => made.requestPaint());
     globalThis.requestAnimationFrame = requestFrame;
     assert.ok(times.length >= 3 && times.length <= 4, times.join());
 });

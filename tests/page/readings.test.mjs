@@ -5,7 +5,8 @@ import { Model } from "../../contrib/cockpit/enogate/model.js";
 import "./page.mjs";
 import { READING } from "./samples.mjs";
 
-const { chips, detailChips, setSignal, tiles } = await import("../../contrib/cockpit/enogate/readings.js");
+const { detailReadingChips, readingChips, readingTiles, setSignal } =
+    await import("../../contrib/cockpit/enogate/readings.js");
 
 const number = (name, num, unit) => ({ name, num, den: 1, unit });
 const place = () => document.createElement("div");
@@ -21,7 +22,7 @@ const SWITCH = [{ name: "IO", raw: 1 }, { name: "PFD", raw: 0 }, number("OV", 10
 
 test("a reading is its name, its value and its unit, and is filled again", () => {
     const shown = place();
-    const readings = chips(shown);
+    const readings = readingChips(shown);
     readings.fill(device("A5-04-01", [number("HUM", 50, "%"), number("TMP", 20, "C")]));
     assert.equal(shown.textContent, "Humidity 50 %Temperature 20 °C");
     const [humidity, temperature] = shown.children;
@@ -39,7 +40,7 @@ test("a reading is its name, its value and its unit, and is filled again", () =>
 test("details are shown apart in the view of a device, and each reading once", () => {
     const [list, main, more] = [place(), place(), place()];
     const both = device("D2-01-12", SWITCH);
-    for (const [make, where] of [[chips, list], [tiles, main], [detailChips, more]])
+    for (const [make, where] of [[readingChips, list], [readingTiles, main], [detailReadingChips, more]])
         make(where).fill(both);
     assert.deepEqual([list, main, more].map(({ textContent }) => textContent.trim()),
                      ["Output 100 %", "Output 100 %", "Channel 1 Power failure 0"]);
@@ -47,8 +48,8 @@ test("details are shown apart in the view of a device, and each reading once", (
 
 test("two channels are named, also if the unit says what was measured", () => {
     const shown = place();
-    chips(shown).fill(device("D2-01-12", [{ name: "IO", raw: 0 }, number("MV", 5, "W")],
-                             [{ name: "IO", raw: 1 }, number("MV", 6, "W")]));
+    readingChips(shown).fill(device("D2-01-12", [{ name: "IO", raw: 0 }, number("MV", 5, "W")],
+                                    [{ name: "IO", raw: 1 }, number("MV", 6, "W")]));
     assert.equal(shown.textContent, "channel 0: Power 5 Wchannel 1: Power 6 W");
     assert.ok(shown.children.every(({ classList }) => !classList.contains("plain")));
 });
@@ -56,7 +57,7 @@ test("two channels are named, also if the unit says what was measured", () => {
 test("a number that has come twice has a plot, and a tile also its range", () => {
     const plots = where => where.querySelectorAll("polyline").map(({ attributes }) =>
         attributes.get("points").split(" ").length);
-    for (const make of [chips, tiles]) {
+    for (const make of [readingChips, readingTiles]) {
         const shown = place();
         const readings = make(shown);
         const values = [[number("TMP", 20, "C")], [number("TMP", 18, "C")], [number("TMP", 19, "C")]];
@@ -64,7 +65,7 @@ test("a number that has come twice has a plot, and a tile also its range", () =>
         assert.deepEqual(plots(shown), []);
         readings.fill(device("A5-02-05", ...values));
         assert.deepEqual(plots(shown), [3]);
-        assert.equal(/18 to 20 since/.test(shown.textContent), make === tiles);
+        assert.equal(/18 to 20 since/.test(shown.textContent), make === readingTiles);
     }
 });
 

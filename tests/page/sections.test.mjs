@@ -5,7 +5,8 @@ import "./page.mjs";
 import { DEVICE, HOSTILE, LIST, PACKET, READING, RESPONSE } from "./samples.mjs";
 
 const page = name => import(`../../contrib/cockpit/enogate/${name}.js`);
-const [{ COLUMNS: SENDER_COLUMNS, senders }, { COLUMNS, matching }, { profilesFor }, { Model }, { reportedBase }, { filtered }, { Sorting }] =
+const [{ COLUMNS: SENDER_COLUMNS, matchingSenders }, { COLUMNS, matchingDevices }, { profilesFor }, { Model },
+       { reportedBase }, { matchingPackets }, { Sorting }] =
     await Promise.all(["add", "devices", "learn", "model", "overview", "packets", "sorting"].map(page));
 
 /** A contact with a label and the weaker signal, and a sensor that was received later. */
@@ -22,10 +23,10 @@ function devices() {
 
 function sorted(entries, columns, column, isReverse = false) {
     const sorting = new Sorting(columns, document.createElement("select"), [], () => {});
-    sorting.mark(column, isReverse);
+    sorting.setColumn(column, isReverse);
     return sorting.sorted(entries);
 }
-const selected = (found, filter, ...order) => sorted(matching(found, filter), COLUMNS, ...order);
+const selected = (found, filter, ...order) => sorted(matchingDevices(found, filter), COLUMNS, ...order);
 const ids = (filter, column, isReverse) => selected(devices(), filter, column, isReverse).map(([id]) => id.slice(-2));
 
 test("devices are sorted by each column, in both directions", () => {
@@ -64,7 +65,7 @@ test("senders are found by ID, kind and the profile that they have sent", () => 
     const model = new Model(0);
     model.take(PACKET, 0);
     model.take({ ...PACKET, id: "01800AC2", rorg: "D4", eep: "D2-05-00" }, 0);
-    const found = text => senders(model.unknown, text).map(([id]) => id.slice(-2)).join();
+    const found = text => matchingSenders(model.unknown, text).map(([id]) => id.slice(-2)).join();
     assert.deepEqual(["", "ac1", "SWITCH", "ute", "blind"].map(found), ["C1,C2", "C1", "C1", "C2", "C2"]);
     for (const text of HOSTILE.filter(one => one.trim()))
         assert.equal(found(text), "", text);
@@ -75,7 +76,7 @@ test("senders are sorted by their last packet, their signal, the number of packe
     for (const [id, dbm] of [["02", -50], ["02", -50], ["01", -40], ["02", -50], ["03", null]])
         model.take({ ...PACKET, id: `01800A${id}`, dbm }, 0);
     const order = column =>
-        sorted(senders(model.unknown, ""), SENDER_COLUMNS, column).map(([id]) => id.slice(-1)).join("");
+        sorted(matchingSenders(model.unknown, ""), SENDER_COLUMNS, column).map(([id]) => id.slice(-1)).join("");
     assert.deepEqual(["received", "signal", "count", "id"].map(order), ["321", "123", "213", "123"]);
     assert.deepEqual([...SENDER_COLUMNS.keys()][0], "received");
 });
@@ -99,7 +100,7 @@ test("the base ID of the module is shown with the age of its report", () => {
 
 test("packets are filtered by ID, label and profile", () => {
     const packets = [PACKET, { ...PACKET, id: "01800ABC" }, { kind: 4, why: "other_type" }].map(line => ({ line }));
-    const found = text => filtered(packets, devices(), text).map(packet => packets.indexOf(packet));
+    const found = text => matchingPackets(packets, devices(), text).map(packet => packets.indexOf(packet));
     assert.deepEqual([found(""), found("0ac1"), found("front"), found("contact"), found("<b>")],
                      [[0, 1, 2], [0], [1], [1], []]);
 });

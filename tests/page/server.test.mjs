@@ -1,11 +1,11 @@
 import assert from "node:assert/strict";
 import { beforeEach, test } from "node:test";
 
-import { sentence } from "../../contrib/cockpit/enogate/orders.js";
 import { processes, settle, started } from "./page.mjs";
+import { failureText } from "../../contrib/cockpit/enogate/orders.js";
 import { HOSTILE } from "./samples.mjs";
 
-const { Server } = await import("../../contrib/cockpit/enogate/server.js");
+const { CommandServer } = await import("../../contrib/cockpit/enogate/server.js");
 
 const ENDED = /^enogatectl has ended, and may not have carried out the order: /;
 const command = word => ["enogatectl", "hall", word];
@@ -16,7 +16,7 @@ const requests = () => last().requests.trimEnd().split("\n").map(JSON.parse);
 
 /** Runs a command for each of these words. `ends` has the output or the error of each command that has ended. */
 function running(...words) {
-    const server = new Server("require");
+    const server = new CommandServer("require");
     const ends = {};
     const run = word => {
         const ended = server.run(command(word));
@@ -38,12 +38,12 @@ test("the process is started with the first command, once, and with the rights o
     assert.deepEqual(all().map(({ words, options }) => [words, options]),
                      [[["enogatectl", "--serve"], { superuser: "require", err: "message" }]]);
     assert.deepEqual(requests(), [{ id: 1, arguments: ["hall", "list"] }, { id: 2, arguments: ["hall", "base"] }]);
-    new Server(null).run(command("list"));
+    new CommandServer(null).run(command("list"));
     assert.deepEqual(last().options, { superuser: null, err: "message" });
 });
 
 test("a request is one line of ASCII, and has each text as it is", () => {
-    const server = new Server("require");
+    const server = new CommandServer("require");
     const words = [...HOSTILE, "Tür 😀"];
     server.run(["enogatectl", ...words]);
     assert.match(last().requests, /^[ -~]+\n$/);
@@ -59,8 +59,8 @@ test("a command has an output, or an error that can be explained", async () => {
     await settle();
     assert.equal(ends.list, "lines\n");
     assert.deepEqual(ends.label, { exit_status: 2, message: "usage\nenogatectl: why", problem: null });
-    assert.equal(sentence(ends.label), "why");
-    assert.equal(sentence(ends.learn), "enogatectl exited with status 137");
+    assert.equal(failureText(ends.label), "why");
+    assert.equal(failureText(ends.learn), "enogatectl exited with status 137");
 });
 
 test("answers come in any order", async () => {
@@ -113,14 +113,14 @@ for (const [error, text] of [
         last().write(line({ id: 2, output: "2" }) + '{"error":');
         last().reject(error);
         await settle();
-        assert.deepEqual([ends.b, sentence(ends.a)], ["2", sentence(ends.c)]);
-        assert.match(sentence(ends.a), text);
+        assert.deepEqual([ends.b, failureText(ends.a)], ["2", failureText(ends.c)]);
+        assert.match(failureText(ends.a), text);
         run("d");
         assert.equal(all().length, 2);
         assert.deepEqual(requests(), [{ id: 4, arguments: ["hall", "d"] }]);
         last().write(line({ id: 4, output: "4" }) + line({ id: 1, output: "wrong" }));
         await settle();
-        assert.match(sentence(ends.a), text);
+        assert.match(failureText(ends.a), text);
         assert.equal(ends.d, "4");
     });
 }
@@ -130,14 +130,14 @@ test("a command that is requested while the process ends fails, too", async () =
     last().reject({ problem: "terminated", message: "terminated" });
     run("b");
     await settle();
-    assert.deepEqual([all().length, sentence(ends.a), sentence(ends.b)], [1, "terminated", "terminated"]);
+    assert.deepEqual([all().length, failureText(ends.a), failureText(ends.b)], [1, "terminated", "terminated"]);
 });
 
 test("a process that ends without an error fails the open commands", async () => {
     const { ends } = running("a");
     last().resolve("");
     await settle();
-    assert.match(sentence(ends.a), ENDED);
+    assert.match(failureText(ends.a), ENDED);
 });
 
 test("a command that is stopped has ended once its answer comes", async () => {

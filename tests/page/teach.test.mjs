@@ -5,8 +5,9 @@ import { Model } from "../../contrib/cockpit/enogate/model.js";
 import { byId, processes, settle, started } from "./page.mjs";
 import { OK, STATUS, TAUGHT } from "./samples.mjs";
 
-const { openWindow } = await import("../../contrib/cockpit/enogate/commands.js");
-const { TeachCard } = await import("../../contrib/cockpit/enogate/teach.js");
+const { runCommand } = await import("../../contrib/cockpit/enogate/commands.js");
+const { resultText } = await import("../../contrib/cockpit/enogate/words.js");
+const { LearnWindowCard } = await import("../../contrib/cockpit/enogate/teach.js");
 
 const WINDOW = ["enogatectl", "--for", "120", "hall", "--"];
 const OPEN = { ...STATUS, mode: "on" };
@@ -15,12 +16,13 @@ const CLOSED = { ...STATUS, mode: "closed" };
 /** The card of a page whose user may act. */
 function card() {
     const page = {
-        gateway: "hall", mayAct: true, model: new Model(0), painter: { now: () => {} }, complaints: [], given: [],
-        refreshed: 0, complain: text => page.complaints.push(text), refresh: () => page.refreshed++,
-        act: order => page.given.push(order.join(" ")),
-        openWindow: (order, seconds) => openWindow("hall", order, seconds, "user"),
+        gateway: "hall", canOrderNow: true, model: new Model(0), painter: { paintNow: () => {} },
+        complaints: [], given: [], refreshed: 0,
+        showError: text => page.complaints.push(text), refresh: () => page.refreshed++,
+        giveByButton: order => page.given.push(order.join(" ")),
+        runCommand: command => runCommand(command, "user"),
     };
-    const made = new TeachCard(page);
+    const made = new LearnWindowCard(page);
     made.paint();
     return { made, page };
 }
@@ -42,11 +44,11 @@ beforeEach(() => {
 
 test("the learn window is opened for two minutes, which are counted down once it is open", () => {
     const { made } = card();
-    const take = line => made.take(line, Date.now());
+    const take = line => made.takeLine(line, Date.now());
     take(OPEN);
     byId("teach-open").click();
     assert.deepEqual(windows().map(({ words }) => words), [[...WINDOW, "learn", "on"]]);
-    made.take(OPEN, null);
+    made.takeLine(OPEN, null);
     [CLOSED, OK, TAUGHT].forEach(take);
     assert.equal(left(made), "opening …");
     take(OPEN);
@@ -61,7 +63,7 @@ test("the learn window is opened for two minutes, which are counted down once it
 test("a window that closes by itself is shown as closed, and can be opened again", async () => {
     const { made, page } = card();
     byId("teach-open").click();
-    made.take(OPEN, 1000);
+    made.takeLine(OPEN, 1000);
     windows()[0].resolve();
     await settle();
     assert.deepEqual([left(made), page.complaints, page.refreshed], ["", [""], 1]);
@@ -81,6 +83,22 @@ test("the window says what has to be pressed, also if another program has opened
     assert.deepEqual(shown("as F6-02-01"),
                      [false, "open", "Press any button of the device (F6-02-01 Rocker switch, 2 rockers)."]);
     assert.equal(shown("closed")[0], true);
+});
+
+test("each result has its time, the profile if it was sent, and what was done, the newest first", () => {
+    const { made, page } = card();
+    assert.equal(byId("teach-results").hidden, true);
+    page.model.take(TAUGHT, null);
+    page.model.take({ ...TAUGHT, id: "01800AC1", eep: null, result: "no_profile" }, null);
+    made.paint();
+    const rows = byId("teach-rows").children;
+    assert.deepEqual(rows.map(({ children }) => children.map(({ textContent }) => textContent)), [
+        ["earlier", "01800AC1", "profile not sent", resultText("no_profile")],
+        ["earlier", "01800ABC", "D5-00-01 Contact", "learned"],
+    ]);
+    assert.notEqual(resultText("no_profile"), "no_profile");
+    assert.deepEqual(rows.map(({ dataset }) => dataset.why), ["no_profile", "accepted"]);
+    assert.equal(byId("teach-results").hidden, false);
 });
 
 test("a window that cannot be opened is explained", async () => {
@@ -124,6 +142,22 @@ test("a second click opens no second window, and none is opened before the first
     byId("teach-open").click();
     assert.equal(started(...WINDOW, "learn", "as", "F6-02-01").length, 1);
     assert.equal(left(made), "opening …");
+});
+
+test("whoever uses the list of profiles means it, but the Tab key only moves on", () => {
+    const { made } = card();
+    const [list, choice] = [byId("teach-profile"), byId("teach-as")];
+    const isChosenAfter = (event, key) => {
+        choice.checked = false;
+        list.listeners.get(event)?.({ target: list, key });
+        return choice.checked;
+    };
+    for (const event of ["input", "change", "pointerdown", "click"])
+        assert.equal(isChosenAfter(event), true, event);
+    for (const [key, wanted] of [["ArrowDown", true], ["Enter", true], [" ", true], ["Tab", false], ["Shift", false]])
+        assert.equal(isChosenAfter("keydown", key), wanted, key);
+    list.enterValue("F6-03-01", "change");
+    assert.deepEqual(made.openingOrder(), ["learn", "as", "F6-03-01"]);
 });
 
 test("a window that is closed before it was open leaves the errors of other orders", async () => {

@@ -1,9 +1,9 @@
 import assert from "node:assert/strict";
 import { beforeEach, test } from "node:test";
 
-import { groupsOf } from "../../contrib/cockpit/enogate/health.js";
-import { Model } from "../../contrib/cockpit/enogate/model.js";
 import { byId } from "./page.mjs";
+import { devicesByState } from "../../contrib/cockpit/enogate/health.js";
+import { Model } from "../../contrib/cockpit/enogate/model.js";
 import { DEVICE, HOSTILE, LIST, PACKET, READING, RESPONSE, STATUS } from "./samples.mjs";
 
 const states = ["all", "silent", "weak", "actuators"].map(state => {
@@ -31,10 +31,11 @@ beforeEach(() => {
         model.take({ ...READING, id, eep, dbm, readings: [reading] }, 1000);
     }
     page = {
-        model, groups: groupsOf(model, new Map(), 2000, Infinity), sent: new Map(), query: "", part: "",
-        minutes: Infinity, mayAct: true, isQuiet: () => false, painter: { now: () => {} }, gateway: "hall", feedState: { why: "" },
+        model, groups: devicesByState(model, new Map(), 2000, Infinity), sent: new Map(), query: "", part: "",
+        minutes: Infinity, canOrderNow: true, isQuiet: () => false, painter: { paintNow: () => {} }, gateway: "hall",
+        feedState: { why: "" },
         health: { states: { ActiveState: "active" }, hasStick: true }, settings: new Map([["BASE", "FFA1B280"]]),
-        rights: { isAdmin: false }, mayHelp: () => false,
+        rights: { isAdmin: false }, mayUseFix: () => false,
     };
 });
 
@@ -58,10 +59,58 @@ test("the list has the devices of the state that the address names, and says how
     assert.equal(byId("devices-rows").children.length, 0);
 });
 
+/** Somebody ticks the box that groups the devices, or clears it. */
+function group(isGrouped) {
+    byId("devices-group").checked = isGrouped;
+    byId("devices-group").listeners.get("change")();
+}
+
+test("devices can be grouped by the first word of their labels, which the browser stores", () => {
+    let painted = 0;
+    page.painter.paintNow = () => painted++;
+    page.model.devices.get(CONTACT).label = "Kitchen window";
+    page.model.take({ ...READING, id: "01800A03", eep: "D5-00-01" }, 1000);
+    page.model.devices.get("01800A03").label = "Attic door";
+    page.groups = devicesByState(page.model, new Map(), 2000, Infinity);
+    const section = new DevicesSection(page);
+    const rows = () => {
+        section.paint();
+        return byId("devices-rows").children.map(row => row.dataset.id ?? `[${row.textContent}]`);
+    };
+    assert.deepEqual([byId("devices-group").checked, rows()], [false, ["01800A03", CONTACT, ACTUATOR]]);
+    group(true);
+    const grouped = ["[Attic (1)]", "01800A03", "[Kitchen (1)]", CONTACT, "[Without a label (1)]", ACTUATOR];
+    assert.deepEqual([rows(), painted, localStorage.getItem("enogate-grouping")], [grouped, 1, "true"]);
+    assert.equal(byId("devices-rows").children[0].firstChild.colSpan, 5);
+    page.model.devices.get("01800A03").label = "Kitchen";
+    assert.deepEqual(rows(), ["[Kitchen (2)]", "01800A03", CONTACT, "[Without a label (1)]", ACTUATOR]);
+    section.sorting.sortBy("label");
+    assert.deepEqual(rows(), ["[Kitchen (2)]", CONTACT, "01800A03", "[Without a label (1)]", ACTUATOR]);
+    // The pointer is on the list: nothing moves, and the heading whose group has gone is marked.
+    byId("devices-rows").matches = selector => selector === ":hover";
+    page.model.devices.get(CONTACT).label = "Attic window";
+    assert.deepEqual(rows(), ["[Kitchen (2)]", CONTACT, "01800A03", "[Without a label (1)]", ACTUATOR]);
+    page.model.devices.get("01800A03").label = "Attic door";
+    rows();
+    assert.deepEqual(byId("devices-rows").children.map(({ classList }) => classList.contains("gone")),
+                     [true, false, false, false, false]);
+    byId("devices-rows").matches = () => false;
+    assert.deepEqual(rows(), ["[Attic (2)]", CONTACT, "01800A03", "[Without a label (1)]", ACTUATOR]);
+    // A word that only a device outside of the list shares makes a group, too.
+    page.model.devices.get(CONTACT).label = "Attic";
+    page.query = CONTACT;
+    assert.deepEqual(rows(), ["[Attic (1)]", CONTACT]);
+    new DevicesSection(page);
+    assert.equal(byId("devices-group").checked, true);
+    group(false);
+    new DevicesSection(page);
+    assert.equal(byId("devices-group").checked, false);
+});
+
 test("an empty list says whether the devices are known", () => {
     const section = new DevicesSection(page);
     page.model = new Model(0);
-    page.groups = groupsOf(page.model, new Map(), 0, 1);
+    page.groups = devicesByState(page.model, new Map(), 0, 1);
     section.paint();
     assert.equal(text("devices-none-title"), "The devices are not known yet");
     page.model.take({ ...LIST, count: 0 }, 0);

@@ -1,6 +1,7 @@
 import assert from "node:assert/strict";
 import { test } from "node:test";
 
+import "./page.mjs";
 import { ALL_CHANNELS } from "../../contrib/cockpit/enogate/orders.js";
 import * as words from "../../contrib/cockpit/enogate/words.js";
 
@@ -8,9 +9,9 @@ const reading = members => ({ reading: members, channel: null });
 const device = (eep, items) => ({ eep, readings: new Map(items.entries()) });
 
 test("reasons and results", () => {
-    assert.equal(words.reason("for_others"), "addressed to another gateway");
-    assert.equal(words.reason("new_one"), "new_one");
-    assert.deepEqual(["accepted", "deleted"].map(words.result), ["learned", "deleted"]);
+    assert.equal(words.reasonText("for_others"), "addressed to another gateway");
+    assert.equal(words.reasonText("new_one"), "new_one");
+    assert.deepEqual(["accepted", "deleted"].map(words.resultText), ["learned", "deleted"]);
 });
 
 test("each reading of each profile has a name", () => {
@@ -18,7 +19,7 @@ test("each reading of each profile has a name", () => {
     for (const [eep, { readings }] of words.PROFILES) {
         assert.ok(readings.length, eep);
         for (const { name, unit } of readings)
-            assert.notEqual(words.reading(eep, reading({ name, unit, num: 1, den: 1 })).split(" ")[0], name, eep);
+            assert.notEqual(words.readingText(eep, reading({ name, unit, num: 1, den: 1 })).split(" ")[0], name, eep);
     }
 });
 
@@ -32,30 +33,31 @@ test("what actuators can do", () => {
 });
 
 test("numbers are decimals with units", () => {
-    const shown = (num, den, unit = "C") => words.reading("A5-02-05", reading({ name: "TMP", num, den, unit }));
+    const shown = (num, den, unit = "C") => words.readingText("A5-02-05", reading({ name: "TMP", num, den, unit }));
     assert.equal(shown(1024, 51), "Temperature 20.08 °C");
     assert.equal(shown(-5, 2), "Temperature -2.5 °C");
     assert.equal(shown(20, 1), "Temperature 20 °C");
     assert.equal(shown(1234567, 1), "Temperature 1234567 °C");
     assert.equal(shown(1, 1, "K"), "TMP 1 K");
-    assert.equal(words.reading("A5-12-02", reading({ name: "MR", num: 1, den: 3, unit: "m3" })), "Gas 0.33 m³");
+    assert.equal(words.readingText("A5-12-02", reading({ name: "MR", num: 1, den: 3, unit: "m3" })), "Gas 0.33 m³");
 });
 
 test("named states, numbers without a unit, and numbers without a meaning", () => {
-    assert.equal(words.reading("D5-00-01", reading({ name: "CO", word: "closed" })), "Contact closed");
-    assert.equal(words.reading("A5-10-03", reading({ name: "SP", raw: 0 })), "Set point 0");
-    assert.equal(words.reading("A5-04-01", reading({ name: "HUM", out_of_range: 251 })), "Humidity out of range");
-    assert.equal(words.reading("D5-00-01", reading({ name: "__proto__", raw: 1 })), "__proto__ 1");
-    assert.equal(words.reading("__proto__", reading({ name: "CO", raw: 1 })), "CO 1");
+    assert.equal(words.readingText("D5-00-01", reading({ name: "CO", word: "closed" })), "Contact closed");
+    assert.equal(words.readingText("A5-10-03", reading({ name: "SP", raw: 0 })), "Set point 0");
+    assert.equal(words.readingText("A5-04-01", reading({ name: "HUM", out_of_range: 251 })), "Humidity out of range");
+    assert.equal(words.readingText("D5-00-01", reading({ name: "__proto__", raw: 1 })), "__proto__ 1");
+    assert.equal(words.readingText("__proto__", reading({ name: "CO", raw: 1 })), "CO 1");
 });
 
 test("the parts of a reading are its name with its channel, its value and its unit", () => {
     const output = { reading: { name: "OV", num: 1, den: 3, unit: "%" }, channel: 1 };
-    assert.deepEqual(words.parts("D2-01-12", output, true), { name: "channel 1: Output", value: "0.33", unit: "%" });
-    assert.deepEqual(words.parts("D2-01-12", output), { name: "Output", value: "0.33", unit: "%" });
-    assert.deepEqual(words.parts("D5-00-01", reading({ name: "CO", word: "open" })),
+    assert.deepEqual(words.readingParts("D2-01-12", output, true),
+                     { name: "channel 1: Output", value: "0.33", unit: "%" });
+    assert.deepEqual(words.readingParts("D2-01-12", output), { name: "Output", value: "0.33", unit: "%" });
+    assert.deepEqual(words.readingParts("D5-00-01", reading({ name: "CO", word: "open" })),
                      { name: "Contact", value: "open", unit: "" });
-    assert.deepEqual(words.parts("A5-02-05", reading({ name: "TMP", out_of_range: 1 })),
+    assert.deepEqual(words.readingParts("A5-02-05", reading({ name: "TMP", out_of_range: 1 })),
                      { name: "Temperature", value: "out of range", unit: "" });
 });
 
@@ -83,24 +85,35 @@ test("details are left out if there is more", () => {
 });
 
 test("ages and times", () => {
-    assert.deepEqual([0, 59, 60, 3599, 3600, 86399, 86400, 900000].map(seconds => words.age(0, seconds * 1000)),
+    assert.deepEqual([0, 59, 60, 3599, 3600, 86399, 86400, 900000].map(seconds => words.ageText(0, seconds * 1000)),
                      ["0 s ago", "59 s ago", "1 min ago", "59 min ago", "1 h ago", "23 h ago", "1 d ago", "10 d ago"]);
-    assert.equal(words.age(2000, 1000), "0 s ago");
-    assert.deepEqual([0, 9, 60, 119, 120].map(words.countdown), ["0:00", "0:09", "1:00", "1:59", "2:00"]);
-    assert.equal(words.age(null, 1000), "earlier");
-    assert.equal(words.clock(null), "earlier");
-    assert.match(words.clock(0), /^\d\d:\d\d:\d\d$/);
+    assert.equal(words.ageText(2000, 1000), "0 s ago");
+    assert.deepEqual([0, 9, 60, 119, 120].map(words.countdownText), ["0:00", "0:09", "1:00", "1:59", "2:00"]);
+    assert.equal(words.ageText(null, 1000), "earlier");
+    assert.equal(words.timeText(null), "earlier");
+    assert.match(words.timeText(0), /^\d\d:\d\d:\d\d$/);
 });
 
 test("the state of a service, signals, kinds", () => {
-    const service = (ActiveState, SubState = "") => words.service({ ActiveState, SubState });
+    const service = (ActiveState, SubState = "") => words.serviceText({ ActiveState, SubState });
     assert.deepEqual(["active", "inactive", "failed", "<b>"].map(state => service(state)),
                      ["running", "stopped", "failed", "unknown"]);
     assert.equal(service("activating", "auto-restart"), "restarting");
     assert.equal(service("activating", "start-pre"), "starting");
-    assert.equal(words.service(null), "unknown");
-    assert.deepEqual([words.signal(-45), words.signal(0), words.signal(null)], ["-45 dBm", "0 dBm", ""]);
-    assert.deepEqual([words.kind("F6"), words.kind("30")], ["switch (RPS)", "telegram 30"]);
+    assert.equal(words.serviceText(null), "unknown");
+    assert.deepEqual([words.signalText(-45), words.signalText(0), words.signalText(null)], ["-45 dBm", "0 dBm", ""]);
+    assert.deepEqual([words.kindText("F6"), words.kindText("30")], ["switch (RPS)", "telegram 30"]);
     assert.equal(words.profileWithKind("D5-00-01"), "D5-00-01 Contact");
     assert.equal(words.profileWithKind("A5-99-99"), "A5-99-99");
+});
+
+test("a search also finds the spelling that a label can have", () => {
+    const { hasText } = words;
+    for (const text of ["Küche", "küche", "KÜCHE", "kü", "Kueche", "kueche"])
+        assert.ok(hasText(text, "01800ABC", "Kueche"), text);
+    // Texts that are no labels can have other characters.
+    assert.ok(hasText("größe", "Größe"));
+    for (const text of ["日本", "🔥", "Kuche", "Büro"])
+        assert.ok(!hasText(text, "01800ABC", "Kueche"), text);
+    assert.ok(hasText("", "01800ABC", "Kueche"));
 });

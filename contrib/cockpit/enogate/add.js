@@ -1,14 +1,15 @@
 // The section that adds devices: the learn window, and the senders that are not learned.
 
-import { byId, button, cells, Rows, setText } from "./dom.js";
+import { _, format } from "./cockpit.js";
+import { button, byId, Rows, rowWithCells, setText } from "./dom.js";
 import { LearnDialog } from "./learn.js";
-import { MOST_UNKNOWN } from "./model.js";
+import { MAX_UNKNOWN_SENDERS } from "./model.js";
 import { setSignal } from "./readings.js";
 import { compareTexts, Sorting } from "./sorting.js";
-import { TeachCard } from "./teach.js";
+import { LearnWindowCard } from "./teach.js";
 import * as words from "./words.js";
 
-const MOST_SHOWN = 100;
+const MAX_SHOWN_ROWS = 100;
 
 /** How two senders are sorted. The sender of the last packet comes first: whoever presses a button sees it on top. */
 export const COLUMNS = new Map([
@@ -19,19 +20,16 @@ export const COLUMNS = new Map([
 ]);
 
 /** The senders whose ID, kind or profile has this text. */
-export function senders(unknown, text) {
-    const wanted = text.toLowerCase();
-    return [...unknown].filter(([id, { rorg, eep }]) =>
-        `${id} ${words.kind(rorg)} ${words.profileWithKind(eep)}`.toLowerCase().includes(wanted));
-}
+export const matchingSenders = (unknown, text) => [...unknown].filter(([id, { rorg, eep }]) =>
+    words.hasText(text, id, words.kindText(rorg), words.profileWithKind(eep)));
 
 export class AddSection {
     constructor(page) {
         this.page = page;
         this.dialog = new LearnDialog(page);
-        this.teach = new TeachCard(page);
+        this.teach = new LearnWindowCard(page);
         this.rows = new Rows(byId("unknown-rows"), id => new SenderRow(id, this.dialog));
-        this.sorting = new Sorting(COLUMNS, byId("unknown-sort"), [], () => page.painter.now());
+        this.sorting = new Sorting(COLUMNS, byId("unknown-sort"), [], () => page.painter.paintNow());
     }
 
     leave() {
@@ -47,19 +45,20 @@ export class AddSection {
         const { model, query } = this.page;
         this.teach.paint();
         const find = id => model.devices.has(id) ? undefined : model.unknown.get(id);
-        const found = this.sorting.sorted(senders(model.unknown, query));
-        this.rows.fill(found.slice(0, MOST_SHOWN), find);
+        const found = this.sorting.sorted(matchingSenders(model.unknown, query));
+        this.rows.fill(found.slice(0, MAX_SHOWN_ROWS), find);
         setText(byId("unknown-note"), this.note(model));
     }
 
     note({ hasPackets, unknown, unknownLeftOut }) {
         if (!hasPackets)
             return words.NO_PACKETS;
-        const notes = ["Press a button of your device: it comes to the top."];
-        if (unknown.size > MOST_SHOWN)
-            notes.push(`${MOST_SHOWN} of ${unknown.size} senders are shown.`);
+        const notes = [_("Press a button of your device: it comes to the top.")];
+        if (unknown.size > MAX_SHOWN_ROWS)
+            notes.push(format(_("$0 of $1 senders are shown."), MAX_SHOWN_ROWS, unknown.size));
+        const more = _("There were more than $0 senders; only the last $0 are kept.");
         if (unknownLeftOut)
-            notes.push(`There were more than ${MOST_UNKNOWN} senders; only the last ${MOST_UNKNOWN} are kept.`);
+            notes.push(format(more, MAX_UNKNOWN_SENDERS));
         return notes.join(" ");
     }
 }
@@ -67,19 +66,19 @@ export class AddSection {
 class SenderRow {
     constructor(id, dialog) {
         const [row, [idCell, kind, why, count, signal, age, action]] =
-            cells("id mono", "kind", "why", "count", "signal", "age", "action");
+            rowWithCells("id mono", "kind", "why", "count", "signal", "age", "action");
         Object.assign(this, { element: row, kind, why, count, signal, age, sender: null });
         row.dataset.id = id;
         setText(idCell, id);
-        action.append(button("Learn …", () => dialog.open(id, this.sender)));
+        action.append(button(_("Learn …"), () => dialog.open(id, this.sender)));
     }
 
     fill(sender) {
         this.sender = sender;
-        setText(this.kind, words.kind(sender.rorg));
-        setText(this.why, words.reason(sender.why));
+        setText(this.kind, words.kindText(sender.rorg));
+        setText(this.why, words.reasonText(sender.why));
         setText(this.count, `${sender.count} ×`);
         setSignal(this.signal, sender.best);
-        setText(this.age, words.age(sender.received, Date.now()));
+        setText(this.age, words.ageText(sender.received, Date.now()));
     }
 }

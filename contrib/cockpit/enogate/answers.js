@@ -2,17 +2,16 @@
 // device receives it: only a telegram of the device shows that.
 
 import { ALL_CHANNELS } from "./orders.js";
+import { TABLES } from "./tables.js";
 
-// How long a device may take to report its state, in ms. A blind reports it when it stands still.
-export const ANSWER_WITHIN = 3000;
-export const BLIND_ANSWERS_WITHIN = 90000;
-const OF_A_BLIND = new Set(["blind", "stop"]);
+/** How long a device may take to report after an order, in ms. After a stop, a blind need not report anything. */
+export const answerTimeout = ([verb]) => verb === "stop" ? Infinity : 1000 * TABLES.reportSeconds[verb];
 
 /** An order that is given now. `done` is when the gateway had sent it, in ms, and `error` why it was not sent. */
-export const sending = (order, now) => ({ order, at: now, done: null, error: "" });
+export const startedOrder = (order, now) => ({ order, at: now, done: null, error: "" });
 
 /** Whether this value can be the answer to an order. A blind has no channels. */
-function answers({ order: [, , channel], at }, { received, channel: from }) {
+function isAnswerTo({ order: [, , channel], at }, { received, channel: from }) {
     const isOther = from !== null && ![String(from), String(ALL_CHANNELS)].includes(channel);
     return received !== null && received >= at && !isOther;
 }
@@ -21,13 +20,12 @@ function answers({ order: [, , channel], at }, { received, channel: from }) {
  * What has become of an order to this device.
  * @returns {"sending"|"sent"|"answered"|"silent"|"failed"}
  */
-export function stateOf(sent, device, now) {
+export function orderStateOf(sent, device, now) {
     if (sent.error)
         return "failed";
-    if ([...device.readings.values()].some(value => answers(sent, value)))
+    if ([...device.readings.values()].some(value => isAnswerTo(sent, value)))
         return "answered";
     if (sent.done === null)
         return "sending";
-    const within = OF_A_BLIND.has(sent.order[0]) ? BLIND_ANSWERS_WITHIN : ANSWER_WITHIN;
-    return now - sent.done < within ? "sent" : "silent";
+    return now - sent.done < answerTimeout(sent.order) ? "sent" : "silent";
 }

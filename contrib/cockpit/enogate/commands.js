@@ -1,65 +1,84 @@
 // Runs the commands of the page through Cockpit.
 
 import { cockpit } from "./cockpit.js";
-import { recordedIn } from "./lines.js";
+import { recordedDevicesIn } from "./lines.js";
 import * as orders from "./orders.js";
 import * as places from "./places.js";
-import { Server } from "./server.js";
+import { CommandServer } from "./server.js";
 
-const READS = { superuser: "try", err: "ignore" };
+const READ_OPTIONS = { superuser: "try", err: "ignore" };
+const ROOT_OPTIONS = { superuser: "require", err: "message" };
 
 /** The output of a command that may fail. */
 function outputOf(words) {
     let output = "";
-    const process = cockpit.spawn(words, READS).stream(data => { output += data; });
+    const process = cockpit.spawn(words, READ_OPTIONS).stream(data => { output += data; });
     return process.then(() => output, () => output);
 }
 
 /** The names of the gateways of this machine. */
-export const gateways = async () => places.namesIn(await outputOf(places.PATHS));
+export const gatewayNames = async () => places.gatewayNamesIn(await outputOf(places.PATHS_COMMAND));
 
-const contents = path => cockpit.file(path, { superuser: "try" }).read().then(text => text, () => null);
+const fileText = path => cockpit.file(path, { superuser: "try" }).read().then(text => text, () => null);
 
 /** The settings of a gateway. */
-export async function settings(name) {
-    return places.settingsIn(await Promise.all(places.settingsFiles(name).map(contents)));
+export async function readSettings(name) {
+    return places.settingsIn(await Promise.all(places.settingsFiles(name).map(fileText)));
 }
 
 /** The state of the service of a gateway, as systemd names it; null if systemd cannot be asked. */
 export async function serviceState(name) {
-    const states = places.propertiesIn(await outputOf(places.stateCommand(name)));
+    const states = places.propertiesIn(await outputOf(places.serviceStateCommand(name)));
     return states.ActiveState ? states : null;
+}
+
+/** The gateway to open first: the one that was open last, else the first one that runs, else the first one. */
+export async function firstGateway(names, last) {
+    if (names.includes(last))
+        return last;
+    const states = await Promise.all(names.map(serviceState));
+    return names.find((_, index) => states[index]?.ActiveState === "active") ?? names[0];
 }
 
 /** Whether the stick is plugged in. */
 export function hasStick(serial) {
     const isMissing = error => error.exit_status === 1;
-    return cockpit.spawn(["test", "-c", serial], READS).then(() => true, error => isMissing(error) ? false : null);
+    return cockpit.spawn(["test", "-c", serial], READ_OPTIONS)
+            .then(() => true, error => isMissing(error) ? false : null);
 }
 
 /** The devices as the lines record them; none if this user may not read the lines. */
-export const recorded = async gateway => recordedIn(await outputOf(orders.recordedCommand(gateway)));
+export const recordedDevices = async gateway => recordedDevicesIn(await outputOf(orders.recordedCommand(gateway)));
 
 /** Whether this user may give orders to a gateway without becoming root. */
-export const mayWrite = name => cockpit.spawn(["test", "-w", places.deskOf(name)], { err: "ignore" })
+export const mayWriteDesk = name => cockpit.spawn(["test", "-w", places.deskOf(name)], { err: "ignore" })
         .then(() => true, () => false);
 
 // One process gives orders with the rights of this user, and one as root.
-const servers = { user: new Server(null), root: new Server("require") };
+const servers = { user: new CommandServer(null), root: new CommandServer("require") };
 
-/** Gives an order as `user` or `root`. The promise is rejected if the gateway refuses it or does not answer. */
-export const give = (gateway, order, as) => servers[as].run(orders.command(gateway, order));
+/** Runs a command that gives orders, as `user` or `root`. The promise has a `close`, which ends the command. */
+export const runCommand = (command, as) => servers[as].run(command);
 
-/**
- * Opens the learn window for a time. The returned promise is settled when the window is closed. Its `close` closes the
- * window earlier, and so does leaving the page.
- */
-export const openWindow = (gateway, order, seconds, as) =>
-    servers[as].run(orders.windowCommand(gateway, order, seconds));
+/** Starts the service of a gateway, or does what other words of systemctl mean, as root. */
+export const controlService = (name, ...words) =>
+    cockpit.spawn(["systemctl", ...words, places.unitOf(name)], ROOT_OPTIONS);
 
-/** Starts or restarts the service of a gateway, as root. @param {"start"|"restart"} verb */
-export const serve = (verb, name) =>
-    cockpit.spawn(["systemctl", verb, places.unitOf(name)], { superuser: "require", err: "message" });
+/** The serial ports of this machine. */
+export const serialPorts = async () => places.portsIn(await outputOf(places.PORTS_COMMAND));
+
+/** The files at these paths, each of which may be a link. */
+export async function realPaths(paths) {
+    const found = (await outputOf(["realpath", "-m", "--", ...paths])).split("\n");
+    return paths.map((path, index) => found[index] || path);
+}
+
+/** The base ID of the radio module at a port. The promise is rejected if there is none. */
+export const moduleBase = port => cockpit.spawn(["enogatectl", "base", port], ROOT_OPTIONS).then(text => text.trim());
+
+/** Writes the settings of a new gateway, as root. "-" is the tag of a missing file: none is overwritten. */
+export const writeSettings = (name, port) =>
+    cockpit.file(places.settingsFiles(name)[1], { superuser: "require" }).replace(`SERIAL=${port}\n`, "-");
 
 /** Opens the service of a gateway in Cockpit, with its journal. */
 export const openService = name => cockpit.jump(`/system/services#/${encodeURIComponent(places.unitOf(name))}`);

@@ -1,13 +1,16 @@
 // The buttons of an actuator, and what has become of the last order.
 
-import { stateOf } from "./answers.js";
+import { orderStateOf } from "./answers.js";
+import { _, format } from "./cockpit.js";
 import { button, element, setOptions, setText } from "./dom.js";
 import * as orders from "./orders.js";
 
-const TEXTS = new Map([["sending", "…"], ["sent", "sent …"], ["answered", "✓ answered"], ["silent", "no answer"]]);
-const HINT = "The order was sent, but the device has reported nothing. Has it learned this gateway?";
+const STATE_TEXTS = new Map([
+    ["sending", "…"], ["sent", _("sent …")], ["answered", _("✓ answered")], ["silent", _("no answer")],
+]);
+const SILENT_HINT = _("The order was sent, but the device has reported nothing. Has it learned this gateway?");
 
-const group = (...buttons) => element("span", { className: "group", role: "group" }, ...buttons);
+const buttonGroup = (...buttons) => element("span", { className: "group", role: "group" }, ...buttons);
 
 export class Controls {
     /**
@@ -17,23 +20,23 @@ export class Controls {
     constructor(id, { kind, channels }, isFull, page) {
         Object.assign(this, { id, page, slider: null, isEnabled: null });
         this.answer = element("span", { className: "answer", role: "status" });
-        this.channel = this.channels(channels);
-        const made = kind === "blind" ? this.blind(isFull) : this.switch(kind, isFull);
+        this.channel = this.channelSelect(channels);
+        const made = kind === "blind" ? this.blindControls(isFull) : this.switchControls(kind, isFull);
         const more = channels.length > 1 ? [this.channel] : [];
         this.element = element("div", { className: "controls" }, ...more, ...made, this.answer);
         this.targets = [...this.element.querySelectorAll("button, input, select")];
     }
 
-    channels(numbers) {
-        const made = element("select", { ariaLabel: "Channel", title: "Channel" });
+    channelSelect(numbers) {
+        const made = element("select", { ariaLabel: _("Channel"), title: _("Channel") });
         setOptions(made, numbers.map(number =>
-            [String(number), number === orders.ALL_CHANNELS ? "all" : `ch ${number}`]));
+            [String(number), number === orders.ALL_CHANNELS ? _("all") : format(_("ch $0"), number)]));
         return made;
     }
 
     /** A button that gives this order. */
     orderButton(text, order, title = "") {
-        const made = button(text, () => this.page.command(this.id, order()));
+        const made = button(text, () => this.page.giveToDevice(this.id, order()));
         return title ? Object.assign(made, { title, ariaLabel: title }) : made;
     }
 
@@ -41,46 +44,45 @@ export class Controls {
     orderSlider(title, order) {
         this.slider = element("input", { type: "range", min: 0, max: 100, value: 50, ariaLabel: title, title });
         this.slider.addEventListener("input", () => setText(this.answer, `${this.slider.value} %`));
-        this.slider.addEventListener("change", () => this.page.command(this.id, order(Number(this.slider.value))));
+        this.slider.addEventListener("change", () => this.page.giveToDevice(this.id, order(Number(this.slider.value))));
         return this.slider;
     }
 
-    blind(isFull) {
-        const moves = group(this.orderButton("▲", () => orders.blindOrder(this.id, 0), "Up"),
-                            this.orderButton("■", () => orders.stopOrder(this.id), "Stop"),
-                            this.orderButton("▼", () => orders.blindOrder(this.id, 100), "Down"));
-        const more = () => [this.orderSlider("Position in percent", percent => orders.blindOrder(this.id, percent)),
-                            this.orderButton("Ask for its state", () => orders.queryOrder(this.id, 0))];
+    blindControls(isFull) {
+        const moves = buttonGroup(this.orderButton("▲", () => orders.blindOrder(this.id, 0), _("Up")),
+                                  this.orderButton("■", () => orders.stopOrder(this.id), _("Stop")),
+                                  this.orderButton("▼", () => orders.blindOrder(this.id, 100), _("Down")));
+        const more = () => [this.orderSlider(_("Position in percent"), percent => orders.blindOrder(this.id, percent)),
+                            this.orderButton(_("Ask for its state"), () => orders.queryOrder(this.id, 0))];
         return isFull ? [moves, ...more()] : [moves];
     }
 
-    switch(kind, isFull) {
+    switchControls(kind, isFull) {
         const channel = () => this.channel.value;
-        const made = [group(this.orderButton("On", () => orders.switchOrder(this.id, channel(), true)),
-                            this.orderButton("Off", () => orders.switchOrder(this.id, channel(), false)))];
+        const made = [buttonGroup(this.orderButton(_("On"), () => orders.switchOrder(this.id, channel(), true)),
+                                  this.orderButton(_("Off"), () => orders.switchOrder(this.id, channel(), false)))];
         if (kind === "dimmer")
-            made.push(this.orderSlider("Percent", percent => orders.dimOrder(this.id, channel(), percent)));
-        const meter = what =>
-            this.orderButton(`Ask for its ${what}`, () => orders.meterOrder(this.id, channel(), what));
-        const more = () => [this.orderButton("Ask for its state", () => orders.queryOrder(this.id, channel())),
-                            meter("energy"), meter("power")];
+            made.push(this.orderSlider(_("Percent"), percent => orders.dimOrder(this.id, channel(), percent)));
+        const meter = (text, what) => this.orderButton(text, () => orders.meterOrder(this.id, channel(), what));
+        const more = () => [this.orderButton(_("Ask for its state"), () => orders.queryOrder(this.id, channel())),
+                            meter(_("Ask for its energy"), "energy"), meter(_("Ask for its power"), "power")];
         return isFull ? [...made, ...more()] : made;
     }
 
     fill(device, now) {
-        const { mayAct } = this.page;
-        if (mayAct !== this.isEnabled) {
-            this.isEnabled = mayAct;
-            this.targets.forEach(target => { target.disabled = !mayAct; });
+        const { canOrderNow } = this.page;
+        if (canOrderNow !== this.isEnabled) {
+            this.isEnabled = canOrderNow;
+            this.targets.forEach(target => { target.disabled = !canOrderNow; });
         }
         this.fillSlider(device);
         const sent = this.page.sent.get(this.id);
-        const state = sent ? stateOf(sent, device, now) : "";
+        const state = sent ? orderStateOf(sent, device, now) : "";
         // The slider shows its value there while it is moved.
         if (this.answer.dataset.state !== state || state === "failed") {
             this.answer.dataset.state = state;
-            this.answer.title = state === "silent" ? HINT : "";
-            setText(this.answer, sent?.error || TEXTS.get(state) || "");
+            this.answer.title = state === "silent" ? SILENT_HINT : "";
+            setText(this.answer, sent?.error || STATE_TEXTS.get(state) || "");
         }
     }
 

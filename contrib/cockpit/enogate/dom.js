@@ -24,7 +24,7 @@ export function setText(node, text) {
 }
 
 /** Shows an element with this text, or hides it if the text is empty. */
-export function show(node, text) {
+export function showText(node, text) {
     node.hidden = text === "";
     setText(node, text);
 }
@@ -35,8 +35,24 @@ export function setOptions(select, options, selected) {
         element("option", { value, selected: value === selected }, text)));
 }
 
+/** Calls this when Enter is pressed in a field, which would close its dialog otherwise. */
+export function onEnter(field, act) {
+    field.addEventListener("keydown", event => {
+        if (event.key === "Enter") {
+            event.preventDefault();
+            act();
+        }
+    });
+}
+
+/** Lets the browser show why the value of a field is refused. Returns whether there is no such reason. */
+export function acceptField(field, why) {
+    field.setCustomValidity(why);
+    return field.reportValidity();
+}
+
 // The pause between two repaints in ms.
-const PAUSE = 250;
+const REPAINT_PAUSE = 250;
 
 /**
  * Calls `paint` in the next frame, however often it is asked, and not again within a pause. A hidden page has no
@@ -48,22 +64,23 @@ export class Painter {
     }
 
     /** The page has to be painted soon. */
-    ask() {
+    requestPaint() {
         if (this.isWaiting)
             return;
         this.isWaiting = true;
-        this.timer = setTimeout(() => this.inNextFrame(), Math.max(0, this.last + PAUSE - performance.now()));
+        const pause = Math.max(0, this.last + REPAINT_PAUSE - performance.now());
+        this.timer = setTimeout(() => this.paintInNextFrame(), pause);
     }
 
-    inNextFrame() {
+    paintInNextFrame() {
         if (document.hidden)
-            this.timer = setTimeout(() => this.now(), PAUSE);
+            this.timer = setTimeout(() => this.paintNow(), REPAINT_PAUSE);
         else
-            this.frame = requestAnimationFrame(() => this.now());
+            this.frame = requestAnimationFrame(() => this.paintNow());
     }
 
     /** Paints at once: somebody has clicked. A repaint that was asked for before is done with it. */
-    now() {
+    paintNow() {
         clearTimeout(this.timer);
         cancelAnimationFrame(this.frame);
         this.isWaiting = false;
@@ -101,7 +118,7 @@ export class Rows {
      */
     fill(entries, find = null) {
         if (this.isInUse() && this.shown.length)
-            entries = this.inPlace(new Map(entries), find);
+            entries = this.shownEntries(new Map(entries), find);
         this.shown = entries;
         const wanted = new Set(entries.map(([key]) => key));
         for (const [key, row] of this.rows) {
@@ -123,7 +140,7 @@ export class Rows {
     }
 
     /** The rows that are shown, with their present items. */
-    inPlace(items, find) {
+    shownEntries(items, find) {
         return this.shown.map(([key, item]) => {
             const present = items.get(key) ?? (find ? find(key) : item);
             return [key, present ?? item, present === undefined];
@@ -147,7 +164,7 @@ export class Rows {
 }
 
 /** A row with a cell for each of these names, which are the classes of the cell. */
-export function cells(...names) {
+export function rowWithCells(...names) {
     const made = names.map(className => element("td", { className }));
     return [element("tr", {}, ...made), made];
 }

@@ -1,61 +1,105 @@
-// The dialog that changes the label of a device, or removes the device.
+// The dialog that changes the label of a device, replaces the device, or removes it.
 
-import { byId, setText } from "./dom.js";
+import { addressOf } from "./address.js";
+import { _ } from "./cockpit.js";
+import { acceptField, button, byId, element, onEnter, Rows, setText } from "./dom.js";
 import { LabelField } from "./label.js";
+import { canHaveProfile } from "./learn.js";
 import * as orders from "./orders.js";
 import * as words from "./words.js";
 
+const MAX_SENDERS = 6;
+const ID_RULE = _("Enter the 8 hexadecimal digits of its ID.");
+const NO_SENDER = _("No unknown device of this kind was heard yet.");
+
 export class EditDialog {
     constructor(page) {
-        this.page = page;
-        this.id = null;
-        this.dialog = byId("edit");
-        this.field = new LabelField(byId("edit-label"), () => this.save());
-        this.buttons = [byId("edit-save"), byId("edit-remove"), byId("edit-sure")];
+        Object.assign(this, { page, id: null, eep: null, dialog: byId("edit"), newId: byId("edit-new") });
+        this.field = new LabelField("edit", () => this.save());
+        this.senders = new Rows(byId("edit-senders"), id => senderChoice(id, this.newId));
+        this.buttons = ["save", "remove", "sure", "replace", "swap"].map(name => byId(`edit-${name}`));
+        onEnter(this.newId, () => this.replace());
         byId("edit-save").addEventListener("click", () => this.save());
-        byId("edit-remove").addEventListener("click", () => this.warn(true));
-        byId("edit-sure").addEventListener("click", () => this.act(orders.remove(this.id)));
+        byId("edit-remove").addEventListener("click", () => this.showPart("warning"));
+        byId("edit-replace").addEventListener("click", () => this.showPart("replacement"));
+        byId("edit-sure").addEventListener("click", () =>
+            this.closeAfter(page.give(orders.remove(this.id)), addressOf("devices")));
+        byId("edit-swap").addEventListener("click", () => this.replace());
     }
 
     open(id, { label, eep }) {
-        this.id = id;
+        Object.assign(this, { id, eep });
         setText(byId("edit-id"), id);
         setText(byId("edit-profile"), words.profileWithKind(eep));
         setText(byId("edit-result"), "");
         this.field.reset(label);
-        this.warn(false);
-        this.enable(this.page.mayAct);
+        this.newId.value = "";
+        this.senders.clear();
+        this.showPart("");
+        this.enableButtons(this.page.canOrderNow);
         this.dialog.showModal();
     }
 
-    /** Shows the warning before a device is removed, or hides it. */
-    warn(isShown) {
-        byId("edit-warning").hidden = !isShown;
-        byId("edit-remove").hidden = isShown;
+    /** Shows what has to be known before the device is removed or replaced, or nothing. */
+    showPart(part) {
+        byId("edit-warning").hidden = part !== "warning";
+        byId("edit-remove").hidden = part === "warning";
+        byId("edit-replacement").hidden = part !== "replacement";
+        byId("edit-replace").hidden = part === "replacement";
+        byId("edit-save").hidden = this.field.input.disabled = part !== "";
+        this.paint();
     }
 
-    enable(isEnabled) {
-        for (const button of this.buttons)
-            button.disabled = !isEnabled;
+    enableButtons(isEnabled) {
+        this.buttons.forEach(target => { target.disabled = !isEnabled; });
     }
 
     save() {
         const text = this.field.label();
-        if (text !== null && !byId("edit-save").disabled)
-            this.act(orders.label(this.id, text));
+        if (text !== null && !byId("edit-save").disabled && !byId("edit-save").hidden)
+            this.closeAfter(this.page.give(orders.label(this.id, text)));
     }
 
-    /** Gives an order, and closes the dialog if it was carried out. */
-    async act(order) {
-        this.enable(false);
+    /** Replaces the device, and opens the view of the new one. */
+    replace() {
+        const id = orders.idIn(this.newId.value);
+        if (!acceptField(this.newId, id ? "" : ID_RULE) || byId("edit-swap").disabled)
+            return;
+        const { page } = this;
+        this.closeAfter(page.runCommand(orders.replaceCommand(page.gateway, this.id, id)), addressOf("device", id));
+    }
+
+    /** Closes the dialog once an order is carried out. Opens a view, if one is named and nobody has left this one. */
+    async closeAfter(given, address = "") {
+        const { id } = this;
+        this.enableButtons(false);
         setText(byId("edit-result"), "…");
         try {
-            await this.page.give(order);
+            await given;
             this.dialog.close();
-            this.page.refresh();
+            await this.page.refresh();
+            if (address && this.page.part === id)
+                this.page.openAddress(address);
         } catch (error) {
-            setText(byId("edit-result"), orders.sentence(error));
+            setText(byId("edit-result"), orders.failureText(error));
         }
-        this.enable(this.page.mayAct);
+        this.enableButtons(this.page.canOrderNow);
     }
+
+    /** Shows the senders that may be the new device, the newest first. */
+    paint() {
+        if (!this.dialog.open || byId("edit-replacement").hidden)
+            return;
+        const found = [...this.page.model.unknown].filter(([, sender]) => canHaveProfile(sender, this.eep));
+        this.senders.fill(found.slice(-MAX_SENDERS).reverse());
+        setText(byId("edit-no-sender"), found.length ? "" : NO_SENDER);
+    }
+}
+
+/** A button that enters the ID of a sender. */
+function senderChoice(id, field) {
+    const [made, age] = [button(id, () => { field.value = id; }), element("span", { className: "minor" })];
+    made.className = "mono";
+    made.append(age);
+    return { element: made, fill: ({ received }) => setText(age, words.ageText(received, Date.now())) };
 }

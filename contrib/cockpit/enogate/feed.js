@@ -1,11 +1,11 @@
 // Follows the lines of a gateway, also when their file is rotated, missing at first, or not readable yet.
 
-import { cockpit } from "./cockpit.js";
-import { parse } from "./lines.js";
-import { linesCommand, sentence } from "./orders.js";
+import { _, cockpit, format } from "./cockpit.js";
+import { parseLine } from "./lines.js";
+import { failureText, linesCommand } from "./orders.js";
 import { linesOf } from "./places.js";
 
-const RETRY_AFTER = 2000;
+const RETRY_DELAY = 2000;
 const LONGEST_LINE = 1 << 16;
 
 /**
@@ -28,7 +28,7 @@ export class Feed {
         Object.assign(this, { gateway, onLine, onState });
         this.hasRead = false;
         this.isStopped = false;
-        this.start();
+        this.checkReadable();
     }
 
     /** Stops following. */
@@ -39,18 +39,18 @@ export class Feed {
     }
 
     /** `enogatectl` waits silently until a gateway writes its first line, so this is checked first. */
-    start() {
+    checkReadable() {
         const path = linesOf(this.gateway);
         this.process = cockpit.spawn(["test", "-r", path], { superuser: "try", err: "ignore" });
-        this.process.then(() => this.follow(), () => this.retry(
-            `${path} is missing, or you may not read it: only administrators and the group enogate may.`));
+        const why = _("$0 is missing, or you may not read it: only administrators and the group enogate may.");
+        this.process.then(() => this.follow(), () => this.retry(format(why, path)));
     }
 
     retry(why) {
         if (this.isStopped)
             return;
         this.onState("lost", why);
-        this.timer = setTimeout(() => this.start(), RETRY_AFTER);
+        this.timer = setTimeout(() => this.checkReadable(), RETRY_DELAY);
     }
 
     /** Reads the earlier lines, unless they are known, and follows the new ones. */
@@ -61,20 +61,20 @@ export class Feed {
         if (!this.hasRead)
             this.onState("reading", "");
         this.process = cockpit.spawn(linesCommand(this.gateway), { superuser: "try", err: "message" });
-        this.process.stream(text => this.take(text));
-        this.process.then(() => this.retry("The lines cannot be followed: enogatectl has ended."),
-                          error => this.retry(sentence(error)));
+        this.process.stream(text => this.takeText(text));
+        this.process.then(() => this.retry(_("The lines cannot be followed: enogatectl has ended.")),
+                          error => this.retry(failureText(error)));
     }
 
     /** Takes the lines that end with this text. The first empty line is after the earlier ones. */
-    take(text) {
+    takeText(text) {
         const lines = (this.rest + text).split("\n");
         this.rest = lines.pop().slice(0, LONGEST_LINE);
         for (const raw of lines) {
             if (raw === "" && !this.isLive)
                 this.becomeLive();
             else if (this.isLive || !this.hasRead)
-                this.takeLine(parse(raw));
+                this.takeLine(parseLine(raw));
         }
     }
 

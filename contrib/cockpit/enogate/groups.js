@@ -1,6 +1,7 @@
 // The view of the groups: orders to all actuators that have learned one. No actuator answers these.
 
-import { byId, setText } from "./dom.js";
+import { _, format } from "./cockpit.js";
+import { acceptField, byId, setText } from "./dom.js";
 import * as orders from "./orders.js";
 import * as words from "./words.js";
 
@@ -11,10 +12,9 @@ const ORDERS = new Map([
 ]);
 
 /** The number in a field; null if it is out of its range, which the browser then shows. */
-function numberIn(field) {
-    const number = orders.numberIn(field.value, Number(field.max));
-    field.setCustomValidity(number === null ? `Enter a whole number from 0 to ${field.max}.` : "");
-    field.reportValidity();
+function numberInField(field) {
+    const number = orders.wholeNumberIn(field.value, Number(field.max));
+    acceptField(field, number === null ? format(_("Enter a whole number from 0 to $0."), field.max) : "");
     return number;
 }
 
@@ -28,12 +28,12 @@ export class GroupsSection {
 
     /** Gives the order that this function makes of the numbers that it needs. */
     async give(orderOf) {
-        const numbers = this.fields.slice(0, orderOf === orders.levelOrder ? 3 : 1).map(numberIn);
+        const numbers = this.fields.slice(0, orderOf === orders.levelOrder ? 3 : 1).map(numberInField);
         if (numbers.includes(null))
             return;
         setText(byId("groups-result"), "…");
-        const error = await this.page.errorOf(orderOf(...numbers));
-        setText(byId("groups-result"), error || `Sent at ${words.clock(Date.now())}.`);
+        const error = await this.page.orderError(orderOf(...numbers));
+        setText(byId("groups-result"), error || format(_("Sent at $0."), words.timeText(Date.now())));
     }
 
     clear() {
@@ -42,6 +42,6 @@ export class GroupsSection {
 
     paint() {
         for (const name of ORDERS.keys())
-            byId(`groups-${name}`).disabled = !this.page.mayAct;
+            byId(`groups-${name}`).disabled = !this.page.canOrderNow;
     }
 }

@@ -1,15 +1,17 @@
 // The dialog that learns a sender.
 
+import { _, format } from "./cockpit.js";
 import { byId, setOptions, setText } from "./dom.js";
 import { LabelField } from "./label.js";
 import * as orders from "./orders.js";
 import * as words from "./words.js";
 
-/** The profiles of the kind of a sender. A teach-in query (UTE) may ask for any kind. */
-export function profilesFor({ rorg, eep }) {
-    const kind = rorg === "D4" ? eep?.slice(0, 2) ?? "" : rorg;
-    return [...words.PROFILES.keys()].filter(profile => profile.startsWith(kind));
-}
+/** Whether a sender can have this profile. A teach-in query (UTE) may ask for any kind. */
+export const canHaveProfile = ({ rorg, eep }, profile) =>
+    profile.startsWith(rorg === "D4" ? eep?.slice(0, 2) ?? "" : rorg);
+
+/** The profiles of the kind of a sender. */
+export const profilesFor = sender => [...words.PROFILES.keys()].filter(profile => canHaveProfile(sender, profile));
 
 export class LearnDialog {
     constructor(page) {
@@ -17,8 +19,9 @@ export class LearnDialog {
         this.id = null;
         this.isLearned = false;
         this.dialog = byId("learn");
-        this.field = new LabelField(byId("learn-label"), () => this.learn());
+        this.field = new LabelField("learn", () => this.learn());
         byId("learn-go").addEventListener("click", () => this.learn());
+        byId("learn-profile").addEventListener("change", () => this.allowAnotherProfile());
     }
 
     open(id, sender) {
@@ -29,8 +32,17 @@ export class LearnDialog {
         setOptions(byId("learn-profile"), profiles, sender.eep ?? words.USUAL_SWITCH);
         this.field.reset("");
         setText(byId("learn-result"), "");
-        byId("learn-go").disabled = !this.page.mayAct;
+        byId("learn-go").disabled = !this.page.canOrderNow;
         this.dialog.showModal();
+    }
+
+    /** A device that was learned can be learned with another profile. The gateway keeps its label. */
+    allowAnotherProfile() {
+        if (!this.isLearned)
+            return;
+        this.isLearned = false;
+        setText(byId("learn-result"), "");
+        byId("learn-go").disabled = !this.page.canOrderNow;
     }
 
     async learn() {
@@ -44,10 +56,10 @@ export class LearnDialog {
             if (text)
                 await this.page.give(orders.label(this.id, text));
             this.isLearned = true;
-            setText(byId("learn-result"), "Learned. Press the button of the device again to see its first reading.");
+            setText(byId("learn-result"), _("Learned. Press the button of the device again to see its first reading."));
             this.page.refresh();
         } catch (error) {
-            setText(byId("learn-result"), orders.sentence(error));
+            setText(byId("learn-result"), orders.failureText(error));
             byId("learn-go").disabled = false;
         }
     }
@@ -56,6 +68,6 @@ export class LearnDialog {
     paint() {
         const device = this.isLearned && this.dialog.open ? this.page.model.devices.get(this.id) : null;
         if (device && device.readings.size)
-            setText(byId("learn-result"), `Learned. Its reading: ${words.stateText(device)}`);
+            setText(byId("learn-result"), format(_("Learned. Its reading: $0"), words.stateText(device)));
     }
 }

@@ -2,59 +2,64 @@
 
 import { AddSection } from "./add.js";
 import { addressOf, viewOf } from "./address.js";
-import { sending } from "./answers.js";
+import { startedOrder } from "./answers.js";
+import { _, cockpit, format } from "./cockpit.js";
 import * as commands from "./commands.js";
 import { DeviceSection } from "./device.js";
 import { DevicesSection } from "./devices.js";
-import { button, byId, Painter, setText, show } from "./dom.js";
+import { button, byId, Painter, setText, showText } from "./dom.js";
 import { Feed } from "./feed.js";
 import { GroupsSection } from "./groups.js";
-import { groupsOf, isQuiet } from "./health.js";
+import { devicesByState, isQuiet } from "./health.js";
 import { Model } from "./model.js";
-import { sentence } from "./orders.js";
+import { failureText, orderCommand } from "./orders.js";
 import { OverviewSection } from "./overview.js";
 import { PacketsSection } from "./packets.js";
-import { baseTrouble, runOf, trouble } from "./places.js";
+import { baseFault, gatewayFault, runIdOf } from "./places.js";
 import { Rights } from "./rights.js";
+import { SetupDialog } from "./setup.js";
 import * as words from "./words.js";
 
 // In ms: how long after a teach line the devices are asked for, and how often the state of the service is.
-const REFRESH_AFTER = 1000;
-const LOOK_EVERY = 2000;
-const NO_RIGHTS = "You can look, but not change anything. Turn on administrative access in Cockpit, or ask an " +
-    "administrator to add you to the group enogate.";
-const NO_GATEWAY = "No gateway is set up on this machine, or you may not see it. Start one with: " +
-    "systemctl enable --now enogate@NAME";
-// The browser stores after how many minutes a device is silent, and, until the page is closed, the gateway.
+const REFRESH_DELAY = 1000;
+const CHECK_INTERVAL = 2000;
+// For how long after its start, in ms, a gateway that does not answer is asked again. It may have no desk yet.
+const START_TIME = 60000;
+const NO_RIGHTS = _("You can look, but not change anything. Turn on administrative access in Cockpit, or ask an " +
+    "administrator to add you to the group enogate.");
+const FEED_TEXTS = { reading: _("reading"), live: _("live"), lost: _("lost"), waiting: _("waiting") };
+// The browser stores after how many minutes a device is silent, and the gateway, also that of each window.
 const [STORED_MINUTES, STORED_GATEWAY] = ["enogate-quiet-minutes", "enogate-gateway"];
-const MINUTES = 24 * 60;
+const DEFAULT_SILENT_MINUTES = 24 * 60;
 // The tab of a view that has none of its own.
-const TABS = new Map([["device", "devices"], ["groups", "devices"]]);
+const TAB_OF_VIEW = new Map([["device", "devices"], ["groups", "devices"]]);
 
 /** Why a command failed; empty if it did not. */
-const reasonOf = process => process.then(() => "", sentence);
+const reasonOf = process => process.then(() => "", failureText);
 
 /** Whether a click on a link opens it in this page, and not in another tab or window. */
-const opensHere = event => !event.ctrlKey && !event.metaKey && !event.shiftKey;
+const isPlainClick = event => !event.ctrlKey && !event.metaKey && !event.shiftKey;
 
 class Page {
     constructor() {
         Object.assign(this, { gateway: null, feed: null, unanswered: "", query: "", section: "overview", part: "" });
+        Object.assign(this, { gateways: [], searchTimer: null });
         this.rights = new Rights(() => this.rightsChanged());
-        this.minutes = Number(localStorage.getItem(STORED_MINUTES) ?? MINUTES) || Infinity;
-        this.forget();
+        this.minutes = Number(localStorage.getItem(STORED_MINUTES) ?? DEFAULT_SILENT_MINUTES) || Infinity;
+        this.resetGateway();
         this.painter = new Painter(() => this.paint());
         this.sections = {
             overview: new OverviewSection(this), devices: new DevicesSection(this), device: new DeviceSection(this),
             groups: new GroupsSection(this), add: new AddSection(this), packets: new PacketsSection(this),
         };
+        this.setup = new SetupDialog(this);
     }
 
     /** Nothing is known about the gateway yet. */
-    forget() {
+    resetGateway() {
         this.model = new Model(Date.now());
         this.health = { states: null, hasStick: null };
-        this.run = null;
+        Object.assign(this, { run: null, runSince: 0, baseRun: null, mustAskAgain: false });
         this.settings = new Map();
         this.feedState = { state: "reading", why: "" };
         this.refreshTimer = null;
@@ -65,7 +70,7 @@ class Page {
     }
 
     /** Whether an order can be given now. */
-    get mayAct() {
+    get canOrderNow() {
         return this.mayOrder && this.run !== null;
     }
 
@@ -74,19 +79,19 @@ class Page {
     }
 
     async start() {
-        byId("problem-close").addEventListener("click", () => this.complain(""));
-        byId("trouble-help").addEventListener("click", ({ target }) => this.help(target.textContent, target));
+        byId("problem-close").addEventListener("click", () => this.showError(""));
+        byId("trouble-help").addEventListener("click", ({ target }) => this.fixProblem(target.dataset.action, target));
         byId("search").addEventListener("input", () => this.search(byId("search").value));
         byId("devices-quiet").value = String(Number.isFinite(this.minutes) ? this.minutes : 0);
         byId("devices-quiet").addEventListener("input", () => this.setMinutes(byId("devices-quiet").value));
         addEventListener("hashchange", () => this.openAddress(location.hash));
         // A click on a tab shows its section at once: the event of the new address comes later.
         for (const tab of document.querySelectorAll("#sections a"))
-            tab.addEventListener("click", event => opensHere(event) && this.openAddress(tab.hash));
+            tab.addEventListener("click", event => isPlainClick(event) && this.openAddress(tab.hash));
         this.openView();
         // Ages and the countdown change by themselves.
-        setInterval(() => this.painter.ask(), 1000);
-        setInterval(() => this.look(), LOOK_EVERY);
+        setInterval(() => this.painter.requestPaint(), 1000);
+        setInterval(() => this.checkGateway(), CHECK_INTERVAL);
         await this.findGateways();
     }
 
@@ -105,11 +110,11 @@ class Page {
         Object.assign(this, viewOf(location.hash));
         for (const name of Object.keys(this.sections))
             byId(name).hidden = name !== this.section;
-        const tab = TABS.get(this.section) ?? this.section;
+        const tab = TAB_OF_VIEW.get(this.section) ?? this.section;
         for (const link of document.querySelectorAll("#sections a"))
             link.setAttribute("aria-current", String(link.dataset.section === tab));
         scrollTo(0, 0);
-        this.painter.now();
+        this.painter.paintNow();
     }
 
     /** One text is searched for in all lists. */
@@ -117,48 +122,50 @@ class Page {
         this.query = text;
         if (text && !["devices", "add", "packets"].includes(this.section))
             location.hash = addressOf("devices");
-        this.painter.now();
+        this.painter.paintNow();
     }
 
     /** Sets after how many minutes a device is silent. */
     setMinutes(text) {
         localStorage.setItem(STORED_MINUTES, text);
         this.minutes = Number(text) || Infinity;
-        this.painter.now();
+        this.painter.paintNow();
     }
 
     /** Administrative access was turned on or off. */
     rightsChanged() {
-        if (this.takeRights()) {
-            this.askAll();
-            this.recall(this.gateway);
+        if (this.updateRights()) {
+            this.askForDevicesAndBase();
+            this.readRecordedDevices(this.gateway);
         }
-        this.painter.now();
+        this.painter.paintNow();
     }
 
     /** Takes the present rights. Returns whether the user may give orders from now on. */
-    takeRights() {
+    updateRights() {
         const before = this.mayOrder;
         this.mayOrder = this.rights.mayOrder;
-        show(byId("read-only"), this.rights.mayOnlyLook ? NO_RIGHTS : "");
+        showText(byId("read-only"), this.rights.mayOnlyRead ? NO_RIGHTS : "");
         return this.mayOrder && !before;
     }
 
-    /** Makes a tab for each gateway. Looks again until there is one. */
-    async findGateways() {
-        const names = await commands.gateways();
+    /** Makes a tab for each gateway, and opens one: that with this name, if it is given. Looks until there is one. */
+    async findGateways(wanted = sessionStorage.getItem(STORED_GATEWAY) ?? localStorage.getItem(STORED_GATEWAY)) {
+        clearTimeout(this.searchTimer);
+        const names = await commands.gatewayNames();
+        const first = await commands.firstGateway(names, wanted);
+        this.gateways = names;
         byId("gateways").replaceChildren(...names.map(name => {
             const tab = button(name, () => this.openGateway(name));
             tab.setAttribute("role", "tab");
             tab.dataset.gateway = name;
             return tab;
         }));
-        show(byId("no-gateway"), names.length ? "" : NO_GATEWAY);
-        const last = sessionStorage.getItem(STORED_GATEWAY);
-        if (names.length)
-            await this.openGateway(names.includes(last) ? last : names[0]);
+        byId("no-gateway").hidden = names.length > 0;
+        if (first)
+            await this.openGateway(first);
         else
-            setTimeout(() => this.findGateways(), LOOK_EVERY);
+            this.searchTimer = setTimeout(() => this.findGateways(), CHECK_INTERVAL);
     }
 
     async openGateway(name) {
@@ -169,180 +176,202 @@ class Page {
             section.leave?.();
             section.clear?.();
         }
-        this.forget();
+        this.resetGateway();
         this.gateway = name;
-        sessionStorage.setItem(STORED_GATEWAY, name);
+        [sessionStorage, localStorage].forEach(store => store.setItem(STORED_GATEWAY, name));
         for (const tab of byId("gateways").children)
             tab.setAttribute("aria-selected", String(tab.dataset.gateway === name));
         this.feed = new Feed(name, (line, now) => this.take(line, now), (state, why) => {
             this.feedState = { state, why };
-            this.painter.ask();
+            this.askForBase();
+            this.painter.requestPaint();
         });
-        await Promise.all([this.look(), this.recall(name)]);
+        await Promise.all([this.checkGateway(), this.readRecordedDevices(name)]);
     }
 
     /** Reads what the lines record of the devices. Someone who may give no order has no other list of them. */
-    async recall(name) {
+    async readRecordedDevices(name) {
         if (name === null)
             return;
-        const devices = await commands.recorded(name);
+        const devices = await commands.recordedDevices(name);
         if (name !== this.gateway)
             return;
         this.model.takeRecorded(devices);
-        this.painter.ask();
+        this.painter.requestPaint();
     }
 
     take(line, now) {
         this.model.take(line, now);
-        this.sections.add.teach.take(line, now);
+        this.sections.add.teach.takeLine(line, now);
         // A device that is learned may have a label already, and the learn window may have closed.
         if (now !== null && line.type === "teach")
-            this.refreshTimer ??= setTimeout(() => this.refresh(), REFRESH_AFTER);
-        this.painter.ask();
+            this.refreshTimer ??= setTimeout(() => this.refresh(), REFRESH_DELAY);
+        this.painter.requestPaint();
     }
 
     /** Looks at the service, the stick and the desk. Asks the gateway for its devices after each start. */
-    async look() {
+    async checkGateway() {
         const name = this.gateway;
         if (name === null || document.hidden)
             return;
-        const settings = await commands.settings(name);
+        const settings = await commands.readSettings(name);
         const serial = settings.get("SERIAL");
         const [states, hasStick, hasDesk] = await Promise.all([
-            commands.serviceState(name), serial ? commands.hasStick(serial) : null, this.rights.look(name),
+            commands.serviceState(name), serial ? commands.hasStick(serial) : null, this.rights.checkDesk(name),
         ]);
         if (name !== this.gateway)
             return;
         const before = this.run;
-        Object.assign(this, { settings, health: { states, hasStick }, run: runOf(states, hasStick) });
+        Object.assign(this, { settings, health: { states, hasStick }, run: runIdOf(states, hasStick) });
         this.rights.hasDesk = hasDesk;
-        const mayOrderNow = this.takeRights();
-        this.painter.ask();
+        const mayOrderNow = this.updateRights();
+        this.painter.requestPaint();
         // The stick may be another one.
         if (this.run !== before)
-            this.model.baseTime = null;
-        if (this.run !== before || mayOrderNow)
-            this.askAll();
+            [this.model.baseTime, this.runSince] = [null, Date.now()];
+        if (this.run !== before || mayOrderNow || this.mustAskAgain)
+            this.askForDevicesAndBase();
     }
 
-    /** With whose rights orders are given. */
-    get giver() {
-        return this.rights.hasDesk ? "user" : "root";
+    /** Runs a command that gives orders, without becoming root if the user may write the desk. */
+    runCommand(command) {
+        return commands.runCommand(command, this.rights.hasDesk ? "user" : "root");
     }
 
-    /** Gives an order. @returns {Promise<string>} */
+    /** Gives an order. The promise is rejected if the gateway refuses it or does not answer. */
     give(order) {
-        return commands.give(this.gateway, order, this.giver);
-    }
-
-    /** Opens the learn window for a time. */
-    openWindow(order, seconds) {
-        return commands.openWindow(this.gateway, order, seconds, this.giver);
+        return this.runCommand(orderCommand(this.gateway, order));
     }
 
     /** Gives an order by a button. An error is shown until it is closed, or until the next such order succeeds. */
-    async act(order, pressed) {
+    async giveByButton(order, pressed) {
         pressed.disabled = true;
-        this.complain(await this.errorOf(order));
-        this.painter.now();
+        this.showError(await this.orderError(order));
+        this.painter.paintNow();
     }
 
     /** Gives an order to a device, whose row shows what has become of it. */
-    async command(id, order) {
-        const sent = sending(order, Date.now());
+    async giveToDevice(id, order) {
+        const sent = startedOrder(order, Date.now());
         this.sent.set(id, sent);
-        this.painter.now();
-        sent.error = await this.errorOf(order);
+        this.painter.paintNow();
+        sent.error = await this.orderError(order);
         sent.done = Date.now();
-        this.painter.now();
+        this.painter.paintNow();
     }
 
     /** Starts or restarts the service. @param {"start"|"restart"} verb */
-    async serve(verb, pressed) {
+    async controlService(verb, pressed) {
         pressed.disabled = true;
-        this.complain(await reasonOf(commands.serve(verb, this.gateway)));
-        await this.look();
+        this.showError(await reasonOf(commands.controlService(this.gateway, verb)));
+        await this.checkGateway();
     }
 
     /** Whether this user may use the button of a problem. */
-    mayHelp(action) {
-        return action === "Journal" || (action === "Close" ? this.mayAct : this.rights.isAdmin);
+    mayUseFix(action) {
+        return action === "Journal" || (action === "Close" ? this.canOrderNow : this.rights.isAdmin);
     }
 
     /** Does what the button of a problem promises. */
-    help(action, pressed) {
+    fixProblem(action, pressed) {
         if (action === "Journal")
             commands.openService(this.gateway);
         else if (action === "Close")
             this.sections.add.teach.close();
         else
-            this.serve(action === "Start" ? "start" : "restart", pressed);
+            this.controlService(action === "Start" ? "start" : "restart", pressed);
     }
 
     /** Asks for the devices. The answer comes with the lines, and with it the counters and the learn window. */
     refresh() {
         clearTimeout(this.refreshTimer);
         this.refreshTimer = null;
-        return this.ask(["list"]);
+        return this.giveInBackground(["list"]);
     }
 
-    /** Asks for all that the lines may not have, or have of an earlier stick. */
-    async askAll() {
+    /**
+     * Asks for all that the lines may not have, or have of an earlier stick. A gateway that starts is asked until it
+     * answers: there is no file of lines before its first answer.
+     */
+    async askForDevicesAndBase() {
+        this.mustAskAgain = false;
         if (this.run === null)
             return;
-        await this.refresh();
-        await this.ask(["base"]);
+        const { model } = this;
+        const error = await this.refresh();
+        await this.askForBase();
+        // Another gateway may have been opened meanwhile.
+        if (model === this.model)
+            this.mustAskAgain = error !== "" && Date.now() - this.runSince < START_TIME;
     }
 
-    /** Gives an order that nobody has asked for. Its error disappears when the gateway answers again. */
-    async ask(order) {
-        if (!this.mayOrder || this.gateway === null)
+    /**
+     * Asks for the base ID, once for each start of the gateway, and only when the lines are followed: an answer among
+     * the earlier lines would have no time.
+     */
+    async askForBase() {
+        const { run } = this;
+        if (run === null || run === this.baseRun || this.feedState.state !== "live" || !this.mayOrder)
             return;
+        this.baseRun = run;
+        if (await this.giveInBackground(["base"]) && this.baseRun === run)
+            this.baseRun = null;
+    }
+
+    /** Gives an order that nobody has asked for, and returns its error, which is shown until the gateway answers. */
+    async giveInBackground(order) {
+        if (!this.mayOrder || this.gateway === null)
+            return "";
         const before = this.unanswered;
-        this.unanswered = await this.errorOf(order);
+        this.unanswered = await this.orderError(order);
         if (this.unanswered || byId("problem-text").textContent === before)
-            this.complain(this.unanswered);
+            this.showError(this.unanswered);
+        return this.unanswered;
     }
 
     /** Why an order failed; empty if it did not. */
-    errorOf(order) {
+    orderError(order) {
         return reasonOf(this.give(order));
     }
 
     /** Shows an error until it is closed. */
-    complain(text) {
+    showError(text) {
         byId("problem").hidden = text === "";
         setText(byId("problem-text"), text);
     }
 
     paint() {
         const { model } = this;
-        this.groups = groupsOf(model, this.sent, Date.now(), this.minutes);
+        this.groups = devicesByState(model, this.sent, Date.now(), this.minutes);
         this.paintHead();
         setText(byId("device-count"), String(model.devices.size || ""));
         setText(byId("unknown-count"), `${model.unknown.size || ""}${model.unknownLeftOut ? "+" : ""}`);
         this.sections[this.section].paint();
-        this.sections.add.dialog.paint();
+        [this.sections.add.dialog, this.sections.device.dialog, this.setup].forEach(dialog => dialog.paint());
     }
 
     /** Shows the state of the gateway above all sections. The Overview has a list of what is wrong. */
     paintHead() {
         const { model, health: { states, hasStick }, feedState, settings } = this;
-        const left = this.sections.add.teach.left();
-        const time = left === null ? "" : ` ${words.countdown(left)}`;
-        show(byId("window"), model.isOpen ? `Learn window open${time}` : "");
-        const stopped = trouble(this.gateway, states, hasStick, settings.get("SERIAL"));
-        const wrong = stopped ?? baseTrouble(this.gateway, settings, model);
+        const left = this.sections.add.teach.secondsLeft();
+        const open = left === null ? _("Learn window open")
+            : format(_("Learn window open $0"), words.countdownText(left));
+        showText(byId("window"), model.isWindowOpen ? open : "");
+        const stopped = gatewayFault(this.gateway, states, hasStick, settings.get("SERIAL"));
+        const wrong = stopped ?? baseFault(this.gateway, settings, model);
         const texts = [feedState.why, wrong && `${wrong.text}. ${wrong.detail}`].filter(Boolean);
         byId("trouble").hidden = this.section === "overview" || !texts.length;
         setText(byId("trouble-text"), texts.join(" ").trim());
         byId("trouble-help").hidden = !wrong;
-        setText(byId("trouble-help"), wrong?.action ?? "");
-        byId("trouble-help").disabled = !wrong || !this.mayHelp(wrong.action);
+        byId("trouble-help").dataset.action = wrong?.action ?? "";
+        setText(byId("trouble-help"), wrong ? _(wrong.action) : "");
+        byId("trouble-help").disabled = !wrong || !this.mayUseFix(wrong.action);
         const state = feedState.state === "live" && stopped ? "waiting" : feedState.state;
-        setText(byId("feed"), state);
+        showText(byId("feed"), this.gateway === null ? "" : FEED_TEXTS[state]);
         byId("feed").dataset.state = state;
     }
 }
 
+document.documentElement.lang = cockpit.language;
+cockpit.translate();
 new Page().start();

@@ -2,16 +2,18 @@
 
 import { COUNTERS } from "./lines.js";
 
-export const MOST_DEVICES = 1000;
-export const MOST_UNKNOWN = 500;
-export const MOST_PACKETS = 500;
-export const MOST_TAUGHT = 200;
-export const MOST_VALUES = 60;
+export const MAX_DEVICES = 1000;
+export const MAX_UNKNOWN_SENDERS = 500;
+export const MAX_PACKETS = 500;
+export const MAX_TEACH_RESULTS = 200;
+export const MAX_PLOT_POINTS = 60;
 
 // The reasons of packets whose sender can be learned.
-const LEARNABLE = new Set(["unknown_sender", "window_closed", "other_mode", "no_profile", "unsupported", "full"]);
+const LEARNABLE_REASONS = new Set([
+    "unknown_sender", "window_closed", "other_mode", "no_profile", "unsupported", "full",
+]);
 // Readings with one of these names are in several units, each a value of its own.
-const BY_UNIT = new Set(["MR", "MV"]);
+const MULTI_UNIT_READINGS = new Set(["MR", "MV"]);
 
 /**
  * @typedef {Object} Value          the last value of a reading
@@ -45,105 +47,72 @@ function channelOf(readings) {
 }
 
 /** Under which key a reading replaces an earlier one. */
-function keyOf({ name, unit }, channel) {
+function readingKey({ name, unit }, channel) {
     const base = name.startsWith("ILL") ? "ILL" : name;
-    return [base, BY_UNIT.has(name) ? unit : "", channel ?? ""].join(" ");
+    return [base, MULTI_UNIT_READINGS.has(name) ? unit : "", channel ?? ""].join(" ");
 }
 
 /** Adds the readings of a telegram to a device. They have no place in the plot if their time is not known. */
 function addReadings(device, readings, now) {
     const channel = channelOf(readings);
     for (const reading of readings) {
-        const key = keyOf(reading, channel);
+        const key = readingKey(reading, channel);
         const value = device.readings.get(key) || { values: [] };
         Object.assign(value, { reading, channel, received: now });
         if (now !== null && reading.num !== undefined) {
             value.values.push([now, reading.num / reading.den]);
-            limit(value.values, MOST_VALUES);
+            dropOldest(value.values, MAX_PLOT_POINTS);
         }
         device.readings.set(key, value);
     }
 }
 
 /** Removes the oldest elements of an array that grows at its end. */
-function limit(list, most) {
+function dropOldest(list, most) {
     if (list.length > most)
         list.splice(0, list.length - most);
 }
 
 /** The time of the last telegram of a device in ms; null if it is not known. */
-export const lastHeard = ({ received, recorded }) => received ?? recorded;
+export const lastHeardTime = ({ received, recorded }) => received ?? recorded;
 
 export class Model {
     /** @param {number} opened - when the page was opened, in ms */
     constructor(opened) {
-        this.opened = opened;
         /** @type {Map<string, Device>} */
         this.devices = new Map();
-        this.devicesLeftOut = 0;
         /** @type {Map<string, Sender>} the sender of the last packet is the last one */
         this.unknown = new Map();
-        this.unknownLeftOut = 0;
-        this.packets = [];
-        this.taught = [];
-        this.counters = null;
-        this.mode = null;
-        this.base = null;
-        this.baseTime = null;
-        this.listing = null;
-        this.isListed = false;
-        this.isRecorded = false;
-        this.hasPackets = false;
-        this.taken = 0;
+        Object.assign(this, { opened, devicesLeftOut: 0, unknownLeftOut: 0, packets: [], taught: [], lineCount: 0 });
+        Object.assign(this, { counters: null, mode: null, base: null, baseTime: null, listing: null });
+        Object.assign(this, { isListed: false, isRecorded: false, hasPackets: false });
     }
 
     /**
-     * Takes the members of a line that `parse` has checked.
+     * Takes the members of a line that `parseLine` has checked.
      * @param {Object} line
      * @param {?number} now - the time in ms; null for a line from before the page was opened
      */
     take(line, now) {
-        this.taken++;
-        switch (line.type) {
-        case "reading":
-            this.takeReading(line, now);
-            break;
-        case "packet":
-            this.takePacket(line, now);
-            break;
-        case "teach":
-            this.takeTaught(line, now);
-            break;
-        case "device":
-            this.takeListed(line);
-            break;
-        case "list":
-            this.takeList(line);
-            break;
-        case "status":
-            this.mode = line.mode;
-            this.counters = { time: now, ...Object.fromEntries(COUNTERS.map(name => [name, line[name]])) };
-            break;
-        case "response":
-            this.takeResponse(line, now);
-            break;
-        }
+        this.lineCount++;
+        const take = METHODS.get(line.type);
+        take?.call(this, line, now);
     }
 
     /** Whether the learn window is open, as far as the lines say. */
-    get isOpen() {
+    get isWindowOpen() {
         return this.mode !== null && this.mode !== "closed";
     }
 
     /** Whether all devices are known. */
-    get isKnown() {
+    get areDevicesKnown() {
         return this.isListed || this.isRecorded;
     }
 
     /** The device with this ID, which is new if it is not known; undefined if there are too many. */
     device(id, eep) {
         let device = this.devices.get(id);
-        if (!device && this.devices.size >= MOST_DEVICES) {
+        if (!device && this.devices.size >= MAX_DEVICES) {
             this.devicesLeftOut++;
             return undefined;
         }
@@ -167,15 +136,15 @@ export class Model {
         device.received = now;
         // The line of a packet comes directly before that of its readings.
         const packet = this.packets.at(-1);
-        if (packet?.number === this.taken - 1 && packet.line.id === id)
+        if (packet?.number === this.lineCount - 1 && packet.line.id === id)
             packet.readings = readings.map(reading => ({ reading, channel: channelOf(readings) }));
     }
 
     takePacket(line, now) {
         this.hasPackets = true;
-        this.packets.push({ number: this.taken, line, time: now });
-        limit(this.packets, MOST_PACKETS);
-        if (LEARNABLE.has(line.why) && !this.devices.has(line.id))
+        this.packets.push({ number: this.lineCount, line, time: now });
+        dropOldest(this.packets, MAX_PACKETS);
+        if (LEARNABLE_REASONS.has(line.why) && !this.devices.has(line.id))
             this.takeUnknown(line, now);
     }
 
@@ -185,30 +154,30 @@ export class Model {
         const best = dbm === null ? before?.best ?? null : Math.max(dbm, before?.best ?? dbm);
         this.unknown.set(id, {
             rorg, why, best, eep: eep || before?.eep || null, count: (before?.count ?? 0) + 1, received: now,
-            number: this.taken,
+            number: this.lineCount,
         });
-        if (this.unknown.size > MOST_UNKNOWN) {
+        if (this.unknown.size > MAX_UNKNOWN_SENDERS) {
             this.unknown.delete(this.unknown.keys().next().value);
             this.unknownLeftOut++;
         }
     }
 
-    takeTaught(line, now) {
-        this.taught.push({ number: this.taken, line, time: now });
-        limit(this.taught, MOST_TAUGHT);
+    takeTeachResult(line, now) {
+        this.taught.push({ number: this.lineCount, line, time: now });
+        dropOldest(this.taught, MAX_TEACH_RESULTS);
         if (line.result === "accepted" && line.eep !== null)
             this.device(line.id, line.eep);
         else if (line.result === "deleted")
             this.devices.delete(line.id);
     }
 
-    takeListed(line) {
+    takeDevice(line) {
         this.listing ??= [];
-        if (this.listing.length < MOST_DEVICES)
+        if (this.listing.length < MAX_DEVICES)
             this.listing.push(line);
     }
 
-    takeList({ count }) {
+    takeEndOfList({ count }) {
         const listed = this.listing || [];
         this.listing = null;
         // The beginning of an old list may be missing. Such a list does not show what is gone.
@@ -223,6 +192,11 @@ export class Model {
         }
         for (const { id, eep, label } of listed)
             this.device(id, eep).label = label;
+    }
+
+    takeStatus({ mode, ...line }, now) {
+        this.mode = mode;
+        this.counters = { time: now, ...Object.fromEntries(COUNTERS.map(name => [name, line[name]])) };
     }
 
     /** Takes the devices that the lines record. A list that was read meanwhile is newer. */
@@ -249,3 +223,10 @@ export class Model {
             Object.assign(this, { base: data, baseTime: now });
     }
 }
+
+/** What takes the lines of each type. Lines of other types change nothing. */
+const METHODS = new Map(Object.entries({
+    reading: Model.prototype.takeReading, packet: Model.prototype.takePacket, teach: Model.prototype.takeTeachResult,
+    device: Model.prototype.takeDevice, list: Model.prototype.takeEndOfList, status: Model.prototype.takeStatus,
+    response: Model.prototype.takeResponse,
+}));

@@ -1,17 +1,22 @@
 // Orders as arguments of enogatectl. They are arrays, never the text of a shell.
 
+import { _ } from "./cockpit.js";
+
 export const LONGEST_LABEL = 32;
 // The channel number that means all channels of an actuator.
 export const ALL_CHANNELS = 30;
 
 /** The command that gives an order. @param {string[]} order */
-export const command = (gateway, order) => ["enogatectl", "--json", gateway, "--", ...order];
+export const orderCommand = (gateway, order) => ["enogatectl", "--json", gateway, "--", ...order];
 
 /** The command that prints the devices as the lines record them. It gives no order. */
 export const recordedCommand = gateway => ["enogatectl", "--json", gateway, "devices"];
 
 /** The command that prints the earlier lines, an empty line, and then each new line. */
 export const linesCommand = gateway => ["enogatectl", gateway, "lines"];
+
+/** The command that gives the profile and the label of a device to another one, and deletes the device. */
+export const replaceCommand = (gateway, oldId, newId) => ["enogatectl", gateway, "replace", oldId, newId];
 
 /** The command that opens the learn window, and closes it after this time or when it is ended. */
 export const windowCommand = (gateway, order, seconds) =>
@@ -41,20 +46,26 @@ export const levelOrder = (group, percent, seconds) => ["level", String(group), 
 export const teachOrder = group => ["teach", String(group)];
 
 /** The number in a field that an order accepts, from 0 to the greatest one; null if there is none. */
-export function numberIn(text, greatest) {
+export function wholeNumberIn(text, greatest) {
     const number = Number(text);
     return /^[0-9]{1,3}$/.test(text) && number <= greatest ? number : null;
+}
+
+/** The ID in a field, with or without marks between its digits; null if there is none. */
+export function idIn(text) {
+    const digits = text.replace(/^\s*0x|[\s:.-]/gi, "").toUpperCase();
+    return /^[0-9A-F]{8}$/.test(digits) ? digits : null;
 }
 
 /**
  * Why a command failed, in a sentence.
  * @param {{message?: string, problem?: string}} error - as cockpit.spawn reports it
  */
-export function sentence(error) {
+export function failureText(error) {
     if (error.problem === "access-denied")
-        return "You have no administrative access: turn it on in Cockpit.";
+        return _("You have no administrative access: turn it on in Cockpit.");
     if (error.problem === "not-found")
-        return "The command enogatectl is not installed: install the package enogate.";
+        return _("The command enogatectl is not installed: install the package enogate.");
     const lines = String(error.message || error).trim().split("\n");
     return lines[lines.length - 1].replace(/^enogatectl: /, "");
 }

@@ -1,26 +1,27 @@
 // The first section: is everything all right, and what needs attention?
 
+import { _, format } from "./cockpit.js";
 import { openService } from "./commands.js";
 import { button, byId, element, Rows, setText } from "./dom.js";
-import { attention, heardSentence, verdictOf } from "./health.js";
+import { findProblems, heardSentence, verdictOf } from "./health.js";
 import { COUNTERS } from "./lines.js";
 import { baseOf } from "./places.js";
 import * as words from "./words.js";
 
-const SIGNS = { bad: "!", warn: "!", info: "i" };
-const UNKNOWN = "not known yet";
-const STICKS = new Map([[true, "plugged in"], [false, "not plugged in"]]);
+const SIGN_BY_LEVEL = { bad: "!", warn: "!", info: "i" };
+const UNKNOWN_TEXT = _("not known yet");
+const STICK_TEXTS = new Map([[true, _("plugged in")], [false, _("not plugged in")]]);
 
 /** The base ID that the module has reported, and when. */
 export const reportedBase = ({ base, baseTime }, now) =>
-    base ? `${base}, reported ${words.age(baseTime, now)}` : UNKNOWN;
+    base ? format(_("$0, reported $1"), base, words.ageText(baseTime, now)) : UNKNOWN_TEXT;
 
 export class OverviewSection {
     constructor(page) {
         this.page = page;
-        this.rows = new Rows(byId("attention"), (_, problem) => new ProblemRow(problem, page));
+        this.rows = new Rows(byId("attention"), (key, problem) => new ProblemRow(problem, page));
         byId("gateway-refresh").addEventListener("click", () => page.refresh());
-        byId("gateway-restart").addEventListener("click", ({ target }) => page.serve("restart", target));
+        byId("gateway-restart").addEventListener("click", ({ target }) => page.controlService("restart", target));
         byId("gateway-journal").addEventListener("click", () => openService(page.gateway));
     }
 
@@ -31,7 +32,7 @@ export class OverviewSection {
     paint() {
         const { gateway: name, feedState: { why }, health, settings, model, groups, minutes } = this.page;
         const now = Date.now();
-        const found = attention({ name, why, ...health, settings, model, groups, now });
+        const found = findProblems({ name, why, ...health, settings, model, groups, now });
         this.rows.fill(found.map(problem => [JSON.stringify(problem), problem]), () => undefined);
         const [level, title] = verdictOf(found, groups);
         byId("verdict").dataset.level = level;
@@ -46,46 +47,47 @@ export class OverviewSection {
     }
 
     paintGateway(now) {
-        const { model, health: { states, hasStick }, settings, rights, mayAct } = this.page;
+        const { model, health: { states, hasStick }, settings, rights, canOrderNow } = this.page;
         const serial = settings.get("SERIAL") || "";
-        const stick = STICKS.get(hasStick) ?? "unknown";
-        this.fact("service", words.service(states), states && states.ActiveState === "active");
-        this.fact("stick", serial ? `${stick} (${serial})` : stick, hasStick);
+        const stick = STICK_TEXTS.get(hasStick) ?? _("unknown");
+        this.showFact("service", words.serviceText(states), states && states.ActiveState === "active");
+        this.showFact("stick", serial ? `${stick} (${serial})` : stick, hasStick);
         const set = baseOf(settings);
-        this.fact("base", set || "as the radio module reports (BASE is empty)", null);
-        this.fact("module", reportedBase(model, now), set && model.baseTime !== null ? model.base === set : null);
-        this.fact("window", model.mode ?? UNKNOWN, null);
+        this.showFact("base", set || _("as the radio module reports (BASE is empty)"), null);
+        this.showFact("module", reportedBase(model, now), set && model.baseTime !== null ? model.base === set : null);
+        this.showFact("window", model.mode === null ? UNKNOWN_TEXT : words.modeText(model.mode), null);
         byId("gateway-restart").disabled = !rights.isAdmin;
-        byId("gateway-refresh").disabled = !mayAct;
+        byId("gateway-refresh").disabled = !canOrderNow;
         const { counters } = model;
         for (const name of COUNTERS)
             setText(byId(`counter-${name}`), counters ? String(counters[name]) : "–");
-        setText(byId("counters-time"), counters ? `(counted at ${words.clock(counters.time)})` : "");
+        setText(byId("counters-time"), counters ? format(_("(counted at $0)"), words.timeText(counters.time)) : "");
     }
 
     /** Shows a fact, and whether it is good; null if this is not known. */
-    fact(name, text, isGood) {
+    showFact(name, text, isGood) {
         const node = byId(`gateway-${name}`);
         setText(node, text);
         node.dataset.level = isGood === null ? "" : isGood ? "good" : "bad";
     }
 }
 
-/** A problem with the button that helps. */
+/** A problem with the button that helps, if there is one. */
 class ProblemRow {
     constructor(problem, page) {
         Object.assign(this, { problem, page });
-        const { level, text, detail = "", action, target } = problem;
-        this.act = target ? element("a", { href: target, className: "button" }, action)
-            : button(action, () => page.help(action, this.act));
-        const sign = element("span", { className: "sign", ariaHidden: "true" }, SIGNS[level]);
+        const { level, text, detail = "", action = "", target } = problem;
+        this.act = target ? element("a", { href: target, className: "button" }, _(action))
+            : button(_(action), () => page.fixProblem(action, this.act));
+        const sign = element("span", { className: "sign", ariaHidden: "true" }, SIGN_BY_LEVEL[level]);
         const more = element("span", { className: "minor" }, detail);
-        this.element = element("li", {}, sign, element("div", {}, element("strong", {}, text), " ", more), this.act);
+        this.element = element("li", {}, sign, element("div", {}, element("strong", {}, text), " ", more),
+                               ...action ? [this.act] : []);
         this.element.dataset.level = level;
     }
 
     fill({ action, target }) {
         if (!target)
-            this.act.disabled = !this.page.mayHelp(action);
+            this.act.disabled = !this.page.mayUseFix(action);
     }
 }

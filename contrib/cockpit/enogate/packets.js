@@ -1,17 +1,17 @@
 // The section of the packets: a log with the newest ones on top.
 
-import { byId, cells, element, Rows, setText } from "./dom.js";
-import { MOST_PACKETS } from "./model.js";
+import { _, format, ngettext } from "./cockpit.js";
+import { byId, element, Rows, rowWithCells, setText } from "./dom.js";
+import { MAX_PACKETS } from "./model.js";
 import * as words from "./words.js";
 
-const MOST_SHOWN = 100;
+const MAX_SHOWN_ROWS = 100;
 
 /** The packets of the devices whose ID, label or profile has this text. */
-export function filtered(packets, devices, text) {
-    const wanted = text.toLowerCase();
-    return packets.filter(({ line }) => {
-        const { label = "", eep = "" } = devices.get(line.id) ?? {};
-        return `${line.id ?? ""} ${label} ${words.profileWithKind(eep)}`.toLowerCase().includes(wanted);
+export function matchingPackets(packets, devices, text) {
+    return packets.filter(({ line: { id = "" } }) => {
+        const { label = "", eep = "" } = devices.get(id) ?? {};
+        return words.hasText(text, id, label, words.profileWithKind(eep));
     });
 }
 
@@ -19,14 +19,14 @@ export class PacketsSection {
     constructor(page) {
         this.page = page;
         this.paused = null;
-        this.rows = new Rows(byId("packets-rows"), (_, packet) => new PacketRow(packet, page));
-        byId("packets-pause").addEventListener("click", () => this.pause());
+        this.rows = new Rows(byId("packets-rows"), (key, packet) => new PacketRow(packet, page));
+        byId("packets-pause").addEventListener("click", () => this.togglePause());
     }
 
-    pause() {
+    togglePause() {
         this.paused = this.paused ? null : [...this.page.model.packets];
-        setText(byId("packets-pause"), this.paused ? "Continue" : "Pause");
-        this.page.painter.now();
+        setText(byId("packets-pause"), this.paused ? _("Continue") : _("Pause"));
+        this.page.painter.paintNow();
     }
 
     leave() {
@@ -35,22 +35,25 @@ export class PacketsSection {
 
     clear() {
         if (this.paused)
-            this.pause();
+            this.togglePause();
     }
 
     paint() {
         const { model, query } = this.page;
-        const packets = this.paused || model.packets.slice(-MOST_PACKETS);
-        const found = filtered(packets, model.devices, query);
-        this.rows.fill(found.slice(-MOST_SHOWN).map(packet => [packet.number, packet]).reverse());
+        const packets = this.paused || model.packets.slice(-MAX_PACKETS);
+        const found = matchingPackets(packets, model.devices, query);
+        this.rows.fill(found.slice(-MAX_SHOWN_ROWS).map(packet => [packet.number, packet]).reverse());
         setText(byId("packets-note"), this.note(model, found.length));
     }
 
     note({ hasPackets }, count) {
         if (!hasPackets)
             return words.NO_PACKETS;
-        const shown = `The last ${Math.min(count, MOST_SHOWN)} packets are shown, of the last ${MOST_PACKETS}.`;
-        return this.paused ? `Paused. ${shown}` : `${shown} The list stands still while the pointer is on it.`;
+        const number = Math.min(count, MAX_SHOWN_ROWS);
+        const shown = format(ngettext("The last packet is shown, of the last $1.",
+                                      "The last $0 packets are shown, of the last $1.", number), number, MAX_PACKETS);
+        const hint = _("The list stands still while the pointer is on it.");
+        return (this.paused ? [_("Paused."), shown] : [shown, hint]).join(" ");
     }
 }
 
@@ -58,20 +61,22 @@ export class PacketsSection {
 export class PacketRow {
     constructor({ line, time }, page) {
         const [row, [clock, device, why, kind, payload, signal]] =
-            cells("time mono", "device", "why", "kind minor", "payload mono minor", "dbm minor");
+            rowWithCells("time mono", "device", "why", "kind minor", "payload mono minor", "dbm minor");
         Object.assign(this, { element: row, why, line, page, label: element("strong") });
         row.dataset.why = line.why;
         device.append(this.label, element("span", { className: "mono minor" }, line.id || ""));
-        setText(clock, words.clock(time));
-        setText(kind, line.id ? words.kind(line.rorg) : `packet of type ${line.kind}`);
-        setText(payload, line.id ? `${line.payload} ${line.status}` : `${line.size} bytes`);
+        setText(clock, words.timeText(time));
+        setText(kind, line.id ? words.kindText(line.rorg) : format(_("packet of type $0"), line.kind));
+        setText(payload, line.id ? `${line.payload} ${line.status}`
+            : format(ngettext("$0 byte", "$0 bytes", line.size), line.size));
         payload.title = payload.textContent;
-        setText(signal, line.id ? words.signal(line.dbm) : "");
+        setText(signal, line.id ? words.signalText(line.dbm) : "");
     }
 
     fill({ readings }) {
         const device = this.page.model.devices.get(this.line.id);
         setText(this.label, device?.label ?? "");
-        setText(this.why, readings && device ? words.readingsText(device.eep, readings) : words.reason(this.line.why));
+        const hasReadings = readings && device;
+        setText(this.why, hasReadings ? words.readingsText(device.eep, readings) : words.reasonText(this.line.why));
     }
 }

@@ -1,16 +1,26 @@
 // The names of the gateways of this machine, their files, and their settings.
 
+import { _, format, N_ } from "./cockpit.js";
+import { parseJson } from "./lines.js";
+import { TABLES } from "./tables.js";
+
 /** The command that prints the paths of the gateways. */
-export const PATHS = ["enogatectl", "paths"];
+export const PATHS_COMMAND = ["enogatectl", "paths"];
 
 /** The names of the gateways in its output; none if it failed. */
-export function namesIn(output) {
-    try {
-        return Object.keys(JSON.parse(output)).sort();
-    } catch {
-        return [];
-    }
-}
+export const gatewayNamesIn = output => Object.keys(parseJson(output) ?? {}).sort();
+
+/** Whether a gateway may have this name. */
+export const isGatewayName = text => new RegExp(`^${TABLES.gatewayName}$`).test(text);
+
+/** The command that prints the paths of the serial ports. It fails if there is no by-id, but prints the others. */
+export const PORTS_COMMAND = [
+    "find", "-L", "/dev", "/dev/serial/by-id", "-maxdepth", "1", "-type", "c", "-regextype", "posix-extended",
+    "-regex", "/dev/(enocean.*|serial/by-id/.+|tty(USB|ACM|AMA)[0-9]+|serial0)",
+];
+
+/** The paths in its output that can be a setting. A stable name comes before the name of the same port that is not. */
+export const portsIn = output => output.split("\n").filter(path => /^\/dev\/[\w/.:=@+-]+$/.test(path)).sort();
 
 export const linesOf = name => `/var/log/enogate/${name}.lines`;
 export const deskOf = name => `/run/enogate/${name}/desk`;
@@ -37,16 +47,16 @@ export const baseOf = settings => (settings.get("BASE") || "").toUpperCase();
  * Why actuators do not obey although the gateway works; null if there is no such reason. A base ID that was reported
  * before the page was opened does not count: it may be that of another stick.
  */
-export function baseTrouble(name, settings, { base, baseTime }) {
+export function baseFault(name, settings, { base, baseTime }) {
     const set = baseOf(settings);
     if (!set || baseTime === null || base === set)
         return null;
-    return { text: `BASE is ${set}, but the base ID of the radio module is ${base}`, action: "Restart",
-             detail: `Correct or remove BASE in ${settingsFiles(name)[1]}, and restart the gateway.` };
+    return { text: format(_("BASE is $0, but the base ID of the radio module is $1"), set, base), action: N_("Restart"),
+             detail: format(_("Correct or remove BASE in $0, and restart the gateway."), settingsFiles(name)[1]) };
 }
 
 /** The command that asks systemd for the state of a service. */
-export const stateCommand = name =>
+export const serviceStateCommand = name =>
     ["systemctl", "show", "--property=ActiveState,SubState,InvocationID", unitOf(name)];
 
 /** The properties that it prints. */
@@ -58,7 +68,7 @@ export function propertiesIn(output) {
 /**
  * The run of a gateway that can answer orders: another text after each start of the service. Null if it cannot answer.
  */
-export function runOf(states, hasStick) {
+export function runIdOf(states, hasStick) {
     if (hasStick === false)
         return null;
     if (!states)
@@ -70,14 +80,14 @@ export function runOf(states, hasStick) {
  * Why a gateway does not work, and the button that helps; null if it works.
  * @returns {?{text: string, detail: string, action: string}}
  */
-export function trouble(name, states, hasStick, serial) {
+export function gatewayFault(name, states, hasStick, serial) {
     if (states && states.ActiveState && states.ActiveState !== "active" && states.ActiveState !== "activating")
-        return { text: `The gateway ${name} is stopped`, detail: "", action: "Start" };
+        return { text: format(_("The gateway $0 is stopped"), name), detail: "", action: N_("Start") };
     if (hasStick === false) {
-        return { text: `No stick at ${serial}`, detail: "Plug it in. The gateway continues by itself.",
-                 action: "Journal" };
+        return { text: format(_("No stick at $0"), serial), action: N_("Journal"),
+                 detail: _("Plug it in. The gateway continues by itself.") };
     }
-    if (states && states.SubState === "auto-restart")
-        return { text: `The gateway ${name} is restarting`, detail: "The journal has the reason.", action: "Journal" };
-    return null;
+    return states?.SubState !== "auto-restart" ? null
+        : { text: format(_("The gateway $0 is restarting"), name), detail: _("The journal has the reason."),
+            action: N_("Journal") };
 }

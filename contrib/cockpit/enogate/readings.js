@@ -1,21 +1,22 @@
 // The readings of a device as elements: chips in a list, and tiles with plots in the view of a device.
 
+import { _, format, ngettext } from "./cockpit.js";
 import { element, setText } from "./dom.js";
-import { bars } from "./health.js";
+import { signalBars } from "./health.js";
 import { Plot } from "./plot.js";
 import * as words from "./words.js";
 
 // Units that say what was measured: a list shows no name.
-const PLAIN = new Set(["°C", "lx", "ppm", "kWh", "Wh", "W", "m³", "L/s"]);
+const UNITS_WITHOUT_NAME = new Set(["°C", "lx", "ppm", "kWh", "Wh", "W", "m³", "L/s"]);
 
 /** Shows the bars of a signal, and its number. */
 export function setSignal(node, dbm) {
-    node.dataset.bars = bars(dbm);
-    setText(node, words.signal(dbm));
+    node.dataset.bars = signalBars(dbm);
+    setText(node, words.signalText(dbm));
 }
 
 /** A reading: its name, value and unit. It has a plot if it has numbers, and a tile also has their range. */
-class Reading {
+class ReadingElement {
     constructor(isTile) {
         this.name = element("span", { className: "name" });
         this.value = element("strong");
@@ -27,11 +28,11 @@ class Reading {
     }
 
     fill(eep, item, hasChannels) {
-        const { name, value, unit } = words.parts(eep, item, hasChannels);
+        const { name, value, unit } = words.readingParts(eep, item, hasChannels);
         setText(this.name, name);
         setText(this.value, value);
         setText(this.unit, unit);
-        this.element.classList.toggle("plain", PLAIN.has(unit) && !hasChannels);
+        this.element.classList.toggle("plain", UNITS_WITHOUT_NAME.has(unit) && !hasChannels);
         if (item.values.length > 1)
             this.draw(item.values);
     }
@@ -41,17 +42,17 @@ class Reading {
             this.plot = new Plot();
             this.element.append(this.plot.element, this.range);
         }
-        const since = `since ${words.clock(values[0][0])}`;
-        this.plot.fill(values, `${values.length} values ${since}`);
+        const [count, since] = [values.length, words.timeText(values[0][0])];
+        this.plot.fill(values, format(ngettext("$0 value since $1", "$0 values since $1", count), count, since));
         const numbers = values.map(([, number]) => number);
-        const [least, greatest] = [Math.min(...numbers), Math.max(...numbers)].map(words.decimal);
+        const [least, greatest] = [Math.min(...numbers), Math.max(...numbers)].map(words.decimalText);
         if (this.range)
-            setText(this.range, `${least} to ${greatest} ${since}`);
+            setText(this.range, format(_("$0 to $1 since $2"), least, greatest, since));
     }
 }
 
 /** The readings of a device in an element. */
-class Readings {
+class ReadingList {
     constructor(place, isTile, choose) {
         Object.assign(this, { place, isTile, choose, shown: new Map() });
     }
@@ -68,14 +69,14 @@ class Readings {
         }
         for (const [key, item] of readings) {
             if (wanted.has(item))
-                this.one(key).fill(eep, item, hasChannels);
+                this.elementFor(key).fill(eep, item, hasChannels);
         }
     }
 
-    one(key) {
+    elementFor(key) {
         let made = this.shown.get(key);
         if (!made) {
-            made = new Reading(this.isTile);
+            made = new ReadingElement(this.isTile);
             this.shown.set(key, made);
             this.place.append(made.element);
         }
@@ -83,10 +84,10 @@ class Readings {
     }
 }
 
-const details = (eep, readings, shown = words.shownReadings(eep, readings)) =>
+const detailReadings = (eep, readings, shown = words.shownReadings(eep, readings)) =>
     readings.filter(one => !shown.includes(one));
 
 /** The readings that people need to see, in a list and in the view of a device; and there the other ones. */
-export const chips = place => new Readings(place, false, words.shownReadings);
-export const tiles = place => new Readings(place, true, words.shownReadings);
-export const detailChips = place => new Readings(place, false, details);
+export const readingChips = place => new ReadingList(place, false, words.shownReadings);
+export const readingTiles = place => new ReadingList(place, true, words.shownReadings);
+export const detailReadingChips = place => new ReadingList(place, false, detailReadings);

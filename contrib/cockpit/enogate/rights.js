@@ -1,7 +1,7 @@
 // What the user of the page may do: administrators everything, once they have turned on administrative access; and
 // whoever may write the desk of a gateway gives orders to it, without becoming root.
 
-import { mayWrite } from "./commands.js";
+import { mayWriteDesk } from "./commands.js";
 import { cockpit } from "./cockpit.js";
 
 export class Rights {
@@ -21,12 +21,12 @@ export class Rights {
     }
 
     /** Whether it is known that this user may give no orders. */
-    get mayOnlyLook() {
+    get mayOnlyRead() {
         return this.permission.allowed === false && this.hasDesk === false;
     }
 
     /** Whether this user may write the desk of a gateway. Nobody looks at it if the user may give orders anyway. */
-    look(name) {
-        return this.mayOrder ? this.hasDesk : mayWrite(name);
+    checkDesk(name) {
+        return this.mayOrder ? this.hasDesk : mayWriteDesk(name);
     }
 }

@@ -11,19 +11,19 @@ export class Sorting {
      */
     constructor(columns, field, headings, onChange) {
         Object.assign(this, { columns, field, headings: [...headings], onChange, column: null });
-        field.addEventListener("change", () => this.by(field.value));
+        field.addEventListener("change", () => this.sortBy(field.value));
         for (const heading of this.headings)
-            heading.firstElementChild.addEventListener("click", () => this.by(heading.dataset.column));
-        this.mark(columns.keys().next().value, false);
+            heading.firstElementChild.addEventListener("click", () => this.sortBy(heading.dataset.column));
+        this.setColumn(columns.keys().next().value, false);
     }
 
     /** Sorts by a column; a second time in the other direction. */
-    by(column) {
-        this.mark(column, column === this.column && !this.isReverse);
+    sortBy(column) {
+        this.setColumn(column, column === this.column && !this.isReverse);
         this.onChange();
     }
 
-    mark(column, isReverse) {
+    setColumn(column, isReverse) {
         Object.assign(this, { column, isReverse });
         this.field.value = column;
         for (const heading of this.headings) {

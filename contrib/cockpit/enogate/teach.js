@@ -1,58 +1,64 @@
 // The learn window: it is opened for a time, which is counted down.
 
-import { byId, cells, Rows, setOptions, setText } from "./dom.js";
-import { sentence } from "./orders.js";
+import { _, format } from "./cockpit.js";
+import { byId, Rows, rowWithCells, setOptions, setText } from "./dom.js";
+import { failureText, windowCommand } from "./orders.js";
 import * as words from "./words.js";
 
-const SECONDS = 120;
+const WINDOW_SECONDS = 120;
 
-export class TeachCard {
+export class LearnWindowCard {
     constructor(page) {
         this.page = page;
-        this.rows = new Rows(byId("teach-rows"), (_, item) => new TaughtRow(item), false);
-        this.forget();
+        this.rows = new Rows(byId("teach-rows"), (key, item) => resultRow(item), false);
+        this.resetWindow();
         const profiles = [...words.PROFILES.keys()].map(eep => [eep, words.profileWithKind(eep)]);
         setOptions(byId("teach-profile"), profiles, words.USUAL_SWITCH);
-        byId("teach-profile").addEventListener("input", () => { byId("teach-as").checked = true; });
+        // Whoever opens the list means it, also if the first profile is right. A key that only moves on does not count.
+        for (const event of ["input", "change", "pointerdown", "click", "keydown"]) {
+            byId("teach-profile").addEventListener(event, ({ key }) => {
+                byId("teach-as").checked ||= key !== "Tab" && key !== "Shift";
+            });
+        }
         byId("teach-open").addEventListener("click", () => this.open());
         byId("teach-close").addEventListener("click", () => this.close());
-        byId("teach-bar").max = SECONDS;
+        byId("teach-bar").max = WINDOW_SECONDS;
     }
 
     /** The order that opens the window as the user has chosen. */
-    order() {
+    openingOrder() {
         if (byId("teach-as").checked)
             return ["learn", "as", byId("teach-profile").value];
         return byId("teach-answer").checked ? ["learn", "on", "answer"] : ["learn", "on"];
     }
 
-    /** Opens the window. The command closes it after the time, and then ends. */
+    /** Opens the window. The command closes it after the time, or when it is closed itself, as if the page is left. */
     open() {
         if (this.process)
             return;
-        const process = this.page.openWindow(this.order(), SECONDS);
+        const process = this.page.runCommand(windowCommand(this.page.gateway, this.openingOrder(), WINDOW_SECONDS));
         this.process = process;
-        process.then(() => this.end(process, null), error => this.end(process, error));
-        this.page.painter.now();
+        process.then(() => this.handleEnd(process, null), error => this.handleEnd(process, error));
+        this.page.painter.paintNow();
     }
 
     /** Takes a line. enogatectl asks for the status after each order, so a new line reports that the window is open. */
-    take({ type, mode }, now) {
+    takeLine({ type, mode }, now) {
         if (this.process && now !== null && type === "status" && mode !== "closed")
-            this.until ??= now + SECONDS * 1000;
+            this.until ??= now + WINDOW_SECONDS * 1000;
     }
 
     /** The command has ended. The error of a command for another gateway is not shown. */
-    end(process, error) {
+    handleEnd(process, error) {
         if (process !== this.process)
             return;
-        this.forget();
+        this.resetWindow();
         if (error?.problem !== "cancelled")
-            this.page.complain(error ? sentence(error) : "");
+            this.page.showError(error ? failureText(error) : "");
         this.page.refresh();
     }
 
-    forget() {
+    resetWindow() {
         this.process = null;
         this.until = null;
     }
@@ -60,7 +66,7 @@ export class TeachCard {
     /** Closes the window, whoever opened it. Another one can be opened once the command has ended. */
     close() {
         this.process?.close();
-        this.page.act(["learn", "off"], byId("teach-close"));
+        this.page.giveByButton(["learn", "off"], byId("teach-close"));
     }
 
     leave() {
@@ -70,45 +76,40 @@ export class TeachCard {
     /** Forgets the gateway: the window that the page has opened there is closed. */
     clear() {
         this.process?.close();
-        this.forget();
+        this.resetWindow();
     }
 
     /** For how many seconds the window remains open; null if this is not known. */
-    left() {
+    secondsLeft() {
         return this.until === null ? null : Math.max(0, Math.ceil((this.until - Date.now()) / 1000));
     }
 
     paint() {
-        const { model, mayAct } = this.page;
-        const isOpen = this.process !== null || model.isOpen;
+        const { model, canOrderNow } = this.page;
+        const isOpen = this.process !== null || model.isWindowOpen;
         byId("teach-closed").hidden = isOpen;
         byId("teach-opened").hidden = !isOpen;
-        byId("teach-open").disabled = byId("teach-close").disabled = !mayAct;
-        const seconds = this.left();
-        const unknown = this.process ? "opening …" : "open";
-        setText(byId("teach-left"), seconds === null ? unknown : words.countdown(seconds));
+        byId("teach-open").disabled = byId("teach-close").disabled = !canOrderNow;
+        const seconds = this.secondsLeft();
+        const unknown = this.process ? _("opening …") : _("open");
+        setText(byId("teach-left"), seconds === null ? unknown : words.countdownText(seconds));
         byId("teach-bar").hidden = seconds === null;
-        byId("teach-bar").value = seconds ?? SECONDS;
+        byId("teach-bar").value = seconds ?? WINDOW_SECONDS;
         const [, profile] = model.mode?.match(/^as (.*)/) ?? [];
-        setText(byId("teach-mode"), profile ? `Press any button of the device (${words.profileWithKind(profile)}).`
-            : "Press the learn button of the device now.");
+        const text = profile ? _("Press any button of the device ($0).")
+            : _("Press the learn button of the device now.");
+        setText(byId("teach-mode"), format(text, words.profileWithKind(profile)));
         this.rows.fill(model.taught.map(item => [item.number, item]).reverse());
         byId("teach-results").hidden = !model.taught.length;
     }
 }
 
-class TaughtRow {
-    constructor({ line, time }) {
-        const [row, [clock, id, profile, result]] = cells("time mono", "device mono", "profile", "why");
-        this.element = row;
-        row.dataset.why = line.result;
-        setText(clock, words.clock(time));
-        setText(id, line.id);
-        setText(profile, line.eep === null ? "profile not sent" : words.profileWithKind(line.eep));
-        setText(result, words.result(line.result));
-    }
-
-    fill() {
-        // A result does not change.
-    }
+/** The row of a teach-in result, which does not change. */
+function resultRow({ line, time }) {
+    const [element, cells] = rowWithCells("time mono", "device mono", "profile", "why");
+    element.dataset.why = line.result;
+    const profile = line.eep === null ? _("profile not sent") : words.profileWithKind(line.eep);
+    [words.timeText(time), line.id, profile, words.resultText(line.result)]
+            .forEach((text, index) => setText(cells[index], text));
+    return { element, fill: () => {} };
 }

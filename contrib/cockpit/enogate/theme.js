@@ -1,14 +1,14 @@
 // Follows the colours that the user has chosen in Cockpit: light, dark, or those of the system.
 
-const STYLE = "shell:style";
-const system = matchMedia("(prefers-color-scheme: dark)");
+const STYLE_KEY = "shell:style";
+const darkQuery = matchMedia("(prefers-color-scheme: dark)");
 
-function follow() {
-    const style = localStorage.getItem(STYLE) || "auto";
-    document.documentElement.classList.toggle("dark", style === "dark" || style === "auto" && system.matches);
+function applyTheme() {
+    const style = localStorage.getItem(STYLE_KEY) || "auto";
+    document.documentElement.classList.toggle("dark", style === "dark" || style === "auto" && darkQuery.matches);
 }
 
-system.addEventListener("change", follow);
+darkQuery.addEventListener("change", applyTheme);
 // Cockpit stores the choice in another frame.
-addEventListener("storage", follow);
-follow();
+addEventListener("storage", applyTheme);
+applyTheme();

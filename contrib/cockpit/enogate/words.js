@@ -1,5 +1,7 @@
 // Names and values of a gateway in words, for people.
 
+import { _, cockpit, format } from "./cockpit.js";
+import { asciiSpelling } from "./label.js";
 import { TABLES } from "./tables.js";
 
 /** The supported profiles: the kind of device, what an actuator can do, and its readings. */
@@ -10,25 +12,32 @@ export const USUAL_SWITCH = "F6-02-01";
 
 const KINDS = new Map(TABLES.rorg);
 const REASONS = new Map(TABLES.reason);
-const EARLIER = "earlier";
-export const NO_PACKETS = "No packet lines have arrived. If none arrives when you press a button of a device, set " +
-    "EXPLAIN=--explain for this gateway, and restart it.";
+const EARLIER = _("earlier");
+export const NO_PACKETS = _("No packet lines have arrived. If none arrives when you press a button of a device, set " +
+    "EXPLAIN=--explain for this gateway, and restart it.");
+
+/** The kind of the devices of a profile; empty if it is not supported. */
+export const kindOfProfile = eep => PROFILES.has(eep) ? _(PROFILES.get(eep).kind) : "";
 
 /** A profile and the kind of its devices. */
-export const profileWithKind = eep => [eep, PROFILES.get(eep)?.kind].filter(Boolean).join(" ");
+export const profileWithKind = eep => [eep, kindOfProfile(eep)].filter(Boolean).join(" ");
 
-export const kind = rorg => KINDS.get(rorg) || `telegram ${rorg}`;
-export const reason = why => REASONS.get(why) || why;
+/** Whether one of these texts contains the text that is searched for, or the spelling of it that a label can have. */
+export const hasText = (wanted, ...texts) => [wanted, asciiSpelling(wanted) || wanted]
+        .some(text => texts.join(" ").toLowerCase().includes(text.toLowerCase()));
+
+export const kindText = rorg => KINDS.has(rorg) ? _(KINDS.get(rorg)) : format(_("telegram $0"), rorg);
+export const reasonText = why => REASONS.has(why) ? _(REASONS.get(why)) : why;
 /** A result of teaching. A device may also be deleted by an order. */
-export const result = text => text === "deleted" ? "deleted" : reason(text);
+export const resultText = text => text === "deleted" ? _("deleted") : reasonText(text);
 
 /** A number with at most two decimals. */
-export function decimal(number) {
-    return number.toLocaleString("en", { maximumFractionDigits: 2, useGrouping: false });
+export function decimalText(number) {
+    return number.toLocaleString(cockpit.language, { maximumFractionDigits: 2, useGrouping: false });
 }
 
 /** How a reading of this profile is shown; undefined if this is not known. A word has the row of the number. */
-function rowOf(eep, { name, unit }) {
+function tableRowOf(eep, { name, unit }) {
     const rows = (PROFILES.get(eep)?.readings || []).filter(row => row.name === name);
     const row = rows.find(one => one.unit === (unit ?? ""));
     return row || unit ? row : rows.length === 1 ? rows[0] : undefined;
@@ -37,26 +46,26 @@ function rowOf(eep, { name, unit }) {
 /** The value of a reading as text, and its unit. */
 function valueOf(reading, row) {
     if (reading.num !== undefined)
-        return [decimal(reading.num / reading.den), row?.shownUnit ?? reading.unit];
+        return [decimalText(reading.num / reading.den), row?.shownUnit ?? reading.unit];
     if (reading.word !== undefined)
-        return [reading.word, ""];
-    return [reading.raw !== undefined ? String(reading.raw) : "out of range", ""];
+        return [_(reading.word), ""];
+    return [reading.raw !== undefined ? String(reading.raw) : _("out of range"), ""];
 }
 
 /** A reading as texts: its name, with its channel if the device has several, its value, and its unit or nothing. */
-export function parts(eep, { reading: members, channel }, hasChannels = false) {
-    const before = hasChannels && channel !== null ? `channel ${channel}: ` : "";
-    const row = rowOf(eep, members);
+export function readingParts(eep, { reading: members, channel }, hasChannels = false) {
+    const row = tableRowOf(eep, members);
     const [value, unit] = valueOf(members, row);
-    return { name: `${before}${row?.said ?? members.name}`, value, unit };
+    const name = row ? _(row.said) : members.name;
+    return { name: hasChannels && channel !== null ? format(_("channel $0: $1"), channel, name) : name, value, unit };
 }
 
 /** A reading as one text. */
-export const reading = (...item) => Object.values(parts(...item)).filter(Boolean).join(" ");
+export const readingText = (...item) => Object.values(readingParts(...item)).filter(Boolean).join(" ");
 
 /** Whether people need not see a reading, if the device has others. */
 function isDetail(eep, { reading: members }) {
-    const row = rowOf(eep, members);
+    const row = tableRowOf(eep, members);
     return row !== undefined && (row.isDetail || row.normal.includes(members.word ?? String(members.raw)));
 }
 
@@ -71,15 +80,15 @@ export const hasChannels = readings => new Set(readings.map(({ channel }) => cha
 
 /** Readings of this profile as one text. */
 export const readingsText = (eep, readings) =>
-    shownReadings(eep, readings).map(one => reading(eep, one, hasChannels(readings))).join(", ");
+    shownReadings(eep, readings).map(one => readingText(eep, one, hasChannels(readings))).join(", ");
 
 /** The readings of a device as one text. */
 export const stateText = ({ eep, readings }) => readingsText(eep, [...readings.values()]);
 
-export const signal = dbm => dbm === null ? "" : `${dbm} dBm`;
+export const signalText = dbm => dbm === null ? "" : `${dbm} dBm`;
 
 /** A time in the greatest unit that it fills. */
-export function duration(seconds) {
+export function durationText(seconds) {
     const [minutes, hours, days] = [60, 3600, 86400].map(length => Math.floor(seconds / length));
     if (days)
         return `${days} d`;
@@ -89,21 +98,24 @@ export function duration(seconds) {
 }
 
 /** How long ago something was; null is before the page was opened. */
-export const age = (time, now) =>
-    time === null ? EARLIER : `${duration(Math.max(0, Math.floor((now - time) / 1000)))} ago`;
+export const ageText = (time, now) => time === null ? EARLIER
+    : format(_("$0 ago"), durationText(Math.max(0, Math.floor((now - time) / 1000))));
 
 /** A countdown in minutes and seconds. */
-export const countdown = seconds => `${Math.floor(seconds / 60)}:${String(seconds % 60).padStart(2, "0")}`;
+export const countdownText = seconds => `${Math.floor(seconds / 60)}:${String(seconds % 60).padStart(2, "0")}`;
 
 /** The time of day; null is before the page was opened. */
-export const clock = time => time === null ? EARLIER : new Date(time).toLocaleTimeString("en-GB");
+export const timeText = time => time === null ? EARLIER : new Date(time).toLocaleTimeString("en-GB");
+
+/** The mode of the learn window: a word, or "as" with a profile. */
+export const modeText = mode => mode.startsWith("as ") ? format(_("as $0"), mode.slice(3)) : _(mode);
 
 /** The state of a service in words. */
-export function service(states) {
+export function serviceText(states) {
     if (!states)
-        return "unknown";
-    const words = { active: "running", inactive: "stopped", failed: "failed", deactivating: "stopping" };
+        return _("unknown");
+    const words = { active: _("running"), inactive: _("stopped"), failed: _("failed"), deactivating: _("stopping") };
     if (states.ActiveState === "activating")
-        return states.SubState === "auto-restart" ? "restarting" : "starting";
-    return words[states.ActiveState] || "unknown";
+        return states.SubState === "auto-restart" ? _("restarting") : _("starting");
+    return words[states.ActiveState] || _("unknown");
 }
