@@ -9,7 +9,7 @@ const reading = members => ({ reading: members, channel: null });
 const device = (eep, items) => ({ eep, readings: new Map(items.entries()) });
 
 test("reasons and results", () => {
-    assert.equal(words.reasonText("for_others"), "addressed to another gateway");
+    assert.equal(words.reasonText("for_others"), "addressed to another device or gateway");
     assert.equal(words.reasonText("new_one"), "new_one");
     assert.deepEqual(["accepted", "deleted"].map(words.resultText), ["learned", "deleted"]);
 });

@@ -308,7 +308,7 @@ cockpit.locale({
     "a message that is not decoded": [null, "eine Nachricht, die nicht dekodiert wird"],
     "actuator": [null, "aktor"],
     "actuator (VLD)": [null, "Aktor (VLD)"],
-    "addressed to another gateway": [null, "an ein anderes Gateway gerichtet"],
+    "addressed to another device or gateway": [null, "an ein anderes Gerät oder Gateway gerichtet"],
     "all": [null, "alle"],
     "answer": [null, "mit Antwort"],
     "as $0": [null, "als $0"],
