@@ -112,6 +112,11 @@ test("the answer is next to the buttons: sent, answered, none, or why it failed"
     assert.deepEqual(shown(12), ["sent", "sent …"]);
     assert.deepEqual(shown(3011), ["silent", "no answer"]);
     assert.match(made.answer.title, /Has it learned this gateway/);
+    const full = controls("D2-01-00", true).made;
+    full.fill(device("D2-01-00"), 3011);
+    const hints = [made, full].map(({ element }) => element.querySelectorAll("span")
+            .filter(one => !one.hidden && one.textContent.includes("Has it learned this gateway?")).length);
+    assert.deepEqual(hints, [0, 1]);
     sent.at = 1;
     assert.deepEqual(shown(3011, device("D2-01-00", { name: "IO", raw: 0 })), ["answered", "✓ answered"]);
     sent.error = "<b>one</b>";

@@ -2,7 +2,7 @@
 
 import { orderStateOf } from "./answers.js";
 import { _, format } from "./cockpit.js";
-import { button, element, setOptions, setText } from "./dom.js";
+import { button, element, setOptions, setText, showText } from "./dom.js";
 import * as orders from "./orders.js";
 
 const STATE_TEXTS = new Map([
@@ -23,7 +23,9 @@ export class Controls {
         this.channel = this.channelSelect(channels);
         const made = kind === "blind" ? this.blindControls(isFull) : this.switchControls(kind, isFull);
         const more = channels.length > 1 ? [this.channel] : [];
-        this.element = element("div", { className: "controls" }, ...more, ...made, this.answer);
+        this.hint = element("span", { className: "minor", hidden: true });
+        this.element = element("div", { className: "controls" }, ...more, ...made, this.answer,
+                               ...isFull ? [this.hint] : []);
         this.targets = [...this.element.querySelectorAll("button, input, select")];
     }
 
@@ -82,6 +84,7 @@ export class Controls {
         if (this.answer.dataset.state !== state || state === "failed") {
             this.answer.dataset.state = state;
             this.answer.title = state === "silent" ? SILENT_HINT : "";
+            showText(this.hint, this.answer.title);
             setText(this.answer, sent?.error || STATE_TEXTS.get(state) || "");
         }
     }
