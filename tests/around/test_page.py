@@ -29,7 +29,7 @@ from services import CONTRIB, Gateway, Stick
 
 SCREENSHOTS = os.environ.get("SCREENSHOTS")
 SECTIONS = ("overview", "devices", "add", "packets")
-# The limit of a click holds for a machine that needs this time for the probe, in ms. A slower one has more time.
+# The limit of a click holds for a machine that needs at most this time for the probe, in ms. A slower machine has more.
 MAX_CLICK_SECONDS, PROBE_MS = 0.2, 90.0
 SPEED_PROBE = """
 const begun = performance.now();
@@ -38,7 +38,7 @@ const words = new Map(Array.from({ length: 40000 }, (_, number) => [`${number * 
 return performance.now() - begun;
 """
 ROUNDS = 3
-# The page uses 1.9 MB in this test, with the 500 senders that it keeps.
+# The page uses 1.9 to 2.0 MB in this test, with the 500 senders that it keeps.
 MAX_HEAP_BYTES = 2_500_000
 EARLIER_PACKET = ('{"dbm":-45,"dest":null,"eep":null,"id":"01800A07","maker":null,"payload":"50","rorg":"F6",'
                   '"status":"30","type":"packet","why":"unknown_sender"}\n')
