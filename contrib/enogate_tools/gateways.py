@@ -84,8 +84,13 @@ def why_not_among(name: str, known: list[str]) -> str:
         return ""
     if not is_name(name):
         return str(InvalidName(name))
+    from difflib import get_close_matches
+    make = f"sudo systemctl enable --now enogate@{name}"
+    if similar := get_close_matches(name.lower(), {one.lower(): one for one in known}, 1):
+        meant = next(one for one in known if one.lower() == similar[0])
+        return f"there is no gateway {name}: did you mean {meant}? If not, make it: {make}"
     others = f"the gateways of this machine are {', '.join(known)}" if known else "this machine has none"
-    return f"there is no gateway {name}: {others}; to make it, enable it: sudo systemctl enable --now enogate@{name}"
+    return f"there is no gateway {name}: {others}; to make it, enable it: {make}"
 
 
 def names_in_folder(folder: str, shape: str, is_of_gateway: Callable[[str], bool] = os.path.lexists) -> set[str]:

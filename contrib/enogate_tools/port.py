@@ -11,9 +11,10 @@ import sys
 import termios
 import time
 
+from .esp3 import RESPONSE, packets_in
+
 # ESP3, packet type 5: the command CO_RD_IDBASE. The response has type 2, the code 0 and four bytes.
 BASE_REQUEST = bytes.fromhex("5500010005700838")
-RESPONSE = 2
 # A module answers within 0.5 s (ESP3); the rest is for a slow computer.
 ANSWER_TIMEOUT = 2.0
 BASE_FORM = "8 hexadecimal digits from FF800000 to FFFFFF80; the last two are 00 or 80"
@@ -55,28 +56,11 @@ def other_stick_fault(earlier: str, base: str, path: str) -> str:
             f"was replaced, set BASE={base}, and teach in actuators again")
 
 
-def crc8(data: bytes) -> int:
-    """The CRC of ESP3, with the polynomial x^8 + x^2 + x + 1."""
-    value = 0
-    for byte in data:
-        value ^= byte
-        for _ in range(8):
-            value = value << 1 & 0xFF ^ (0x07 if value & 0x80 else 0)
-    return value
-
-
 def base_in(stream: bytes) -> str | None:
     """The base ID in the first response of the module that has one. Other packets are skipped."""
-    for start, byte in enumerate(stream):
-        header, rest = stream[start + 1:start + 5], stream[start + 6:]
-        if byte != 0x55 or len(header) < 4 or crc8(header + stream[start + 5:start + 6]):
-            continue
-        size = int.from_bytes(header[:2], "big")
-        body = rest[:size + header[2] + 1]
-        if header[3] != RESPONSE or size != 5 or len(body) < size + header[2] + 1 or crc8(body):
-            continue
-        base = body[1:5].hex().upper()
-        if body[0] == 0 and is_base(base):
+    for _, kind, data, _ in packets_in(stream):
+        base = data[1:].hex().upper()
+        if kind == RESPONSE and data[:1] == b"\0" and is_base(base):
             return base
     return None
 

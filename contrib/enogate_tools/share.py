@@ -17,16 +17,17 @@ def table_lines(name: str) -> Iterator[str]:
                 yield line.rstrip("\n")
 
 
+def profiles_in(text: str) -> list[str]:
+    """The profiles of a profile, or of a profile and the last TYPE of a range: A5-02-01..0B."""
+    first, _, last = text.partition("..")
+    return [f"{first[:6]}{number:02X}" for number in range(int(first[6:], 16), int(last or first[6:], 16) + 1)]
+
+
 @functools.cache
 def kinds_by_profile() -> dict[str, str]:
     """The supported profiles, each with the kind of its devices."""
-    found = {}
-    for row in table_lines("profiles"):
-        eeps, kind = row.split(None, 1)
-        first, _, last = eeps.partition("..")
-        for number in range(int(first[6:], 16), int(last or first[6:], 16) + 1):
-            found[f"{first[:6]}{number:02X}"] = kind
-    return found
+    rows = (row.split(None, 1) for row in table_lines("profiles"))
+    return {eep: kind for eeps, kind in rows for eep in profiles_in(eeps)}
 
 
 def device_kind(eep: str) -> str:
@@ -36,7 +37,8 @@ def device_kind(eep: str) -> str:
 
 @functools.cache
 def texts_by_word(kind: str) -> dict[str, str]:
-    """Words of the gateway of this kind (`error`, `result`, `reason` or `rorg`), each with a text for people."""
+    """Words of this kind, each with its text: those of the gateway (`error`, `result`, `reason` or `rorg`), each with a
+    text for people; the heads of a sheet (`column`), each with what the column has; and letters (`spelling`)."""
     found = (row.split(None, 2) for row in table_lines("words"))
     return {word: text for one, word, text in found if one == kind}
 

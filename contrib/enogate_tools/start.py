@@ -60,7 +60,7 @@ class PortStarter:
         self.compared = ""
         # the port while it is being prepared
         self.asked: int | None = None
-        self.words = words.command
+        self.command_words = words.command
         self.needs_base = bool(self.base) or words.base_id or PLACEHOLDER in words.command
         self.announces = not words.base_id
         self.say, self.sleep, self.clock = say, sleep, clock
@@ -143,7 +143,7 @@ class PortStarter:
 
     def command(self) -> list[str]:
         """The command with the base ID."""
-        return [self.base if word == PLACEHOLDER else word for word in self.words]
+        return [self.base if word == PLACEHOLDER else word for word in self.command_words]
 
 
 def run_in_place(command: list[str], port: int) -> int:

@@ -9,9 +9,9 @@ from oracle.esp3 import packet
 from oracle.profiles import SUPPORTED_PROFILES
 
 # The profiles that are read, by RORG and FUNC, and some that are not; RORGs, and the sizes of their payloads.
-SUPPORTED_BY_RORG = {rorg: {} for rorg in (0xD5, 0xF6, 0xA5, 0xD2)}
+SUPPORTED_BY_RORG_AND_FUNC = {rorg: {} for rorg in (0xD5, 0xF6, 0xA5, 0xD2)}
 for eep in sorted(SUPPORTED_PROFILES):
-    SUPPORTED_BY_RORG[eep >> 16].setdefault(eep >> 8, []).append(
+    SUPPORTED_BY_RORG_AND_FUNC[eep >> 16].setdefault(eep >> 8, []).append(
         f"{eep >> 16:02X}-{eep >> 8 & 255:02X}-{eep & 255:02X}"
     )
 UNSUPPORTED_PROFILES = """D5-00-00 D5-00-02 F6-02-00 F6-12-01 A5-02-00 A5-04-00 A5-08-00 D2-01-13 D4-00-01
@@ -78,7 +78,7 @@ def profile_number(eep):
 
 def random_profile(rng):
     """A profile that is read. All RORGs are equally frequent, and so are all FUNCs of a RORG."""
-    return rng.choice(rng.choice(list(rng.choice(list(SUPPORTED_BY_RORG.values())).values())))
+    return rng.choice(rng.choice(list(rng.choice(list(SUPPORTED_BY_RORG_AND_FUNC.values())).values())))
 
 
 def random_learn_order(rng):
@@ -151,7 +151,7 @@ def random_actuator_orders(rng, devices):
             rng, rng.choice(fit), rng.choice(devices)[0], 0, 0xFFFFFFFE, 0xFFFFFFFF, rng.getrandbits(32)
         )
         if rng.random() < 0.4:
-            right = rng.choice(SUPPORTED_BY_RORG[0xD2][profile_number(begin)])
+            right = rng.choice(SUPPORTED_BY_RORG_AND_FUNC[0xD2][profile_number(begin)])
             lines.append(f"add {one:08X} {usual_or_rare(rng, right, random_profile(rng))}".encode())
         digits = random_letter_case(rng, f"{one:08x}").decode()
         shape = shape.replace("ID", digits if rng.random() < 0.95 else rng.choice([digits[1:], digits + "0"]))
@@ -161,7 +161,7 @@ def random_actuator_orders(rng, devices):
 
 def random_4bs_query(rng):
     """The payload of a 4BS query: mostly its profile is read."""
-    eep = profile_number(rng.choice(rng.choice(list(SUPPORTED_BY_RORG[0xA5].values()))))
+    eep = profile_number(rng.choice(rng.choice(list(SUPPORTED_BY_RORG_AND_FUNC[0xA5].values()))))
     bits = (eep >> 8 & 63) << 18 | (eep & 127) << 11 | usual_or_rare(rng, rng.randrange(2048), 0, 2047)
     bits = usual_or_rare(rng, bits, bits ^ 1 << rng.randrange(24), rng.getrandbits(24))
     return bits.to_bytes(3, "big") + bytes([0x80 | rng.randrange(256) & 0x67])
@@ -179,7 +179,7 @@ def random_ute_payload(rng, eep):
     return rng.choice([payload] * 18 + [payload[:-1], payload + rng.randbytes(1)])
 
 
-def random_teach_in(rng, eep):
+def random_teach_in_payload(rng, eep):
     """The RORG and the payload of a telegram that may teach a device in or delete it, in some mode or in none. Some
     have this profile."""
     byte = rng.randrange(256)
@@ -207,7 +207,7 @@ def random_telegram(rng, devices, base, teaches):
         at = 3 if size == 4 else 0
         payload[at] = payload[at] & 0xF0 | (7 if size == 6 else 4)
     if rng.random() < teaches:
-        rorg, payload = random_teach_in(rng, eep)
+        rorg, payload = random_teach_in_payload(rng, eep)
     sender = usual_or_rare(rng, sender, 0, 0xFFFFFFFF, base, base + 5, rng.getrandbits(32))
     status = usual_or_rare(rng, rng.choice([0x00, 0x20, 0x30]), rng.randrange(256))
     target = usual_or_rare(rng, 0xFFFFFFFF, base - 1, base, base + 127, base + 128 & 0xFFFFFFFF, rng.getrandbits(32))
