@@ -1,0 +1,1 @@
+"""The modules of enogate-report(1)."""
