@@ -266,7 +266,8 @@ class Bridge:
             # the topics of a device that was not shown before are not in this part, and were published meanwhile
             self.publish([Message(topic, text, True) for topic, text in wanted.items()
                           if there.get(topic) != text and part.has_topic(topic)])
-        strays = (topic for topic in there if topic not in wanted and self.is_stray(topic))
+        strays = (topic for topic in there
+                  if topic not in wanted and self.is_stray(topic) and not self.devices.is_shown_on(topic))
         self.publish(self.devices.delete_retained(strays))
 
     def is_stray(self, topic: str) -> bool:

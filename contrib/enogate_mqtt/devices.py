@@ -1,6 +1,7 @@
 """The devices of a gateway as its lines report them, and what is published about them."""
 from __future__ import annotations
 
+import itertools
 import json
 import time
 from collections.abc import Callable, Iterable
@@ -18,25 +19,32 @@ from .topics import Message, Topics
 @dataclass
 class Device:
     """A device. Its label is None until it is known that it has one or none; until then, Home Assistant is not shown
-    the device. `reported` has its last readings, by their subtopics."""
+    the device. `reported` has its last readings, by their subtopics. Its entities in Home Assistant have IDs with
+    `identity`: its own ID or, if it has replaced another device, that of the other one."""
     name: str
     eep: str
     label: str | None = None
     maker: int | None = None
     reported: dict[str, str] = field(default_factory=dict)
+    identity: str = ""
+
+    def __post_init__(self) -> None:
+        self.identity = self.identity or self.name
 
 
 class Devices:
     """The devices of a gateway, and the retained messages that the broker should have about them. A device that is
     learned without a label waits for one for `label_wait` seconds, because Home Assistant derives entity IDs from the
-    first name."""
+    first name. If it gets the label of another device, it waits as long: it may replace that one. A device with a label
+    that is deleted is shown until the next list: if another one has its label then, that one replaces it, and keeps its
+    entities."""
 
     def __init__(self, topics: Topics, table: Table, expire_after: int | None = None, known: Iterable[Device] = (),
                  removed: Iterable[str] = (), may_adopt: bool = False, label_wait: int = 0,
                  clock: Callable[[], float] = time.monotonic):
         self.topics, self.table, self.expire_after = topics, table, expire_after
         self.label_wait, self.clock = label_wait, clock
-        # the devices that wait for a label, each with the end of its wait
+        # the devices that wait before they are shown, each with the end of its wait
         self.waiting: dict[str, float] = {}
         self.known = {device.name: device for device in known}
         self.shown = {device.name: self.discovery_configs(device) for device in self.known.values()}
@@ -57,6 +65,11 @@ class Devices:
         """Everything that the broker should retain about a device, by topic."""
         reported = self.known[device].reported
         return self.shown[device] | {self.topics.reading(device, subtopic): text for subtopic, text in reported.items()}
+
+    def is_shown_on(self, topic: str) -> bool:
+        """Whether a device is shown by a discovery message on this topic, which may have been that of another device
+        when the broker was asked for it."""
+        return any(topic in configs for configs in self.shown.values())
 
     def adopt_reading(self, topic: str, text: str) -> bool:
         """Takes a reading that the broker retains as the last one of its device: the state file was lost, or another
@@ -93,7 +106,7 @@ class Devices:
                 label = self.label_of(content.device, now)
                 return self.learn(content.device, content.eep, content.maker, label)
             case Deleted():
-                return self.forget(content.device)
+                return self.delete(content.device)
         return []
 
     def drop_listing(self) -> None:
@@ -107,7 +120,8 @@ class Devices:
             self.needs_list = True
             return []
         self.lists += 1
-        return [message for name in self.known.keys() - set(listing) for message in self.forget(name)]
+        gone = [self.known.pop(name) for name in sorted(self.known.keys() - set(listing))]
+        return [message for device in gone for message in self.forget(device)]
 
     def label_of(self, name: str, now: float | None) -> str | None:
         """The label of a device that is taught in or added: it keeps the one that it had. A new device waits for one.
@@ -121,37 +135,75 @@ class Devices:
             self.waiting.setdefault(name, self.clock() + self.label_wait)
         return label
 
+    def device_of(self, name: str, eep: str) -> Device:
+        """The device with this ID, which may be new. If another one has its identity, because it has replaced it, it
+        gets a new one."""
+        if name not in self.known:
+            taken = {device.identity for device in self.known.values()}
+            identities = itertools.chain([name], (f"{name}_{number}" for number in itertools.count(2)))
+            self.known[name] = Device(name, eep, identity=next(one for one in identities if one not in taken))
+        return self.known[name]
+
     def learn(self, name: str, eep: str, maker: int | None, label: str | None) -> list[Message]:
         """A device is learned, with this label, or None if it is not known yet."""
-        device = self.known.setdefault(name, Device(name, eep))
-        if label is not None:
-            self.waiting.pop(name, None)
+        device = self.device_of(name, eep)
         if name in self.shown and (device.eep, device.maker, device.label) == (eep, maker, label):
             # a list repeats what is known, and the discovery messages of 1,000 devices take seconds
             return []
         messages = self.set_profile(device, eep)
         device.maker, device.label = maker, label
+        if label is not None:
+            self.waiting.pop(name, None)
+            if label and self.label_wait and not self.shown.get(name) and self.with_label(label, name):
+                self.waiting[name] = self.clock() + self.label_wait
         return messages + self.update_discovery(device)
 
-    def end_label_waits(self) -> list[Message]:
-        """Shows the devices that have waited for a label for long enough."""
-        due = [name for name, end in self.waiting.items() if self.clock() >= end]
-        return [message for name in due
-                for message in self.learn(name, self.known[name].eep, self.known[name].maker, "")]
+    def with_label(self, label: str, name: str) -> list[Device]:
+        """The other devices with this label."""
+        return [device for device in self.known.values() if device.label == label and device.name != name]
 
-    def forget(self, name: str) -> list[Message]:
-        """A device is deleted, with everything that is retained about it."""
-        device = self.known.pop(name, None)
-        if device is None:
-            return []
-        self.adopting.discard(name)
-        self.waiting.pop(name, None)
-        self.changed.add(name)
-        return self.delete_retained(self.shown.pop(name, {})) + self.remove_readings(device)
+    def end_label_waits(self) -> list[Message]:
+        """Shows the devices that have waited for long enough."""
+        due = [self.known[name] for name, end in self.waiting.items() if self.clock() >= end]
+        for device in due:
+            del self.waiting[device.name]
+            device.label = device.label or ""
+        return [message for device in due for message in self.update_discovery(device)]
+
+    def delete(self, name: str) -> list[Message]:
+        """A device is deleted. If it has a label, the next list shows whether another one replaces it."""
+        device = self.known.get(name)
+        if device and device.label:
+            self.needs_list = True
+            self.changed.add(name)
+            return self.remove_readings(device)
+        return self.forget(self.known.pop(name)) if device else []
+
+    def forget(self, gone: Device) -> list[Message]:
+        """Removes everything that is retained about a device that is not learned any more. Its entities remain if
+        another device replaces it."""
+        self.adopting.discard(gone.name)
+        self.waiting.pop(gone.name, None)
+        self.changed.add(gone.name)
+        shown, heir = self.shown.pop(gone.name, {}), self.heir_of(gone)
+        messages = self.remove_readings(gone)
+        if heir is None:
+            return messages + self.delete_retained(shown)
+        heir.identity = gone.identity
+        self.waiting.pop(heir.name, None)
+        self.shown[heir.name] = self.shown.get(heir.name, {}) | shown
+        return messages + self.update_discovery(heir)
+
+    def heir_of(self, gone: Device) -> Device | None:
+        """The device that replaces another one: the only one with its label, if it also has its profile or was not
+        shown yet."""
+        found = self.with_label(gone.label, gone.name) if gone.label else []
+        fits = len(found) == 1 and (found[0].eep == gone.eep or not self.shown.get(found[0].name))
+        return found[0] if fits else None
 
     def handle_telegram(self, telegram: Telegram, now: float | None) -> list[Message]:
         """Handles a telegram. If its device is unknown or has another profile, lines were missed: a list is needed."""
-        device = self.known.setdefault(telegram.device, Device(telegram.device, telegram.eep))
+        device = self.device_of(telegram.device, telegram.eep)
         is_unknown = device.label is None and device.name not in self.waiting
         self.needs_list |= is_unknown or device.eep != telegram.eep
         messages = self.set_profile(device, telegram.eep)
@@ -214,11 +266,13 @@ class Devices:
     def discovery_configs(self, device: Device) -> dict[str, str]:
         """The messages of Home Assistant's discovery, by topic. A device that no list has reported is not shown: it
         would get a wrong name."""
-        if device.label is None or not self.topics.discovery:
+        if device.label is None or device.name in self.waiting or not self.topics.discovery:
             return {}
-        about = discovery.device_description(self.topics, device.name, device.eep, device.label, device.maker)
+        about = discovery.device_description(self.topics, device.name, device.identity, device.eep, device.label,
+                                             device.maker)
         rows = self.table.rows_of_profile(device.eep).values()
-        return discovery.device_configs(self.topics, device.name, about, rows, device.reported, self.expire_after)
+        return discovery.device_configs(self.topics, device.name, device.identity, about, rows, device.reported,
+                                        self.expire_after)
 
 
 def time_text(seconds: float) -> str:

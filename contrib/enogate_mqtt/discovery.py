@@ -31,14 +31,14 @@ OPEN_CLOSED_OR_NONE_TEMPLATE = "{{ None if not value | is_number else 'closed' i
 EVENT_TYPE_TEMPLATE = "{{ value_json.event_type }}"
 
 
-def device_configs(topics: Topics, device: str, about: Config, rows: Iterable[EntityRow], reported: Collection[str],
-                   expire_after: int | None) -> dict[str, str]:
-    """The messages of a device, by topic. `about` describes the device, and `reported` has the subtopics of its
-    readings. A cyclic reading becomes unavailable some time after the last one: `expire_after` is the setting for
-    it."""
-    entities = entities_of_rows(topics, device, rows, reported, expire_after)
+def device_configs(topics: Topics, device: str, identity: str, about: Config, rows: Iterable[EntityRow],
+                   reported: Collection[str], expire_after: int | None) -> dict[str, str]:
+    """The messages of a device, by topic. The IDs of its entities have `identity`, `about` describes the device, and
+    `reported` has the subtopics of its readings. A cyclic reading becomes unavailable some time after the last one:
+    `expire_after` is the setting for it."""
+    entities = entities_of_rows(topics, device, identity, rows, reported, expire_after)
     shared = {"device": about, **availability(topics.status, topics.gateway, topics.module)}
-    every = config_messages(topics, entities | entities_of_every_device(topics, device), shared)
+    every = config_messages(topics, entities | entities_of_every_device(topics, device, identity), shared)
     return every | trigger_configs(topics, about, entities)
 
 
@@ -63,10 +63,10 @@ def gateway_configs(topics: Topics) -> dict[str, str]:
     return config_messages(topics, entities, {"device": about})
 
 
-def device_description(topics: Topics, device: str, eep: str, label: str, maker: int | None) -> Config:
+def device_description(topics: Topics, device: str, identity: str, eep: str, label: str, maker: int | None) -> Config:
     """The description of a device, which each of its entities contains."""
     about = {
-        "identifiers": [f"enogate_{topics.name}_{device}"], "name": label or f"{eep} {device}",
+        "identifiers": [f"enogate_{topics.name}_{identity}"], "name": label or f"{eep} {device}",
         "model": model_name(eep), "serial_number": device, "via_device": f"enogate_{topics.name}",
     }
     return about if maker is None else {**about, "manufacturer": manufacturer_name(maker)}
@@ -112,13 +112,13 @@ def connectivity(title: str, state: str) -> Config:
             "device_class": "connectivity", **visibility("diagnostic")}
 
 
-def entities_of_rows(topics: Topics, device: str, rows: Iterable[EntityRow], reported: Collection[str],
+def entities_of_rows(topics: Topics, device: str, identity: str, rows: Iterable[EntityRow], reported: Collection[str],
                      expire_after: int | None) -> Entities:
     """The entities of a device according to the table. Rows with the same topic are one entity."""
     found: Entities = {}
     for row in rows:
         for number in row.entity_numbers(reported) if row.entity else []:
-            key = row.entity, f"{device}_{row.subtopic(number).replace('/', '_')}"
+            key = row.entity, f"{identity}_{row.subtopic(number).replace('/', '_')}"
             config = entity_config(topics, device, row, number)
             seconds = row.expires_after(expire_after)
             if seconds is not None:
@@ -129,14 +129,14 @@ def entities_of_rows(topics: Topics, device: str, rows: Iterable[EntityRow], rep
     return found
 
 
-def entities_of_every_device(topics: Topics, device: str) -> Entities:
+def entities_of_every_device(topics: Topics, device: str, identity: str) -> Entities:
     """The entities that each device has, whatever its profile is."""
     return {
-        ("sensor", f"{device}_dbm"): {
+        ("sensor", f"{identity}_dbm"): {
             "name": "Signal strength", "state_topic": topics.reading(device, "dbm"), "device_class": "signal_strength",
             "state_class": "measurement", "unit_of_measurement": "dBm", **visibility("hidden"),
         },
-        ("sensor", f"{device}_last_seen"): {
+        ("sensor", f"{identity}_last_seen"): {
             "name": "Last seen", "state_topic": topics.last_seen(device), "device_class": "timestamp",
             **visibility("hidden"),
         },

@@ -9,8 +9,8 @@ from datetime import datetime
 
 from enogate_lines.follow import Position
 
-# The version of the tables, in PRAGMA user_version. A file of another version is replaced. The tables `learn` and
-# `boot` were added without another version: programs that do not know them can use the file.
+# The version of the tables, in PRAGMA user_version. A file of another version is replaced. The tables `learn`, `boot`
+# and `identity` were added without another version: programs that do not know them can use the file.
 VERSION = 2
 # No file is larger, in bytes.
 MAX_SIZE = 1 << 62

@@ -25,12 +25,15 @@ PRAGMA synchronous = NORMAL;
 BEGIN;
 CREATE TABLE IF NOT EXISTS place (inode INTEGER, offset INTEGER, last BLOB, discovery TEXT, may_adopt INTEGER);
 CREATE TABLE IF NOT EXISTS device (id TEXT PRIMARY KEY, eep TEXT, label TEXT, maker INTEGER, told TEXT);
+CREATE TABLE IF NOT EXISTS identity (id TEXT PRIMARY KEY, identity TEXT);
 CREATE TABLE IF NOT EXISTS removed (topic TEXT PRIMARY KEY);
 CREATE TABLE IF NOT EXISTS learn (until REAL);
 CREATE TABLE IF NOT EXISTS boot (id TEXT);
 PRAGMA user_version = {VERSION};
 COMMIT;
 """
+# The identity of a device that differs from its ID: the ID of the device that it has replaced, perhaps with a number.
+IDENTITY_PATTERN = re.compile("[0-9A-F]{8}(?:_[0-9]{1,9})?")
 # The subtopic of a reading.
 SUBTOPIC_PATTERN = re.compile(f"{NAME_PATTERN}(?:/[0-9]{{1,20}})?")
 
@@ -113,7 +116,11 @@ class Store:
 
     def read(self, connection: sqlite3.Connection) -> None:
         self.start_empty()
-        self.devices = [Device(name, eep, label, maker, readings_in(reported)) for name, eep, label, maker, reported
+        identities = dict(connection.execute("SELECT id, identity FROM identity"))
+        if not all(IDENTITY_PATTERN.fullmatch(identity) for identity in identities.values()):
+            raise ForeignFile("identity of an unknown form")
+        self.devices = [Device(name, eep, label, maker, readings_in(reported), identities.get(name, "")) for
+                        name, eep, label, maker, reported
                         in connection.execute("SELECT id, eep, label, maker, told FROM device")]
         self.removed = {topic for topic, in connection.execute("SELECT topic FROM removed")}
         row = connection.execute("SELECT inode, offset, last, discovery, may_adopt FROM place").fetchone()
@@ -165,6 +172,9 @@ class Store:
     def save_device(self, connection: sqlite3.Connection, name: str, device: Device | None) -> None:
         """Saves a device, or that there is none of this ID."""
         connection.execute("DELETE FROM device WHERE id = ?", (name,))
+        connection.execute("DELETE FROM identity WHERE id = ?", (name,))
+        if device and device.identity != name:
+            connection.execute("INSERT INTO identity VALUES (?, ?)", (name, device.identity))
         if device:
             values = (name, device.eep, device.label, device.maker, json.dumps(device.reported))
             connection.execute("INSERT INTO device VALUES (?, ?, ?, ?, ?)", values)

@@ -53,7 +53,7 @@ class FakeConnection:
         self.unanswered: set[int] = set()
         self.published: list[tuple[str, str, bool]] = []
         self.requests: list[list[str]] = []
-        self.acknowledges = self.answers = self.passes_on = True
+        self.acknowledges_messages = self.answers_requests = self.passes_messages_on = True
         self.number = 0
         self.is_open, self.is_lost, self.is_ended, self.is_closed = True, False, False, False
 
@@ -67,7 +67,7 @@ class FakeConnection:
             self.memory[message.topic] = message.payload
             if not message.payload:
                 del self.memory[message.topic]
-        if message.topic in WATCHED and self.passes_on:
+        if message.topic in WATCHED and self.passes_messages_on:
             self.received.append(ReceivedMessage(message.topic, message.payload.encode(), False))
         self.unacknowledged.add(self.next_number())
         return self.number
@@ -90,9 +90,9 @@ class FakeConnection:
     def turn(self, _seconds):
         if self.is_lost:
             raise ConnectionLost("it is lost")
-        if self.acknowledges:
+        if self.acknowledges_messages:
             self.unacknowledged.clear()
-        if self.answers:
+        if self.answers_requests:
             self.unanswered.clear()
 
     def end(self, _seconds):
@@ -131,7 +131,7 @@ class FakeBroker:
 
     def accept_connection(self, passes_on: bool = True) -> FakeConnection:
         self.connection, self.is_new = FakeConnection(self.memory), True
-        self.connection.passes_on = passes_on
+        self.connection.passes_messages_on = passes_on
         return self.connection
 
     def lose(self, why: str = "") -> None:

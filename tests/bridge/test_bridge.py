@@ -125,7 +125,7 @@ class WholeBridge(LogTest):
 
     def test_lines_that_were_not_acknowledged_are_published_again(self):
         self.start()
-        self.site.broker.connection.acknowledges = False
+        self.site.broker.connection.acknowledges_messages = False
         self.site.write_lines(OK)
         self.site.run_turns()
         self.assertEqual(len(self.lines()), 1)
@@ -194,7 +194,7 @@ class WholeBridge(LogTest):
         self.start(*listing(*DEVICES), reading("01800ABC"))
         self.site.run_turns(20)
         self.again()
-        self.site.write_lines(learned("01800ABC", result="deleted"))
+        self.site.write_lines(learned("01800ABC", result="deleted"), *listing(*DEVICES[1:]))
         self.site.run_turns(40)
         self.again()
         self.site.broker.accept_connection()
@@ -207,7 +207,7 @@ class WholeBridge(LogTest):
     def test_a_deletion_that_is_not_acknowledged_is_repeated(self):
         self.start(*listing(*DEVICES), reading("01800ABC"))
         self.site.run_turns(20)
-        self.site.broker.connection.acknowledges = False
+        self.site.broker.connection.acknowledges_messages = False
         self.site.write_lines(learned("01800ABC", result="deleted"))
         self.site.run_turns()
         self.assertIn(HALL + "01800ABC/TMP", self.site.bridge.devices.removed)
@@ -352,7 +352,7 @@ class WholeBridge(LogTest):
         self.assert_logged("message on 'enogate/hall/orders' ignored: it is retained")
         self.assertEqual(len(self.logged), 3)
 
-    def test_a_message_that_is_lost(self):
+    def test_a_message_without_a_desk_is_logged_as_lost(self):
         self.start()
         self.site.desk.unlink()
         self.site.send(HALL + "orders", b"list")
@@ -681,7 +681,7 @@ class WholeBridge(LogTest):
         self.start(*listing(*DEVICES), learned("01800AC1", "F6-02-01"))
         self.site.run_turns(20)
         connection = self.site.broker.connection
-        connection.acknowledges = False
+        connection.acknowledges_messages = False
         connection.published.clear()
         for number in range(300):
             temperature = [{"den": 1, "name": "TMP", "num": number, "unit": "C"}]
@@ -696,7 +696,7 @@ class WholeBridge(LogTest):
         connection = self.congest()
         self.assertEqual((len(connection.unacknowledged), len(connection.published)), (500, 500))
         self.assertLess(len(self.site.bridge.backlog), 20)
-        connection.acknowledges = True
+        connection.acknowledges_messages = True
         self.site.run_turns(1)
         later = [(topic.removeprefix(HALL), text) for topic, text in self.site.published()[500:]]
         self.assertEqual(later[0], ("01800AC1/press", '{"event_type":"BI"}'))
@@ -730,7 +730,7 @@ class WholeBridge(LogTest):
         self.site.run_turns(2)
         self.assertIn(HALL + "01800ABC/TMP", self.site.bridge.devices.removed)
         self.assertIn(HALL + "01800ABC/TMP", self.site.broker.memory)
-        connection.acknowledges = True
+        connection.acknowledges_messages = True
         self.site.run_turns(10)
         self.assertNotIn(HALL + "01800ABC/TMP", self.site.bridge.devices.removed)
         self.assertNotIn(HALL + "01800ABC/TMP", self.site.broker.memory)
@@ -740,12 +740,12 @@ class WholeBridge(LogTest):
         with mock.patch("enogate_mqtt.bridge.MAX_UNDER_WAY", 1):
             self.site.broker.memory.clear()
             connection = self.site.broker.accept_connection()
-            connection.acknowledges = False
+            connection.acknowledges_messages = False
             self.site.run_turns(50, 1)
             self.assertTrue(self.site.bridge.is_online)
             self.assertNotIn(("enogate/hall/status", "online"), self.site.published())
             self.assertEqual(self.site.broker.said, ["connected"])
-            connection.acknowledges = True
+            connection.acknowledges_messages = True
             self.site.run_turns(200)
         self.assertEqual(self.site.broker.said, ["connected"] * 2)
 
@@ -845,10 +845,10 @@ class WholeBridge(LogTest):
 
     def test_lines_of_the_last_turn_are_not_published_twice(self):
         self.start()
-        self.site.broker.connection.acknowledges = False
+        self.site.broker.connection.acknowledges_messages = False
         self.site.write_lines(OK)
         self.site.run_turns(2)
-        self.site.broker.connection.acknowledges = True
+        self.site.broker.connection.acknowledges_messages = True
         self.site.stop()
         self.site.broker.lose()
         self.site.start()
@@ -941,7 +941,7 @@ class WholeBridge(LogTest):
 
         def slow():
             reader = read()
-            reader.answers = False
+            reader.answers_requests = False
             return reader
         self.site.broker.open_reader = slow
         self.site.write_lines(*listing(*DEVICES))
@@ -975,7 +975,7 @@ class WholeBridge(LogTest):
 
     def test_several_lines_are_published_again_in_their_sequence(self):
         self.start()
-        self.site.broker.connection.acknowledges = False
+        self.site.broker.connection.acknowledges_messages = False
         self.site.write_lines(*({"n": number, "type": "new"} for number in range(3)))
         self.site.run_turns()
         first = self.lines()
@@ -1014,10 +1014,10 @@ class WholeBridge(LogTest):
 
     def test_the_place_is_that_of_acknowledged_lines(self):
         self.start()
-        self.site.broker.connection.acknowledges = False
+        self.site.broker.connection.acknowledges_messages = False
         self.site.write_lines(OK)
         self.site.run_turns(40)
-        self.site.broker.connection.acknowledges = True
+        self.site.broker.connection.acknowledges_messages = True
         self.site.run_turns(40)
         self.again()
         self.site.broker.accept_connection()
@@ -1034,7 +1034,7 @@ class WholeBridge(LogTest):
     def test_a_deleted_device_is_not_in_the_state(self):
         self.start(*listing(*DEVICES))
         self.site.run_turns(30)
-        self.site.write_lines(learned("01800ABC", result="deleted"))
+        self.site.write_lines(learned("01800ABC", result="deleted"), *listing(*DEVICES[1:]))
         self.site.run_turns(30)
         self.again()
         self.assertNotIn("01800ABC", self.site.bridge.devices.known)

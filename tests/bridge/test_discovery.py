@@ -34,13 +34,13 @@ def read(messages: dict[str, str]) -> dict[str, dict]:
 
 
 def about(eep: str, label: str = "", maker: int | None = None) -> dict:
-    return discovery.device_description(TOPICS, DEVICE, eep, label, maker)
+    return discovery.device_description(TOPICS, DEVICE, DEVICE, eep, label, maker)
 
 
 def configs(eep: str, *reported: str, expire_after: int | None = None) -> dict[str, dict]:
     """The messages of a device with this profile and readings on these subtopics."""
     rows = TABLE.rows_of_profile(eep).values()
-    return read(discovery.device_configs(TOPICS, DEVICE, about(eep), rows, reported, expire_after))
+    return read(discovery.device_configs(TOPICS, DEVICE, DEVICE, about(eep), rows, reported, expire_after))
 
 
 def result(template: str, value: str) -> str:
@@ -171,7 +171,7 @@ class Devices(unittest.TestCase):
     def test_names_of_gateway_and_device_in_topics(self):
         topics = Topics("roof", "ha/found")
         rows = TABLE.rows_of_profile("F6-01-01").values()
-        found = discovery.device_configs(topics, "0000000A", {}, rows, [], None)
+        found = discovery.device_configs(topics, "0000000A", "0000000A", {}, rows, [], None)
         self.assertEqual(set(found), {
             "ha/found/event/enogate_roof/0000000A_press/config", "ha/found/sensor/enogate_roof/0000000A_dbm/config",
             "ha/found/sensor/enogate_roof/0000000A_last_seen/config",
@@ -182,9 +182,22 @@ class Devices(unittest.TestCase):
             "enogate/roof/0000000A/press", "enogate_roof_0000000A_press",
             [{"topic": f"enogate/roof/{name}"} for name in ("status", "gateway", "module")]))
 
+    def test_a_device_in_place_of_another_one(self):
+        """The IDs of its entities are those of the other one; its topics and its number are its own."""
+        about = discovery.device_description(TOPICS, DEVICE, "01800AC1", "D2-01-12", "Lamp", None)
+        self.assertEqual((about["identifiers"], about["serial_number"]), (["enogate_hall_01800AC1"], DEVICE))
+        rows = TABLE.rows_of_profile("D2-01-12").values()
+        found = discovery.device_configs(TOPICS, DEVICE, "01800AC1", about, rows, [], None)
+        self.assertEqual({topic.split("/")[3][:9] for topic in found}, {"01800AC1_"})
+        for topic, text in found.items():
+            config = json.loads(text)
+            self.assertEqual(config["unique_id"], f"enogate_hall_{topic.split('/')[3]}")
+            self.assertTrue(config["state_topic"].startswith(DEVICE_TOPIC), topic)
+            self.assertTrue(config.get("command_topic", DEVICE_TOPIC).startswith(DEVICE_TOPIC), topic)
+
     def test_the_text_of_a_message(self):
         rows = TABLE.rows_of_profile("F6-01-01").values()
-        found = discovery.device_configs(TOPICS, DEVICE, {"name": 'Tür "A" \\'}, rows, [], None)
+        found = discovery.device_configs(TOPICS, DEVICE, DEVICE, {"name": 'Tür "A" \\'}, rows, [], None)
         self.assertEqual(
             found[f"homeassistant/device_automation/enogate_hall/{DEVICE}_press_released/config"],
             '{"automation_type":"trigger","device":{"name":"Tür \\"A\\" \\\\"},'
@@ -314,7 +327,8 @@ class Descriptions(unittest.TestCase):
             self.assertEqual(about("D5-00-01", label)["name"], label)
             self.assertEqual(about("D5-00-01", label)["serial_number"], "01800ABC")
             rows = TABLE.rows_of_profile("D5-00-01").values()
-            for text in discovery.device_configs(TOPICS, DEVICE, about("D5-00-01", label), rows, [], None).values():
+            found = discovery.device_configs(TOPICS, DEVICE, DEVICE, about("D5-00-01", label), rows, [], None)
+            for text in found.values():
                 self.assertEqual(json.loads(text)["device"]["name"], label)
                 self.assertNotIn("\n", text)
 
@@ -398,7 +412,7 @@ class Manufacturers(unittest.TestCase):
             (0x04A, "Caleffi"), (0x053, "Oventrop"), (0x05C, "Hoppe"), (0x05D, "Siegenia-Aubi"), (0x7FF, None),
         ):
             with self.subTest(maker):
-                found = discovery.device_description(TOPICS, "01800ABC", "D5-00-01", "", maker)["manufacturer"]
+                found = discovery.device_description(TOPICS, DEVICE, DEVICE, "D5-00-01", "", maker)["manufacturer"]
                 self.assertEqual(found, name or f"EnOcean manufacturer ID {maker}")
 
 

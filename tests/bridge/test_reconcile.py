@@ -83,7 +83,7 @@ class ReconcilerTurns(LogTest):
         self.assertEqual(len(self.compared), 1)
 
     def test_a_broker_that_answers_nothing(self):
-        self.connection.answers = False
+        self.connection.answers_requests = False
         self.reconciler.add([Part("x", ["x/+"])])
         self.turn(0)
         self.turn(QUIET_SECONDS - 0.1)
@@ -98,7 +98,7 @@ class ReconcilerTurns(LogTest):
         self.assertEqual([part.retained for part in self.compared], [{"x/1": "one", "x/2": "two"}])
 
     def test_messages_keep_a_part_waiting(self):
-        self.connection.answers = False
+        self.connection.answers_requests = False
         self.reconciler.add([Part("x", ["x/+"])])
         self.turn(0)
         for _ in range(10):
@@ -107,7 +107,7 @@ class ReconcilerTurns(LogTest):
         self.assertFalse(self.reconciler.active[0].is_cancelled)
 
     def test_a_part_after_a_long_silence(self):
-        self.connection.answers = False
+        self.connection.answers_requests = False
         self.clock.now += 1000
         self.reconciler.add([Part("z", ["z/+"])])
         self.turn(QUIET_SECONDS - 0.1)
@@ -115,7 +115,7 @@ class ReconcilerTurns(LogTest):
         self.assertFalse(self.reconciler.active[0].is_cancelled)
 
     def test_an_answer_for_one_part_keeps_another_one_waiting(self):
-        self.connection.answers = False
+        self.connection.answers_requests = False
         self.reconciler.add([Part("x", ["x/+"]), Part("y", ["y/+"])])
         self.turn(0)
         self.connection.received.clear()

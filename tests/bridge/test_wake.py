@@ -167,7 +167,7 @@ class TurnWaits(LogTest):
         super().setUp()
         self.site = BridgeSite(self)
         self.site.wait = self.wait
-        self.answers, self.answered, self.ends_at_once = True, 0, False
+        self.answers_orders, self.answered, self.ends_at_once = True, 0, False
 
     def wait(self, *waited):
         """A wait, which lasts a little longer than it was asked for, or ends at once."""
@@ -177,26 +177,26 @@ class TurnWaits(LogTest):
     def turn(self):
         """A turn, after which the gateway answers. Returns how long it has waited."""
         self.site.run_turns(1, 0)
-        orders = self.site.orders() if self.answers else []
+        orders = self.site.orders() if self.answers_orders else []
         for order in orders[self.answered:]:
             self.site.write_lines(*ANSWERS.get(order, [RESPONSE]))
         self.answered = len(orders)
         return round(self.site.waited[1], 6)
 
-    def connect(self, **options):
+    def connect_and_settle(self, **options):
         self.site.start(**options)
         self.site.broker.accept_connection()
         for _ in range(100):
             self.turn()
         # from now on it is silent, until more is wanted
-        self.answers = False
+        self.answers_orders = False
         while self.turn() != LONGEST_WAIT:
             pass
         self.site.bridge.saved_at = self.site.clock()
 
     def waits(self, answers=True):
         """The waits in an hour, in which the gateway answers its orders, or does not."""
-        self.answers = answers
+        self.answers_orders = answers
         waits, end = [], self.site.clock() + HOUR
         while self.site.clock() < end:
             waits.append(self.turn())
@@ -204,14 +204,14 @@ class TurnWaits(LogTest):
 
     def test_an_idle_bridge(self):
         for asks in (False, True):
-            self.connect(asks_actuators=asks)
+            self.connect_and_settle(asks_actuators=asks)
             self.assertTrue(self.site.bridge.requests.may_ask_actuators())
             waits = self.waits()
             self.assertLess(len(waits), 2 * HOUR)
             self.assertGreater(len(waits), HOUR)
 
     def test_a_bridge_whose_gateway_does_not_answer(self):
-        self.connect(asks_actuators=True)
+        self.connect_and_settle(asks_actuators=True)
         self.assertLess(len(self.waits(answers=False)), 2 * HOUR)
         self.assertIs(self.site.bridge.requests.gateway.is_online, False)
 
@@ -221,7 +221,7 @@ class TurnWaits(LogTest):
         self.assertLess(len(self.waits()), 2 * HOUR)
 
     def test_the_next_attempt_to_connect(self):
-        self.answers = False
+        self.answers_orders = False
         self.site.start()
         self.turn()
         for pause in (0.5, 60.0):
@@ -229,7 +229,7 @@ class TurnWaits(LogTest):
             self.assertEqual(self.turn(), min(pause, 1.0))
 
     def test_an_order_that_is_due(self):
-        self.connect()
+        self.connect_and_settle()
         requests = self.site.bridge.requests
         requests.gateway.due = self.site.clock() + 0.25
         self.assertEqual(self.turn(), 0.25)
@@ -237,7 +237,7 @@ class TurnWaits(LogTest):
 
     def test_a_module_that_does_not_respond(self):
         """It is reported at once when the time is over."""
-        self.connect()
+        self.connect_and_settle()
         requests = self.site.bridge.requests
         requests.module.due, requests.module.asked = math.inf, self.site.clock() + 0.25 - requests.module.within
         self.assertEqual(self.turn(), 0.25)
@@ -245,7 +245,7 @@ class TurnWaits(LogTest):
 
     def test_what_is_due_but_cannot_be_done(self):
         """It is tried again, but not without a pause."""
-        self.connect()
+        self.connect_and_settle()
         self.site.bridge.requests.schedule_window_end(0)
         self.site.desk.unlink()
         self.site.desk.mkdir()
@@ -253,15 +253,15 @@ class TurnWaits(LogTest):
         self.assertEqual([self.turn() for _ in range(3)], [POLL_PAUSE] * 3)
 
     def test_something_under_way(self):
-        self.connect()
-        self.site.broker.connection.acknowledges = False
+        self.connect_and_settle()
+        self.site.broker.connection.acknowledges_messages = False
         self.site.write_lines(reading("01800000"))
         self.turn()
         self.assertEqual([self.turn() for _ in range(3)], [0.0, POLL_PAUSE, POLL_PAUSE])
 
     def test_more_to_read(self):
         """After lines there may be more."""
-        self.connect()
+        self.connect_and_settle()
         self.site.write_lines(reading("01800000"))
         self.turn()
         self.assertEqual(self.turn(), 0.0)
@@ -269,7 +269,7 @@ class TurnWaits(LogTest):
 
     def test_a_rotation(self):
         """The old file may still be written to: events of the new one do not end the wait."""
-        self.connect()
+        self.connect_and_settle()
         self.site.lines.rename(self.site.lines.with_suffix(".lines.1"))
         self.site.lines.touch()
         self.turn()
@@ -281,7 +281,7 @@ class TurnWaits(LogTest):
 
     def test_a_line_that_is_written_to_the_old_file(self):
         """The broker ends each wait at once, but the old file is not left at once."""
-        self.connect()
+        self.connect_and_settle()
         old = self.site.lines.with_suffix(".lines.1")
         self.site.lines.rename(old)
         self.site.write_lines(reading("01800002"))

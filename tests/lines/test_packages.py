@@ -5,11 +5,13 @@ import re
 import unittest
 
 CONTRIB = pathlib.Path(__file__).parents[2] / "contrib"
-# Of the bridge, the command imports a single module.
+# Of the bridge, the command imports a single module. Of the command, the building imports two.
 ALLOWED_IMPORTS = {
-    ("enogate_lines", "enogate_tools"),
+    ("enogate_lines", "enogate_tools"), ("enogate_building", "enogate_tools"),
+    ("enogate_building", "enogate_ctl.sheet"), ("enogate_building", "enogate_ctl.stops"),
     ("enogate_mqtt", "enogate_lines"), ("enogate_mqtt", "enogate_tools"),
     ("enogate_ctl", "enogate_lines"), ("enogate_ctl", "enogate_tools"), ("enogate_ctl", "enogate_mqtt.state"),
+    ("enogate_report", "enogate_ctl"), ("enogate_report", "enogate_lines"), ("enogate_report", "enogate_tools"),
 }
 
 
@@ -24,9 +26,10 @@ def imported_modules(path):
 
 
 def import_edge(package, module):
-    """A package and the package that it imports; of the bridge, the module."""
+    """A package and the package that it imports; of the bridge, and for the building of the command, the module."""
     parts = module.split(".")
-    return package, ".".join(parts[:2] if parts[0] == "enogate_mqtt" else parts[:1])
+    has_modules = parts[0] == "enogate_mqtt" or (package, parts[0]) == ("enogate_building", "enogate_ctl")
+    return package, ".".join(parts[:2] if has_modules else parts[:1])
 
 
 def quoted_names(text):
